@@ -1,0 +1,59 @@
+//! Tags and delays: their order and their sums.
+
+ghost use Rattle.std.specs.Prelude.{◌≡◌, ◌↔◌, IsTrue, IsSome, IfSome};
+ghost use Rattle.pt_tags.specs.Tags.{plus, then, tag_lt, Before, Fits, FitsDelay};
+
+/// A place in model time, written `150.0`.
+///
+/// The derived order goes by time and then by step (RTAS 2007 orders events by timestamp; the step is
+/// this project's own choice).
+#[derive(Clone, Copy, Debug, PartialEq, Eq, PartialOrd, Ord)]
+pub struct Tag {
+    /// Microseconds of model time.
+    pub time: u64,
+    /// The microstep at that time, from 0.
+    pub step: u64,
+}
+
+/// What is added to a tag along a wire.
+#[derive(Clone, Copy, Debug, PartialEq, Eq, PartialOrd, Ord)]
+pub struct Delay {
+    /// Microseconds.
+    pub time: u64,
+    /// Microsteps.
+    pub step: u64,
+}
+
+impl Tag {
+    /// The tag that lies `delay` later, or `None` where its time or its step passes the greatest `u64`.
+    ///
+    /// From 50.0 a delay of 100 microseconds leads to 150.0, and a delay of one step leads to 50.1.
+    pub fn plus(self, delay: Delay) -> Option<Tag>
+        ensures some { IsSome result ↔ Fits (plus self delay) }
+        ensures sum { IfSome result (λ later. later ≡ plus self delay) }
+    {
+        let time = self.time.checked_add(delay.time)?;
+        let step = self.step.checked_add(delay.step)?;
+        Some(Tag { time, step })
+    }
+
+    /// Whether this tag comes before the other: by time, and by step at the same time.
+    pub fn is_before(self, other: Tag) -> bool
+        ensures test { result ≡ tag_lt self other }
+        ensures order { IsTrue result ↔ Before self other }
+    {
+        self < other
+    }
+}
+
+impl Delay {
+    /// This delay and then the next, or `None` where time or step passes the greatest `u64`.
+    pub fn then(self, next: Delay) -> Option<Delay>
+        ensures some { IsSome result ↔ FitsDelay (then self next) }
+        ensures sum { IfSome result (λ both. both ≡ then self next) }
+    {
+        let time = self.time.checked_add(next.time)?;
+        let step = self.step.checked_add(next.step)?;
+        Some(Delay { time, step })
+    }
+}
