@@ -1,0 +1,97 @@
+//! A sink in memory.
+
+ghost use Rattle.std.specs.Prelude.{◌≡◌, ◌+◌, ◌-◌, ◌≤◌, ◌++◌, length, Some, [], take, IfOk, OnOk, OnErr, IsErr, ◌↔◌, IsTrue, vec_len, vec_capacity};
+ghost use Rattle.pt_io.specs.Causes.{Rose, Appends, AppendsPart, counted, counted_if};
+ghost use Rattle.pt_io.specs.Rooms.{limit, refuses, taken};
+
+use crate::sink::{PutFault, Sink};
+use pt_tags::Memory;
+use std::alloc::Global;
+
+/// A sink in memory. It has room for so many bytes, takes nothing past them, and fails at calls of given
+/// numbers, from 0.
+#[derive(Drop)]
+pub struct Page {
+    bytes: Vec<u8>,
+    room: usize,
+    /// The number of a call that fails, and how many bytes that call takes at most.
+    failing: Vec<(u64, usize)>,
+    calls: u64,
+    faults: u64,
+    ghost fits: { vec_len bytes + room ≤ vec_capacity bytes },
+}
+
+impl Page {
+    /// An empty page with room for so many bytes. Each entry of `failing` is the number of a call that
+    /// fails, and how many bytes that call takes at most. All the memory is taken here, and none by a put.
+    pub fn new(alloc: Global, room: usize, failing: Vec<(u64, usize)>) -> Result<Page, Memory>
+        ensures empty { IfOk result (λ p. p.bytes.items ≡ []) }
+        ensures room { IfOk result (λ p. p.room ≡ room) }
+        ensures failing { IfOk result (λ p. p.failing ≡ failing) }
+        ensures calls { IfOk result (λ p. p.calls ≡ 0) }
+        ensures faults { IfOk result (λ p. p.faults ≡ 0) }
+    {
+        let Ok(bytes) = Vec::with_capacity(alloc, room) else {
+            return Err(Memory);
+        };
+        Ok(Page {
+            bytes,
+            room,
+            failing,
+            calls: 0,
+            faults: 0,
+        })
+    }
+
+    /// The bytes taken so far.
+    pub fn bytes(&self) -> &[u8]
+        ensures { result.now ≡ self.now.bytes.items }
+    {
+        self.bytes.as_slice()
+    }
+
+    /// How many calls have failed.
+    pub fn faults(&self) -> u64
+        ensures { result ≡ self.now.faults }
+    {
+        self.faults
+    }
+
+    /// How many bytes the next call takes at most, where it is one that fails.
+    fn limit(&self) -> Option<usize>
+        ensures { result ≡ limit self.now.failing.items self.now.calls }
+    {
+        self.failing.iter().find(|f| f.0 == self.calls).map(|f| f.1)
+    }
+}
+
+impl Sink for Page {
+    ghost written = { λ p. Some p.bytes.items };
+
+    ghost faults = { λ p. p.faults };
+
+    fn put(&mut self, bytes: &[u8]) -> Result<(), PutFault>
+        ensures refused { IsErr result ↔ IsTrue (refuses self.old.failing.items self.old.calls self.old.room (length bytes.now)) }
+        ensures taken { self.new.bytes.items ≡ self.old.bytes.items ++ take (taken self.old.failing.items self.old.calls self.old.room (length bytes.now)) bytes.now }
+        ensures room { self.new.room ≡ self.old.room - taken self.old.failing.items self.old.calls self.old.room (length bytes.now) }
+        ensures calls { self.new.calls ≡ counted self.old.calls }
+        ensures faults { self.new.faults ≡ counted_if (refuses self.old.failing.items self.old.calls self.old.room (length bytes.now)) self.old.faults }
+        ensures failing { self.new.failing ≡ self.old.failing }
+        ensures all { OnOk result (Appends (Some self.old.bytes.items) (Some self.new.bytes.items) bytes.now) }
+        ensures part { OnErr result (AppendsPart (Some self.old.bytes.items) (Some self.new.bytes.items) bytes.now) }
+        ensures grows { self.old.faults ≤ self.new.faults }
+        ensures failed { OnErr result (Rose self.old.faults self.new.faults) }
+    {
+        let limit = self.limit();
+        let fails = limit.is_some() || self.room < bytes.len();
+        let count = limit.unwrap_or(bytes.len()).min(bytes.len().min(self.room));
+        self.calls = self.calls.saturating_add(1);
+        self.room -= count;
+        self.bytes.extend_from_slice(&bytes[..count]).unwrap();
+        if fails {
+            self.faults = self.faults.saturating_add(1);
+            return Err(PutFault::Failed);
+        }
+        Ok(())
+    }
+}
