@@ -1,0 +1,4 @@
+pub mod Checker
+pub mod Offsets
+pub mod SmallestRun
+pub mod SmallestRounds

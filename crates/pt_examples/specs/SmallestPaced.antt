@@ -1,0 +1,17 @@
+-- The beginning of the smallest paced run: the row enters at 55, a quiet round, and the next reading is the sensor's paced one.
+use Rattle.std.specs.Prelude.{[], ◌∷◌, ℤ, Option}
+use Rattle.pt_types.specs.declared.graph.Unit.{Unit as Part}
+use Rattle.pt_semantics.specs.Offsets.{IsFeasible, HasOffset}
+use Rattle.pt_semantics.specs.Visits.{Together, Made}
+use Rattle.pt_semantics.specs.Rounds.{IsPacedRun}
+use Rattle.pt_examples.specs.Smallest.{one, rows, level}
+
+-- two rounds lead to reading 61, and the premises of the theorems on paced runs hold
+pub record IsPacedOne : Type 0 where
+  pub first : Made
+  pub second : Made
+  pub state : Together
+  pub run : IsPacedRun one level rows ((first ∷ []) ∷ (second ∷ []) ∷ []) 61 state
+  pub feasible : IsFeasible one
+  pub offset : Part → Option ℤ
+  pub offsets : (u : Part) → HasOffset one u (offset u)

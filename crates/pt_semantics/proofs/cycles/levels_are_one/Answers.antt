@@ -1,0 +1,5 @@
+use Rattle.pt_semantics.proofs.Acyclic.{levels_are_one}
+use Rattle.pt_semantics.proofs.cycles.levels_are_one.Goals as goal
+
+pub returns : goal.returns
+returns c = levels_are_one

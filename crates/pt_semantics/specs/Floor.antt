@@ -1,0 +1,60 @@
+-- The floor under what is claimed.
+use Rattle.std.specs.Prelude.{◌≡◌, ◌<◌, ◌==◌, ◌&&◌, ◌∷◌, ◌≤◌, ◌≢◌, ◌++◌, ◌+◌, ◌*◌, [], ℕ, ℤ, List, None, Some, false, length, slice_get}
+use Rattle.pt_tags.specs.Tags.{Before, UpTo, plus}
+use Rattle.pt_tags.specs.declared.message.Message.{Message}
+use Rattle.pt_tags.specs.declared.tag.Tag.{Tag}
+use Rattle.pt_types.specs.declared.firing.Done.{Done}
+use Rattle.pt_types.specs.declared.graph.Graph.{Graph}
+use Rattle.pt_types.specs.declared.graph.Link.{Link}
+use Rattle.pt_types.specs.declared.firing.OnLink.{OnLink}
+use Rattle.pt_types.specs.declared.graph.Unit.{Unit as Part}
+use Rattle.pt_types.specs.declared.firing.Task.{Task}
+use Rattle.pt_types.specs.Ports.{when}
+use Rattle.pt_semantics.specs.Edges.{Edge, wires}
+use Rattle.pt_semantics.specs.Bounds.{Feeds, link_bound}
+use Rattle.pt_semantics.specs.Behaviours.{Firing, Firings, Rising}
+use Rattle.pt_semantics.specs.Paths.{Goes}
+use Rattle.pt_semantics.specs.Lists.{IsIn}
+use Rattle.pt_semantics.specs.Taking.{IsOnTime, Takes, value_of}
+use Rattle.pt_semantics.specs.Orderly.{IsOrderly}
+use Rattle.pt_semantics.specs.Posting.{Posts}
+use Rattle.pt_semantics.specs.Platform.{State}
+use Rattle.pt_semantics.specs.Meaning.{Values, going, row_at}
+use Rattle.pt_semantics.specs.Entering.{after_rows, due}
+use Rattle.pt_semantics.specs.Units.{at_input, leaves_unit, unit_of}
+use Rattle.pt_semantics.specs.History.{firing_by}
+use Rattle.pt_semantics.specs.Ranks.{sum_along}
+
+-- the floor under what is claimed: nothing comes to a unit at or below a tag that it has claimed
+pub record Floor (g : Graph) (s : State) (claimed : Firings) : Type 0 where
+  -- each event that waits at a unit that reaches u is past what u has claimed, by the delay of each path
+  pub waits : (a p : ℕ) (t : Tag) (v : ℤ) (path : List Edge) (u : Part) (x : Firing) → p < 8 → s.waits a p t ≡ Some v → Goes g (at_input g a p) path u → IsIn x (claimed u) → Before x.tag (plus t (sum_along path))
+  -- and so is each open claim elsewhere
+  pub open_elsewhere : (w : Part) (task : Task) (path : List Edge) (u : Part) (x : Firing) → s.busy w ≡ Some task → w ≢ u → Goes g w path u → IsIn x (claimed u) → Before x.tag (plus task.tag (sum_along path))
+  -- the open claim of u itself is the last that it claimed
+  pub open_here : (u : Part) (task : Task) (x : Firing) → s.busy u ≡ Some task → IsIn x (claimed u) → UpTo x.tag task.tag
+  pub open_claimed : (u : Part) (task : Task) → s.busy u ≡ Some task → IsIn (firing_by g task) (claimed u)
+  -- the last reading is past what u has claimed, by the bound and the delay of each sensor or receiver that reaches it
+  pub sources : (a b : ℕ) (path : List Edge) (u : Part) (x : Firing) → Feeds g a b path u → IsIn x (claimed u) → (r : ℕ) × (s.reading ≡ Some r) × (x.tag.time + b < r + (sum_along path).time)
+  -- what a unit claims rises in tag
+  pub rises : (u : Part) → Rising (claimed u)
+
+-- a tag at an actor: its time by the horizon, its step by its time and the actor's level
+abbrev pub IsBounded : Graph → (ℕ → ℕ) → ℕ → Tag → Type 0
+IsBounded g level a t = (t.time ≤ g.until) × (t.step ≤ length g.actors * t.time + level a)
+
+-- what waits, what is open and what was claimed is so bounded
+pub record Bounded (g : Graph) (level : ℕ → ℕ) (s : State) (claimed : Firings) : Type 0 where
+  pub waits : (a p : ℕ) (t : Tag) (v : ℤ) → s.waits a p t ≡ Some v → IsBounded g level a t
+  pub busy : (u : Part) (task : Task) → s.busy u ≡ Some task → IsBounded g level u.actor task.tag
+  pub claims : (u : Part) (x : Firing) → IsIn x (claimed u) → IsBounded g level u.actor x.tag
+
+-- where something new comes, nothing waits
+abbrev pub NothingThere : Values → Values → Type 0
+NothingThere waits new = (a p : ℕ) (t : Tag) (v : ℤ) → new a p t ≡ Some v → waits a p t ≡ None
+
+-- in the turn after a state: what is posted, the rows that enter and the messages that come in time find nothing where they go
+pub record NeverTwice (g : Graph) (level : ℕ → ℕ) (i : ℕ) (s : State) : Type 0 where
+  pub posts : (ds : List Done) (mid : State) (d : Done) → Posts g s ds mid → mid.busy (unit_of g d.task) ≡ Some d.task → NothingThere mid.waits (going g (wires g) (leaves_unit g (unit_of g d.task)) d.task.tag d.fired.outputs)
+  pub rows : (ds : List Done) (mid : State) (r : ℕ) → Posts g s ds mid → NothingThere mid.waits (λ a p t. when (p == 0) (row_at (due r (mid.left a)) t))
+  pub messages : (ds : List Done) (mid : State) (r : ℕ) (ms : List OnLink) (got : State) (l : ℕ) (link : Link) (m : Message) → Posts g s ds mid → ((p : ℕ) → s.reading ≡ Some p → p ≤ r) → Takes g level i (after_rows mid r) ms false got → slice_get g.links l ≡ Some link → IsOrderly g level link (got.taken l ++ m ∷ []) → IsOnTime got.reading (link_bound g link) m → NothingThere got.waits (λ a p t. when (a == link.to && p == 0) (value_of t m))
