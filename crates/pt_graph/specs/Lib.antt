@@ -1,0 +1,9 @@
+pub mod Chains
+pub mod Limits
+pub mod Ranges
+pub mod Naming
+pub mod Known
+pub mod Graphs
+pub mod EndFaults
+pub mod GraphOf
+pub mod Index

@@ -1,0 +1,68 @@
+//! Look-ups by name and by input whose time grows little with the number of entries.
+
+ghost use Rattle.std.specs.Prelude.{◌≡◌, ℕ, [], List, IfOk};
+ghost use Rattle.pt_types.specs.Lawful.{repeated_from};
+ghost use Rattle.pt_graph.specs.Known.{number_in};
+ghost use Rattle.pt_graph.specs.Index.{at_name, Feeds};
+
+use crate::known::Named;
+use pt_types::Wire;
+use std::alloc::{AllocError, Global};
+use std::collections::{BTreeMap, HashSet};
+
+/// The number of each name; of two with one name the first counts.
+pub fn numbers<'a, T: Named>(
+    alloc: Global,
+    items: &'a [T],
+) -> Result<BTreeMap<&'a str, usize>, AllocError>
+    ensures { IfOk result (λ m. at_name m ≡ number_in T.name_of items.now) }
+{
+    let mut numbers = BTreeMap::new(alloc);
+    for (i, item) in items.iter().enumerate() {
+        let name = item.name();
+        if !numbers.contains_key(&name) {
+            numbers.insert(name, i)?;
+        }
+    }
+    Ok(numbers)
+}
+
+/// The index of the first that has the name of an earlier one.
+pub fn repeated<T: Named>(alloc: Global, items: &[T]) -> Result<Option<usize>, AllocError>
+    ensures { IfOk result (λ r. r ≡ repeated_from T.name_of [] 0 items.now) }
+{
+    let mut numbers = BTreeMap::new(alloc);
+    for (i, item) in items.iter().enumerate() {
+        let name = item.name();
+        if numbers.contains_key(&name) {
+            return Ok(Some(i));
+        }
+        numbers.insert(name, i)?;
+    }
+    Ok(None)
+}
+
+/// Why the fed inputs could not be listed.
+#[derive(Clone, Copy, Debug, PartialEq, Eq)]
+pub enum Twice {
+    Memory,
+    /// The first wire to an input to which an earlier one goes.
+    At(usize),
+}
+
+/// The inputs to which wires go, each by its actor and its number.
+pub fn fed_inputs(alloc: Global, wires: &[Wire]) -> Result<HashSet<(usize, u32)>, Twice>
+    ensures { Feeds wires.now result }
+{
+    let mut fed = HashSet::new(alloc);
+    for (i, wire) in wires.iter().enumerate() {
+        let input = (wire.to as usize, wire.input);
+        if fed.contains(&input) {
+            return Err(Twice::At(i));
+        }
+        let Ok(_added) = fed.insert(input) else {
+            return Err(Twice::Memory);
+        };
+    }
+    Ok(fed)
+}

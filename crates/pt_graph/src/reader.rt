@@ -1,0 +1,185 @@
+//! The graph of a text.
+
+ghost use Rattle.std.specs.Prelude.{◌≡◌, ◌++◌, IfOk, option_map};
+ghost use Rattle.serde_json.specs.View.{view};
+ghost use Rattle.pt_types.specs.Lawful.{IsLawful};
+ghost use Rattle.pt_graph_text.specs.Faults.{Gives, GivesValue};
+ghost use Rattle.pt_graph_text.specs.declared.fault.GraphFault.TheVariants as fault;
+ghost use Rattle.pt_graph.specs.Chains.{refused};
+ghost use Rattle.pt_graph.specs.Ranges.{range_place};
+ghost use Rattle.pt_graph.specs.Naming.{name_place};
+ghost use Rattle.pt_graph.specs.Known.{repeated_place, unknown_place};
+ghost use Rattle.pt_graph.specs.EndFaults.{joined, block_place};
+ghost use Rattle.pt_graph.specs.Graphs.{actors_of, wires_of, links_of, graph_with, whole};
+ghost use Rattle.pt_graph.specs.GraphOf.{json_of, checked, built, graph_in, graph_of};
+
+use crate::blocks::block_place;
+use crate::convert::{actors_of, links_of, pairs_of, wires_of};
+use crate::ends::{check_ends, refuse, with_hidden};
+use crate::known::{repeated_place, unknown_place};
+use crate::limits::too_many;
+use crate::naming::name_place;
+use crate::ranges::range_place;
+use pt_blocks::{Blocks, Named};
+use pt_graph_text::{Document, GraphFault, Head, read_document};
+use pt_tags::{List, Name};
+use pt_types::{Actor, Graph, Link, PairError, Wire};
+use serde_json::Value;
+use std::alloc::{AllocError, Global};
+
+/// The longest graph file, in bytes.
+pub const MOST_BYTES: usize = 1_048_576;
+
+/// The graph of a text, or its first fault in the order of the checks.
+///
+/// Actors may name these blocks.
+#[tactic(auto, unfolding(crate::specs::GraphOf::graph_of), using(crate::proofs::Lawful::lawful_result))]
+pub fn read_graph(alloc: Global, bytes: &[u8], blocks: &Blocks) -> Result<Graph, GraphFault>
+    ensures graph { Gives (graph_of blocks.now.listed.items bytes.now) result }
+    ensures lawful { IfOk result IsLawful }
+{
+    if bytes.len() > MOST_BYTES {
+        return Err(GraphFault::TooLong);
+    }
+    graph_in(alloc, bytes, blocks.listed())
+}
+
+#[tactic(auto, unfolding(crate::specs::GraphOf::graph_in))]
+fn graph_in(alloc: Global, bytes: &[u8], listed: &[Named]) -> Result<Graph, GraphFault>
+    ensures { Gives (graph_in listed.now bytes.now) result }
+{
+    let value = json(alloc, bytes)?;
+    let document = read_document(alloc, &value)?;
+    check(alloc, &document)?;
+    build(alloc, document, listed)
+}
+
+/// The value of the bytes.
+fn json(alloc: Global, bytes: &[u8]) -> Result<Value, GraphFault>
+    ensures { GivesValue (json_of bytes.now) result }
+{
+    match Value::from_slice(alloc, bytes) {
+        Ok(value) => Ok(value),
+        Err(error) => {
+            if error.is_memory() {
+                Err(GraphFault::Memory)
+            } else {
+                Err(GraphFault::NotJson)
+            }
+        }
+    }
+}
+
+/// The checks of a document, from its limits to its unknown names.
+#[tactic(auto, unfolding(crate::specs::GraphOf::checked))]
+fn check(alloc: Global, document: &Document) -> Result<(), GraphFault>
+    ensures { Gives (checked document.now) result }
+{
+    refuse(too_many(document))?;
+    refuse(range_fault(document))?;
+    refuse(name_fault(document))?;
+    check_repeated(alloc, document)?;
+    check_unknown(alloc, document)
+}
+
+fn range_fault(document: &Document) -> Option<GraphFault>
+    ensures { result ≡ option_map fault.Range (range_place document.now) }
+{
+    range_place(document).map(GraphFault::Range)
+}
+
+fn name_fault(document: &Document) -> Option<GraphFault>
+    ensures { result ≡ option_map fault.Name (name_place document.now) }
+{
+    name_place(document).map(GraphFault::Name)
+}
+
+fn check_repeated(alloc: Global, document: &Document) -> Result<(), GraphFault>
+    ensures { Gives (refused (option_map fault.Repeated (repeated_place document.now))) result }
+{
+    match repeated_place(alloc, document) {
+        Ok(Some(place)) => Err(GraphFault::Repeated(place)),
+        Ok(None) => Ok(()),
+        Err(_) => Err(GraphFault::Memory),
+    }
+}
+
+fn check_unknown(alloc: Global, document: &Document) -> Result<(), GraphFault>
+    ensures { Gives (refused (option_map fault.Unknown (unknown_place document.now))) result }
+{
+    match unknown_place(alloc, document) {
+        Ok(Some(place)) => Err(GraphFault::Unknown(place)),
+        Ok(None) => Ok(()),
+        Err(_) => Err(GraphFault::Memory),
+    }
+}
+
+fn block_fault(document: &Document, listed: &[Named]) -> Option<GraphFault>
+    ensures { result ≡ option_map fault.Block (block_place listed.now document.now) }
+{
+    block_place(listed, document).map(GraphFault::Block)
+}
+
+/// The graph of a document that passed the checks before.
+#[tactic(auto, unfolding(crate::specs::GraphOf::built))]
+fn build(alloc: Global, document: Document, listed: &[Named]) -> Result<Graph, GraphFault>
+    ensures { Gives (built listed.now document) result }
+{
+    let Ok(actors) = actors_of(alloc, listed, &document) else {
+        return Err(GraphFault::Memory);
+    };
+    let Ok(wires) = wires_of(alloc, &document) else {
+        return Err(GraphFault::Memory);
+    };
+    let Ok(links) = links_of(alloc, &document) else {
+        return Err(GraphFault::Memory);
+    };
+    check_ends(alloc, actors.as_slice(), wires.as_slice(), links.as_slice())?;
+    refuse(block_fault(&document, listed))?;
+    match graph(alloc, document, actors, wires, links) {
+        Ok(graph) => Ok(graph),
+        Err(_) => Err(GraphFault::Memory),
+    }
+}
+
+/// The graph of these parts, with the hidden wires.
+fn graph(
+    alloc: Global,
+    document: Document,
+    actors: Vec<Actor>,
+    wires: Vec<Wire>,
+    links: Vec<Link>,
+) -> Result<Graph, AllocError>
+    ensures { IfOk result (λ g. g ≡ graph_with document actors.items wires.items links.items) }
+{
+    let clock_errors = pairs_of(alloc, &document)?;
+    let wires = with_hidden(wires, actors.as_slice())?;
+    let Document {
+        head,
+        platforms,
+        ..
+    } = document;
+    Ok(whole(head, platforms, actors, wires, links, clock_errors))
+}
+
+#[tactic(auto, unfolding(crate::specs::Graphs::whole))]
+fn whole(
+    head: Head,
+    platforms: List<Name>,
+    actors: Vec<Actor>,
+    wires: Vec<Wire>,
+    links: Vec<Link>,
+    clock_errors: Vec<PairError>,
+) -> Graph
+    ensures { result ≡ whole head platforms actors.items wires.items links.items clock_errors.items }
+{
+    Graph {
+        until: head.until.unsigned_abs(),
+        clock_error: head.clock_error.unsigned_abs(),
+        platforms,
+        actors: List::new(actors),
+        wires: List::new(wires),
+        links: List::new(links),
+        clock_errors: List::new(clock_errors),
+    }
+}

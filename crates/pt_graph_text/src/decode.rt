@@ -1,0 +1,149 @@
+//! Decoding of JSON values, part by part.
+
+ghost use Rattle.std.specs.Prelude.{◌≡◌, List, Option, codes};
+ghost use Rattle.serde_json.specs.Data.{Data};
+ghost use Rattle.serde_json.specs.Find.{get, as_str};
+ghost use Rattle.serde_json.specs.View.{view, items_view};
+ghost use Rattle.pt_graph_text.specs.declared.version.Version.{Version};
+ghost use Rattle.pt_graph_text.specs.Decoding.{Decodes, DecodesEach, whole, field, optional_field, place, has_members, has_items, each_from};
+
+use crate::version::Version;
+use pt_tags::{List, Name};
+use serde_json::Value;
+use std::alloc::Global;
+
+/// Why a value could not be decoded.
+#[derive(Clone, Copy, Debug, PartialEq, Eq)]
+pub enum Misfit {
+    Memory,
+    /// A member is missing, is too many or has another form.
+    Member,
+}
+
+/// Why an array could not be decoded.
+#[derive(Clone, Copy, Debug, PartialEq, Eq)]
+pub enum Stop {
+    Memory,
+    /// The first item that has another form.
+    At(usize),
+}
+
+/// A part of the file that has one JSON form.
+pub trait Decode: Drop {
+    ghost decoded: { Version → Data → Option Self };
+
+    fn decode(alloc: Global, version: Version, value: &Value) -> Result<Self, Misfit>
+        ensures { Decodes (decoded version (view value.now)) result };
+}
+
+impl Decode for i64 {
+    ghost decoded = { λ v. whole };
+
+    fn decode(_alloc: Global, _version: Version, value: &Value) -> Result<i64, Misfit> {
+        match value.as_i64() {
+            Some(number) => Ok(number),
+            None => Err(Misfit::Member),
+        }
+    }
+}
+
+impl Decode for Name {
+    ghost decoded = { λ v. as_str };
+
+    fn decode(alloc: Global, _version: Version, value: &Value) -> Result<Name, Misfit> {
+        let Some(text) = value.as_str() else {
+            return Err(Misfit::Member);
+        };
+        match String::from_str(alloc, text) {
+            Ok(text) => Ok(Name::new(text)),
+            Err(_) => Err(Misfit::Memory),
+        }
+    }
+}
+
+/// The member of that key.
+pub fn member<T: Decode>(
+    alloc: Global,
+    version: Version,
+    value: &Value,
+    key: &str,
+) -> Result<T, Misfit>
+    ensures { Decodes (field (T.decoded version) key.now (view value.now)) result }
+{
+    match value.get(key) {
+        Some(found) => T::decode(alloc, version, found),
+        None => Err(Misfit::Member),
+    }
+}
+
+/// The member of that key, where there is one.
+pub fn optional_member<T: Decode>(
+    alloc: Global,
+    version: Version,
+    value: &Value,
+    key: &str,
+) -> Result<Option<T>, Misfit>
+    ensures { Decodes (optional_field (T.decoded version) key.now (view value.now)) result }
+{
+    match value.get(key) {
+        Some(found) => match T::decode(alloc, version, found) {
+            Ok(part) => Ok(Some(part)),
+            Err(misfit) => Err(misfit),
+        },
+        None => Ok(None),
+    }
+}
+
+/// The item at that index.
+pub fn item<T: Decode>(
+    alloc: Global,
+    version: Version,
+    value: &Value,
+    index: usize,
+) -> Result<T, Misfit>
+    ensures { Decodes (place (T.decoded version) index (view value.now)) result }
+{
+    match value.get(index) {
+        Some(found) => T::decode(alloc, version, found),
+        None => Err(Misfit::Member),
+    }
+}
+
+/// Whether the value is an array of exactly so many items.
+pub fn has_items(value: &Value, count: usize) -> bool
+    ensures { result ≡ has_items count (view value.now) }
+{
+    match value.as_array() {
+        Some(items) => items.as_slice().len() == count,
+        None => false,
+    }
+}
+
+/// Whether the value is an object of exactly so many members.
+pub fn has_members(value: &Value, count: usize) -> bool
+    ensures { result ≡ has_members count (view value.now) }
+{
+    match value.as_object() {
+        Some(members) => members.len() == count,
+        None => false,
+    }
+}
+
+/// The items of an array, decoded.
+pub fn each<T: Decode>(alloc: Global, version: Version, items: &[Value]) -> Result<List<T>, Stop>
+    ensures { DecodesEach (each_from (T.decoded version) 0 (items_view items.now)) result }
+{
+    let mut found = Vec::new(alloc);
+    for (i, item) in items.iter().enumerate() {
+        match T::decode(alloc, version, item) {
+            Ok(part) => {
+                if found.push(part).is_err() {
+                    return Err(Stop::Memory);
+                }
+            }
+            Err(Misfit::Member) => return Err(Stop::At(i)),
+            Err(Misfit::Memory) => return Err(Stop::Memory),
+        }
+    }
+    Ok(List::new(found))
+}

@@ -1,0 +1,23 @@
+//! The graph file as it is written: its JSON value decoded into a document with types, and the faults with their lines.
+//!
+//! A document has all members that a file must have, each of its JSON type, and nothing else. Its names and numbers
+//! are not judged here.
+//!
+//! Read first: `Document`, and `specs/Whole.antt`, which says what the document of a JSON value is.
+#![tactic(auto)]
+
+mod decode;
+mod document;
+mod fault;
+mod kinds;
+mod lines;
+mod version;
+mod whole;
+
+pub use decode::{Decode, Misfit, Stop};
+pub use document::{ActorText, Document, Head, LinkText, PairText, RowText, WireText};
+pub use fault::{GraphFault, Part, Place, What};
+pub use kinds::KindText;
+pub use lines::fault_line;
+pub use version::{Version, version_of};
+pub use whole::{place, read_document};
