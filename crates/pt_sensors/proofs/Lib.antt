@@ -1,0 +1,4 @@
+pub mod Values
+pub mod Loop
+pub mod Fetched
+pub mod Given

@@ -1,0 +1,43 @@
+//! Rows that come past their sensor's bound.
+
+ghost use Rattle.std.specs.Prelude.{◌≡◌, ◌+◌, ◌-◌, ◌^◌, ◌<◌, length, is_some, position, min};
+ghost use Rattle.pt_sensors.specs.Late.{is_late, late_row};
+ghost use Rattle.pt_types.specs.declared.rows.Row.{Row};
+
+use pt_types::Row;
+
+/// The number, from 1, of the first row with a time up to `until` that is seen more than `bound` microseconds
+/// after its time.
+///
+/// A number that 32 bits can't hold is given as the greatest that they hold. That a sensor's rows are seen within
+/// a stated bound is this project's own rule.
+pub fn first_late(rows: &[Row], bound: u64, until: u64) -> Option<u32>
+    ensures found { is_some result ≡ is_some (late_row bound until rows.now) }
+    ensures number { length rows.now < 2 ^ 32 → result ≡ late_row bound until rows.now }
+{
+    match late_index(rows, bound, until) {
+        Some(index) => Some(row_number(index)),
+        None => None,
+    }
+}
+
+/// Where the first late row stands, from 0.
+fn late_index(rows: &[Row], bound: u64, until: u64) -> Option<usize>
+    ensures { result ≡ position (λ (row : Row). is_late bound until row) rows.now }
+{
+    rows.iter().position(|row| is_late(row, bound, until))
+}
+
+/// The number of a row, counted from 1, by its place.
+fn row_number(index: usize) -> u32
+    ensures { result ≡ min (index + 1) (2 ^ 32 - 1) }
+{
+    (index.min(u32::MAX as usize - 1) + 1) as u32
+}
+
+/// Whether a row of the run is seen past its sensor's bound.
+fn is_late(row: &Row, bound: u64, until: u64) -> bool
+    ensures { result ≡ is_late bound until row.now }
+{
+    row.time <= until && u128::from(row.seen) > u128::from(row.time) + u128::from(bound)
+}

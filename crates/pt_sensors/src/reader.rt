@@ -1,0 +1,192 @@
+//! The rows of a text.
+
+ghost use Rattle.std.specs.Prelude.{◌≡◌, Some, None, IfOk, option_map};
+ghost use Rattle.csv.specs.Reading.{reader_state};
+ghost use Rattle.csv.specs.Records.{fields_of};
+ghost use Rattle.pt_sensors.specs.Order.{AreInOrder};
+ghost use Rattle.pt_sensors.specs.Rows.{IsPlain, Finds, left_of, three, cells, are_titles, is_header, numbers_of, order_fault, row_of};
+ghost use Rattle.pt_sensors.specs.RowsOf.{next, rows_from, rows_of, Gives};
+
+use crate::fault::RowFault;
+use crate::numbers::{limited, signed};
+use csv::{ByteRecord, Reader, ReaderBuilder};
+use pt_tags::{List, Memory};
+use pt_types::Row;
+use std::alloc::Global;
+
+/// The longest sensor file.
+pub const MOST_BYTES: usize = 8_388_608;
+
+/// The most rows of a sensor.
+pub const MOST_ROWS: u32 = 100_000;
+
+/// The rows of a sensor file, or its first fault.
+///
+/// The faults are looked for in the order in which `RowFault` lists them: first those of the file and its header,
+/// then row after row. Times are whole microseconds. (The format is this project's own choice.)
+pub fn read_rows(alloc: Global, bytes: &[u8]) -> Result<List<Row>, RowFault>
+    ensures rows { Gives (rows_of bytes.now) result }
+    ensures order { IfOk result AreInOrder }
+{
+    read(alloc, bytes)
+}
+
+/// The rows of a sensor file, or its first fault, by what csv reads.
+#[tactic(auto, unfolding(crate::specs::RowsOf::rows_of))]
+fn read(alloc: Global, bytes: &[u8]) -> Result<List<Row>, RowFault>
+    ensures { Gives (rows_of bytes.now) result }
+{
+    if bytes.len() > MOST_BYTES {
+        return Err(RowFault::TooLong);
+    }
+    let mut reader = ReaderBuilder::new()
+        .has_headers(false)
+        .flexible(true)
+        .from_reader(alloc, bytes);
+    let mut line = ByteRecord::new(alloc);
+    match advance(&mut reader, &mut line) {
+        Ok(found) => {
+            if found && is_header(&line) {
+                rows(alloc, &mut reader, &mut line)
+            } else {
+                Err(RowFault::Header)
+            }
+        }
+        Err(Memory) => Err(RowFault::Memory),
+    }
+}
+
+/// Reads the next record, if there is one.
+fn advance(reader: &mut Reader<&[u8]>, line: &mut ByteRecord) -> Result<bool, Memory>
+    requires { IsPlain (λ r. Some r.now) reader.old }
+    ensures { IfOk result (λ found. Finds (λ r. Some r.now)
+        (next (reader_state reader.old) (left_of (λ r. Some r.now) reader.old)) found reader.new (fields_of line.new)) }
+{
+    match reader.read_byte_record(line) {
+        Ok(found) => Ok(found),
+        Err(_) => Err(Memory),
+    }
+}
+
+/// The rows that a reader has left, of which the header was read.
+fn rows(
+    alloc: Global,
+    reader: &mut Reader<&[u8]>,
+    line: &mut ByteRecord,
+) -> Result<List<Row>, RowFault>
+    requires { IsPlain (λ r. Some r.now) reader.old }
+    ensures { Gives (rows_from 100000 1 None (reader_state reader.old) (left_of (λ r. Some r.now) reader.old)) result }
+{
+    let mut rows = Vec::new(alloc);
+    let mut before = None;
+    for number in 1..MOST_ROWS + 1 {
+        let Ok(found) = advance(reader, line) else {
+            return Err(RowFault::Memory);
+        };
+        if !found {
+            return Ok(List::new(rows));
+        }
+        let row = row(number, before, line)?;
+        if rows.push(row).is_err() {
+            return Err(RowFault::Memory);
+        }
+        before = Some(row);
+    }
+    match advance(reader, line) {
+        Ok(found) => {
+            if found {
+                Err(RowFault::TooManyRows)
+            } else {
+                Ok(List::new(rows))
+            }
+        }
+        Err(Memory) => Err(RowFault::Memory),
+    }
+}
+
+/// The row of a line, or its first fault.
+#[tactic(auto, unfolding(crate::specs::Rows::row_of))]
+fn row(number: u32, before: Option<Row>, line: &ByteRecord) -> Result<Row, RowFault>
+    ensures { result ≡ row_of number before (fields_of line.now) }
+{
+    let Some(cells) = cells(line) else {
+        return Err(RowFault::Fields(number));
+    };
+    let Some(row) = numbers(cells) else {
+        return Err(RowFault::Number(number));
+    };
+    match order_fault(number, before, row) {
+        Some(fault) => Err(fault),
+        None => Ok(row),
+    }
+}
+
+/// The three fields of a line, where it has three.
+#[tactic(auto, unfolding(crate::specs::Rows::cells))]
+fn cells(line: &ByteRecord) -> Option<(&[u8], &[u8], &[u8])>
+    ensures { option_map (λ c. (c.0.now, c.1.now, c.2.now)) result ≡ cells (fields_of line.now) }
+{
+    if line.len() == 3 {
+        three(line.get(0), line.get(1), line.get(2))
+    } else {
+        None
+    }
+}
+
+fn three<'a>(
+    time: Option<&'a [u8]>,
+    seen: Option<&'a [u8]>,
+    value: Option<&'a [u8]>,
+) -> Option<(&'a [u8], &'a [u8], &'a [u8])>
+    ensures { option_map (λ c. (c.0.now, c.1.now, c.2.now)) result
+        ≡ three (option_map (λ f. f.now) time.entry) (option_map (λ f. f.now) seen.entry) (option_map (λ f. f.now) value.entry) }
+{
+    match (time, seen, value) {
+        (Some(time), Some(seen), Some(value)) => Some((time, seen, value)),
+        _ => None,
+    }
+}
+
+#[tactic(auto, unfolding(crate::specs::Rows::numbers_of))]
+fn numbers(cells: (&[u8], &[u8], &[u8])) -> Option<Row>
+    ensures { result ≡ numbers_of (cells.entry.0.now, cells.entry.1.now, cells.entry.2.now) }
+{
+    let time = limited(1_000_000_000_000_000, cells.0)?;
+    let seen = limited(10_000_000_000_000_000, cells.1)?;
+    let value = signed(cells.2)?;
+    Some(Row { time, seen, value })
+}
+
+fn order_fault(number: u32, before: Option<Row>, row: Row) -> Option<RowFault>
+    ensures { result ≡ order_fault number before row }
+{
+    if let Some(before) = before {
+        if row.time <= before.time {
+            return Some(RowFault::TimeOrder(number));
+        }
+        if row.seen < before.seen {
+            return Some(RowFault::SeenOrder(number));
+        }
+    }
+    if row.seen < row.time {
+        Some(RowFault::SeenEarly(number))
+    } else {
+        None
+    }
+}
+
+/// Whether a record is the header.
+fn is_header(line: &ByteRecord) -> bool
+    ensures { result ≡ is_header (fields_of line.now) }
+{
+    match cells(line) {
+        Some(cells) => are_titles(cells),
+        None => false,
+    }
+}
+
+fn are_titles(cells: (&[u8], &[u8], &[u8])) -> bool
+    ensures { result ≡ are_titles (cells.entry.0.now, cells.entry.1.now, cells.entry.2.now) }
+{
+    cells.0 == b"time".as_slice() && cells.1 == b"seen".as_slice() && cells.2 == b"value".as_slice()
+}
