@@ -1,0 +1,4 @@
+pub mod Means
+pub mod Totals
+pub mod Cells
+pub mod Guards

@@ -1,0 +1,7 @@
+-- A list of tasks, and for how many more there is room.
+use Rattle.std.specs.Prelude.{ℕ, List}
+use Rattle.pt_types.specs.declared.firing.Task.{Task}
+
+pub record Roomy : Type 0 where
+  pub tasks : List Task
+  pub spare : ℕ

@@ -1,0 +1,42 @@
+//! Calls of stored functions.
+
+ghost use Rattle.std.specs.Prelude.{◌≡◌, IsTrue};
+ghost use Rattle.pt_types.specs.Kinds.{law_in_range};
+ghost use Rattle.pt_semantics.specs.Laws.{law_value};
+
+use crate::law::law_value;
+use pt_blocks::{Blocks, Function};
+use pt_types::Law;
+
+/// The value of the block of that number and law for a and b: what its stored function gives, if there is one.
+pub(crate) fn block_value(blocks: Option<&Blocks>, number: u32, law: Law, a: i64, b: i64) -> i64
+    requires { IsTrue (law_in_range law) }
+    ensures { result ≡ law_value law a b }
+{
+    match blocks {
+        Some(blocks) => match blocks.get(number) {
+            Some(function) => value_by(function, law, a, b),
+            None => law_value(law, a, b),
+        },
+        None => law_value(law, a, b),
+    }
+}
+
+/// What a function gives, where it has that law, and else what the law itself makes.
+fn value_by(function: &Function, law: Law, a: i64, b: i64) -> i64
+    requires { IsTrue (law_in_range law) }
+    ensures { result ≡ law_value law a b }
+{
+    if is_same(function.law(), law) {
+        function.call(a, b)
+    } else {
+        law_value(law, a, b)
+    }
+}
+
+/// Whether two laws are the same, with their numbers.
+fn is_same(a: Law, b: Law) -> bool
+    ensures { IsTrue result → a ≡ b }
+{
+    a == b
+}
