@@ -1,0 +1,91 @@
+//! The outputs of a firing, on their way along the edges that leave its actor.
+
+ghost use Rattle.std.specs.Prelude.{◌≡◌, ◌<◌, ◌≤◌, ◌+◌, ◌^◌, ℕ, IfSome, IfNone, OnOk, [], ◌∷◌, slice_index_or};
+ghost use Rattle.pt_tags.specs.Tags.{plus};
+ghost use Rattle.pt_types.specs.declared.graph.Graph.{Graph};
+ghost use Rattle.pt_semantics.specs.Lists.{Each};
+ghost use Rattle.pt_semantics.specs.Meaning.{added, going, leaves_actor};
+ghost use Rattle.pt_meaning.specs.Waiting.{waits_in, rank_in, IsSound};
+ghost use Rattle.pt_meaning.specs.Emission.{IsUsable, AddsOneStep};
+
+use crate::pending::{Pending, Place};
+use pt_tags::{Delay, Memory, Tag};
+use pt_types::{Edge, Ports};
+
+/// The rank of an actor.
+pub fn rank_at(ranks: &[u32], actor: u32) -> u32
+    ensures { result ≡ rank_in ranks.now actor }
+{
+    ranks.get(actor as usize).copied().unwrap_or(0)
+}
+
+/// The tag that lies later by a weight, where it isn't past the horizon.
+fn within(tag: Tag, weight: Delay, until: u64) -> Option<Tag>
+    requires { tag.step + weight.step < 2 ^ 64 }
+    ensures some { IfSome result (λ later. (later ≡ plus tag weight) × (later.time ≤ until)) }
+    ensures none { IfNone result (until < tag.time + weight.time) }
+{
+    let later = tag.plus(weight)?;
+    if later.time <= until {
+        Some(later)
+    } else {
+        None
+    }
+}
+
+/// What goes along one edge, where it leaves the actor, has a value and isn't past the horizon.
+fn emit_along(
+    pending: &mut Pending,
+    ranks: &[u32],
+    until: u64,
+    actor: u32,
+    edge: Edge,
+    tag: Tag,
+    outputs: &Ports,
+) -> Result<(), Memory>
+    requires step { tag.step + edge.weight.step < 2 ^ 64 }
+    ensures waits { OnOk result ((g : Graph) → g.until ≡ until → waits_in (rank_in ranks.now) pending.new.events
+        ≡ added (waits_in (rank_in ranks.now) pending.old.events) (going g (edge ∷ []) (leaves_actor actor) tag outputs.now)) }
+    ensures sound { OnOk result ((actors steps : ℕ) → IsUsable actors edge → tag.step + 1 ≤ steps
+        → IsSound (rank_in ranks.now) actors steps pending.old.events → IsSound (rank_in ranks.now) actors steps pending.new.events) }
+{
+    if edge.from != actor {
+        return Ok(());
+    }
+    let Some(value) = outputs.get(edge.output) else {
+        return Ok(());
+    };
+    let Some(tag) = within(tag, edge.weight, until) else {
+        return Ok(());
+    };
+    let place = Place {
+        tag,
+        rank: rank_at(ranks, edge.to),
+        actor: edge.to,
+        port: edge.input,
+    };
+    pending.add(place, value)
+}
+
+/// What goes along edges from an actor that fired at a tag.
+pub fn emit(
+    pending: &mut Pending,
+    ranks: &[u32],
+    until: u64,
+    actor: u32,
+    edges: &[Edge],
+    tag: Tag,
+    outputs: &Ports,
+) -> Result<(), Memory>
+    requires step { tag.step + 1 < 2 ^ 64 }
+    requires edges { Each AddsOneStep edges.now }
+    ensures waits { OnOk result ((g : Graph) → g.until ≡ until → waits_in (rank_in ranks.now) pending.new.events
+        ≡ added (waits_in (rank_in ranks.now) pending.old.events) (going g edges.now (leaves_actor actor) tag outputs.now)) }
+    ensures sound { OnOk result ((actors steps : ℕ) → Each (IsUsable actors) edges.now → tag.step + 1 ≤ steps
+        → IsSound (rank_in ranks.now) actors steps pending.old.events → IsSound (rank_in ranks.now) actors steps pending.new.events) }
+{
+    for edge in edges {
+        emit_along(pending, ranks, until, actor, *edge, tag, outputs)?;
+    }
+    Ok(())
+}

@@ -1,0 +1,143 @@
+//! The global list: the first event's actor fires, again and again, until nothing waits.
+
+ghost use Rattle.std.specs.Prelude.{◌≡◌, ◌<◌, ◌≤◌, ◌+◌, ◌^◌, ℕ, true, IfOk, IsErrOf, length, filter, map};
+ghost use Rattle.pt_semantics.specs.Edges.{edges, kind_of};
+ghost use Rattle.pt_semantics.specs.Lists.{Each};
+ghost use Rattle.pt_semantics.specs.Meaning.{Fires, IsFirst, IsMeaning, IsLonger, after_firing, at_start, leaves_actor, put_state, rows_until, waiting};
+ghost use Rattle.pt_semantics.specs.Firing.{any_present, fired};
+ghost use Rattle.pt_meaning.specs.Waiting.{waits_in, rank_in, IsSound};
+ghost use Rattle.pt_meaning.specs.Opening.{rows_for, IsOfActors};
+ghost use Rattle.pt_meaning.specs.Running.{world_in, states_in, state_at_start, firing_of, IsRunnable, IsWiring};
+
+use crate::emission::{emit, rank_at};
+use crate::opening::opening;
+use crate::pending::Pending;
+use pt_actors::fire_kind;
+use pt_sensors::SensorRows;
+use pt_tags::{Memory, Tag};
+use pt_types::{Actor, ActorFiring, Edge, Fired, Graph, Kind, Ports};
+use std::alloc::{AllocError, Global};
+
+/// The events that wait and the states of the actors.
+#[derive(Drop)]
+pub struct GlobalList {
+    pub pending: Pending,
+    pub states: Vec<i64>,
+}
+
+/// The state of an actor at the start.
+#[tactic(auto, unfolding(crate::specs::Running::state_at_start))]
+fn state_at_start(actor: &Actor) -> i64
+    ensures { result ≡ state_at_start actor.now }
+{
+    match &actor.kind {
+        Kind::Machine { start, .. } => *start,
+        _ => 0,
+    }
+}
+
+/// The states of a graph's actors at the start.
+fn states(alloc: Global, graph: &Graph) -> Result<Vec<i64>, AllocError>
+    ensures { IfOk result (λ v. v.items ≡ map state_at_start graph.now.actors) }
+{
+    let mut states = Vec::new(alloc);
+    for actor in graph.actors.as_slice() {
+        states.push(state_at_start(actor))?;
+    }
+    Ok(states)
+}
+
+/// What waits and what is kept before anything fires.
+pub fn begin(
+    alloc: Global,
+    graph: &Graph,
+    ranks: &[u32],
+    sensors: &[SensorRows],
+) -> Result<GlobalList, Memory>
+    requires actors { length graph.now.actors < 2 ^ 32 }
+    requires sensors { Each (IsOfActors (length graph.now.actors)) sensors.now }
+    ensures world { IfOk result (λ list. world_in ranks.now list.pending.events list.states.items ≡ at_start graph.now (λ a. rows_until graph.now.until (rows_for sensors.now a))) }
+    ensures states { IfOk result (λ list. length list.states.items ≡ length graph.now.actors) }
+    ensures sound { IfOk result (λ list. IsSound (rank_in ranks.now) (length graph.now.actors) 0 list.pending.events) }
+{
+    let pending = opening(alloc, graph, ranks, sensors)?;
+    match states(alloc, graph) {
+        Ok(states) => Ok(GlobalList { pending, states }),
+        Err(_) => Err(Memory),
+    }
+}
+
+/// What an actor does with these inputs.
+fn firing(graph: &Graph, states: &[i64], actor: u32, tag: Tag, inputs: Ports) -> ActorFiring
+    requires runnable { IsRunnable graph.now }
+    requires actor { actor < length graph.now.actors }
+    requires states { length states.now ≡ length graph.now.actors }
+    ensures { result ≡ firing_of graph.now (states_in states.now) actor tag inputs }
+{
+    let before = states[actor as usize];
+    let fired = fire_actor(graph, actor, before, &inputs);
+    ActorFiring {
+        actor,
+        tag,
+        inputs,
+        before,
+        after: fired.state,
+        outputs: fired.outputs,
+    }
+}
+
+/// What the actor of that number gives in a state on these inputs.
+fn fire_actor(graph: &Graph, actor: u32, state: i64, inputs: &Ports) -> Fired
+    requires runnable { IsRunnable graph.now }
+    requires actor { actor < length graph.now.actors }
+    ensures { result ≡ fired (kind_of graph.now actor) state inputs.now }
+{
+    let kind = &graph.actors.as_slice()[actor as usize].kind;
+    fire_kind(kind, state, inputs)
+}
+
+fn set_state(states: &mut Vec<i64>, actor: u32, value: i64)
+    requires { actor < length states.old.items }
+    ensures after { states_in states.new.items ≡ put_state (states_in states.old.items) actor value }
+    ensures len { length states.new.items ≡ length states.old.items }
+{
+    states[actor as usize] = value;
+}
+
+/// Fires the actor that comes first at its tag: its events are taken, and its outputs are put where they lead.
+pub fn fire_next(
+    list: &mut GlobalList,
+    graph: &Graph,
+    ranks: &[u32],
+    leaving: &[Edge],
+    tag: Tag,
+    actor: u32,
+) -> Result<ActorFiring, Memory>
+    requires runnable { IsRunnable graph.now }
+    requires leaving { leaving.now ≡ filter (leaves_actor actor) (edges graph.now) }
+    requires actor { actor < length graph.now.actors }
+    requires states { length list.old.states.items ≡ length graph.now.actors }
+    requires step { tag.step + 1 < 2 ^ 64 }
+    requires sound { (steps : ℕ) × IsSound (rank_in ranks.now) (length graph.now.actors) steps list.old.pending.events }
+    requires first { IsFirst (rank_in ranks.now) (waits_in (rank_in ranks.now) list.old.pending.events) actor tag }
+    requires present { any_present (waiting (waits_in (rank_in ranks.now) list.old.pending.events) actor tag) ≡ true }
+    ensures fires { IfOk result (λ x. Fires graph.now (rank_in ranks.now) (world_in ranks.now list.old.pending.events list.old.states.items) x) }
+    ensures after { IfOk result (λ x. world_in ranks.now list.new.pending.events list.new.states.items ≡ after_firing graph.now (world_in ranks.now list.old.pending.events list.old.states.items) x) }
+    ensures states { IfOk result (λ x. length list.new.states.items ≡ length graph.now.actors) }
+    ensures sound { IfOk result (λ x. (steps : ℕ) → tag.step + 1 ≤ steps → IsSound (rank_in ranks.now) (length graph.now.actors) steps list.old.pending.events → IsSound (rank_in ranks.now) (length graph.now.actors) steps list.new.pending.events) }
+{
+    let inputs = list.pending.take(tag, rank_at(ranks, actor), actor);
+    let firing = firing(graph, list.states.as_slice(), actor, tag, inputs);
+    set_state(&mut list.states, actor, firing.after);
+    let outputs = &firing.outputs;
+    emit(
+        &mut list.pending,
+        ranks,
+        graph.until,
+        actor,
+        leaving,
+        tag,
+        outputs,
+    )?;
+    Ok(firing)
+}

@@ -1,0 +1,86 @@
+//! The meaning of a graph and rows.
+
+ghost use Rattle.std.specs.Prelude.{◌≡◌, ◌≤◌, IfOk, IsErrOf, length};
+ghost use Rattle.pt_types.specs.Lawful.{IsLawful};
+ghost use Rattle.pt_semantics.specs.Lists.{Each};
+ghost use Rattle.pt_semantics.specs.Meaning.{IsMeaning, IsLonger, rows_until};
+ghost use Rattle.pt_meaning.specs.Waiting.{rank_in};
+ghost use Rattle.pt_meaning.specs.Opening.{rows_for, IsOfActors};
+ghost use Rattle.pt_meaning.specs.Running.{IsRunnable, IsWiring};
+
+use crate::engine::{begin, fire_next};
+use crate::wiring::{all_edges, outgoing};
+use pt_sensors::SensorRows;
+use pt_tags::List;
+use pt_types::{ActorFiring, Edge, Graph};
+use std::alloc::Global;
+
+/// Why the meaning could not be had.
+#[derive(Clone, Copy, Debug, PartialEq, Eq)]
+pub enum MeaningFault {
+    /// Memory ran out.
+    Memory,
+    /// It has more firings than were asked for.
+    Long,
+}
+
+/// The firings that are the meaning of a graph with these rows, in their order: by tag, then by rank, then by actor.
+///
+/// `ranks` are those of the graph's actors; rows past the horizon take no part. At most `most` firings are given.
+pub fn reference(
+    alloc: Global,
+    graph: &Graph,
+    ranks: &[u32],
+    sensors: &[SensorRows],
+    most: usize,
+) -> Result<List<ActorFiring>, MeaningFault>
+    requires lawful { IsLawful graph.now }
+    requires sensors { Each (IsOfActors (length graph.now.actors)) sensors.now }
+    ensures meaning { IfOk result (λ firings. IsMeaning graph.now (rank_in ranks.now) (λ a. rows_until graph.now.until (rows_for sensors.now a)) firings) }
+    ensures most { IfOk result (λ firings. length firings ≤ most) }
+    ensures long { IsErrOf result MeaningFault.Long → IsLonger graph.now (rank_in ranks.now) (λ a. rows_until graph.now.until (rows_for sensors.now a)) most }
+{
+    let Ok(edges) = all_edges(alloc, graph) else {
+        return Err(MeaningFault::Memory);
+    };
+    let Ok(outgoing) = outgoing(alloc, graph, edges.as_slice()) else {
+        return Err(MeaningFault::Memory);
+    };
+    run(alloc, graph, ranks, sensors, outgoing.as_slice(), most)
+}
+
+/// Fires one actor after another until nothing waits.
+fn run(
+    alloc: Global,
+    graph: &Graph,
+    ranks: &[u32],
+    sensors: &[SensorRows],
+    outgoing: &[List<Edge>],
+    most: usize,
+) -> Result<List<ActorFiring>, MeaningFault>
+    requires runnable { IsRunnable graph.now }
+    requires sensors { Each (IsOfActors (length graph.now.actors)) sensors.now }
+    requires wiring { IsWiring graph.now outgoing.now }
+    requires len { length outgoing.now ≡ length graph.now.actors }
+    ensures meaning { IfOk result (λ firings. IsMeaning graph.now (rank_in ranks.now) (λ a. rows_until graph.now.until (rows_for sensors.now a)) firings) }
+    ensures most { IfOk result (λ firings. length firings ≤ most) }
+    ensures long { IsErrOf result MeaningFault.Long → IsLonger graph.now (rank_in ranks.now) (λ a. rows_until graph.now.until (rows_for sensors.now a)) most }
+{
+    let Ok(mut list) = begin(alloc, graph, ranks, sensors) else {
+        return Err(MeaningFault::Memory);
+    };
+    let mut firings = Vec::new(alloc);
+    while let Some((tag, actor)) = list.pending.first() {
+        if firings.len() >= most {
+            return Err(MeaningFault::Long);
+        }
+        let leaving = outgoing[actor as usize].as_slice();
+        let Ok(firing) = fire_next(&mut list, graph, ranks, leaving, tag, actor) else {
+            return Err(MeaningFault::Memory);
+        };
+        if firings.push(firing).is_err() {
+            return Err(MeaningFault::Memory);
+        }
+    }
+    Ok(List::new(firings))
+}

@@ -1,0 +1,11 @@
+//! What a run writes: the tables of the actuators as text.
+//!
+//! Each text is made by functions that append one line; loops call them. The texts are defined in
+//! `specs/Tables.antt` of pt_semantics.
+//!
+//! Read first: `tables`.
+#![tactic(auto)]
+
+mod text;
+
+pub use text::tables;
