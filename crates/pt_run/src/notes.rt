@@ -1,0 +1,84 @@
+//! The line that tells of a fault.
+
+ghost use Rattle.std.specs.Prelude.{◌≡◌, ◌++◌, [], ◌∷◌, OnOk, option_map, string_bytes};
+ghost use Rattle.pt_run.specs.Notes.{actor_name, note_line, platform_name, read_line};
+
+use crate::fault::Fault;
+use pt_graph::fault_line as graph_line;
+use pt_io::Sink;
+use pt_sensors::fault_line as sensor_line;
+use pt_types::Graph;
+use std::alloc::{AllocError, Global};
+
+const USAGE: &str = "usage: ptides run GRAPH\n";
+
+/// Puts the line of a fault on notes. Where memory runs out or the put fails, the line is missing and nothing else changes.
+pub fn tell<E: Sink>(alloc: Global, notes: &mut E, fault: Fault, graph: Option<&Graph>) {
+    let mut line = String::new(alloc);
+    if push_line(&mut line, &fault, graph).is_ok() {
+        let _ = notes.put(line.as_str().as_bytes());
+    }
+}
+
+/// Appends the line of a fault. The names of actors and platforms are those of the graph, where there is one.
+fn push_line(line: &mut String, fault: &Fault, graph: Option<&Graph>) -> Result<(), AllocError>
+    ensures { OnOk result (string_bytes line.new ≡ string_bytes line.old ++ note_line fault.now (option_map (λ g. g.now) graph.entry)) }
+{
+    match fault {
+        Fault::Usage => line.push_str(USAGE),
+        Fault::Graph(fault) => graph_line(line, fault),
+        Fault::Form => line.push_str("graph: form\n"),
+        Fault::Sensor { actor, fault } => sensor_line(line, actor_name(graph, *actor), fault),
+        Fault::Long { platform } => push_name(line, "long ", platform_name(graph, *platform)),
+        Fault::Read { sensor } => push_read(line, *sensor, graph),
+        Fault::Write => line.push_str("write fault\n"),
+        Fault::Memory => line.push_str("memory\n"),
+    }
+}
+
+/// Appends the line of a read that failed.
+fn push_read(
+    line: &mut String,
+    sensor: Option<u32>,
+    graph: Option<&Graph>,
+) -> Result<(), AllocError>
+    ensures { OnOk result (string_bytes line.new ≡ string_bytes line.old ++ read_line sensor (option_map (λ g. g.now) graph.entry)) }
+{
+    match sensor {
+        Some(actor) => push_name(line, "read fault: sensor ", actor_name(graph, actor)),
+        None => line.push_str("read fault: graph\n"),
+    }
+}
+
+/// Appends a line that ends with a name.
+fn push_name(line: &mut String, start: &str, name: &str) -> Result<(), AllocError>
+    ensures { OnOk result (string_bytes line.new ≡ string_bytes line.old ++ (start.now ++ name.now ++ 10 ∷ [])) }
+{
+    line.push_str(start)?;
+    line.push_str(name)?;
+    line.push_str("\n")
+}
+
+fn actor_name(graph: Option<&Graph>, actor: u32) -> &str
+    ensures { result.now ≡ actor_name (option_map (λ g. g.now) graph.entry) actor }
+{
+    let Some(graph) = graph else {
+        return "";
+    };
+    match graph.actors.as_slice().get(actor as usize) {
+        Some(actor) => actor.name.as_str(),
+        None => "",
+    }
+}
+
+fn platform_name(graph: Option<&Graph>, platform: u32) -> &str
+    ensures { result.now ≡ platform_name (option_map (λ g. g.now) graph.entry) platform }
+{
+    let Some(graph) = graph else {
+        return "";
+    };
+    match graph.platforms.as_slice().get(platform as usize) {
+        Some(name) => name.as_str(),
+        None => "",
+    }
+}

@@ -1,0 +1,36 @@
+//! The output, line by line.
+
+ghost use Rattle.std.specs.Prelude.{◌≡◌, ◌<◌, ◌≤◌, length, OnOk, OnErr};
+ghost use Rattle.pt_io.specs.Causes.{Appends, AppendsPart, Rose};
+
+use pt_io::{PutFault, Sink};
+
+/// Puts a text line by line, each line with its line feed in one put.
+pub fn put_lines<K: Sink>(out: &mut K, text: &[u8]) -> Result<(), PutFault>
+    ensures all { OnOk result (Appends (K.written out.old) (K.written out.new) text.now) }
+    ensures part { OnErr result (AppendsPart (K.written out.old) (K.written out.new) text.now) }
+    ensures failed { OnErr result (Rose (K.faults out.old) (K.faults out.new)) }
+    ensures grows { K.faults out.old ≤ K.faults out.new }
+{
+    let mut rest = text;
+    while !rest.is_empty() {
+        let (line, more) = rest.split_at(line_len(rest));
+        match out.put(line) {
+            Ok(()) => rest = more,
+            Err(fault) => return Err(fault),
+        }
+    }
+    Ok(())
+}
+
+/// The length of the first line, with its line feed.
+fn line_len(text: &[u8]) -> usize
+    requires { 0 < length text.now }
+    ensures some { 0 < result }
+    ensures within { result ≤ length text.now }
+{
+    match text.iter().position(|b| *b == b'\n') {
+        Some(n) => n + 1,
+        None => text.len(),
+    }
+}
