@@ -7,3 +7,4 @@ pub mod Graphs
 pub mod EndFaults
 pub mod GraphOf
 pub mod Index
+pub mod Checking

@@ -6,10 +6,9 @@ ghost use Rattle.pt_blocks.specs.Blocks.{law_at};
 ghost use Rattle.pt_graph_text.specs.declared.kinds.KindText.TheVariants as text;
 ghost use Rattle.pt_types.specs.Groups.{held};
 ghost use Rattle.pt_graph.specs.Index.{at_name};
-ghost use Rattle.pt_graph.specs.Graphs.{small, number_or_0, block_of, emit_from, row_from, kind_from, with_ports, platform_number, actor_from, wire_from, link_from, pair_from, actors_of, wires_of, links_of, is_number_kind};
+ghost use Rattle.pt_graph.specs.Graphs.{small, number_or_0, block_of, emit_from, row_from, kind_from, with_ports, platform_number, actor_from, wire_from, link_from, pair_from, actors_of, is_number_kind};
 
 use crate::blocks::find;
-use crate::index::numbers;
 use crate::known::{index_of, number_at};
 use pt_blocks::Named;
 use pt_graph_text::{ActorText, Document, KindText, LinkText, PairText, RowText, WireText};
@@ -253,15 +252,8 @@ fn platform_number(platforms: &List<Name>, name: &Name) -> u32
     number_or_0(index_of(platforms.as_slice(), name.as_str()))
 }
 
-/// The wires of the file, by numbers of actors.
-pub fn wires_of(alloc: Global, document: &Document) -> Result<Vec<Wire>, AllocError>
-    ensures { IfOk result (λ v. v.items ≡ wires_of document.now) }
-{
-    let numbers = numbers(alloc, document.actors.as_slice())?;
-    all_wires(alloc, &numbers, document.wires.as_slice())
-}
-
-fn all_wires<'a>(
+/// The wires of the file, by these numbers of actors.
+pub fn wires_of<'a>(
     alloc: Global,
     numbers: &BTreeMap<&'a str, usize>,
     wires: &'a [WireText],
@@ -275,15 +267,8 @@ fn all_wires<'a>(
     Ok(done)
 }
 
-/// The links, by numbers of actors.
-pub fn links_of(alloc: Global, document: &Document) -> Result<Vec<Link>, AllocError>
-    ensures { IfOk result (λ v. v.items ≡ links_of document.now) }
-{
-    let numbers = numbers(alloc, document.actors.as_slice())?;
-    all_links(alloc, &numbers, document.links.as_slice())
-}
-
-fn all_links<'a>(
+/// The links, by these numbers of actors.
+pub fn links_of<'a>(
     alloc: Global,
     numbers: &BTreeMap<&'a str, usize>,
     links: &'a [LinkText],

@@ -68,7 +68,8 @@ fn loose(actors: &[Actor], wires: &[Wire]) -> Option<usize>
     wires.iter().position(|w| !ends_fit(actors, w))
 }
 
-fn ends_fit(actors: &[Actor], wire: &Wire) -> bool
+/// Whether both ends of a wire are visible ports: those of a hidden wire are not.
+pub fn ends_fit(actors: &[Actor], wire: &Wire) -> bool
     ensures { result ≡ ends_fit actors.now wire.now }
 {
     wire.output < outputs_at(actors, wire.from) && wire.input < inputs_at(actors, wire.to)

@@ -9,9 +9,9 @@ ghost use Rattle.pt_graph_text.specs.declared.document.ActorText.{ActorText};
 ghost use Rattle.pt_graph_text.specs.declared.document.LinkText.{LinkText};
 ghost use Rattle.pt_graph_text.specs.declared.document.WireText.{WireText};
 ghost use Rattle.pt_graph_text.specs.declared.document.PairText.{PairText};
-ghost use Rattle.pt_graph.specs.Known.{number_in, itself, actor_name, same_pair, pair_again_from, repeated_place, is_platform, is_known, unknown_place, unknown_by};
+ghost use Rattle.pt_graph.specs.Known.{number_in, itself, actor_name, same_pair, pair_again_from, repeated_place, is_platform, is_known, unknown_by};
 
-use crate::index::{numbers, repeated};
+use crate::index::repeated;
 use crate::ranges::found;
 use pt_graph_text::{ActorText, Document, LinkText, PairText, Part, Place, WireText};
 use pt_tags::{List, Name};
@@ -94,16 +94,12 @@ fn same_pair(pair: &PairText, other: &PairText) -> bool
         || (pair.a.as_str() == other.b.as_str() && pair.b.as_str() == other.a.as_str())
 }
 
-/// The first place that names no platform or no actor of the file.
-pub fn unknown_place(alloc: Global, document: &Document) -> Result<Option<Place>, AllocError>
-    ensures { IfOk result (λ p. p ≡ unknown_place document.now) }
-{
-    let numbers = numbers(alloc, document.actors.as_slice())?;
-    Ok(lost_place(document, &numbers))
-}
-
+/// The first place that names no platform or no actor of the file, where actors have these numbers.
 #[tactic(auto, unfolding(crate::specs::Known::unknown_by))]
-fn lost_place<'a>(document: &'a Document, numbers: &BTreeMap<&'a str, usize>) -> Option<Place>
+pub fn unknown_place<'a>(
+    document: &'a Document,
+    numbers: &BTreeMap<&'a str, usize>,
+) -> Option<Place>
     ensures { result ≡ unknown_by (at_name numbers.now) document.now }
 {
     found(Part::Actor, lost_actor(document))

@@ -16,6 +16,7 @@ mod naming;
 mod ranges;
 mod reader;
 
+pub use ends::ends_fit;
 pub use pt_graph_text::{GraphFault, Part, Place, What, fault_line};
 pub use pt_types::{Actor, Graph, Kind, Law, Link, MachineRow, PairError, Unit, Wire};
 pub use reader::{MOST_BYTES, read_graph};

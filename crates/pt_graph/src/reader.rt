@@ -8,14 +8,17 @@ ghost use Rattle.pt_graph_text.specs.declared.fault.GraphFault.TheVariants as fa
 ghost use Rattle.pt_graph.specs.Chains.{refused};
 ghost use Rattle.pt_graph.specs.Ranges.{range_place};
 ghost use Rattle.pt_graph.specs.Naming.{name_place};
-ghost use Rattle.pt_graph.specs.Known.{repeated_place, unknown_place};
+ghost use Rattle.pt_graph.specs.Known.{repeated_place, unknown_by};
+ghost use Rattle.pt_graph.specs.Index.{at_name};
+ghost use Rattle.pt_graph.specs.Checking.{GivesNumbers, GivesWiring};
 ghost use Rattle.pt_graph.specs.EndFaults.{joined, block_place};
 ghost use Rattle.pt_graph.specs.Graphs.{actors_of, wires_of, links_of, graph_with, whole};
-ghost use Rattle.pt_graph.specs.GraphOf.{json_of, checked, built, graph_in, graph_of};
+ghost use Rattle.pt_graph.specs.GraphOf.{json_of, built, graph_in, graph_of};
 
 use crate::blocks::block_place;
 use crate::convert::{actors_of, links_of, pairs_of, wires_of};
 use crate::ends::{check_ends, refuse, with_hidden};
+use crate::index::numbers;
 use crate::known::{repeated_place, unknown_place};
 use crate::limits::too_many;
 use crate::naming::name_place;
@@ -26,6 +29,7 @@ use pt_tags::{List, Name};
 use pt_types::{Actor, Graph, Link, PairError, Wire};
 use serde_json::Value;
 use std::alloc::{AllocError, Global};
+use std::collections::BTreeMap;
 
 /// The longest graph file, in bytes.
 pub const MOST_BYTES: usize = 1_048_576;
@@ -50,8 +54,9 @@ fn graph_in(alloc: Global, bytes: &[u8], listed: &[Named]) -> Result<Graph, Grap
 {
     let value = json(alloc, bytes)?;
     let document = read_document(alloc, &value)?;
-    check(alloc, &document)?;
-    build(alloc, document, listed)
+    drop(value);
+    let wiring = wired(alloc, &document)?;
+    build(alloc, document, wiring, listed)
 }
 
 /// The value of the bytes.
@@ -70,16 +75,40 @@ fn json(alloc: Global, bytes: &[u8]) -> Result<Value, GraphFault>
     }
 }
 
-/// The checks of a document, from its limits to its unknown names.
+/// The wires and links of a document, by numbers of actors.
+struct Wiring {
+    wires: Vec<Wire>,
+    links: Vec<Link>,
+}
+
+/// The wires and links of a document, once it passed its checks.
+fn wired(alloc: Global, document: &Document) -> Result<Wiring, GraphFault>
+    ensures { GivesWiring document.now result }
+{
+    let numbers = check(alloc, document)?;
+    let Ok(wires) = wires_of(alloc, &numbers, document.wires.as_slice()) else {
+        return Err(GraphFault::Memory);
+    };
+    let Ok(links) = links_of(alloc, &numbers, document.links.as_slice()) else {
+        return Err(GraphFault::Memory);
+    };
+    Ok(Wiring { wires, links })
+}
+
+/// The checks of a document, from its limits to its unknown names. Where it passes, the numbers of its actors are given.
 #[tactic(auto, unfolding(crate::specs::GraphOf::checked))]
-fn check(alloc: Global, document: &Document) -> Result<(), GraphFault>
-    ensures { Gives (checked document.now) result }
+fn check<'a>(alloc: Global, document: &'a Document) -> Result<BTreeMap<&'a str, usize>, GraphFault>
+    ensures { GivesNumbers document.now result }
 {
     refuse(too_many(document))?;
     refuse(range_fault(document))?;
     refuse(name_fault(document))?;
     check_repeated(alloc, document)?;
-    check_unknown(alloc, document)
+    let Ok(numbers) = numbers(alloc, document.actors.as_slice()) else {
+        return Err(GraphFault::Memory);
+    };
+    refuse(unknown_fault(document, &numbers))?;
+    Ok(numbers)
 }
 
 fn range_fault(document: &Document) -> Option<GraphFault>
@@ -104,14 +133,13 @@ fn check_repeated(alloc: Global, document: &Document) -> Result<(), GraphFault>
     }
 }
 
-fn check_unknown(alloc: Global, document: &Document) -> Result<(), GraphFault>
-    ensures { Gives (refused (option_map fault.Unknown (unknown_place document.now))) result }
+fn unknown_fault<'a>(
+    document: &'a Document,
+    numbers: &BTreeMap<&'a str, usize>,
+) -> Option<GraphFault>
+    ensures { result ≡ option_map fault.Unknown (unknown_by (at_name numbers.now) document.now) }
 {
-    match unknown_place(alloc, document) {
-        Ok(Some(place)) => Err(GraphFault::Unknown(place)),
-        Ok(None) => Ok(()),
-        Err(_) => Err(GraphFault::Memory),
-    }
+    unknown_place(document, numbers).map(GraphFault::Unknown)
 }
 
 fn block_fault(document: &Document, listed: &[Named]) -> Option<GraphFault>
@@ -122,16 +150,18 @@ fn block_fault(document: &Document, listed: &[Named]) -> Option<GraphFault>
 
 /// The graph of a document that passed the checks before.
 #[tactic(auto, unfolding(crate::specs::GraphOf::built))]
-fn build(alloc: Global, document: Document, listed: &[Named]) -> Result<Graph, GraphFault>
+fn build(
+    alloc: Global,
+    document: Document,
+    wiring: Wiring,
+    listed: &[Named],
+) -> Result<Graph, GraphFault>
+    requires wires { wiring.wires.items ≡ wires_of document }
+    requires links { wiring.links.items ≡ links_of document }
     ensures { Gives (built listed.now document) result }
 {
+    let Wiring { wires, links } = wiring;
     let Ok(actors) = actors_of(alloc, listed, &document) else {
-        return Err(GraphFault::Memory);
-    };
-    let Ok(wires) = wires_of(alloc, &document) else {
-        return Err(GraphFault::Memory);
-    };
-    let Ok(links) = links_of(alloc, &document) else {
         return Err(GraphFault::Memory);
     };
     check_ends(alloc, actors.as_slice(), wires.as_slice(), links.as_slice())?;

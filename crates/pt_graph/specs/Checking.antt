@@ -1,0 +1,22 @@
+-- What the checks of a document hand on.
+use Rattle.std.specs.Prelude.{◌≡◌, ◌≢◌, ℕ, List, Result, Ok, Err}
+use Rattle.std.specs.BTreeMap.{BTreeMap}
+use denote.Ref.{Bor}
+use Rattle.pt_graph_text.specs.declared.document.Document.{Document}
+use Rattle.pt_graph_text.specs.declared.fault.GraphFault.{GraphFault}
+use Rattle.pt_graph_text.specs.declared.fault.GraphFault.TheVariants as fault
+use Rattle.pt_graph.specs.declared.reader.Wiring.{Wiring}
+use Rattle.pt_graph.specs.Known.{number_in, actor_name}
+use Rattle.pt_graph.specs.Index.{at_name}
+use Rattle.pt_graph.specs.Graphs.{wires_of, links_of}
+use Rattle.pt_graph.specs.GraphOf.{checked}
+
+-- a document passed its checks, and a map has the numbers of its actors; or it has this fault
+abbrev pub GivesNumbers : Document → Result (BTreeMap (Bor (List ℕ)) ℕ) GraphFault → Type 0
+GivesNumbers d (Ok m) = (checked d ≡ Ok tt) × (at_name m ≡ number_in actor_name d.actors)
+GivesNumbers d (Err e) = e ≢ fault.Memory → checked d ≡ Err e
+
+-- a document passed its checks, and these are its wires and links; or it has this fault
+abbrev pub GivesWiring : Document → Result Wiring GraphFault → Type 0
+GivesWiring d (Ok w) = (checked d ≡ Ok tt) × (w.wires.items ≡ wires_of d) × (w.links.items ≡ links_of d)
+GivesWiring d (Err e) = e ≢ fault.Memory → checked d ≡ Err e

@@ -1,0 +1,9 @@
+pub mod Plain
+pub mod Wholes
+pub mod KindsBack
+pub mod NamesBack
+pub mod PartsBack
+pub mod WiresBack
+pub mod Second
+pub mod Back
+pub mod LineFeed
