@@ -29,10 +29,6 @@ pub record IsRunnable (g : Graph) : Type 0 where
   pub kinds : list_all (λ (a : Actor). kind_is_lawful a.kind) g.actors ≡ true
   pub edges : Each (IsUsable (length g.actors)) (edges g)
 
--- the edges that leave each actor
-abbrev pub IsWiring : Graph → List (List Edge) → Type 0
-IsWiring g outgoing = (a : ℕ) → a < length g.actors → slice_index_or outgoing a [] ≡ filter (leaves_actor a) (edges g)
-
 -- the state of an actor at the start
 unfoldable pub state_at_start : Actor → ℤ
 state_at_start a = first_state a.kind

@@ -7,7 +7,7 @@ ghost use Rattle.pt_semantics.specs.Meaning.{Fires, IsFirst, IsMeaning, IsLonger
 ghost use Rattle.pt_semantics.specs.Firing.{any_present, fired};
 ghost use Rattle.pt_meaning.specs.Waiting.{waits_in, rank_in, IsSound};
 ghost use Rattle.pt_meaning.specs.Opening.{rows_for, IsOfActors};
-ghost use Rattle.pt_meaning.specs.Running.{world_in, states_in, state_at_start, firing_of, IsRunnable, IsWiring};
+ghost use Rattle.pt_meaning.specs.Running.{world_in, states_in, state_at_start, firing_of, IsRunnable};
 
 use crate::emission::{emit, rank_at};
 use crate::opening::opening;

@@ -11,7 +11,5 @@ mod engine;
 mod meaning;
 mod opening;
 mod pending;
-mod wiring;
 
 pub use meaning::{MeaningFault, reference};
-pub use wiring::all_edges;

@@ -6,10 +6,12 @@ ghost use Rattle.pt_semantics.specs.Lists.{Each};
 ghost use Rattle.pt_semantics.specs.Meaning.{IsMeaning, IsLonger, rows_until};
 ghost use Rattle.pt_meaning.specs.Waiting.{rank_in};
 ghost use Rattle.pt_meaning.specs.Opening.{rows_for, IsOfActors};
-ghost use Rattle.pt_meaning.specs.Running.{IsRunnable, IsWiring};
+ghost use Rattle.pt_meaning.specs.Running.{IsRunnable};
+ghost use Rattle.pt_edges.specs.Wiring.{IsWiring};
 
 use crate::engine::{begin, fire_next};
-use crate::wiring::{all_edges, outgoing};
+
+use pt_edges::{all_edges, outgoing};
 use pt_sensors::SensorRows;
 use pt_tags::List;
 use pt_types::{ActorFiring, Edge, Graph};

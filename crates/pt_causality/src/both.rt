@@ -1,0 +1,32 @@
+//! Least delays and ranks.
+
+ghost use Rattle.std.specs.Prelude.{IfOk, IfErr};
+ghost use Rattle.pt_types.specs.Lawful.{IsLawful};
+ghost use Rattle.pt_semantics.specs.Ranks.{AreLevels, AreRanks};
+ghost use Rattle.pt_delays.specs.Delays.{least_of, AreLeast, AreSmall};
+ghost use Rattle.pt_ranks.specs.Ranked.{level_of, rank_of, CauseOfCycle};
+
+use pt_delays::{Least, least_delays};
+use pt_ranks::{CycleFault, Ranks, ranks_of};
+use pt_types::Graph;
+use std::alloc::Global;
+
+/// The least delay between any two units of a graph and the rank and the level of each actor, or a cycle that takes no
+/// time, of which the first actor has the least number.
+pub fn causality(alloc: Global, graph: &Graph) -> Result<(Least, Ranks), CycleFault>
+    requires lawful { IsLawful graph.now }
+    ensures least { IfOk result (λ both. AreLeast graph.now (least_of both.0)) }
+    ensures small { IfOk result (λ both. AreSmall (least_of both.0)) }
+    ensures ranks { IfOk result (λ both. AreRanks graph.now (rank_of both.1)) }
+    ensures levels { IfOk result (λ both. AreLevels graph.now (level_of both.1)) }
+    ensures cycle { IfErr result (λ fault. CauseOfCycle fault graph.now) }
+{
+    let ranks = match ranks_of(alloc, graph) {
+        Ok(ranks) => ranks,
+        Err(fault) => return Err(fault),
+    };
+    match least_delays(alloc, graph) {
+        Ok(least) => Ok((least, ranks)),
+        Err(_) => Err(CycleFault::Memory),
+    }
+}

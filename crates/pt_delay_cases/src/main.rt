@@ -1,0 +1,78 @@
+//! Reads a graph from each line of its input, and writes the least delays between its units.
+//!
+//! A line of the output has two units, each as actor and group, and the least delay from the first to the second,
+//! as time and step. An empty line ends each graph. What `stdout` must have was found by hand.
+#![tactic(auto)]
+
+ghost use Rattle.std.specs.Prelude.{◌<◌, ◌^◌, length};
+
+use pt_blocks::Blocks;
+use pt_delays::{Least, least_delays};
+use pt_graph::read_graph;
+use pt_types::{Graph, Unit};
+use std::alloc::{AllocError, Global};
+use std::io;
+
+fn main(rt: HostRuntime) -> io::Result<()> {
+    let alloc = rt.alloc();
+    let blocks = Blocks::new(alloc);
+    for line in rt.lines(alloc) {
+        let text = table(alloc, line?.as_str(), &blocks)?;
+        println!(rt; "{text}")?;
+    }
+    Ok(())
+}
+
+/// The table of a graph.
+fn table(alloc: Global, text: &str, blocks: &Blocks) -> Result<String, AllocError> {
+    let mut table = String::new(alloc);
+    match read_graph(alloc, text.as_bytes(), blocks) {
+        Ok(graph) => match least_delays(alloc, &graph) {
+            Ok(least) => write_rows(&mut table, &graph, &least)?,
+            Err(_) => table.push_str("no memory\n")?,
+        },
+        Err(_) => table.push_str("no graph\n")?,
+    }
+    Ok(table)
+}
+
+fn write_rows(table: &mut String, graph: &Graph, least: &Least) -> Result<(), AllocError>
+    requires { length graph.now.actors < 2 ^ 32 }
+{
+    for actor in 0..graph.actors.as_slice().len() {
+        for group in 0..graph.groups(actor as u32) {
+            let from = Unit {
+                actor: actor as u32,
+                group,
+            };
+            write_row(table, graph, least, from)?;
+        }
+    }
+    Ok(())
+}
+
+fn write_row(table: &mut String, graph: &Graph, least: &Least, from: Unit) -> Result<(), AllocError>
+    requires { length graph.now.actors < 2 ^ 32 }
+{
+    for actor in 0..graph.actors.as_slice().len() {
+        for group in 0..graph.groups(actor as u32) {
+            let to = Unit {
+                actor: actor as u32,
+                group,
+            };
+            write_pair(table, least, from, to)?;
+        }
+    }
+    Ok(())
+}
+
+fn write_pair(table: &mut String, least: &Least, from: Unit, to: Unit) -> Result<(), AllocError> {
+    if let Some(delay) = least.get(from, to) {
+        write!(
+            table,
+            "{}.{} {}.{} {}.{}\n",
+            from.actor, from.group, to.actor, to.group, delay.time, delay.step
+        )?;
+    }
+    Ok(())
+}

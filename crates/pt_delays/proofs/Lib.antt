@@ -1,0 +1,10 @@
+pub mod CellOf
+pub mod Cells
+pub mod Fronts
+pub mod Lawful
+pub mod Leaving
+pub mod Members
+pub mod Numbering
+pub mod Reaching
+pub mod Searching
+pub mod Paths

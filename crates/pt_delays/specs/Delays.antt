@@ -1,0 +1,27 @@
+-- The least delays between the units of a graph.
+pub use Rattle.pt_delays.specs.Units.{IsUnit}
+use Rattle.std.specs.Prelude.{◌<◌, ◌^◌, IfSome, List, None, Option, Some}
+use Rattle.pt_tags.specs.declared.tag.Delay.{Delay}
+use Rattle.pt_types.specs.declared.graph.Graph.{Graph}
+use Rattle.pt_types.specs.declared.graph.Unit.{Unit as Part}
+use Rattle.pt_semantics.specs.Edges.{Edge}
+use Rattle.pt_semantics.specs.Paths.{Goes, IsLeast}
+use Rattle.pt_delays.specs.declared.least.Least.{Least}
+use Rattle.pt_delays.specs.Cells.{number_in, delay_at, row_at}
+
+-- the least delay from x to a; absent exactly where no path leads from x to a
+abbrev pub HasLeast : Graph → Part → Part → Option Delay → Type 0
+HasLeast g x a None = (path : List Edge) → Goes g x path a → ⊥
+HasLeast g x a (Some d) = IsLeast g x a d
+
+-- between all units of a graph
+abbrev pub AreLeast : Graph → (Part → Part → Option Delay) → Type 0
+AreLeast g least = (x a : Part) → IsUnit g x → IsUnit g a → HasLeast g x a (least x a)
+
+-- each delay is small: a program can add bounds and times to it
+abbrev pub AreSmall : (Part → Part → Option Delay) → Type 0
+AreSmall least = (x a : Part) → IfSome (least x a) (λ (d : Delay). (d.time < 2 ^ 62) × (d.step < 2 ^ 62))
+
+-- what a program's table of least delays holds
+abbrev pub least_of : Least → Part → Part → Option Delay
+least_of l x a = delay_at (row_at l.rows.items (number_in l.numbers.firsts.items x)) (number_in l.numbers.firsts.items a)

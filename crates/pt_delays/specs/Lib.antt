@@ -1,0 +1,6 @@
+pub mod Cells
+pub mod Units
+pub mod Numbered
+pub mod Waits
+pub mod Arcs
+pub mod Delays

@@ -1,0 +1,46 @@
+//! The table of least delays.
+
+ghost use Rattle.std.specs.Prelude.{◌≡◌, IfOk};
+ghost use Rattle.pt_types.specs.Lawful.{IsLawful};
+
+use crate::arcs::arcs_by_unit;
+use crate::row::Row;
+use crate::table::all_rows;
+use crate::units::Numbers;
+use pt_edges::wire_edges;
+use pt_tags::Delay;
+use pt_types::{Graph, Unit};
+use std::alloc::{AllocError, Global};
+
+/// The least delay from each unit to each other, over all paths of wires. (The rule is this project's own choice.)
+#[derive(Drop)]
+pub struct Least {
+    numbers: Numbers,
+    /// By the numbers of both units.
+    rows: Vec<Row>,
+}
+
+impl Least {
+    ghost use Rattle.pt_delays.specs.Delays.{least_of, AreLeast, AreSmall};
+
+    /// Finds all least delays of a graph.
+    pub(crate) fn new(alloc: Global, graph: &Graph) -> Result<Least, AllocError>
+        requires lawful { IsLawful graph.now }
+        ensures least { IfOk result (λ least. AreLeast graph.now (least_of least)) }
+        ensures small { IfOk result (λ least. AreSmall (least_of least)) }
+    {
+        let numbers = Numbers::new(alloc, graph)?;
+        let wires = wire_edges(alloc, graph)?;
+        let arcs = arcs_by_unit(alloc, graph, &numbers, wires.as_slice())?;
+        let rows = all_rows(alloc, arcs.as_slice())?;
+        Ok(Least { numbers, rows })
+    }
+
+    /// The least delay over all paths from `x` to `a`; `None` where no path leads from `x` to `a`.
+    pub fn get(&self, x: Unit, a: Unit) -> Option<Delay>
+        ensures { result ≡ least_of self.now x a }
+    {
+        let row = self.rows.get(self.numbers.of(x))?;
+        row.get(self.numbers.of(a))
+    }
+}

@@ -1,0 +1,48 @@
+//! Reads a graph from each line of its input, and writes its margins, or the sender that is infeasible.
+//!
+//! Its `stdin` has graphs whose offsets were worked out by hand, and `stdout` what each must give.
+#![tactic(auto)]
+
+use pt_blocks::Blocks;
+use pt_delays::least_delays;
+use pt_graph::read_graph;
+use pt_margins::margins;
+use pt_offsets::{OffsetFault, offsets_of};
+use std::alloc::{AllocError, Global};
+use std::io;
+
+fn main(rt: HostRuntime) -> io::Result<()> {
+    let alloc = rt.alloc();
+    let blocks = Blocks::new(alloc);
+    for line in rt.lines(alloc) {
+        let text = verdict(alloc, line?.as_str(), &blocks)?;
+        print!(rt; "{text}")?;
+    }
+    Ok(())
+}
+
+/// The margins of the graph of a text, or why it has none.
+fn verdict(alloc: Global, text: &str, blocks: &Blocks) -> Result<String, AllocError> {
+    let Ok(graph) = read_graph(alloc, text.as_bytes(), blocks) else {
+        return String::from_str(alloc, "no graph\n");
+    };
+    let Ok(least) = least_delays(alloc, &graph) else {
+        return Err(AllocError);
+    };
+    match offsets_of(alloc, &graph, &least) {
+        Ok(offsets) => margins(alloc, &graph, &offsets),
+        Err(fault) => refusal(alloc, fault),
+    }
+}
+
+/// Why a graph is refused.
+fn refusal(alloc: Global, fault: OffsetFault) -> Result<String, AllocError> {
+    match fault {
+        OffsetFault::Infeasible {
+            send,
+            offset,
+            slack,
+        } => format!(in alloc; "infeasible {send}, offset {offset}, slack {slack}\n"),
+        OffsetFault::Memory => Err(AllocError),
+    }
+}

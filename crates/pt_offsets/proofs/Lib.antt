@@ -1,0 +1,5 @@
+pub mod Admitted
+pub mod Maxima
+pub mod Small
+pub mod Sources
+pub mod Times
