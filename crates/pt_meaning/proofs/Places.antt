@@ -11,11 +11,9 @@ use Rattle.pt_types.specs.Ports.{when}
 use Rattle.pt_semantics.specs.Lists.{or_else}
 use Rattle.pt_semantics.specs.Meaning.{added}
 use Rattle.pt_meaning.specs.declared.pending.Place.{Place}
+use Rattle.pt_meaning.specs.Both.{IsUpTo}
+use Rattle.pt_meaning.specs.Front.{Enters, Replaces}
 use Rattle.pt_meaning.specs.Waiting.{place_cmp, place_of, waits_in, value_at, IsPlaced, IsSound}
-
--- a place that is not after another, by its parts
-abbrev pub IsUpTo : Place → Place → Type 0
-IsUpTo x y = (x.tag.time ≤ y.tag.time) × (y.tag.time ≤ x.tag.time → (x.tag.step ≤ y.tag.step) × (y.tag.step ≤ x.tag.step → (x.rank ≤ y.rank) × (y.rank ≤ x.rank → x.actor ≤ y.actor)))
 
 pub up_to : (x y : Place) → is_gt (place_cmp x y) ≡ false → IsUpTo x y
 up_to x y h = grind (arith, nat_tests, common_steps)
@@ -33,35 +31,49 @@ one_place x y h =
     let port : x.port ≡ y.port = grind (arith, nat_tests, common_steps) in
     λ i. record { tag = record { time = time i; step = step i }; rank = rank i; actor = actor i; port = port i }
 
--- a map that has one value more
-abbrev pub HasMore : BTreeMap Place ℤ → BTreeMap Place ℤ → Place → ℤ → Type 0
-HasMore old new place value = (q : Place) → tree.get place_cmp new q ≡ cond (is_eq (place_cmp place q)) (Some value) (tree.get place_cmp old q)
+-- the value that was replaced, and then put back
+pub same_again : (b : Bool) (x : Option ℤ) (first value : ℤ) → (b ≡ true → x ≡ Some first) → cond b (Some first) (cond b (Some value) x) ≡ or_else x (when b (Some value))
+same_again true x first value h = rw (h refl) refl
+same_again false None first value h = refl
+same_again false (Some v) first value h = refl
 
-more_by : (b : Bool) (old : Option ℤ) (value : ℤ) → (b ≡ true → old ≡ None) → cond b (Some value) old ≡ or_else old (when b (Some value))
-more_by true old value h = rw (h refl) refl
-more_by false None value h = refl
-more_by false (Some x) value h = refl
+-- a value where none was
+pub new_value : (b : Bool) (x : Option ℤ) (value : ℤ) → (b ≡ true → x ≡ None) → cond b (Some value) x ≡ or_else x (when b (Some value))
+new_value true x value h = rw (h refl) refl
+new_value false None value h = refl
+new_value false (Some v) value h = refl
 
-pub waits_add : (rank : ℕ → ℕ) (place : Place) (value : ℤ) (old new : BTreeMap Place ℤ) → place.rank ≡ rank place.actor → tree.get place_cmp old place ≡ None
-    → HasMore old new place value → waits_in rank new ≡ added (waits_in rank old) (value_at place value)
-waits_add rank place value old new ranked absent more = λ i a p t. at a p t i
+-- an event is put where none was
+pub enters_new : (place : Place) (value : ℤ) (old new : BTreeMap Place ℤ) → tree.get place_cmp old place ≡ None → Replaces place value old new → Enters place value old new
+enters_new place value old new absent puts q =
+    puts q ∙ new_value (is_eq (place_cmp place q)) (tree.get place_cmp old q) value (λ e. subst (λ z. tree.get place_cmp old z ≡ None) (one_place place q e) absent)
+
+-- an event is put where one was, and that one is put back
+pub enters_again : (place : Place) (value first : ℤ) (old between new : BTreeMap Place ℤ) → tree.get place_cmp old place ≡ Some first
+    → Replaces place value old between → Replaces place first between new → Enters place value old new
+enters_again place value first old between new was puts back q =
+    back q ∙ ap (cond (is_eq (place_cmp place q)) (Some first)) (puts q)
+    ∙ same_again (is_eq (place_cmp place q)) (tree.get place_cmp old q) first value (λ e. subst (λ z. tree.get place_cmp old z ≡ Some first) (one_place place q e) was)
+
+pub waits_add : (rank : ℕ → ℕ) (place : Place) (value : ℤ) (old new : BTreeMap Place ℤ) → place.rank ≡ rank place.actor
+    → Enters place value old new → waits_in rank new ≡ added (waits_in rank old) (value_at place value)
+waits_add rank place value old new ranked enters = λ i a p t. at a p t i
   where
     at : (a p : ℕ) (t : Tag) → waits_in rank new a p t ≡ added (waits_in rank old) (value_at place value) a p t
     at a p t =
         let q : Place = place_of rank a p t in
-        more q
-        ∙ more_by (is_eq (place_cmp place q)) (tree.get place_cmp old q) value (λ e. subst (λ z. tree.get place_cmp old z ≡ None) (one_place place q e) absent)
-        ∙ ap (λ b. or_else (tree.get place_cmp old q) (when b (Some value))) (same_place place q (λ e. ranked ∙ ap rank e))
+        enters q ∙ ap (λ b. or_else (tree.get place_cmp old q) (when b (Some value))) (same_place place q (λ e. ranked ∙ ap rank e))
 
 sound_by : (rank : ℕ → ℕ) (actors steps : ℕ) (place x : Place) (b : Bool) (old : Option ℤ) (value : ℤ) → (b ≡ true → place ≡ x) → IsPlaced rank actors steps place
-    → (IsSome old → IsPlaced rank actors steps x) → IsSome (cond b (Some value) old) → IsPlaced rank actors steps x
-sound_by rank actors steps place x true old value same one was h = subst (IsPlaced rank actors steps) (same refl) one
-sound_by rank actors steps place x false old value same one was h = was h
+    → (IsSome old → IsPlaced rank actors steps x) → IsSome (or_else old (when b (Some value))) → IsPlaced rank actors steps x
+sound_by rank actors steps place x b (Some v) value same one was h = was refl
+sound_by rank actors steps place x true None value same one was h = subst (IsPlaced rank actors steps) (same refl) one
+sound_by rank actors steps place x false None value same one was h = absurd cc
 
 pub sound_add : (rank : ℕ → ℕ) (actors steps : ℕ) (place : Place) (value : ℤ) (old new : BTreeMap Place ℤ) → IsPlaced rank actors steps place
-    → HasMore old new place value → IsSound rank actors steps old → IsSound rank actors steps new
-sound_add rank actors steps place value old new placed more was x h =
-    sound_by rank actors steps place x (is_eq (place_cmp place x)) (tree.get place_cmp old x) value (one_place place x) placed (was x) (subst IsSome (more x) h)
+    → Enters place value old new → IsSound rank actors steps old → IsSound rank actors steps new
+sound_add rank actors steps place value old new placed enters was x h =
+    sound_by rank actors steps place x (is_eq (place_cmp place x)) (tree.get place_cmp old x) value (one_place place x) placed (was x) (subst IsSome (enters x) h)
 
 -- the bound on steps may grow
 pub sound_more : (rank : ℕ → ℕ) (actors steps more : ℕ) (events : BTreeMap Place ℤ) → steps ≤ more → IsSound rank actors steps events → IsSound rank actors more events

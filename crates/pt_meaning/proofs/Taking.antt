@@ -1,5 +1,5 @@
--- What waits after the events of an actor and a tag are taken, port by port.
-use Rattle.std.proofs.Common.{◌≡◌, ℕ, zero, suc, ◌+◌, ◌<◌, ◌==◌, ◌&&◌, ◌||◌, not, Bool, true, false, cond, nat_lt, Some, None, Option, ℤ, refl, sym, ap, subst, ◌∙◌, arith, IsSome, List, length, slice_index_or, slice_set, ⊎_elim, ◌⊎◌, inl, inr, eqb-true, ◌≢◌}
+-- What waits after the events of an actor and a tag are taken from the front, one by one.
+use Rattle.std.proofs.Common.{◌≡◌, ℕ, zero, suc, ◌<◌, ◌≤◌, ◌==◌, ◌&&◌, not, Bool, true, false, cond, Some, None, Option, ℤ, refl, sym, ap, subst, ◌∙◌, arith, IsSome, List, length, slice_index_or, slice_set, ⊎_elim, ◌⊎◌, inl, inr, eqb-true, ◌≢◌}
 use Rattle.std.proofs.lemmas.Bool.Decides.{nat_tests}
 use Rattle.std.proofs.lemmas.Grind.{common_steps}
 use Rattle.std.proofs.lemmas.List.{ext_get_or, get_or-set_same, get_or-set_other}
@@ -9,43 +9,77 @@ use Rattle.std.specs.BTreeMap.{BTreeMap}
 use Rattle.pt_tags.specs.declared.tag.Tag.{Tag}
 use Rattle.pt_tags.specs.Tags.{same_tag}
 use Rattle.pt_types.specs.Ports.{when, eight}
-use Rattle.pt_semantics.specs.Meaning.{without}
+use Rattle.pt_semantics.specs.Lists.{or_else}
+use Rattle.pt_semantics.specs.Meaning.{IsFirst, without, waiting}
 use Rattle.pt_meaning.specs.declared.pending.Place.{Place}
-use Rattle.pt_meaning.specs.Waiting.{place_cmp, place_of, waits_in, IsSound}
+use Rattle.pt_meaning.specs.Waiting.{place_cmp, place_of, waits_in, IsPlaced, IsSound}
+use Rattle.pt_meaning.specs.Front.{Leaves, NoneInFront, is_of}
+use Rattle.pt_meaning.proofs.Places.{one_place, up_to}
 
-abbrev pub place_at : Tag → ℕ → ℕ → ℕ → Place
-place_at t r a p = record { tag = t; rank = r; actor = a; port = p }
+-- each event of a map is one of another
+abbrev pub IsPart : BTreeMap Place ℤ → BTreeMap Place ℤ → Type 0
+IsPart some all = (q : Place) (v : ℤ) → tree.get place_cmp some q ≡ Some v → tree.get place_cmp all q ≡ Some v
 
--- a place of this tag, rank and actor at one of the first n ports
-abbrev pub is_taken : Tag → ℕ → ℕ → ℕ → Place → Bool
-is_taken t r a n q = q.actor == a && q.rank == r && same_tag t q.tag && nat_lt q.port n
+there : (b : Bool) (x : Option ℤ) (v : ℤ) → cond b None x ≡ Some v → x ≡ Some v
+there true x v h = absurd cc
+there false x v h = h
 
-one_more : (t : Tag) (r a n : ℕ) (q : Place) → is_taken t r a (n + 1) q ≡ (is_eq (place_cmp (place_at t r a n) q) || is_taken t r a n q)
-one_more t r a n q = grind (arith, nat_tests, common_steps)
+pub kept_more : (t : Tag) (a port : ℕ) (v : ℤ) (all before now : BTreeMap Place ℤ) → Leaves t a port v before now → IsPart before all → IsPart now all
+kept_more t a port v all before now leaves part q w h = part q w (there (is_eq (place_cmp leaves.place q)) (tree.get place_cmp before q) w (sym (leaves.others q) ∙ h))
 
-twice : (b c : Bool) (x : Option ℤ) → cond b None (cond c None x) ≡ cond (b || c) None x
-twice true c x = refl
-twice false c x = refl
+here : (t : Tag) (a : ℕ) (x : Place) → x.tag ≡ t → x.actor ≡ a → is_of t a x ≡ true
+here t a x tag actor = grind (arith, nat_tests, common_steps)
 
--- one port more was taken
-pub taken_more : (t : Tag) (r a n : ℕ) (old before now : BTreeMap Place ℤ)
-    → ((q : Place) → tree.get place_cmp before q ≡ cond (is_taken t r a n q) None (tree.get place_cmp old q))
-    → ((q : Place) → tree.get place_cmp now q ≡ cond (is_eq (place_cmp (place_at t r a n) q)) None (tree.get place_cmp before q))
-    → (q : Place) → tree.get place_cmp now q ≡ cond (is_taken t r a (n + 1) q) None (tree.get place_cmp old q)
-taken_more t r a n old before now was step q =
-    step q
-    ∙ ap (cond (is_eq (place_cmp (place_at t r a n) q)) None) (was q)
-    ∙ twice (is_eq (place_cmp (place_at t r a n) q)) (is_taken t r a n q) (tree.get place_cmp old q)
-    ∙ ap (λ b. cond b None (tree.get place_cmp old q)) (sym (one_more t r a n q))
+stays : (b : Bool) (x : Option ℤ) → (b ≡ true → ⊥) → cond b None x ≡ x
+stays true x h = absurd (h refl)
+stays false x h = refl
 
-not_yet : (t : Tag) (r a n : ℕ) → is_taken t r a n (place_at t r a n) ≡ false
-not_yet t r a n = grind (arith, nat_tests, common_steps)
+pub others_more : (t : Tag) (a port : ℕ) (v : ℤ) (all before now : BTreeMap Place ℤ) → Leaves t a port v before now
+    → ((q : Place) → is_of t a q ≡ false → tree.get place_cmp before q ≡ tree.get place_cmp all q)
+    → (q : Place) → is_of t a q ≡ false → tree.get place_cmp now q ≡ tree.get place_cmp all q
+others_more t a port v all before now leaves was q other =
+    leaves.others q
+    ∙ stays (is_eq (place_cmp leaves.place q)) (tree.get place_cmp before q) (λ e. let same : is_of t a q ≡ true = subst (λ z. is_of t a z ≡ true) (one_place leaves.place q e) (here t a leaves.place leaves.tag leaves.actor_is) in absurd cc)
+    ∙ was q other
 
--- the value taken at port n is the one that waited there at first
-pub value_there : (t : Tag) (r a n : ℕ) (old before : BTreeMap Place ℤ)
-    → ((q : Place) → tree.get place_cmp before q ≡ cond (is_taken t r a n q) None (tree.get place_cmp old q))
-    → tree.get place_cmp before (place_at t r a n) ≡ tree.get place_cmp old (place_at t r a n)
-value_there t r a n old before was = was (place_at t r a n) ∙ ap (λ b. cond b None (tree.get place_cmp old (place_at t r a n))) (not_yet t r a n)
+-- the place of an event is where its actor's rank puts it
+pub its_place : (rank : ℕ → ℕ) (x : Place) (a p : ℕ) (t : Tag) → x.rank ≡ rank x.actor → x.tag ≡ t → x.actor ≡ a → x.port ≡ p → x ≡ place_of rank a p t
+its_place rank x a p t ranked tag actor port = λ i. record { tag = tag i; rank = (ranked ∙ ap rank actor) i; actor = actor i; port = port i }
+
+same_or_not : (m k : ℕ) → (m ≡ k) ⊎ (m ≢ k)
+same_or_not m k = dec_of (m == k) refl
+  where
+    dec_of : (b : Bool) → (m == k) ≡ b → (m ≡ k) ⊎ (m ≢ k)
+    dec_of true e = inl (eqb-true m k e)
+    dec_of false e = inr (λ s. grind (arith, nat_tests))
+
+-- one event more was taken: its value stands at its port
+pub values_more : (rank : ℕ → ℕ) (actors steps : ℕ) (t : Tag) (a port : ℕ) (v : ℤ) (all before now : BTreeMap Place ℤ) (values : List (Option ℤ)) → length values ≡ 8
+    → IsSound rank actors steps all → Leaves t a port v before now → IsPart before all
+    → ((p : ℕ) → p < 8 → or_else (slice_index_or values p None) (tree.get place_cmp before (place_of rank a p t)) ≡ tree.get place_cmp all (place_of rank a p t))
+    → (p : ℕ) → p < 8 → or_else (slice_index_or (slice_set values port (Some v)) p None) (tree.get place_cmp now (place_of rank a p t)) ≡ tree.get place_cmp all (place_of rank a p t)
+values_more rank actors steps t a port v all before now values len sound leaves part was p low =
+    ⊎_elim
+    (λ (e : p ≡ port).
+    let at : leaves.place ≡ place_of rank a p t = its_place rank leaves.place a p t placed.rank_is leaves.tag leaves.actor_is (leaves.port_is ∙ sym e) in
+    ap (λ x. or_else x (tree.get place_cmp now (place_of rank a p t))) (ap (λ z. slice_index_or (slice_set values port (Some v)) z None) e ∙ get_or-set_same values port (Some v) None within)
+    ∙ sym (subst (λ z. tree.get place_cmp all z ≡ Some v) at there_first))
+    (λ (ne : p ≢ port).
+    ap (λ x. or_else x (tree.get place_cmp now (place_of rank a p t))) (get_or-set_other values port p (Some v) None ne)
+    ∙ ap (or_else (slice_index_or values p None))
+    (leaves.others (place_of rank a p t)
+    ∙ stays (is_eq (place_cmp leaves.place (place_of rank a p t))) (tree.get place_cmp before (place_of rank a p t)) (λ e. ne (ap (λ (z : Place). z.port) (sym (one_place leaves.place (place_of rank a p t) e)) ∙ leaves.port_is)))
+    ∙ was p low)
+    (same_or_not p port)
+  where
+    there_first : tree.get place_cmp all leaves.place ≡ Some v
+    there_first = part leaves.place v leaves.was
+
+    placed : IsPlaced rank actors steps leaves.place
+    placed = sound leaves.place (subst IsSome (sym there_first) refl)
+
+    within : port < length values
+    within = let low : leaves.place.port < 8 = placed.port in omega (arith, len, leaves.port_is, low)
 
 at_eight : (f : ℕ → Option ℤ) (i : ℕ) → i < 8 → slice_index_or (eight f) i None ≡ f i
 at_eight f zero h = refl
@@ -62,58 +96,79 @@ at_eight f (suc (suc (suc (suc (suc (suc (suc (suc i)))))))) h = absurd (omega a
 pub all_eight : (f : ℕ → Option ℤ) (values : List (Option ℤ)) → length values ≡ 8 → ((p : ℕ) → p < 8 → slice_index_or values p None ≡ f p) → values ≡ eight f
 all_eight f values len at = ext_get_or None values (eight f) len (λ i h. let k : i < 8 = omega (arith, len) in at i k ∙ sym (at_eight f i k))
 
-taken_is : (t : Tag) (ranks : ℕ → ℕ) (a b p : ℕ) (u : Tag) → p < 8 → is_taken t (ranks a) a 8 (place_of ranks b p u) ≡ (b == a && same_tag t u)
-taken_is t ranks a b p u port =
-    let same : (b ≡ a) → ranks b ≡ ranks a = λ e. ap ranks e in
-    grind (arith, nat_tests, common_steps)
+as_some : (x : Option ℤ) → IsSome x → (v : ℤ) × (x ≡ Some v)
+as_some None h = absurd cc
+as_some (Some v) h = (v, refl)
 
-none_past : (c : Bool) (x : Option ℤ) → x ≡ None → cond c None x ≡ when (not c) x
-none_past true x h = refl
-none_past false x h = refl
+or_not : (x : Option ℤ) → (IsSome x → ⊥) → x ≡ None
+or_not None h = refl
+or_not (Some v) h = absurd (h refl)
 
-as_when : (c : Bool) (x : Option ℤ) → cond c None x ≡ when (not c) x
-as_when true x = refl
-as_when false x = refl
-
-gone : (c d : Bool) (x : Option ℤ) → x ≡ None → cond c None x ≡ when (not d) x
-gone true true x h = refl
-gone true false x h = sym h
-gone false true x h = h
-gone false false x h = refl
-
-by_value : (t : Tag) (ranks : ℕ → ℕ) (a b p : ℕ) (u : Tag) (x : Option ℤ) → (IsSome x → p < 8) → cond (is_taken t (ranks a) a 8 (place_of ranks b p u)) None x ≡ when (not (b == a && same_tag t u)) x
-by_value t ranks a b p u None port = gone (is_taken t (ranks a) a 8 (place_of ranks b p u)) (b == a && same_tag t u) None refl
-by_value t ranks a b p u (Some v) port = as_when (is_taken t (ranks a) a 8 (place_of ranks b p u)) (Some v) ∙ ap (λ c. when (not c) (Some v)) (taken_is t ranks a b p u (port refl))
-
--- all eight ports were taken
-pub waits_without : (t : Tag) (ranks : ℕ → ℕ) (a actors steps : ℕ) (old now : BTreeMap Place ℤ) → IsSound ranks actors steps old
-    → ((q : Place) → tree.get place_cmp now q ≡ cond (is_taken t (ranks a) a 8 q) None (tree.get place_cmp old q))
-    → waits_in ranks now ≡ without (waits_in ranks old) a t
-waits_without t ranks a actors steps old now sound left = λ i b p u. at b p u i
+-- where the first event isn't of that tag and actor, which come first, no event is
+pub none_left : (rank : ℕ → ℕ) (actors steps : ℕ) (t : Tag) (a : ℕ) (all now : BTreeMap Place ℤ) → IsSound rank actors steps all → IsFirst rank (waits_in rank all) a t → IsPart now all
+    → NoneInFront t a now → (p : ℕ) → tree.get place_cmp now (place_of rank a p t) ≡ None
+none_left rank actors steps t a all now sound first part front p =
+    ⊎_elim (λ (empty : (q : Place) → tree.get place_cmp now q ≡ None). empty (place_of rank a p t))
+    (λ (other : (x : Place) × IsSome (tree.get place_cmp now x) × (is_of t a x ≡ false) × tree.IsLowerBound place_cmp now x).
+    or_not (tree.get place_cmp now (place_of rank a p t)) (λ some.
+    let x : Place = other.0 in
+    let value = as_some (tree.get place_cmp now x) other.1 in
+    let was = part x value.0 value.1 in
+    let placed = sound x (subst IsSome (sym was) refl) in
+    let stands : x ≡ place_of rank x.actor x.port x.tag = its_place rank x x.actor x.port x.tag placed.rank_is refl refl refl in
+    let later = first x.actor x.port x.tag value.0 (subst (λ z. tree.get place_cmp all z ≡ Some value.0) stands was) in
+    let sooner = up_to x (place_of rank a p t) (other.3 (place_of rank a p t) some) in
+    is_here t a x (rank a) (rank x.actor) placed.rank_is sooner later other.2))
+    front
   where
-    at : (b p : ℕ) (u : Tag) → waits_in ranks now b p u ≡ without (waits_in ranks old) a t b p u
-    at b p u = left (place_of ranks b p u) ∙ by_value t ranks a b p u (tree.get place_cmp old (place_of ranks b p u)) (λ h. (sound (place_of ranks b p u) h).port)
+    is_here : (t : Tag) (a : ℕ) (x : Place) (r s : ℕ) → x.rank ≡ s
+        → (x.tag.time ≤ t.time) × (t.time ≤ x.tag.time → (x.tag.step ≤ t.step) × (t.step ≤ x.tag.step → (x.rank ≤ r) × (r ≤ x.rank → x.actor ≤ a)))
+        → (t.time ≤ x.tag.time) × (x.tag.time ≤ t.time → (t.step ≤ x.tag.step) × (x.tag.step ≤ t.step → (r ≤ s) × (s ≤ r → a ≤ x.actor)))
+        → is_of t a x ≡ false → ⊥
+    is_here t a x r s ranked l n off =
+        let l1 = l.1 n.0 in
+        let n1 = n.1 l.0 in
+        let l2 = l1.1 n1.0 in
+        let n2 = n1.1 l1.0 in
+        let low : x.actor ≤ a = l2.1 (omega (arith, n2.0, ranked)) in
+        let high : a ≤ x.actor = n2.1 (omega (arith, l2.0, ranked)) in
+        let time : t.time ≡ x.tag.time = omega (arith, l.0, n.0) in
+        let step : t.step ≡ x.tag.step = omega (arith, l1.0, n1.0) in
+        let actor : x.actor ≡ a = omega (arith, low, high) in
+        grind (arith, nat_tests, common_steps)
 
-some_left : (c : Bool) (x : Option ℤ) → IsSome (cond c None x) → IsSome x
-some_left true x h = absurd cc
-some_left false x h = h
+or_none : (x y : Option ℤ) → y ≡ None → or_else x y ≡ x
+or_none None y h = h
+or_none (Some v) y h = refl
 
-pub sound_left : (t : Tag) (r a : ℕ) (ranks : ℕ → ℕ) (actors steps : ℕ) (old now : BTreeMap Place ℤ) → IsSound ranks actors steps old
-    → ((q : Place) → tree.get place_cmp now q ≡ cond (is_taken t r a 8 q) None (tree.get place_cmp old q)) → IsSound ranks actors steps now
-sound_left t r a ranks actors steps old now sound left q h = sound q (some_left (is_taken t r a 8 q) (tree.get place_cmp old q) (subst IsSome (left q) h))
+-- all that waited was taken
+pub all_taken : (rank : ℕ → ℕ) (t : Tag) (a : ℕ) (all now : BTreeMap Place ℤ) (values : List (Option ℤ)) → length values ≡ 8
+    → ((p : ℕ) → p < 8 → or_else (slice_index_or values p None) (tree.get place_cmp now (place_of rank a p t)) ≡ tree.get place_cmp all (place_of rank a p t))
+    → ((p : ℕ) → tree.get place_cmp now (place_of rank a p t) ≡ None) → values ≡ waiting (waits_in rank all) a t
+all_taken rank t a all now values len at none =
+    all_eight (λ p. waits_in rank all a p t) values len (λ p low. sym (or_none (slice_index_or values p None) (tree.get place_cmp now (place_of rank a p t)) (none p)) ∙ at p low)
 
--- one value more of a row of values
-pub values_more : (f : ℕ → Option ℤ) (values : List (Option ℤ)) (n : ℕ) (v : Option ℤ) → n < length values → ((p : ℕ) → p < n → slice_index_or values p None ≡ f p) → v ≡ f n
-    → (p : ℕ) → p < n + 1 → slice_index_or (slice_set values n v) p None ≡ f p
-values_more f values n v within was is p h =
-    ⊎_elim
-    (λ (e : p ≡ n). subst (λ z. slice_index_or (slice_set values n v) z None ≡ f z) (sym e) (get_or-set_same values n v None within ∙ is))
-    (λ (ne : p ≢ n). get_or-set_other values n p v None ne ∙ was p (omega (arith, ne)))
-    (same_or_not p n)
+of_is : (t : Tag) (a b : ℕ) (u : Tag) → (b == a && same_tag t u) ≡ true → (b ≡ a) × (t.time ≡ u.time) × (t.step ≡ u.step)
+of_is t a b u h = (grind (arith, nat_tests, common_steps), grind (arith, nat_tests, common_steps), grind (arith, nat_tests, common_steps))
+
+-- and nothing else
+pub waits_without : (rank : ℕ → ℕ) (t : Tag) (a : ℕ) (all now : BTreeMap Place ℤ)
+    → ((q : Place) → is_of t a q ≡ false → tree.get place_cmp now q ≡ tree.get place_cmp all q)
+    → ((p : ℕ) → tree.get place_cmp now (place_of rank a p t) ≡ None) → waits_in rank now ≡ without (waits_in rank all) a t
+waits_without rank t a all now others none = λ i b p u. at b p u i
   where
-    same_or_not : (m k : ℕ) → (m ≡ k) ⊎ (m ≢ k)
-    same_or_not m k = dec_of (m == k) refl
-      where
-        dec_of : (b : Bool) → (m == k) ≡ b → (m ≡ k) ⊎ (m ≢ k)
-        dec_of true e = inl (eqb-true m k e)
-        dec_of false e = inr (λ s. grind (arith, nat_tests))
+    by : (b p : ℕ) (u : Tag) (c : Bool) → (b == a && same_tag t u) ≡ c → waits_in rank now b p u ≡ when (not c) (waits_in rank all b p u)
+    by b p u true e =
+        let is = of_is t a b u e in
+        let at : place_of rank a p t ≡ place_of rank b p u = λ i. place_of rank (sym is.0 i) p (record { time = is.1 i; step = is.2 i }) in
+        subst (λ z. tree.get place_cmp now z ≡ None) at (none p)
+    by b p u false e = others (place_of rank b p u) e
+
+    at : (b p : ℕ) (u : Tag) → waits_in rank now b p u ≡ without (waits_in rank all) a t b p u
+    at b p u = by b p u (b == a && same_tag t u) refl
+
+-- a part of a sound map is sound
+pub sound_part : (rank : ℕ → ℕ) (actors steps : ℕ) (all now : BTreeMap Place ℤ) → IsSound rank actors steps all → IsPart now all → IsSound rank actors steps now
+sound_part rank actors steps all now sound part x h =
+    let value = as_some (tree.get place_cmp now x) h in
+    sound x (subst IsSome (sym (part x value.0 value.1)) refl)

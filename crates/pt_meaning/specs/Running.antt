@@ -1,27 +1,26 @@
 -- A program's view of the global list, and graphs that it can run.
-use Rattle.std.specs.Prelude.{◌≡◌, ℕ, ◌<◌, ◌^◌, true, List, [], Option, filter, length, slice_index_or, ℤ, pos}
+use Rattle.std.specs.Prelude.{◌≡◌, ℕ, ◌<◌, ◌^◌, true, List, Option, length, slice_index_or, ℤ, pos}
 use Rattle.std.specs.List.{list_all}
-use Rattle.std.specs.BTreeMap.{BTreeMap}
 use Rattle.pt_types.specs.declared.graph.Graph.{Graph}
 use Rattle.pt_types.specs.declared.graph.Actor.{Actor}
-use Rattle.pt_types.specs.declared.graph.Edge.{Edge}
 use Rattle.pt_types.specs.Kinds.{kind_is_lawful}
 use Rattle.pt_tags.specs.declared.tag.Tag.{Tag}
 use Rattle.pt_semantics.specs.Lists.{Each}
 use Rattle.pt_semantics.specs.Firing.{fired}
 use Rattle.pt_semantics.specs.Edges.{edges, first_state, kind_of}
-use Rattle.pt_semantics.specs.Meaning.{World, ActorFiring, leaves_actor}
-use Rattle.pt_meaning.specs.declared.pending.Place.{Place}
-use Rattle.pt_meaning.specs.Waiting.{waits_in, rank_in}
+use Rattle.pt_semantics.specs.Meaning.{World, ActorFiring}
+use Rattle.pt_meaning.specs.declared.world.Waiting.{Waiting}
+use Rattle.pt_meaning.specs.Both.{all_waits}
+use Rattle.pt_meaning.specs.Waiting.{rank_in}
 use Rattle.pt_meaning.specs.Emission.{IsUsable}
 
 -- the state of each actor, in a list of states
 abbrev pub states_in : List ℤ → ℕ → ℤ
 states_in states a = slice_index_or states a (pos 0)
 
--- the world that a map of events and a list of states stand for
-abbrev pub world_in : List ℕ → BTreeMap Place ℤ → List ℤ → World
-world_in ranks events states = record { waits = waits_in (rank_in ranks) events; states = states_in states }
+-- the world that these events and a list of states stand for
+abbrev pub world_in : List ℕ → Waiting → List ℤ → World
+world_in ranks waiting states = record { waits = all_waits (rank_in ranks) waiting; states = states_in states }
 
 -- a graph with few actors, lawful kinds, and edges that lead to its actors' ports
 pub record IsRunnable (g : Graph) : Type 0 where

@@ -5,13 +5,15 @@ ghost use Rattle.pt_semantics.specs.Edges.{edges, kind_of};
 ghost use Rattle.pt_semantics.specs.Lists.{Each};
 ghost use Rattle.pt_semantics.specs.Meaning.{Fires, IsFirst, IsMeaning, IsLonger, after_firing, at_start, leaves_actor, put_state, rows_until, waiting};
 ghost use Rattle.pt_semantics.specs.Firing.{any_present, fired};
-ghost use Rattle.pt_meaning.specs.Waiting.{waits_in, rank_in, IsSound};
+ghost use Rattle.pt_meaning.specs.Waiting.{rank_in};
+ghost use Rattle.pt_meaning.specs.Both.{all_waits, AreSound};
 ghost use Rattle.pt_meaning.specs.Opening.{rows_for, IsOfActors};
 ghost use Rattle.pt_meaning.specs.Running.{world_in, states_in, state_at_start, firing_of, IsRunnable};
 
-use crate::emission::{emit, rank_at};
+use crate::emission::emit;
 use crate::opening::opening;
 use crate::pending::Pending;
+use crate::world::Waiting;
 use pt_actors::fire_kind;
 use pt_sensors::SensorRows;
 use pt_tags::{Memory, Tag};
@@ -21,7 +23,7 @@ use std::alloc::{AllocError, Global};
 /// The events that wait and the states of the actors.
 #[derive(Drop)]
 pub struct GlobalList {
-    pub pending: Pending,
+    pub waiting: Waiting,
     pub states: Vec<i64>,
 }
 
@@ -56,13 +58,15 @@ pub fn begin(
 ) -> Result<GlobalList, Memory>
     requires actors { length graph.now.actors < 2 ^ 32 }
     requires sensors { Each (IsOfActors (length graph.now.actors)) sensors.now }
-    ensures world { IfOk result (λ list. world_in ranks.now list.pending.events list.states.items ≡ at_start graph.now (λ a. rows_until graph.now.until (rows_for sensors.now a))) }
+    ensures world { IfOk result (λ list. world_in ranks.now list.waiting list.states.items ≡ at_start graph.now (λ a. rows_until graph.now.until (rows_for sensors.now a))) }
     ensures states { IfOk result (λ list. length list.states.items ≡ length graph.now.actors) }
-    ensures sound { IfOk result (λ list. IsSound (rank_in ranks.now) (length graph.now.actors) 0 list.pending.events) }
+    ensures sound { IfOk result (λ list. AreSound (rank_in ranks.now) (length graph.now.actors) 0 list.waiting) }
 {
-    let pending = opening(alloc, graph, ranks, sensors)?;
+    let early = opening(alloc, graph, ranks, sensors)?;
+    let late = Pending::new(alloc);
+    let waiting = Waiting { early, late };
     match states(alloc, graph) {
-        Ok(states) => Ok(GlobalList { pending, states }),
+        Ok(states) => Ok(GlobalList { waiting, states }),
         Err(_) => Err(Memory),
     }
 }
@@ -118,20 +122,20 @@ pub fn fire_next(
     requires actor { actor < length graph.now.actors }
     requires states { length list.old.states.items ≡ length graph.now.actors }
     requires step { tag.step + 1 < 2 ^ 64 }
-    requires sound { (steps : ℕ) × IsSound (rank_in ranks.now) (length graph.now.actors) steps list.old.pending.events }
-    requires first { IsFirst (rank_in ranks.now) (waits_in (rank_in ranks.now) list.old.pending.events) actor tag }
-    requires present { any_present (waiting (waits_in (rank_in ranks.now) list.old.pending.events) actor tag) ≡ true }
-    ensures fires { IfOk result (λ x. Fires graph.now (rank_in ranks.now) (world_in ranks.now list.old.pending.events list.old.states.items) x) }
-    ensures after { IfOk result (λ x. world_in ranks.now list.new.pending.events list.new.states.items ≡ after_firing graph.now (world_in ranks.now list.old.pending.events list.old.states.items) x) }
+    requires sound { (steps : ℕ) × AreSound (rank_in ranks.now) (length graph.now.actors) steps list.old.waiting }
+    requires first { IsFirst (rank_in ranks.now) (all_waits (rank_in ranks.now) list.old.waiting) actor tag }
+    requires present { any_present (waiting (all_waits (rank_in ranks.now) list.old.waiting) actor tag) ≡ true }
+    ensures fires { IfOk result (λ x. Fires graph.now (rank_in ranks.now) (world_in ranks.now list.old.waiting list.old.states.items) x) }
+    ensures after { IfOk result (λ x. world_in ranks.now list.new.waiting list.new.states.items ≡ after_firing graph.now (world_in ranks.now list.old.waiting list.old.states.items) x) }
     ensures states { IfOk result (λ x. length list.new.states.items ≡ length graph.now.actors) }
-    ensures sound { IfOk result (λ x. (steps : ℕ) → tag.step + 1 ≤ steps → IsSound (rank_in ranks.now) (length graph.now.actors) steps list.old.pending.events → IsSound (rank_in ranks.now) (length graph.now.actors) steps list.new.pending.events) }
+    ensures sound { IfOk result (λ x. (steps : ℕ) → tag.step + 1 ≤ steps → AreSound (rank_in ranks.now) (length graph.now.actors) steps list.old.waiting → AreSound (rank_in ranks.now) (length graph.now.actors) steps list.new.waiting) }
 {
-    let inputs = list.pending.take(tag, rank_at(ranks, actor), actor);
+    let inputs = list.waiting.take(tag, actor);
     let firing = firing(graph, list.states.as_slice(), actor, tag, inputs);
     set_state(&mut list.states, actor, firing.after);
     let outputs = &firing.outputs;
     emit(
-        &mut list.pending,
+        &mut list.waiting.late,
         ranks,
         graph.until,
         actor,

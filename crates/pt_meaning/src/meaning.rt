@@ -10,11 +10,11 @@ ghost use Rattle.pt_meaning.specs.Running.{IsRunnable};
 ghost use Rattle.pt_edges.specs.Wiring.{IsWiring};
 
 use crate::engine::{begin, fire_next};
-
 use pt_edges::{all_edges, outgoing};
+use pt_firings::Firings;
 use pt_sensors::SensorRows;
 use pt_tags::List;
-use pt_types::{ActorFiring, Edge, Graph};
+use pt_types::{Edge, Graph};
 use std::alloc::Global;
 
 /// Why the meaning could not be had.
@@ -35,7 +35,7 @@ pub fn reference(
     ranks: &[u32],
     sensors: &[SensorRows],
     most: usize,
-) -> Result<List<ActorFiring>, MeaningFault>
+) -> Result<Firings, MeaningFault>
     requires lawful { IsLawful graph.now }
     requires sensors { Each (IsOfActors (length graph.now.actors)) sensors.now }
     ensures meaning { IfOk result (λ firings. IsMeaning graph.now (rank_in ranks.now) (λ a. rows_until graph.now.until (rows_for sensors.now a)) firings) }
@@ -59,7 +59,7 @@ fn run(
     sensors: &[SensorRows],
     outgoing: &[List<Edge>],
     most: usize,
-) -> Result<List<ActorFiring>, MeaningFault>
+) -> Result<Firings, MeaningFault>
     requires runnable { IsRunnable graph.now }
     requires sensors { Each (IsOfActors (length graph.now.actors)) sensors.now }
     requires wiring { IsWiring graph.now outgoing.now }
@@ -71,18 +71,19 @@ fn run(
     let Ok(mut list) = begin(alloc, graph, ranks, sensors) else {
         return Err(MeaningFault::Memory);
     };
-    let mut firings = Vec::new(alloc);
-    while let Some((tag, actor)) = list.pending.first() {
+    let mut firings = Firings::new(alloc);
+    while let Some(next) = list.waiting.first() {
         if firings.len() >= most {
             return Err(MeaningFault::Long);
         }
-        let leaving = outgoing[actor as usize].as_slice();
-        let Ok(firing) = fire_next(&mut list, graph, ranks, leaving, tag, actor) else {
+        let leaving = outgoing[next.actor as usize].as_slice();
+        let Ok(firing) = fire_next(&mut list, graph, ranks, leaving, next.tag, next.actor) else {
             return Err(MeaningFault::Memory);
         };
-        if firings.push(firing).is_err() {
+        let Ok(more) = firings.with(&firing) else {
             return Err(MeaningFault::Memory);
-        }
+        };
+        firings = more;
     }
-    Ok(List::new(firings))
+    Ok(firings)
 }

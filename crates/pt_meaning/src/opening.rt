@@ -4,51 +4,54 @@ ghost use Rattle.std.specs.Prelude.{◌≡◌, ◌<◌, ◌^◌, ℕ, IfOk, OnOk
 ghost use Rattle.pt_types.specs.declared.graph.Graph.{Graph};
 ghost use Rattle.pt_semantics.specs.Lists.{Each};
 ghost use Rattle.pt_semantics.specs.Meaning.{added, opening, rows_until};
-ghost use Rattle.pt_meaning.specs.Waiting.{waits_in, rank_in, IsSound};
+ghost use Rattle.pt_meaning.specs.Waiting.{rank_in};
+ghost use Rattle.pt_meaning.specs.Early.{early_waits, left, AreEarly, IsOrderly};
 ghost use Rattle.pt_meaning.specs.Opening.{start_of, start_one, starts_below, rows_of_actor, rows_from_sensors, rows_for, IsOfActors};
 
+use crate::early::{Early, EarlyList, Moment};
 use crate::emission::rank_at;
-use crate::pending::{Pending, Place};
 use pt_sensors::{Row, SensorRows};
-use pt_tags::{Memory, Tag};
+use pt_tags::Memory;
 use pt_types::{Graph, Kind};
 use std::alloc::Global;
 
 /// Lets an event wait at input 0 of an actor at the first step of a time.
 fn begin(
-    pending: &mut Pending,
+    events: &mut Vec<Early>,
     ranks: &[u32],
     actor: u32,
     time: u64,
     value: i64,
 ) -> Result<(), Memory>
-    ensures waits { OnOk result (waits_in (rank_in ranks.now) pending.new.events ≡ added (waits_in (rank_in ranks.now) pending.old.events) (start_of actor time value)) }
-    ensures sound { OnOk result ((actors steps : ℕ) → actor < actors → IsSound (rank_in ranks.now) actors steps pending.old.events → IsSound (rank_in ranks.now) actors steps pending.new.events) }
+    ensures waits { OnOk result (early_waits events.new.items ≡ added (early_waits events.old.items) (start_of actor time value)) }
+    ensures sound { OnOk result ((actors : ℕ) → actor < actors → AreEarly (rank_in ranks.now) actors events.old.items → AreEarly (rank_in ranks.now) actors events.new.items) }
 {
-    let place = Place {
-        tag: Tag { time, step: 0 },
+    let moment = Moment {
+        time,
         rank: rank_at(ranks, actor),
         actor,
-        port: 0,
     };
-    pending.add(place, value)
+    match events.push(Early { moment, value }) {
+        Ok(()) => Ok(()),
+        Err(_) => Err(Memory),
+    }
 }
 
 /// Lets the starting event of an actor wait, where it begins by itself and not past the horizon.
 fn start(
-    pending: &mut Pending,
+    events: &mut Vec<Early>,
     ranks: &[u32],
     until: u64,
     actor: u32,
     kind: &Kind,
 ) -> Result<(), Memory>
-    ensures waits { OnOk result ((g : Graph) → g.until ≡ until → waits_in (rank_in ranks.now) pending.new.events ≡ added (waits_in (rank_in ranks.now) pending.old.events) (start_one g actor kind.now)) }
-    ensures sound { OnOk result ((actors steps : ℕ) → actor < actors → IsSound (rank_in ranks.now) actors steps pending.old.events → IsSound (rank_in ranks.now) actors steps pending.new.events) }
+    ensures waits { OnOk result ((g : Graph) → g.until ≡ until → early_waits events.new.items ≡ added (early_waits events.old.items) (start_one g actor kind.now)) }
+    ensures sound { OnOk result ((actors : ℕ) → actor < actors → AreEarly (rank_in ranks.now) actors events.old.items → AreEarly (rank_in ranks.now) actors events.new.items) }
 {
     match kind {
         Kind::Every { start, .. } => {
             if *start <= until {
-                begin(pending, ranks, actor, *start, 0)
+                begin(events, ranks, actor, *start, 0)
             } else {
                 Ok(())
             }
@@ -58,31 +61,31 @@ fn start(
 }
 
 /// Lets the starting events of all actors wait.
-fn starts(pending: &mut Pending, ranks: &[u32], graph: &Graph) -> Result<(), Memory>
+fn starts(events: &mut Vec<Early>, ranks: &[u32], graph: &Graph) -> Result<(), Memory>
     requires { length graph.now.actors < 2 ^ 32 }
-    ensures waits { OnOk result (waits_in (rank_in ranks.now) pending.old.events ≡ (λ a p t. None) → waits_in (rank_in ranks.now) pending.new.events ≡ starts_below graph.now (length graph.now.actors)) }
-    ensures sound { OnOk result ((steps : ℕ) → IsSound (rank_in ranks.now) (length graph.now.actors) steps pending.old.events → IsSound (rank_in ranks.now) (length graph.now.actors) steps pending.new.events) }
+    ensures waits { OnOk result (early_waits events.old.items ≡ (λ a p t. None) → early_waits events.new.items ≡ starts_below graph.now (length graph.now.actors)) }
+    ensures sound { OnOk result (AreEarly (rank_in ranks.now) (length graph.now.actors) events.old.items → AreEarly (rank_in ranks.now) (length graph.now.actors) events.new.items) }
 {
     let until = graph.until;
     for (number, actor) in graph.actors.as_slice().iter().enumerate() {
-        start(pending, ranks, until, number as u32, &actor.kind)?;
+        start(events, ranks, until, number as u32, &actor.kind)?;
     }
     Ok(())
 }
 
 /// Lets a row of a sensor wait, where it isn't past the horizon.
 fn enter(
-    pending: &mut Pending,
+    events: &mut Vec<Early>,
     ranks: &[u32],
     until: u64,
     actor: u32,
     row: &Row,
 ) -> Result<(), Memory>
-    ensures waits { OnOk result (waits_in (rank_in ranks.now) pending.new.events ≡ added (waits_in (rank_in ranks.now) pending.old.events) (rows_of_actor until actor (row.now ∷ []))) }
-    ensures sound { OnOk result ((actors steps : ℕ) → actor < actors → IsSound (rank_in ranks.now) actors steps pending.old.events → IsSound (rank_in ranks.now) actors steps pending.new.events) }
+    ensures waits { OnOk result (early_waits events.new.items ≡ added (early_waits events.old.items) (rows_of_actor until actor (row.now ∷ []))) }
+    ensures sound { OnOk result ((actors : ℕ) → actor < actors → AreEarly (rank_in ranks.now) actors events.old.items → AreEarly (rank_in ranks.now) actors events.new.items) }
 {
     if row.time <= until {
-        begin(pending, ranks, actor, row.time, row.value)
+        begin(events, ranks, actor, row.time, row.value)
     } else {
         Ok(())
     }
@@ -90,33 +93,33 @@ fn enter(
 
 /// Lets the rows of a sensor wait.
 fn enter_rows(
-    pending: &mut Pending,
+    events: &mut Vec<Early>,
     ranks: &[u32],
     until: u64,
     actor: u32,
     rows: &[Row],
 ) -> Result<(), Memory>
-    ensures waits { OnOk result (waits_in (rank_in ranks.now) pending.new.events ≡ added (waits_in (rank_in ranks.now) pending.old.events) (rows_of_actor until actor rows.now)) }
-    ensures sound { OnOk result ((actors steps : ℕ) → actor < actors → IsSound (rank_in ranks.now) actors steps pending.old.events → IsSound (rank_in ranks.now) actors steps pending.new.events) }
+    ensures waits { OnOk result (early_waits events.new.items ≡ added (early_waits events.old.items) (rows_of_actor until actor rows.now)) }
+    ensures sound { OnOk result ((actors : ℕ) → actor < actors → AreEarly (rank_in ranks.now) actors events.old.items → AreEarly (rank_in ranks.now) actors events.new.items) }
 {
     for row in rows {
-        enter(pending, ranks, until, actor, row)?;
+        enter(events, ranks, until, actor, row)?;
     }
     Ok(())
 }
 
 /// Lets the rows of all sensors wait.
 fn enter_sensors(
-    pending: &mut Pending,
+    events: &mut Vec<Early>,
     ranks: &[u32],
     until: u64,
     sensors: &[SensorRows],
 ) -> Result<(), Memory>
-    ensures waits { OnOk result (waits_in (rank_in ranks.now) pending.new.events ≡ added (waits_in (rank_in ranks.now) pending.old.events) (rows_from_sensors until sensors.now)) }
-    ensures sound { OnOk result ((actors steps : ℕ) → Each (IsOfActors actors) sensors.now → IsSound (rank_in ranks.now) actors steps pending.old.events → IsSound (rank_in ranks.now) actors steps pending.new.events) }
+    ensures waits { OnOk result (early_waits events.new.items ≡ added (early_waits events.old.items) (rows_from_sensors until sensors.now)) }
+    ensures sound { OnOk result ((actors : ℕ) → Each (IsOfActors actors) sensors.now → AreEarly (rank_in ranks.now) actors events.old.items → AreEarly (rank_in ranks.now) actors events.new.items) }
 {
     for sensor in sensors {
-        enter_rows(pending, ranks, until, sensor.actor, sensor.rows.as_slice())?;
+        enter_rows(events, ranks, until, sensor.actor, sensor.rows.as_slice())?;
     }
     Ok(())
 }
@@ -127,14 +130,14 @@ pub fn opening(
     graph: &Graph,
     ranks: &[u32],
     sensors: &[SensorRows],
-) -> Result<Pending, Memory>
+) -> Result<EarlyList, Memory>
     requires actors { length graph.now.actors < 2 ^ 32 }
     requires sensors { Each (IsOfActors (length graph.now.actors)) sensors.now }
-    ensures waits { IfOk result (λ pending. waits_in (rank_in ranks.now) pending.events ≡ opening graph.now (λ a. rows_until graph.now.until (rows_for sensors.now a))) }
-    ensures sound { IfOk result (λ pending. IsSound (rank_in ranks.now) (length graph.now.actors) 0 pending.events) }
+    ensures waits { IfOk result (λ list. early_waits (left list) ≡ opening graph.now (λ a. rows_until graph.now.until (rows_for sensors.now a))) }
+    ensures sound { IfOk result (λ list. IsOrderly (rank_in ranks.now) (length graph.now.actors) (left list)) }
 {
-    let mut pending = Pending::new(alloc);
-    starts(&mut pending, ranks, graph)?;
-    enter_sensors(&mut pending, ranks, graph.until, sensors)?;
-    Ok(pending)
+    let mut events = Vec::new(alloc);
+    starts(&mut events, ranks, graph)?;
+    enter_sensors(&mut events, ranks, graph.until, sensors)?;
+    EarlyList::new(events)
 }

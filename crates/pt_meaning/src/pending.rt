@@ -1,11 +1,12 @@
 //! The events that wait, in the order in which they fire.
 
-ghost use Rattle.std.specs.Prelude.{◌≡◌, ◌<◌, ◌≤◌, ℕ, IfSome, IfNone, IsNone, OnOk, None, true};
+ghost use Rattle.std.specs.Prelude.{◌≡◌, ◌<◌, ◌≤◌, ℕ, IfSome, IfNone, OnOk, Some, None, true, slice_set};
 ghost use Rattle.std.specs.BTreeMap as tree;
 ghost use Rattle.pt_tags.specs.declared.tag.Tag.{Tag};
 ghost use Rattle.pt_semantics.specs.Meaning.{Values, IsFirst, added, waiting, without};
 ghost use Rattle.pt_semantics.specs.Firing.{any_present};
 ghost use Rattle.pt_meaning.specs.Waiting.{waits_in, value_at, IsPlaced, IsSound};
+ghost use Rattle.pt_meaning.specs.Front.{Enters, Leaves, NoneInFront, Replaces, is_of};
 
 use pt_tags::{Memory, Tag};
 use pt_types::Ports;
@@ -38,16 +39,37 @@ impl Pending {
         }
     }
 
-    /// The tag and the actor that fire next.
-    pub fn first(&self) -> Option<(Tag, u32)>
-        ensures first { IfSome result (λ next. (rank : ℕ → ℕ) (actors steps : ℕ) → IsSound rank actors steps self.now.events → IsFirst rank (waits_in rank self.now.events) next.1 next.0) }
-        ensures present { IfSome result (λ next. (rank : ℕ → ℕ) (actors steps : ℕ) → IsSound rank actors steps self.now.events → any_present (waiting (waits_in rank self.now.events) next.1 next.0) ≡ true) }
-        ensures within { IfSome result (λ next. (rank : ℕ → ℕ) (actors steps : ℕ) → IsSound rank actors steps self.now.events → (next.1 < actors) × (next.0.step ≤ steps)) }
+    /// The place of the first event.
+    pub fn first(&self) -> Option<Place>
+        ensures first { IfSome result (λ next. (rank : ℕ → ℕ) (actors steps : ℕ) → IsSound rank actors steps self.now.events → IsFirst rank (waits_in rank self.now.events) next.actor next.tag) }
+        ensures present { IfSome result (λ next. (rank : ℕ → ℕ) (actors steps : ℕ) → IsSound rank actors steps self.now.events → any_present (waiting (waits_in rank self.now.events) next.actor next.tag) ≡ true) }
+        ensures within { IfSome result (λ next. (rank : ℕ → ℕ) (actors steps : ℕ) → IsSound rank actors steps self.now.events → IsPlaced rank actors steps next) }
         ensures empty { IfNone result ((rank : ℕ → ℕ) (a p : ℕ) (t : Tag) → waits_in rank self.now.events a p t ≡ None) }
     {
         match self.events.first_key_value() {
-            Some((place, _)) => Some((place.tag, place.actor)),
+            Some((place, _)) => Some(*place),
             None => None,
+        }
+    }
+
+    /// Puts an event at its place; the one that was there stays.
+    fn enter(&mut self, place: Place, value: i64) -> Result<(), Memory>
+        ensures { OnOk result (Enters place value self.old.events self.new.events) }
+    {
+        match self.events.insert(place, value) {
+            Ok(None) => Ok(()),
+            Ok(Some(first)) => self.put_back(place, first),
+            Err(_) => Err(Memory),
+        }
+    }
+
+    /// Writes a value at a place.
+    fn put_back(&mut self, place: Place, value: i64) -> Result<(), Memory>
+        ensures { OnOk result (Replaces place value self.old.events self.new.events) }
+    {
+        match self.events.insert(place, value) {
+            Ok(_) => Ok(()),
+            Err(_) => Err(Memory),
         }
     }
 
@@ -56,30 +78,49 @@ impl Pending {
         ensures waits { OnOk result ((rank : ℕ → ℕ) → place.rank ≡ rank place.actor → waits_in rank self.new.events ≡ added (waits_in rank self.old.events) (value_at place value)) }
         ensures sound { OnOk result ((rank : ℕ → ℕ) (actors steps : ℕ) → IsPlaced rank actors steps place → IsSound rank actors steps self.old.events → IsSound rank actors steps self.new.events) }
     {
-        if self.events.contains_key(&place) {
-            return Ok(());
-        }
-        match self.events.insert(place, value) {
-            Ok(_) => Ok(()),
-            Err(_) => Err(Memory),
-        }
+        self.enter(place, value)
     }
 
-    /// Takes an actor's events of a tag, and gives what waited at each of its inputs.
-    pub fn take(&mut self, tag: Tag, rank: u32, actor: u32) -> Ports
-        ensures inputs { (ranks : ℕ → ℕ) → rank ≡ ranks actor → result ≡ waiting (waits_in ranks self.old.events) actor tag }
-        ensures waits { (ranks : ℕ → ℕ) (actors steps : ℕ) → rank ≡ ranks actor → IsSound ranks actors steps self.old.events → waits_in ranks self.new.events ≡ without (waits_in ranks self.old.events) actor tag }
-        ensures sound { (ranks : ℕ → ℕ) (actors steps : ℕ) → IsSound ranks actors steps self.old.events → IsSound ranks actors steps self.new.events }
+    /// Takes the first event, where it is of this tag and actor, and gives its input and value.
+    fn take_first(&mut self, tag: Tag, actor: u32) -> Option<(u32, i64)>
+        ensures some { IfSome result (λ taken. Leaves tag actor taken.0 taken.1 self.old.events self.new.events) }
+        ensures fewer { IfSome result (λ _. tree.btree_map_len self.new.events < tree.btree_map_len self.old.events) }
+        ensures none { IfNone result (NoneInFront tag actor self.old.events × (self.new.events ≡ self.old.events)) }
+    {
+        let (place, _) = self.events.first_key_value()?;
+        if !is_of(tag, actor, place) {
+            return None;
+        }
+        let (place, value) = self.events.pop_first()?;
+        Some((place.port, value))
+    }
+
+    /// Takes an actor's events of a tag, which come first, and gives what waited at each of its inputs.
+    pub fn take(&mut self, tag: Tag, actor: u32) -> Ports
+        ensures inputs { (rank : ℕ → ℕ) (actors steps : ℕ) → IsSound rank actors steps self.old.events → IsFirst rank (waits_in rank self.old.events) actor tag → result ≡ waiting (waits_in rank self.old.events) actor tag }
+        ensures waits { (rank : ℕ → ℕ) (actors steps : ℕ) → IsSound rank actors steps self.old.events → IsFirst rank (waits_in rank self.old.events) actor tag → waits_in rank self.new.events ≡ without (waits_in rank self.old.events) actor tag }
+        ensures sound { (rank : ℕ → ℕ) (actors steps : ℕ) → IsSound rank actors steps self.old.events → IsSound rank actors steps self.new.events }
     {
         let mut values = [None; 8];
-        for port in 0..8u32 {
-            values[port as usize] = self.events.remove(&Place {
-                tag,
-                rank,
-                actor,
-                port,
-            });
+        while let Some((port, value)) = self.take_first(tag, actor) {
+            put_at(&mut values, port, value);
         }
         Ports::from_values(values)
+    }
+}
+
+/// Whether a place is of that tag and actor.
+fn is_of(tag: Tag, actor: u32, place: &Place) -> bool
+    ensures { result ≡ is_of tag actor place.now }
+{
+    place.actor == actor && tag == place.tag
+}
+
+/// Writes a value at a port; nothing where there is no such port.
+fn put_at(values: &mut [Option<i64>; 8], port: u32, value: i64)
+    ensures { values.new ≡ slice_set values.old port (Some value) }
+{
+    if port < 8 {
+        values[port as usize] = Some(value);
     }
 }

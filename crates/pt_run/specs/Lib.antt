@@ -1,8 +1,7 @@
-pub mod Onward
 pub mod Statuses
 pub mod Words
+pub mod Faults
 pub mod Headline
 pub mod Causes
-pub mod Recorded
 pub mod Texts
 pub mod Notes

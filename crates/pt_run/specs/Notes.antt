@@ -1,5 +1,6 @@
 -- The line that tells of a fault.
-use Rattle.std.specs.Prelude.{ℕ, List, [], ◌∷◌, ◌++◌, Option, Some, None, codes, slice_index_or}
+use Rattle.std.specs.Prelude.{ℕ, ℤ, List, [], ◌∷◌, ◌++◌, Option, Some, None, codes, slice_index_or}
+use Rattle.std.specs.Fmt.{decimal, signed_decimal}
 use Rattle.pt_types.specs.declared.graph.Graph.{Graph}
 use Rattle.pt_graph_text.specs.Lines as graph
 use Rattle.pt_sensors.specs.Lines as sensor
@@ -16,6 +17,31 @@ abbrev pub platform_name : Option Graph → ℕ → List ℕ
 platform_name None p = []
 platform_name (Some g) p = slice_index_or g.platforms p []
 
+-- names, each after a space
+abbrev pub names_of : Option Graph → List ℕ → List ℕ
+names_of g [] = []
+names_of g (a ∷ actors) = (32 ∷ actor_name g a) ++ names_of g actors
+
+abbrev pub cycle_line : Option Graph → List ℕ → List ℕ
+cycle_line g actors = codes "graph: cycle" ++ (names_of g actors ++ 10 ∷ [])
+
+-- , offset O, slack S
+abbrev pub offset_part : ℤ → ℕ → List ℕ
+offset_part offset slack = codes ", offset " ++ signed_decimal offset ++ codes ", slack " ++ decimal slack ++ 10 ∷ []
+
+-- graph: infeasible NAME, offset O, slack S
+abbrev pub infeasible_line : List ℕ → ℤ → ℕ → List ℕ
+infeasible_line name offset slack = (codes "graph: infeasible " ++ name) ++ offset_part offset slack
+
+-- late NAME row R, seen S past L
+abbrev pub late_line : List ℕ → ℕ → ℕ → ℕ → List ℕ
+late_line name row seen limit = codes "late " ++ name ++ codes " row " ++ decimal row ++ codes ", seen " ++ decimal seen ++ codes " past " ++ decimal limit ++ 10 ∷ []
+
+-- the line of a meaning that is too long: on that platform, or on all together
+abbrev pub long_line : Option ℕ → Option Graph → List ℕ
+long_line None g = codes "long meaning" ++ 10 ∷ []
+long_line (Some platform) g = codes "long " ++ platform_name g platform ++ 10 ∷ []
+
 -- the line of a read that failed: that of the graph file, or that of a sensor's file
 abbrev pub read_line : Option ℕ → Option Graph → List ℕ
 read_line None g = codes "read fault: graph" ++ 10 ∷ []
@@ -23,11 +49,14 @@ read_line (Some actor) g = codes "read fault: sensor " ++ actor_name g actor ++ 
 
 -- the line of each fault
 abbrev pub note_line : Fault → Option Graph → List ℕ
-note_line fault.Usage g = codes "usage: ptides run GRAPH" ++ 10 ∷ []
+note_line fault.Usage g = codes "usage: ptides run GRAPH [--workers N] [--clock paced] | check GRAPH | meaning GRAPH" ++ 10 ∷ []
 note_line (fault.Graph f) g = graph.fault_line f
+note_line (fault.Cycle actors) g = cycle_line g actors
+note_line (fault.Infeasible send offset slack) g = infeasible_line (actor_name g send) offset slack
 note_line fault.Form g = codes "graph: form" ++ 10 ∷ []
 note_line (fault.Sensor actor f) g = sensor.fault_line (actor_name g actor) f
-note_line (fault.Long platform) g = codes "long " ++ platform_name g platform ++ 10 ∷ []
+note_line (fault.LateRow actor row seen limit) g = late_line (actor_name g actor) row seen limit
+note_line (fault.Long platform) g = long_line platform g
 note_line (fault.Read sensor) g = read_line sensor g
 note_line fault.Write g = codes "write fault" ++ 10 ∷ []
 note_line fault.Memory g = codes "memory" ++ 10 ∷ []

@@ -1,19 +1,17 @@
--- The grammar of the words: `run` and the name of a graph file.
-use Rattle.std.specs.Prelude.{ℕ, ◌==◌, ◌&&◌, not, Bool, true, false, List, [], ◌∷◌, Option, Some, None, String, string_bytes, codes, bytes_eq, if◌then◌else◌}
+-- The command that the words ask for.
+use Rattle.std.specs.Prelude.{ℕ, List, Option, option_map, String}
 use Rattle.std.specs.declared.alloc.Global.{Global}
+use Rattle.pt_words.specs.Grammar as grammar
+use Rattle.pt_words.specs.Grammar.{Request, run, check, meaning}
+use Rattle.pt_run.specs.declared.words.Command.{Command}
+use Rattle.pt_run.specs.declared.words.Command.TheVariants.{Run, Check, Meaning}
 
--- a word that isn't empty, and doesn't begin with `-` unless it is `-`
-abbrev pub is_graph_name : List ℕ → Bool
-is_graph_name [] = false
-is_graph_name (b ∷ []) = true
-is_graph_name (b ∷ c ∷ bs) = not (b == 45)
+-- the command of a request, and its graph file; the number of workers and the clock change nothing of what is written
+abbrev pub command_of : Request → Command × List ℕ
+command_of (run graph workers clock log) = (Run, graph)
+command_of (check graph) = (Check, graph)
+command_of (meaning graph) = (Meaning, graph)
 
-abbrev pub graph_word_of : List ℕ → List ℕ → Option (List ℕ)
-graph_word_of command name = if bytes_eq command (codes "run") && is_graph_name name then Some name else None
-
--- the name of the graph file, where the words are `run` and such a word
-abbrev pub graph_word : List (String Global) → Option (List ℕ)
-graph_word [] = None
-graph_word (command ∷ []) = None
-graph_word (command ∷ name ∷ []) = graph_word_of (string_bytes command) (string_bytes name)
-graph_word (command ∷ name ∷ next ∷ more) = None
+-- a command and the name of its graph file, where the words ask for one by the grammar
+abbrev pub order_of : List (String Global) → Option (Command × List ℕ)
+order_of words = option_map command_of (grammar.order_of words)

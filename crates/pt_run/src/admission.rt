@@ -1,19 +1,16 @@
-//! The graph file, and whether its graph is run.
+//! The graph file.
 
 ghost use Rattle.std.specs.Prelude.{◌≡◌, ◌≤◌, IfOk, IfErr, IfSome, Ok, [], ◌∷◌};
 ghost use Rattle.pt_types.specs.Lawful.{IsLawful};
 ghost use Rattle.pt_graph.specs.GraphOf.{graph_of};
-ghost use Rattle.pt_semantics.specs.Edges.{edges};
+ghost use Rattle.pt_recorded.specs.Asked.{Asks, AsksOrNot};
 ghost use Rattle.pt_run.specs.Causes.{CauseOfGraph};
-ghost use Rattle.pt_run.specs.Headline.{Asks, is_simple};
-ghost use Rattle.pt_run.specs.Recorded.{AsksOrNot, fault_of_graph};
 
-use crate::fault::Fault;
-use crate::onward::leads_onward;
+use crate::fault::{Fault, fault_of_graph};
 use pt_blocks::Blocks;
-use pt_graph::{GraphFault, MOST_BYTES, read_graph};
+use pt_graph::{MOST_BYTES, read_graph};
 use pt_io::{FetchFault, Source};
-use pt_types::{Edge, Graph};
+use pt_types::Graph;
 use std::alloc::Global;
 
 /// The graph of the file of that name.
@@ -41,24 +38,4 @@ pub fn graph_at<S: Source>(
         Ok(graph) => Ok(graph),
         Err(fault) => Err(fault_of_graph(fault)),
     }
-}
-
-/// The fault of a call whose graph file has this fault.
-fn fault_of_graph(fault: GraphFault) -> Fault
-    ensures { result ≡ fault_of_graph fault }
-{
-    match fault {
-        GraphFault::Memory => Fault::Memory,
-        _ => Fault::Graph(fault),
-    }
-}
-
-/// Whether a graph with these edges is run: it has one platform, and each edge that takes no time leads to a later actor.
-pub fn is_simple(graph: &Graph, all: &[Edge]) -> bool
-    requires { all.now ≡ edges graph.now }
-    ensures { result ≡ is_simple graph.now }
-{
-    let platforms = graph.platforms.as_slice().len();
-    let actors = graph.actors.as_slice().len();
-    platforms == 1 && leads_onward(actors, all)
 }

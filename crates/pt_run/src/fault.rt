@@ -2,25 +2,52 @@
 
 ghost use Rattle.std.specs.Prelude.{◌≡◌, Some};
 ghost use Rattle.pt_run.specs.Statuses.{status_of};
+ghost use Rattle.pt_run.specs.Faults.{fault_of_cycle, fault_of_graph, fault_of_offset, fault_of_rows};
 
 use pt_graph::GraphFault;
+use pt_offsets::OffsetFault;
+use pt_ranks::CycleFault;
+use pt_recorded::RecordedFault;
 use pt_sensors::RowFault;
+use pt_tags::List;
 
-/// Why a call wrote no whole answer. Actors are named by their numbers in the graph, from 0.
-#[derive(Clone, Copy, Debug, PartialEq, Eq)]
+/// Why a call wrote no whole answer. Actors are named by their numbers in the graph, from 0; times are microseconds.
+#[derive(Drop)]
 pub enum Fault {
     /// The words are outside the grammar of the commands.
     Usage,
     /// The graph file has this fault.
     Graph(GraphFault),
-    /// The graph has several platforms, or an edge that takes no time and leads to no later actor: no run takes these yet.
+    /// These actors are a cycle that takes no time, in its order; the first has the least number.
+    Cycle(List<u32>),
+    /// What reaches this sender may come too late for it to send within its slack: `offset + 1 > slack`.
+    Infeasible {
+        send: u32,
+        offset: i64,
+        slack: u64,
+    },
+    /// The graph has several platforms: no run takes these yet.
     Form,
     /// The sensor's file has this fault.
-    Sensor { actor: u32, fault: RowFault },
-    /// The meaning has more than 200,000 firings on that platform.
-    Long { platform: u32 },
+    Sensor {
+        actor: u32,
+        fault: RowFault,
+    },
+    /// A row (counted from 1) of the sensor is seen at `seen`, past `limit`, its time and the sensor's bound.
+    LateRow {
+        actor: u32,
+        row: u32,
+        seen: u64,
+        limit: u64,
+    },
+    /// The meaning has more than 200,000 firings on that platform; without one, more than 200,000 for each platform.
+    Long {
+        platform: Option<u32>,
+    },
     /// The graph file, or the file of that sensor, couldn't be read.
-    Read { sensor: Option<u32> },
+    Read {
+        sensor: Option<u32>,
+    },
     /// The output couldn't be written in full.
     Write,
     /// Memory ran out.
@@ -28,24 +55,89 @@ pub enum Fault {
 }
 
 /// How a call ended: 0 where all was written, else the status of its fault.
-#[derive(Clone, Copy, Debug, PartialEq, Eq)]
+#[derive(Drop)]
 pub struct Outcome {
     pub status: u8,
     pub fault: Option<Fault>,
 }
 
 /// The status of a fault.
-pub fn status_of(fault: Fault) -> u8
-    ensures { result ≡ status_of (Some fault) }
+pub fn status_of(fault: &Fault) -> u8
+    ensures { result ≡ status_of (Some fault.now) }
 {
     match fault {
         Fault::Usage => 1,
         Fault::Graph(_) => 2,
+        Fault::Cycle(_) => 2,
+        Fault::Infeasible { .. } => 2,
         Fault::Form => 2,
         Fault::Sensor { .. } => 3,
+        Fault::LateRow { .. } => 4,
         Fault::Long { .. } => 6,
         Fault::Read { .. } => 7,
         Fault::Write => 8,
         Fault::Memory => 9,
+    }
+}
+
+/// The fault of a call whose graph file has this fault.
+pub fn fault_of_graph(fault: GraphFault) -> Fault
+    ensures { result ≡ fault_of_graph fault }
+{
+    match fault {
+        GraphFault::Memory => Fault::Memory,
+        _ => Fault::Graph(fault),
+    }
+}
+
+/// The fault of a call whose graph has this fault.
+pub fn fault_of_cycle(fault: CycleFault) -> Fault
+    ensures { result ≡ fault_of_cycle fault }
+{
+    match fault {
+        CycleFault::Memory => Fault::Memory,
+        CycleFault::Cycle { actors } => Fault::Cycle(actors),
+    }
+}
+
+/// The fault of a call whose graph has this fault.
+pub fn fault_of_offset(fault: OffsetFault) -> Fault
+    ensures { result ≡ fault_of_offset fault }
+{
+    match fault {
+        OffsetFault::Memory => Fault::Memory,
+        OffsetFault::Infeasible {
+            send,
+            offset,
+            slack,
+        } => Fault::Infeasible {
+            send,
+            offset,
+            slack,
+        },
+    }
+}
+
+/// The fault of a call whose sensors gave no rows.
+pub fn fault_of_rows(fault: RecordedFault) -> Fault
+    ensures { result ≡ fault_of_rows fault }
+{
+    match fault {
+        RecordedFault::Memory => Fault::Memory,
+        RecordedFault::Read { sensor } => Fault::Read {
+            sensor: Some(sensor),
+        },
+        RecordedFault::Sensor { actor, fault } => Fault::Sensor { actor, fault },
+        RecordedFault::Late {
+            actor,
+            row,
+            seen,
+            limit,
+        } => Fault::LateRow {
+            actor,
+            row,
+            seen,
+            limit,
+        },
     }
 }

@@ -1,7 +1,8 @@
 //! The top call: runs the command of some words over a source of files and sinks of bytes.
 //!
 //! `run GRAPH` reads the graph file and the rows of its sensors, takes the meaning of the two, and writes the table
-//! of every actuator. What a run must write, and why it may end otherwise, stands in `specs/Headline.antt`.
+//! of every actuator. What a command must write stands in `specs/Headline.antt`, and why it may end otherwise in
+//! `specs/Causes.antt`.
 //!
 //! Read first: `ptides`, then `specs/Headline.antt`.
 #![tactic(auto)]
@@ -9,14 +10,11 @@
 mod admission;
 mod fault;
 mod notes;
-mod onward;
 mod output;
-mod recorded;
-#[cfg(test)]
-mod tests;
 mod texts;
 mod top;
 mod words;
 
 pub use fault::{Fault, Outcome};
 pub use top::ptides;
+pub use words::Command;

@@ -1,7 +1,7 @@
 //! The line that tells of a fault.
 
 ghost use Rattle.std.specs.Prelude.{◌≡◌, ◌++◌, [], ◌∷◌, OnOk, option_map, string_bytes};
-ghost use Rattle.pt_run.specs.Notes.{actor_name, note_line, platform_name, read_line};
+ghost use Rattle.pt_run.specs.Notes.{actor_name, cycle_line, infeasible_line, late_line, long_line, names_of, note_line, offset_part, platform_name, read_line};
 
 use crate::fault::Fault;
 use pt_graph::fault_line as graph_line;
@@ -10,12 +10,13 @@ use pt_sensors::fault_line as sensor_line;
 use pt_types::Graph;
 use std::alloc::{AllocError, Global};
 
-const USAGE: &str = "usage: ptides run GRAPH\n";
+const USAGE: &str =
+    "usage: ptides run GRAPH [--workers N] [--clock paced] | check GRAPH | meaning GRAPH\n";
 
 /// Puts the line of a fault on notes. Where memory runs out or the put fails, the line is missing and nothing else changes.
-pub fn tell<E: Sink>(alloc: Global, notes: &mut E, fault: Fault, graph: Option<&Graph>) {
+pub fn tell<E: Sink>(alloc: Global, notes: &mut E, fault: &Fault, graph: Option<&Graph>) {
     let mut line = String::new(alloc);
-    if push_line(&mut line, &fault, graph).is_ok() {
+    if push_line(&mut line, fault, graph).is_ok() {
         let _ = notes.put(line.as_str().as_bytes());
     }
 }
@@ -27,12 +28,107 @@ fn push_line(line: &mut String, fault: &Fault, graph: Option<&Graph>) -> Result<
     match fault {
         Fault::Usage => line.push_str(USAGE),
         Fault::Graph(fault) => graph_line(line, fault),
+        Fault::Cycle(actors) => push_cycle(line, actors.as_slice(), graph),
+        Fault::Infeasible {
+            send,
+            offset,
+            slack,
+        } => push_infeasible(line, actor_name(graph, *send), offset, *slack),
         Fault::Form => line.push_str("graph: form\n"),
         Fault::Sensor { actor, fault } => sensor_line(line, actor_name(graph, *actor), fault),
-        Fault::Long { platform } => push_name(line, "long ", platform_name(graph, *platform)),
+        Fault::LateRow {
+            actor,
+            row,
+            seen,
+            limit,
+        } => push_late(line, actor_name(graph, *actor), *row, *seen, *limit),
+        Fault::Long { platform } => push_long(line, *platform, graph),
         Fault::Read { sensor } => push_read(line, *sensor, graph),
         Fault::Write => line.push_str("write fault\n"),
         Fault::Memory => line.push_str("memory\n"),
+    }
+}
+
+/// Appends the line of a cycle.
+fn push_cycle(line: &mut String, actors: &[u32], graph: Option<&Graph>) -> Result<(), AllocError>
+    ensures { OnOk result (string_bytes line.new ≡ string_bytes line.old ++ cycle_line (option_map (λ g. g.now) graph.entry) actors.now) }
+{
+    line.push_str("graph: cycle")?;
+    push_names(line, actors, graph)?;
+    line.push_str("\n")
+}
+
+/// Appends the names of actors, each after a space.
+fn push_names(line: &mut String, actors: &[u32], graph: Option<&Graph>) -> Result<(), AllocError>
+    ensures { OnOk result (string_bytes line.new ≡ string_bytes line.old ++ names_of (option_map (λ g. g.now) graph.entry) actors.now) }
+{
+    for actor in actors {
+        push_word(line, actor_name(graph, *actor))?;
+    }
+    Ok(())
+}
+
+/// Appends a space and a word.
+fn push_word(line: &mut String, word: &str) -> Result<(), AllocError>
+    ensures { OnOk result (string_bytes line.new ≡ string_bytes line.old ++ (32 ∷ word.now)) }
+{
+    line.push_str(" ")?;
+    line.push_str(word)
+}
+
+/// Appends the line of a sender that can't send in time.
+fn push_infeasible(
+    line: &mut String,
+    name: &str,
+    offset: &i64,
+    slack: u64,
+) -> Result<(), AllocError>
+    ensures { OnOk result (string_bytes line.new ≡ string_bytes line.old ++ infeasible_line name.now offset.now slack) }
+{
+    push_words(line, "graph: infeasible ", name)?;
+    push_offset(line, offset, slack)
+}
+
+/// Appends an offset and a slack, and ends the line.
+fn push_offset(line: &mut String, offset: &i64, slack: u64) -> Result<(), AllocError>
+    ensures { OnOk result (string_bytes line.new ≡ string_bytes line.old ++ offset_part offset.now slack) }
+{
+    let offset = *offset;
+    write!(line, ", offset {offset}, slack {slack}\n")
+}
+
+/// Appends two pieces.
+fn push_words(line: &mut String, start: &str, name: &str) -> Result<(), AllocError>
+    ensures { OnOk result (string_bytes line.new ≡ string_bytes line.old ++ (start.now ++ name.now)) }
+{
+    line.push_str(start)?;
+    line.push_str(name)
+}
+
+/// Appends the line of a late row.
+fn push_late(
+    line: &mut String,
+    name: &str,
+    row: u32,
+    seen: u64,
+    limit: u64,
+) -> Result<(), AllocError>
+    ensures { OnOk result (string_bytes line.new ≡ string_bytes line.old ++ late_line name.now row seen limit) }
+{
+    write!(line, "late {name} row {row}, seen {seen} past {limit}\n")
+}
+
+/// Appends the line of a meaning that is too long.
+fn push_long(
+    line: &mut String,
+    platform: Option<u32>,
+    graph: Option<&Graph>,
+) -> Result<(), AllocError>
+    ensures { OnOk result (string_bytes line.new ≡ string_bytes line.old ++ long_line platform (option_map (λ g. g.now) graph.entry)) }
+{
+    match platform {
+        Some(platform) => push_name(line, "long ", platform_name(graph, platform)),
+        None => line.push_str("long meaning\n"),
     }
 }
 

@@ -1,75 +1,187 @@
-//! The text that a run of a graph must write.
+//! The text that a command must write.
 
-ghost use Rattle.std.specs.Prelude.{◌≡◌, ◌≤◌, IfOk, IfErr, [], length, true, string_bytes};
+ghost use Rattle.std.specs.Prelude.{◌≡◌, ◌≤◌, ◌*◌, IfOk, IfErr, [], length, string_bytes};
 ghost use Rattle.pt_types.specs.Lawful.{IsLawful};
-ghost use Rattle.pt_semantics.specs.Edges.{edges};
+ghost use Rattle.pt_semantics.specs.Cycles.{NoFreeCycle};
 ghost use Rattle.pt_semantics.specs.Lists.{Each};
+ghost use Rattle.pt_semantics.specs.Ranks.{AreRanks};
 ghost use Rattle.pt_meaning.specs.Opening.{rows_for, IsOfActors};
-ghost use Rattle.pt_run.specs.Causes.{CauseOfRun};
-ghost use Rattle.pt_run.specs.Headline.{IsRun, is_simple};
-ghost use Rattle.pt_run.specs.Recorded.{AsksFiles};
-ghost use Rattle.pt_run.specs.Texts.{CauseOfText, IsText};
+ghost use Rattle.pt_ranks.specs.Ranked.{rank_of};
+ghost use Rattle.pt_recorded.specs.Asked.{AsksFiles};
+ghost use Rattle.pt_run.specs.Causes.{CauseOf, CauseOfMeaning, CauseOfRun, CauseOfText, CauseOrMemory};
+ghost use Rattle.pt_run.specs.Headline.{FitOnAll, FitOnOne, IsChecked, IsMeant, IsRun, IsTables, Writes, WritesText};
+ghost use Rattle.pt_run.specs.Texts.{AsksFor, CheckFails, MeaningTablesFail, RunTablesFail};
 
-use crate::admission::is_simple;
-use crate::fault::Fault;
-use crate::onward::ranks_onward;
-use crate::recorded::recorded;
+use crate::fault::{Fault, fault_of_cycle, fault_of_offset, fault_of_rows};
+use crate::words::Command;
+use pt_delays::least_delays;
 use pt_io::Source;
-use pt_edges::all_edges;
+use pt_margins::margins;
 use pt_meaning::{MeaningFault, reference};
+use pt_offsets::offsets_of;
+use pt_ranks::{Ranks, ranks_of};
+use pt_recorded::{LateRows, recorded};
 use pt_sensors::SensorRows;
 use pt_tables::tables;
-use pt_types::{Edge, Graph};
+use pt_types::Graph;
+use pt_units::fires_more_than;
 use std::alloc::Global;
 
-/// The most firings on a platform.
+/// The most firings of a platform.
 const MOST_FIRINGS: usize = 200_000;
 
-/// The text that a run of this graph must write, over the sensors' files that the source has.
-pub fn text_of<S: Source>(alloc: Global, source: &mut S, graph: &Graph) -> Result<String, Fault>
+/// The text that a command must write for this graph, over the sensors' files that the source has.
+pub fn text_of<S: Source>(
+    alloc: Global,
+    command: Command,
+    source: &mut S,
+    graph: &Graph,
+) -> Result<String, Fault>
     requires { IsLawful graph.now }
+    ensures text { IfOk result (λ text. Writes command (S.tells source.old) graph.now (string_bytes text)) }
+    ensures fault { IfErr result (λ f. CauseOf command f (S.tells source.old) graph.now []
+        (record { asked_before = S.asked source.old; asked_now = S.asked source.new; before = S.faults source.old; now = S.faults source.new })) }
+    ensures asks { AsksFor command graph.now (S.asked source.old) (S.asked source.new) }
+{
+    match ranks_of(alloc, graph) {
+        Ok(ranks) => text_with(alloc, command, source, graph, &ranks),
+        Err(fault) => Err(fault_of_cycle(fault)),
+    }
+}
+
+/// The text that a command must write for a graph with these ranks.
+fn text_with<S: Source>(
+    alloc: Global,
+    command: Command,
+    source: &mut S,
+    graph: &Graph,
+    ranks: &Ranks,
+) -> Result<String, Fault>
+    requires lawful { IsLawful graph.now }
+    requires ranks { AreRanks graph.now (rank_of ranks.now) }
+    ensures text { IfOk result (λ text. WritesText command (S.tells source.old) graph.now (string_bytes text)) }
+    ensures fault { IfErr result (λ f. CauseOrMemory (CauseOfText command) f (S.tells source.old) graph.now []
+        (record { asked_before = S.asked source.old; asked_now = S.asked source.new; before = S.faults source.old; now = S.faults source.new })) }
+    ensures asks { AsksFor command graph.now (S.asked source.old) (S.asked source.new) }
+{
+    match command {
+        Command::Run => run_text(alloc, source, graph, ranks),
+        Command::Check => check_text(alloc, graph),
+        Command::Meaning => meaning_text(alloc, source, graph, ranks),
+    }
+}
+
+/// The tables of a run.
+fn run_text<S: Source>(
+    alloc: Global,
+    source: &mut S,
+    graph: &Graph,
+    ranks: &Ranks,
+) -> Result<String, Fault>
+    requires lawful { IsLawful graph.now }
+    requires ranks { AreRanks graph.now (rank_of ranks.now) }
     ensures text { IfOk result (λ text. IsRun (S.tells source.old) graph.now (string_bytes text)) }
-    ensures fault { IfErr result (λ f. CauseOfRun f (S.tells source.old) graph.now []
+    ensures fault { IfErr result (λ f. CauseOrMemory CauseOfRun f (S.tells source.old) graph.now []
         (record { asked_before = S.asked source.old; asked_now = S.asked source.new; before = S.faults source.old; now = S.faults source.new })) }
     ensures asks { AsksFiles graph.now (S.asked source.old) (S.asked source.new) }
 {
-    let Ok(all) = all_edges(alloc, graph) else {
-        return Err(Fault::Memory);
-    };
-    if !is_simple(graph, all.as_slice()) {
+    if graph.platforms.as_slice().len() != 1 {
         return Err(Fault::Form);
     }
-    let sensors = match recorded(alloc, source, graph) {
+    let sensors = match recorded(alloc, source, graph, LateRows::Refused) {
         Ok(sensors) => sensors,
-        Err(fault) => return Err(fault),
+        Err(fault) => return Err(fault_of_rows(fault)),
     };
-    text_with(alloc, graph, all.as_slice(), sensors.as_slice())
+    run_tables(alloc, graph, ranks, sensors.as_slice())
 }
 
-/// The tables of the meaning of a graph with these edges and rows.
-fn text_with(
+/// The offset and the margin of each actor.
+fn check_text(alloc: Global, graph: &Graph) -> Result<String, Fault>
+    requires { IsLawful graph.now }
+    ensures text { IfOk result (λ text. IsChecked graph.now (string_bytes text)) }
+    ensures fault { IfErr result (λ f. CheckFails f graph.now) }
+{
+    let Ok(least) = least_delays(alloc, graph) else {
+        return Err(Fault::Memory);
+    };
+    let offsets = match offsets_of(alloc, graph, &least) {
+        Ok(offsets) => offsets,
+        Err(fault) => return Err(fault_of_offset(fault)),
+    };
+    match margins(alloc, graph, &offsets) {
+        Ok(text) => Ok(text),
+        Err(_) => Err(Fault::Memory),
+    }
+}
+
+/// The tables of the meaning.
+fn meaning_text<S: Source>(
+    alloc: Global,
+    source: &mut S,
+    graph: &Graph,
+    ranks: &Ranks,
+) -> Result<String, Fault>
+    requires lawful { IsLawful graph.now }
+    requires ranks { AreRanks graph.now (rank_of ranks.now) }
+    ensures text { IfOk result (λ text. IsMeant (S.tells source.old) graph.now (string_bytes text)) }
+    ensures fault { IfErr result (λ f. CauseOrMemory CauseOfMeaning f (S.tells source.old) graph.now []
+        (record { asked_before = S.asked source.old; asked_now = S.asked source.new; before = S.faults source.old; now = S.faults source.new })) }
+    ensures asks { AsksFiles graph.now (S.asked source.old) (S.asked source.new) }
+{
+    let sensors = match recorded(alloc, source, graph, LateRows::Taken) {
+        Ok(sensors) => sensors,
+        Err(fault) => return Err(fault_of_rows(fault)),
+    };
+    meaning_tables(alloc, graph, ranks, sensors.as_slice())
+}
+
+/// The tables of the meaning of a graph and these rows, where a run of it is not too long.
+fn run_tables(
     alloc: Global,
     graph: &Graph,
-    all: &[Edge],
+    ranks: &Ranks,
     sensors: &[SensorRows],
 ) -> Result<String, Fault>
     requires lawful { IsLawful graph.now }
-    requires edges { all.now ≡ edges graph.now }
-    requires simple { is_simple graph.now ≡ true }
+    requires ranks { AreRanks graph.now (rank_of ranks.now) }
     requires sensors { Each (IsOfActors (length graph.now.actors)) sensors.now }
-    ensures text { IfOk result (λ text. IsText graph.now (rows_for sensors.now) (string_bytes text)) }
-    ensures fault { IfErr result (λ f. CauseOfText f graph.now (rows_for sensors.now)) }
+    ensures text { IfOk result (λ text. IsTables graph.now (rows_for sensors.now) (FitOnOne graph.now) (string_bytes text)) }
+    ensures fault { IfErr result (λ f. RunTablesFail f graph.now (rows_for sensors.now)) }
 {
-    let count = graph.actors.as_slice().len();
-    let Ok(ranks) = ranks_onward(alloc, count, all) else {
-        return Err(Fault::Memory);
-    };
-    let firings = match reference(alloc, graph, ranks.as_slice(), sensors, MOST_FIRINGS) {
+    let firings = match reference(alloc, graph, ranks.ranks(), sensors, MOST_FIRINGS) {
         Ok(firings) => firings,
-        Err(MeaningFault::Long) => return Err(Fault::Long { platform: 0 }),
+        Err(MeaningFault::Long) => return Err(Fault::Long { platform: Some(0) }),
         Err(MeaningFault::Memory) => return Err(Fault::Memory),
     };
-    match tables(alloc, graph, firings.as_slice()) {
+    if fires_more_than(graph, 0, &firings, MOST_FIRINGS) {
+        return Err(Fault::Long { platform: Some(0) });
+    }
+    match tables(alloc, graph, &firings) {
+        Ok(text) => Ok(text),
+        Err(_) => Err(Fault::Memory),
+    }
+}
+
+/// The tables of the meaning of a graph and these rows, where it is not too long for all platforms.
+fn meaning_tables(
+    alloc: Global,
+    graph: &Graph,
+    ranks: &Ranks,
+    sensors: &[SensorRows],
+) -> Result<String, Fault>
+    requires lawful { IsLawful graph.now }
+    requires ranks { AreRanks graph.now (rank_of ranks.now) }
+    requires sensors { Each (IsOfActors (length graph.now.actors)) sensors.now }
+    ensures text { IfOk result (λ text. IsTables graph.now (rows_for sensors.now) (FitOnAll graph.now) (string_bytes text)) }
+    ensures fault { IfErr result (λ f. MeaningTablesFail f graph.now (rows_for sensors.now)) }
+{
+    let most = MOST_FIRINGS * graph.platforms.as_slice().len();
+    let firings = match reference(alloc, graph, ranks.ranks(), sensors, most) {
+        Ok(firings) => firings,
+        Err(MeaningFault::Long) => return Err(Fault::Long { platform: None }),
+        Err(MeaningFault::Memory) => return Err(Fault::Memory),
+    };
+    match tables(alloc, graph, &firings) {
         Ok(text) => Ok(text),
         Err(_) => Err(Fault::Memory),
     }

@@ -1,33 +1,42 @@
-//! The words of a command.
+//! The command that the words ask for.
 
 ghost use Rattle.std.specs.Prelude.{◌≡◌, option_map};
-ghost use Rattle.pt_run.specs.Words.{is_graph_name, graph_word};
+ghost use Rattle.pt_run.specs.Words.{command_of, order_of};
+ghost use Rattle.pt_words.specs.Views.{asked};
 
-/// Whether a word may name a graph file: it isn't empty, and doesn't begin with `-` unless it is `-`.
-fn is_graph_name(word: &str) -> bool
-    ensures { result ≡ is_graph_name word.now }
+use pt_words::Order;
+
+/// What is asked of a graph.
+#[derive(Clone, Copy, Debug, PartialEq, Eq)]
+pub enum Command {
+    /// To run it over the rows of its sensors, and to write its tables.
+    Run,
+    /// To see whether it is admitted, and to write the offset and the margin of each actor.
+    Check,
+    /// To write the tables of its meaning, whatever its bounds and slacks.
+    Meaning,
+}
+
+/// A command and the name of its graph file, where the words ask for one.
+///
+/// A run has a number of workers and a clock too. All runs are paced and made by one worker for now, and neither changes
+/// what is written.
+pub fn order_of(words: &[String]) -> Option<(Command, &str)>
+    ensures { option_map (λ order. (order.0, order.1.now)) result ≡ order_of words.now }
 {
-    let bytes = word.as_bytes();
-    match bytes {
-        [] => false,
-        [_] => true,
-        [first, ..] => *first != b'-',
+    match pt_words::order_of(words) {
+        Some(order) => Some(command_of(order)),
+        None => None,
     }
 }
 
-/// The name of the graph file, where the words are `run` and such a name.
-pub fn graph_word(words: &[String]) -> Option<&str>
-    ensures { option_map (λ name. name.now) result ≡ graph_word words.now }
+/// The command of an order, and its graph file.
+fn command_of<'a>(order: Order<'a>) -> (Command, &'a str)
+    ensures { (result.0, result.1.now) ≡ command_of (asked order.entry) }
 {
-    match words {
-        [command, name] => {
-            let (command, name) = (command.as_str(), name.as_str());
-            if command == "run" && is_graph_name(name) {
-                Some(name)
-            } else {
-                None
-            }
-        }
-        _ => None,
+    match order {
+        Order::Run { graph, .. } => (Command::Run, graph),
+        Order::Check { graph } => (Command::Check, graph),
+        Order::Meaning { graph } => (Command::Meaning, graph),
     }
 }

@@ -6,6 +6,7 @@
 //! Read first: `tables`.
 #![tactic(auto)]
 
+mod table;
 mod text;
 
 pub use text::tables;

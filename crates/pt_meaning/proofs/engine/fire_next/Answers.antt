@@ -2,10 +2,13 @@ use Rattle.std.proofs.Common.{◌≡◌, ◌∙◌, ap, ap₂, sym, subst, lengt
 use Rattle.pt_types.specs.declared.firing.ActorFiring.{ActorFiring}
 use Rattle.pt_semantics.specs.Lists.{Each}
 use Rattle.pt_semantics.specs.Edges.{edges}
-use Rattle.pt_semantics.specs.Meaning.{Fires, put_state, waiting, leaves_actor}
+use Rattle.pt_semantics.specs.Meaning.{Fires, added, going, put_state, waiting, leaves_actor}
+use Rattle.pt_meaning.specs.Early.{early_waits, left}
 use Rattle.pt_meaning.specs.Waiting.{waits_in, rank_in}
 use Rattle.pt_meaning.specs.Running.{world_in, states_in, firing_of}
 use Rattle.pt_meaning.specs.Emission.{IsUsable, AddsOneStep}
+use Rattle.pt_meaning.specs.Both.{all_waits}
+use Rattle.pt_meaning.proofs.Both.{added_late}
 use Rattle.pt_meaning.proofs.Firings.{fires_by, after_by, each_filter, each_adds}
 use Rattle.pt_meaning.proofs.engine.fire_next.Goals as goal
 
@@ -17,21 +20,25 @@ emit-requires-clause-edges c =
 pub returns-clause-fires : goal.returns-clause-fires
 returns-clause-fires c =
     let g = c.args.graph.now in
-    let w = world_in c.args.ranks.now c.args.list.now.pending.events c.args.list.now.states.items in
-    let is : c.firing-firing.result ≡ firing_of c.args.graph.now (states_in c.args.list.now.states.items) c.args.actor c.args.tag (waiting (waits_in (rank_in c.args.ranks.now) c.args.list.now.pending.events) c.args.actor c.args.tag) =
-    c.firing-firing.ensures ∙ ap₂ (λ kept inputs. firing_of g (states_in kept) c.args.actor c.args.tag inputs) c.as_slice.ensures.value (c.take-inputs.ensures.inputs (rank_in c.args.ranks.now) c.rank_at.ensures) in
+    let w = world_in c.args.ranks.now c.args.list.now.waiting c.args.list.now.states.items in
+    let is : c.firing-firing.result ≡ firing_of c.args.graph.now (states_in c.args.list.now.states.items) c.args.actor c.args.tag (waiting (all_waits (rank_in c.args.ranks.now) c.args.list.now.waiting) c.args.actor c.args.tag) =
+    c.firing-firing.ensures ∙ ap₂ (λ kept inputs. firing_of g (states_in kept) c.args.actor c.args.tag inputs) c.as_slice.ensures.value (c.take-inputs.ensures.inputs (rank_in c.args.ranks.now) (length c.args.graph.now.actors) c.requires.sound.0 c.requires.sound.1 c.requires.first) in
     subst (Fires g (rank_in c.args.ranks.now) w) (sym is) (fires_by g (rank_in c.args.ranks.now) w c.args.actor c.args.tag c.requires.first c.requires.present)
 
 pub returns-clause-after : goal.returns-clause-after
 returns-clause-after c =
     let g = c.args.graph.now in
-    let w = world_in c.args.ranks.now c.args.list.now.pending.events c.args.list.now.states.items in
+    let w = world_in c.args.ranks.now c.args.list.now.waiting c.args.list.now.states.items in
     let kept : states_in c.set_state.new.states.items ≡ put_state (states_in c.args.list.now.states.items) c.args.actor c.firing-firing.result.after = search rules in
-    after_by g w c.firing-firing.result c.args.actor c.args.tag (waits_in (rank_in c.args.ranks.now) c.take-inputs.new.self.events) (waits_in (rank_in c.args.ranks.now) c.emit.new.pending.events)
+    let rank = rank_in c.args.ranks.now in
+    let sent = ap (added (early_waits (left c.take-inputs.new.self.early))) (c.in_ok-emit.ensures.waits g refl)
+    ∙ added_late (early_waits (left c.take-inputs.new.self.early)) (waits_in rank c.take-inputs.new.self.late.events) (going g c.args.leaving.now (leaves_actor c.args.actor) c.args.tag c.firing-firing.result.outputs) in
+    after_by g w c.firing-firing.result c.args.actor c.args.tag (all_waits rank c.take-inputs.new.self) (added (early_waits (left c.take-inputs.new.self.early)) (waits_in rank c.emit.new.pending.events))
     (states_in c.set_state.new.states.items) c.args.leaving.now (ap (λ (x : ActorFiring). x.actor) c.firing-firing.ensures) (ap (λ (x : ActorFiring). x.tag) c.firing-firing.ensures)
-    (c.take-inputs.ensures.waits (rank_in c.args.ranks.now) (length g.actors) c.requires.sound.0 c.rank_at.ensures c.requires.sound.1) c.requires.leaving (c.in_ok-emit.ensures.waits g refl) kept
+    (c.take-inputs.ensures.waits rank (length g.actors) c.requires.sound.0 c.requires.sound.1 c.requires.first) c.requires.leaving sent kept
 
 pub returns-clause-sound : goal.returns-clause-sound
 returns-clause-sound c = λ steps later was.
     let usable = subst (Each (IsUsable (length c.args.graph.now.actors))) (sym c.requires.leaving) (each_filter (IsUsable (length c.args.graph.now.actors)) (leaves_actor c.args.actor) (edges c.args.graph.now) c.requires.runnable.edges) in
-    c.in_ok-emit.ensures.sound (length c.args.graph.now.actors) steps usable later (c.take-inputs.ensures.sound (rank_in c.args.ranks.now) (length c.args.graph.now.actors) steps was)
+    let taken = c.take-inputs.ensures.sound (rank_in c.args.ranks.now) (length c.args.graph.now.actors) steps was in
+    record { early = taken.early; late = c.in_ok-emit.ensures.sound (length c.args.graph.now.actors) steps usable later taken.late }

@@ -1,18 +1,18 @@
-use Rattle.std.proofs.Common.{◌≡◌, ◌∙◌, ap, refl, arith, rules}
-use Rattle.std.proofs.lemmas.Result.{IfOk-weaker}
-use Rattle.pt_semantics.specs.Meaning.{added}
-use Rattle.pt_meaning.specs.declared.pending.Place.{Place}
-use Rattle.pt_meaning.specs.Waiting.{waits_in, rank_in, value_at}
-use Rattle.pt_meaning.proofs.Opens.{begin_value}
+use Rattle.std.proofs.Common.{◌≡◌, ◌++◌, ◌∷◌, [], ◌∙◌, ap, sym, subst, rules}
+use Rattle.pt_meaning.specs.declared.early.Early.{Early}
+use Rattle.pt_meaning.specs.Early.{early_waits, AreEarly}
+use Rattle.pt_meaning.specs.Waiting.{rank_in}
+use Rattle.pt_meaning.proofs.Earlies.{early_push, early_push_placed}
 use Rattle.pt_meaning.proofs.opening.begin.Goals as goal
 
-pub returns-clause-waits : goal.returns-clause-waits
-returns-clause-waits c = IfOk-weaker c.add.result _ _ (λ u h.
-    let place : Place = record { tag = record { time = c.args.time; step = 0 }; rank = c.rank_at.result; actor = c.args.actor; port = 0 } in
-    let was = h (rank_in c.args.ranks.now) c.rank_at.ensures in
-    let stored : waits_in (rank_in c.args.ranks.now) c.add.new.self.events ≡ added (waits_in (rank_in c.args.ranks.now) c.args.pending.now.events) (value_at place c.args.value) = search (rules, was) in
-    stored ∙ ap (added (waits_in (rank_in c.args.ranks.now) c.args.pending.now.events)) (begin_value place c.args.actor c.args.time c.args.value refl refl refl)) c.add.ensures.waits
+pub returns-in-Ok-clause-waits : goal.returns-in-Ok-clause-waits
+returns-in-Ok-clause-waits c =
+    let event : Early = record { moment = record { time = c.args.time; rank = c.rank_at.result; actor = c.args.actor }; value = c.args.value } in
+    let pushed : c.push.new.self.items ≡ c.args.events.now.items ++ event ∷ [] = search rules in
+    ap early_waits pushed ∙ early_push c.args.events.now.items event
 
-pub returns-clause-sound : goal.returns-clause-sound
-returns-clause-sound c = IfOk-weaker c.add.result _ _ (λ u h actors steps within was.
-    h (rank_in c.args.ranks.now) actors steps (record { rank_is = c.rank_at.ensures; actor = within; port = omega arith; step = omega arith }) was) c.add.ensures.sound
+pub returns-in-Ok-clause-sound : goal.returns-in-Ok-clause-sound
+returns-in-Ok-clause-sound c = λ actors within was.
+    let event : Early = record { moment = record { time = c.args.time; rank = c.rank_at.result; actor = c.args.actor }; value = c.args.value } in
+    let pushed : c.push.new.self.items ≡ c.args.events.now.items ++ event ∷ [] = search rules in
+    subst (AreEarly (rank_in c.args.ranks.now) actors) (sym pushed) (early_push_placed (rank_in c.args.ranks.now) actors c.args.events.now.items event was (record { rank_is = c.rank_at.ensures; actor = within }))

@@ -6,7 +6,7 @@ use Rattle.pt_meaning.proofs.Opens.{starts_none, starts_more, kind_read}
 use Rattle.pt_meaning.proofs.opening.starts.Goals as goal
 
 pub loop-number-init : goal.loop-number-init
-loop-number-init c = record { waits = λ none. none ∙ starts_none c.args.graph.now; sound = λ steps was. was }
+loop-number-init c = record { waits = λ none. none ∙ starts_none c.args.graph.now; sound = λ was. was }
 
 pub loop-number-preserved : goal.loop-number-preserved
 loop-number-preserved c =
@@ -18,5 +18,5 @@ loop-number-preserved c =
           c.in_ok-start.ensures.waits g refl
           ∙ ap (λ w. added w (start_one g n c.actor-item.result.kind)) (c.loop-number.invariant.waits none)
           ∙ starts_more g n c.actor-item.result.kind kind;
-      sound = λ steps was. c.in_ok-start.ensures.sound (length g.actors) steps (subst (λ xs. c.loop-number.number < length xs) c.as_slice-actor-items.ensures c.loop-number-test.true) (c.loop-number.invariant.sound steps was);
+      sound = λ was. c.in_ok-start.ensures.sound (length g.actors) (subst (λ xs. c.loop-number.number < length xs) c.as_slice-actor-items.ensures c.loop-number-test.true) (c.loop-number.invariant.sound was);
     }

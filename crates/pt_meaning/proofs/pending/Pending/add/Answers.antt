@@ -1,16 +1,15 @@
-use Rattle.std.proofs.Common.{◌≡◌, None, rules}
-use Rattle.std.specs.BTreeMap as tree
-use Rattle.pt_meaning.specs.Waiting.{place_cmp}
-use Rattle.pt_meaning.proofs.Places.{HasMore, waits_add, sound_add}
+use Rattle.std.proofs.Common.{OnOk, rules}
+use Rattle.std.proofs.lemmas.Result.{IfOk-weaker}
+use Rattle.pt_meaning.specs.Front.{Enters}
+use Rattle.pt_meaning.proofs.Places.{waits_add, sound_add}
 use Rattle.pt_meaning.proofs.pending.Pending.add.Goals as goal
 
-pub returns-in-Ok-clause-waits : goal.returns-in-Ok-clause-waits
-returns-in-Ok-clause-waits c = λ rank ranked.
-    let absent : tree.get place_cmp c.args.self.now.events c.args.place ≡ None = search rules in
-    let more : HasMore c.args.self.now.events c.insert.new.self c.args.place c.args.value = search rules in
-    waits_add rank c.args.place c.args.value c.args.self.now.events c.insert.new.self ranked absent more
+pub returns-clause-waits : goal.returns-clause-waits
+returns-clause-waits c =
+    let entered : OnOk c.enter.result (Enters c.args.place c.args.value c.args.self.now.events c.enter.new.self.events) = search rules in
+    IfOk-weaker c.enter.result _ _ (λ u h rank ranked. waits_add rank c.args.place c.args.value c.args.self.now.events c.enter.new.self.events ranked h) entered
 
-pub returns-in-Ok-clause-sound : goal.returns-in-Ok-clause-sound
-returns-in-Ok-clause-sound c = λ rank actors steps placed was.
-    let more : HasMore c.args.self.now.events c.insert.new.self c.args.place c.args.value = search rules in
-    sound_add rank actors steps c.args.place c.args.value c.args.self.now.events c.insert.new.self placed more was
+pub returns-clause-sound : goal.returns-clause-sound
+returns-clause-sound c =
+    let entered : OnOk c.enter.result (Enters c.args.place c.args.value c.args.self.now.events c.enter.new.self.events) = search rules in
+    IfOk-weaker c.enter.result _ _ (λ u h rank actors steps placed was. sound_add rank actors steps c.args.place c.args.value c.args.self.now.events c.enter.new.self.events placed h was) entered

@@ -10,6 +10,4 @@ returns-in-Some-clause-first c = λ rank actors steps sound b p u v is.
     (least.0, λ t. let after = least.1 t in (after.0, λ s. let later = after.1 s in rw (← here.rank_is) later))
 
 pub returns-in-Some-clause-within : goal.returns-in-Some-clause-within
-returns-in-Some-clause-within c = λ rank actors steps sound.
-    let here = sound c.in-Some.place.now (subst IsSome (sym c.in-Some.ensures.value) refl) in
-    (here.actor, here.step)
+returns-in-Some-clause-within c = λ rank actors steps sound. sound c.in-Some.place.now (subst IsSome (sym c.in-Some.ensures.value) refl)

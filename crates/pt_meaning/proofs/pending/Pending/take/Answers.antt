@@ -1,16 +1,38 @@
-use Rattle.std.proofs.Common.{◌<◌, length, arith, ◌∙◌, rules}
-use Rattle.std.specs.BTreeMap as tree
-use Rattle.pt_meaning.specs.Waiting.{place_cmp}
-use Rattle.pt_meaning.proofs.Taking.{place_at, taken_more, value_there, values_more}
+use Rattle.std.proofs.Common.{◌≡◌, ◌∙◌, rules, slice_set, Some, ap, sym, subst}
+use Rattle.pt_meaning.specs.Waiting.{waits_in, IsSound}
+use Rattle.pt_meaning.specs.Front.{Leaves, NoneInFront}
+use Rattle.pt_meaning.proofs.Taking.{kept_more, others_more, values_more, none_left, all_taken, waits_without, sound_part}
 use Rattle.pt_meaning.proofs.pending.Pending.take.Goals as goal
 
 pub loop-port-preserved : goal.loop-port-preserved
 loop-port-preserved c =
-    let t = c.args.tag in let r = c.args.rank in let a = c.args.actor in let n = c.loop-port.port in
-    let within : c.loop-port.port < length c.loop-port.values = omega (arith, c.loop-port.invariant.len, c.loop-port-test.true) in
+    let t = c.args.tag in let a = c.args.actor in
+    let all = c.args.self.now.events in let before = c.loop-port.self.events in let now = c.take_first.new.self.events in
+    let leaves : Leaves c.args.tag c.args.actor c.in-Some.port c.in-Some.value c.loop-port.self.events c.take_first.new.self.events = search rules in
+    let put : c.put_at.new.values ≡ slice_set c.loop-port.values c.in-Some.port (Some c.in-Some.value) = search rules in
     record {
-      values = values_more (λ p. tree.get place_cmp c.args.self.now.events (place_at t r a p)) c.loop-port.values n c.remove.result within c.loop-port.invariant.values
-          (c.remove.ensures.value ∙ value_there t r a n c.args.self.now.events c.loop-port.self.events c.loop-port.invariant.left);
       len = search rules;
-      left = taken_more t r a n c.args.self.now.events c.loop-port.self.events c.remove.new.self c.loop-port.invariant.left c.remove.ensures.updates.0;
+      kept = kept_more t a c.in-Some.port c.in-Some.value all before now leaves c.loop-port.invariant.kept;
+      others = others_more t a c.in-Some.port c.in-Some.value all before now leaves c.loop-port.invariant.others;
+      values = λ rank actors steps sound p low. rw put
+          (values_more rank actors steps t a c.in-Some.port c.in-Some.value all before now c.loop-port.values c.loop-port.invariant.len sound leaves c.loop-port.invariant.kept (c.loop-port.invariant.values rank actors steps sound) p low);
     }
+
+pub returns-clause-inputs : goal.returns-clause-inputs
+returns-clause-inputs c = λ rank actors steps sound first.
+    let front : NoneInFront c.args.tag c.args.actor c.loop-port.self.events = c.in_default.ensures.none.0 in
+    c.from_values.ensures
+    ∙ all_taken rank c.args.tag c.args.actor c.args.self.now.events c.loop-port.self.events c.loop-port.values c.loop-port.invariant.len (c.loop-port.invariant.values rank actors steps sound)
+    (none_left rank actors steps c.args.tag c.args.actor c.args.self.now.events c.loop-port.self.events sound first c.loop-port.invariant.kept front)
+
+pub returns-clause-waits : goal.returns-clause-waits
+returns-clause-waits c = λ rank actors steps sound first.
+    let none = c.in_default.ensures.none in
+    ap (waits_in rank) none.1
+    ∙ waits_without rank c.args.tag c.args.actor c.args.self.now.events c.loop-port.self.events c.loop-port.invariant.others
+    (none_left rank actors steps c.args.tag c.args.actor c.args.self.now.events c.loop-port.self.events sound first c.loop-port.invariant.kept none.0)
+
+pub returns-clause-sound : goal.returns-clause-sound
+returns-clause-sound c = λ rank actors steps sound.
+    subst (IsSound rank actors steps) (sym c.in_default.ensures.none.1)
+    (sound_part rank actors steps c.args.self.now.events c.loop-port.self.events sound c.loop-port.invariant.kept)

@@ -1,0 +1,85 @@
+//! What waits: the events that are there from the start, and those that were sent since.
+
+ghost use Rattle.std.specs.Prelude.{◌≡◌, ◌<◌, ◌⊎◌, ℕ, IfSome, IfNone, None, true};
+ghost use Rattle.pt_tags.specs.declared.tag.Tag.{Tag};
+ghost use Rattle.pt_types.specs.Ports.{at_port, eight};
+ghost use Rattle.pt_semantics.specs.Firing.{any_present};
+ghost use Rattle.pt_semantics.specs.Lists.{or_else};
+ghost use Rattle.pt_semantics.specs.Meaning.{IsFirst, waiting, without};
+ghost use Rattle.pt_meaning.specs.Waiting.{waits_in, IsPlaced, IsSound};
+ghost use Rattle.pt_meaning.specs.Both.{all_waits, AreSound, IsUpTo};
+
+use crate::early::EarlyList;
+use crate::pending::{Pending, Place};
+use pt_tags::Tag;
+use pt_types::Ports;
+
+/// The events that wait: `early` are there from the start, `late` were sent since. At one place the early one counts.
+#[derive(Drop)]
+pub struct Waiting {
+    pub early: EarlyList,
+    pub late: Pending,
+}
+
+impl Waiting {
+    /// The place of the first event.
+    pub fn first(&self) -> Option<Place>
+        ensures first { IfSome result (λ next. (rank : ℕ → ℕ) (actors steps : ℕ) → AreSound rank actors steps self.now → IsFirst rank (all_waits rank self.now) next.actor next.tag) }
+        ensures present { IfSome result (λ next. (rank : ℕ → ℕ) (actors steps : ℕ) → AreSound rank actors steps self.now → any_present (waiting (all_waits rank self.now) next.actor next.tag) ≡ true) }
+        ensures within { IfSome result (λ next. (rank : ℕ → ℕ) (actors steps : ℕ) → AreSound rank actors steps self.now → IsPlaced rank actors steps next) }
+        ensures empty { IfNone result ((rank : ℕ → ℕ) (a p : ℕ) (t : Tag) → all_waits rank self.now a p t ≡ None) }
+    {
+        let Some(early) = self.early.first() else {
+            return self.late.first();
+        };
+        let Some(late) = self.late.first() else {
+            return Some(early);
+        };
+        Some(sooner(early, late))
+    }
+
+    /// Takes an actor's events of a tag, which come first, and gives what waited at each of its inputs.
+    pub fn take(&mut self, tag: Tag, actor: u32) -> Ports
+        ensures inputs { (rank : ℕ → ℕ) (actors steps : ℕ) → AreSound rank actors steps self.old → IsFirst rank (all_waits rank self.old) actor tag → result ≡ waiting (all_waits rank self.old) actor tag }
+        ensures waits { (rank : ℕ → ℕ) (actors steps : ℕ) → AreSound rank actors steps self.old → IsFirst rank (all_waits rank self.old) actor tag → all_waits rank self.new ≡ without (all_waits rank self.old) actor tag }
+        ensures sound { (rank : ℕ → ℕ) (actors steps : ℕ) → AreSound rank actors steps self.old → AreSound rank actors steps self.new }
+    {
+        let early = self.early.take(tag, actor);
+        let late = self.late.take(tag, actor);
+        both(&early, &late)
+    }
+}
+
+/// The one of two places that comes first.
+fn sooner(x: Place, y: Place) -> Place
+    ensures one { (result ≡ x) ⊎ (result ≡ y) }
+    ensures first { IsUpTo result x × IsUpTo result y }
+{
+    if x <= y { x } else { y }
+}
+
+/// The values at the ports, the first of two where both have one.
+fn both(x: &Ports, y: &Ports) -> Ports
+    ensures { result ≡ eight (λ p. or_else (at_port x.now p) (at_port y.now p)) }
+{
+    Ports::from_values([
+        one_of(x.get(0), y.get(0)),
+        one_of(x.get(1), y.get(1)),
+        one_of(x.get(2), y.get(2)),
+        one_of(x.get(3), y.get(3)),
+        one_of(x.get(4), y.get(4)),
+        one_of(x.get(5), y.get(5)),
+        one_of(x.get(6), y.get(6)),
+        one_of(x.get(7), y.get(7)),
+    ])
+}
+
+/// The first of two values that is there.
+fn one_of(x: Option<i64>, y: Option<i64>) -> Option<i64>
+    ensures { result ≡ or_else x y }
+{
+    match x {
+        Some(_) => x,
+        None => y,
+    }
+}

@@ -1,0 +1,3 @@
+pub mod Lateness
+pub mod Asking
+pub mod Recording

@@ -1,0 +1,4 @@
+pub mod Faults
+pub mod Asked
+pub mod Recorded
+pub mod Files

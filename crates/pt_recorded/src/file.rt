@@ -1,0 +1,87 @@
+//! The rows of one sensor's file, and whether one of them is late.
+
+ghost use Rattle.std.specs.Prelude.{◌≡◌, ◌<◌, ◌≤◌, ◌+◌, [], ◌∷◌, Ok, None, IfOk, IfErr, IfNone, IfSome, OnOk, length};
+ghost use Rattle.pt_sensors.specs.Late.{late_row};
+ghost use Rattle.pt_sensors.specs.RowsOf.{rows_of};
+ghost use Rattle.pt_recorded.specs.declared.fault.LateRows.TheVariants.{Refused};
+ghost use Rattle.pt_recorded.specs.Asked.{Asks, AsksOrNot};
+ghost use Rattle.pt_recorded.specs.Files.{CauseOfFile, IsLateFault};
+
+use crate::fault::{LateRows, RecordedFault, fault_of_rows};
+use pt_io::{FetchFault, Source};
+use pt_sensors::{MOST_BYTES, first_late, read_rows};
+use pt_tags::List;
+use pt_types::Row;
+use std::alloc::Global;
+
+/// The rows of the file of that name, which is that sensor's.
+pub fn rows_of_file<S: Source>(
+    alloc: Global,
+    source: &mut S,
+    actor: u32,
+    name: &str,
+) -> Result<List<Row>, RecordedFault>
+    ensures rows { IfOk result (λ rows. IfSome (S.tells source.old name.now) (λ bytes. rows_of bytes ≡ Ok rows)) }
+    ensures few { IfOk result (λ rows. length rows ≤ 100000) }
+    ensures fault { IfErr result (λ f. CauseOfFile actor f (S.tells source.old) name.now
+        (record { asked_before = S.asked source.old; asked_now = S.asked source.new; before = S.faults source.old; now = S.faults source.new })) }
+    ensures keeps { S.tells source.new ≡ S.tells source.old }
+    ensures grows { S.faults source.old ≤ S.faults source.new }
+    ensures asks { IfOk result (λ rows. Asks (S.asked source.old) (S.asked source.new) (name.now ∷ [])) }
+    ensures asks_at_most { IfErr result (λ f. AsksOrNot (S.asked source.old) (S.asked source.new) (name.now ∷ [])) }
+{
+    let bytes = match source.fetch(alloc, name, MOST_BYTES) {
+        Ok(bytes) => bytes,
+        Err(FetchFault::Failed) => return Err(RecordedFault::Read { sensor: actor }),
+        Err(FetchFault::Memory) => return Err(RecordedFault::Memory),
+    };
+    match read_rows(alloc, bytes.as_slice()) {
+        Ok(rows) => Ok(rows),
+        Err(fault) => Err(fault_of_rows(actor, fault)),
+    }
+}
+
+/// The fault of a sensor whose rows up to `until` have one that is seen more than `bound` after its time.
+fn late_fault(actor: u32, rows: &[Row], bound: u64, until: u64) -> Option<RecordedFault>
+    requires { length rows.now ≤ 100000 }
+    ensures none { IfNone result (late_row bound until rows.now ≡ None) }
+    ensures some { IfSome result (λ f. IsLateFault f actor rows.now bound until) }
+{
+    let number = first_late(rows, bound, until)?;
+    let row = rows[number as usize - 1];
+    Some(RecordedFault::Late {
+        actor,
+        row: number,
+        seen: row.seen,
+        limit: limit(row, bound),
+    })
+}
+
+/// By when a late row should have been seen.
+fn limit(row: Row, bound: u64) -> u64
+    requires { row.time + bound < row.seen }
+    ensures { result ≡ row.time + bound }
+{
+    row.time + bound
+}
+
+/// Whether a sensor's rows pass: where late rows are refused none of them is late.
+pub fn judged(
+    late: LateRows,
+    actor: u32,
+    rows: &[Row],
+    bound: u64,
+    until: u64,
+) -> Result<(), RecordedFault>
+    requires { length rows.now ≤ 100000 }
+    ensures passes { OnOk result (late ≡ Refused → late_row bound until rows.now ≡ None) }
+    ensures fault { IfErr result (λ f. (late ≡ Refused) × IsLateFault f actor rows.now bound until) }
+{
+    match late {
+        LateRows::Taken => Ok(()),
+        LateRows::Refused => match late_fault(actor, rows, bound, until) {
+            Some(fault) => Err(fault),
+            None => Ok(()),
+        },
+    }
+}

@@ -1,0 +1,48 @@
+//! The table of one actor.
+
+ghost use Rattle.std.specs.Prelude.{◌≡◌, ◌++◌, OnOk, []};
+ghost use Rattle.pt_semantics.specs.Tables.{line};
+
+use pt_tags::Tag;
+use std::alloc::{AllocError, Global};
+use std::marker::Model;
+
+/// The lines of one actor, which contracts see as their bytes.
+#[derive(Drop)]
+pub(crate) struct Table {
+    text: String,
+}
+
+impl Model for Table {
+    ghost use Rattle.std.specs.Prelude.{List, ℕ, string_bytes};
+
+    ghost Value = { List ℕ };
+
+    ghost view = { λ t. string_bytes t.text };
+}
+
+impl Table {
+    /// No line.
+    pub(crate) fn new(alloc: Global) -> Table
+        ensures { result ≡ [] }
+    {
+        Table {
+            text: String::new(alloc),
+        }
+    }
+
+    /// Appends one line.
+    pub(crate) fn push_line(&mut self, name: &str, tag: Tag, value: i64) -> Result<(), AllocError>
+        ensures { OnOk result (self.new ≡ self.old ++ line name.now tag value) }
+    {
+        let Tag { time, step } = tag;
+        write!(self.text, "{name},{time},{step},{value}\n")
+    }
+
+    /// The lines.
+    pub(crate) fn as_str(&self) -> &str
+        ensures { result.now ≡ self.now }
+    {
+        self.text.as_str()
+    }
+}

@@ -1,0 +1,117 @@
+//! Lines of words with the orders that they give, worked out by hand.
+
+use crate::{ClockChoice, Order, order_of};
+use std::alloc::{AllocError, Global};
+use std::test::Fail;
+
+/// Lines that run the graph file `g.json` on 4 workers.
+const RUNS: [&str; 8] = [
+    "run g.json",
+    "run -- g.json",
+    "run g.json --",
+    "run --workers 4 g.json",
+    "run g.json --workers=4",
+    "run --clock paced g.json",
+    "run --workers=4 --clock=paced -- g.json",
+    "run g.json --clock paced --workers 4 --",
+];
+
+/// Lines outside the grammar; two spaces enclose an empty word.
+const REFUSED: [&str; 34] = [
+    "",
+    "run",
+    "Run g.json",
+    "make 7",
+    "run a b",
+    "run ",
+    "run -- ",
+    "run -x",
+    "run --",
+    "run g.json -- --",
+    "run g.json --workers",
+    "run g.json --workers 0",
+    "run g.json --workers 65",
+    "run g.json --workers=02",
+    "run g.json --workers=+2",
+    "run g.json --workers=-1",
+    "run g.json --workers -1",
+    "run g.json --workers=",
+    "run g.json --workers  ",
+    "run g.json --workers=1=2",
+    "run g.json --workers=18446744073709551617",
+    "run g.json --workers -- 4",
+    "run g.json --workers --log",
+    "run g.json --workers 2 --workers=2",
+    "run g.json --worker 2",
+    "run g.json --log --log",
+    "run g.json --log",
+    "run g.json --clock=Paced",
+    "run g.json --clock machine",
+    "run g.json --clock=step:0:1000",
+    "run g.json --clock paced --clock paced",
+    "check g.json --workers 2",
+    "check g.json --help",
+    "meaning -- --clock=paced g.json",
+];
+
+/// Whether a line, whose words a single space separates, gives this order.
+fn gives(alloc: Global, line: &str, expected: Option<Order>) -> Result<bool, AllocError> {
+    let mut words = Vec::new(alloc);
+    for word in line.split(' ') {
+        words.push(String::from_str(alloc, word)?)?;
+    }
+    Ok(order_of(words.as_slice()) == expected)
+}
+
+fn run(graph: &str, workers: u32) -> Option<Order<'_>> {
+    Some(Order::Run {
+        graph,
+        workers,
+        clock: ClockChoice::Paced,
+        log: false,
+    })
+}
+
+#[test]
+fn options_stand_in_any_order(rt: HostRuntime) -> Result<(), Fail> {
+    for line in RUNS {
+        let found = gives(rt.alloc(), line, run("g.json", 4))?;
+        assert!(rt; found, "{line}");
+    }
+    Ok(())
+}
+
+#[test]
+fn values_and_names_are_read(rt: HostRuntime) -> Result<(), Fail> {
+    let alloc = rt.alloc();
+    assert!(rt; gives(alloc, "run --workers=2 -- g.json", run("g.json", 2))?);
+    assert!(rt; gives(alloc, "run --workers 64 -", run("-", 64))?);
+    assert!(rt;
+        gives(
+            alloc,
+            "run --workers 9 -- --workers=3",
+            run("--workers=3", 9)
+        )?
+    );
+    assert!(rt; gives(alloc, "run -- -- --clock", None)?);
+    assert!(rt; gives(alloc, "check -- --", Some(Order::Check { graph: "--" }))?);
+    assert!(rt; gives(alloc, "check a=b", Some(Order::Check { graph: "a=b" }))?);
+    assert!(rt;
+        gives(
+            alloc,
+            "meaning g.json",
+            Some(Order::Meaning { graph: "g.json" })
+        )?
+    );
+    Ok(())
+}
+
+#[test]
+fn other_words_are_refused(rt: HostRuntime) -> Result<(), Fail> {
+    assert!(rt; order_of(&[]) == None);
+    for line in REFUSED {
+        let found = gives(rt.alloc(), line, None)?;
+        assert!(rt; found, "{line}");
+    }
+    Ok(())
+}

@@ -1,0 +1,67 @@
+//! The values of options.
+
+ghost use Rattle.std.specs.Prelude.{◌≡◌, ◌≤◌, IfSome};
+ghost use Rattle.std.specs.Char.{is_ascii_digit};
+ghost use Rattle.std.specs.List.{list_all};
+ghost use Rattle.pt_words.specs.Grammar.{clock_of, is_numeral, number_within, workers_of};
+
+use crate::orders::ClockChoice;
+
+/// Whether a word is a decimal number: digits with no sign and no leading zero, but for `0` itself.
+fn is_numeral(word: &str) -> bool
+    ensures { result ≡ is_numeral word.now }
+{
+    let bytes = word.as_bytes();
+    match bytes {
+        [] => false,
+        [only] => only.is_ascii_digit(),
+        [first, ..] => *first != b'0' && are_digits(bytes),
+    }
+}
+
+/// Whether all of some bytes are decimal digits.
+fn are_digits(bytes: &[u8]) -> bool
+    ensures { result ≡ list_all is_ascii_digit bytes.now }
+{
+    bytes.iter().all(|byte| byte.is_ascii_digit())
+}
+
+/// The number that a word writes in decimal digits, where it is from `low` to `high`.
+#[tactic(auto, unfolding(crate::specs::Grammar::number_within))]
+fn number_within(low: u64, high: u64, word: &str) -> Option<u64>
+    ensures number { result ≡ number_within low high word.now }
+    ensures most { IfSome result (λ number. number ≤ high) }
+{
+    if !is_numeral(word) {
+        return None;
+    }
+    let Ok(number) = word.parse::<u64>() else {
+        return None;
+    };
+    if low <= number && number <= high {
+        Some(number)
+    } else {
+        None
+    }
+}
+
+/// The number of workers that a value gives: 1 to 64.
+#[tactic(auto, unfolding(crate::specs::Grammar::workers_of))]
+pub(crate) fn workers_of(value: &str) -> Option<u32>
+    ensures { result ≡ workers_of value.now }
+{
+    match number_within(1, 64, value) {
+        Some(number) => Some(number as u32),
+        None => None,
+    }
+}
+
+/// The clock that a value names.
+pub(crate) fn clock_of(value: &str) -> Option<ClockChoice>
+    ensures { result ≡ clock_of value.now }
+{
+    match value {
+        "paced" => Some(ClockChoice::Paced),
+        _ => None,
+    }
+}
