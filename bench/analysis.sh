@@ -18,18 +18,19 @@ for name in largest chain dense two_ways n64 n256 n1024; do
     "$work/plain" "$file" >"$work/plain.txt"
     cmp -s "$work/proved.txt" "$work/plain.txt" || echo "$name: another text" >&2
     python3 - "$times" "$name" "$program" "$work/plain" "$file" <<'PY'
-import os, resource, subprocess, sys
+import os, subprocess, sys
 times, name, proved, plain, file = int(sys.argv[1]), *sys.argv[2:]
 
 def measure(words):
-    best, memory = None, 0
+    best = None
     for _ in range(times):
         process = subprocess.Popen(words, stdout=subprocess.DEVNULL)
         _, _, usage = os.wait4(process.pid, 0)
         spent = (usage.ru_utime + usage.ru_stime) * 1000
         best = spent if best is None else min(best, spent)
-        memory = max(memory, usage.ru_maxrss / 1024)
-    return best, memory
+    # What wait4 says of memory is this interpreter's own where that is greater.
+    timed = subprocess.run(['/usr/bin/time', '-f', '%M'] + words, stdout=subprocess.DEVNULL, stderr=subprocess.PIPE, check=True)
+    return best, int(timed.stderr.split()[-1]) / 1024
 
 (a, m), (b, n) = measure([proved, 'check', file]), measure([plain, file])
 print(f'{name:10} {a:10.1f} {b:10.1f} {a / b:6.2f} {m:10.1f} {n:10.1f}')
