@@ -1,0 +1,4 @@
+pub mod SafeTags
+pub mod Firsts
+pub mod Making
+pub mod Cut

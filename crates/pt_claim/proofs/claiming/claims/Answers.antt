@@ -1,0 +1,30 @@
+use Rattle.std.proofs.Common.{◌≡◌, ◌+◌, ◌++◌, ◌∷◌, [], ap, sym, subst, ◌∙◌, arith, append_assoc, length-append, rules}
+use Rattle.pt_semantics.specs.Claiming.{Claims, after_claim}
+use Rattle.pt_state.specs.State.{state_of}
+use Rattle.pt_claim.proofs.Making.{SoFar, claims_push, is_next, others_on}
+use Rattle.pt_claim.proofs.claiming.claims.Goals as goal
+
+pub loop-preserved : goal.loop-preserved
+loop-preserved c =
+    let items : c.push.new.self.items ≡ c.loop.tasks.items ++ c.claim-task.result ∷ [] = search rules in
+    let s : SoFar c.args.graph.now c.args.fields.now c.loop.fields c.args.reading c.loop.counter c.args.tasks.now.items c.loop.tasks.items = c.loop.invariant.so_far in
+    record {
+      sound = c.claim-task.ensures.sound;
+      opens = omega (arith, c.claim-task.ensures.open_claims, c.loop.invariant.opens);
+      opens_room = omega (arith, c.claim-task.ensures.capacity, c.loop.invariant.opens_room);
+      tasks = omega (arith, c.push.ensures.upper_bound, c.loop.invariant.tasks);
+      tasks_room = omega (arith, c.push.ensures.capacity, c.loop.invariant.tasks_room);
+      bound = omega (arith, c.claim-task.ensures.claims, c.if-fields-ge-MOST_CLAIMS.false);
+      others = others_on c.args.fields.now c.loop.fields c.claim-task.new.fields c.loop.invariant.others c.claim-task.ensures.others;
+      count = omega (arith, c.claim-task.ensures.claims, c.loop.invariant.count);
+      so_far = record {
+        claimed = s.claimed ++ c.claim-task.result ∷ [];
+        appended = items ∙ ap (λ xs. xs ++ c.claim-task.result ∷ []) s.appended ∙ append_assoc c.args.tasks.now.items s.claimed (c.claim-task.result ∷ []);
+        claims = λ taken.
+            subst (Claims c.args.graph.now c.args.reading (state_of c.args.fields.now taken) (s.claimed ++ c.claim-task.result ∷ []))
+            (ap (λ u. after_claim c.args.graph.now (state_of c.loop.fields taken) u c.claim-task.result) c.claim-task.ensures.task.unit ∙ sym (c.claim-task.ensures.after taken))
+            (claims_push c.args.graph.now c.args.reading (state_of c.args.fields.now taken) (state_of c.loop.fields taken) s.claimed c.claim-task.result (s.claims taken)
+            (is_next c.args.graph.now c.loop.fields taken c.args.reading c.in-Some.next.unit c.in-Some.next.tag c.claim-task.result c.in-Some.ensures.1 c.in-Some.ensures.2 c.claim-task.ensures.task));
+        len = length-append s.claimed (c.claim-task.result ∷ []) ∙ ap (λ n. n + 1) s.len;
+      };
+    }

@@ -1,0 +1,18 @@
+use Rattle.std.proofs.Common.{◌≡◌, ◌+◌, ◌≤◌, vec_len, vec_capacity}
+use Rattle.pt_state.specs.State.{IsSound}
+use Rattle.pt_claim.specs.Claimed.{OthersStay}
+use Rattle.pt_claim.proofs.Making.{SoFar}
+use Rattle.pt_claim.proofs.claiming.claims.Given as goal
+
+abbrev pub invariant-loop : goal.invariant-loop
+invariant-loop l = record {
+  sound : IsSound l.graph l.fields;
+  opens : vec_len l.fields.open_claims ≡ vec_len l.fn.fields.open_claims + l.counter;
+  opens_room : vec_capacity l.fn.fields.open_claims ≤ vec_capacity l.fields.open_claims;
+  tasks : vec_len l.tasks ≤ vec_len l.fn.tasks + l.counter;
+  tasks_room : vec_capacity l.fn.tasks ≤ vec_capacity l.tasks;
+  bound : l.fields.claims ≤ 200000;
+  others : OthersStay l.fn.fields l.fields;
+  count : l.fields.claims ≡ l.fn.fields.claims + l.counter;
+  so_far : SoFar l.graph l.fn.fields l.fields l.reading l.counter l.fn.tasks.items l.tasks.items;
+}

@@ -1,0 +1,44 @@
+-- What claiming does to the fields of a platform.
+use Rattle.std.specs.Prelude.{◌≡◌, ℕ, ◌+◌, ◌≤◌, ◌⊎◌, List, ◌++◌, length, vec_len}
+use Rattle.pt_tags.specs.declared.tag.Tag.{Tag}
+use Rattle.pt_types.specs.declared.graph.Graph.{Graph}
+use Rattle.pt_types.specs.declared.graph.Unit.{Unit as Part}
+use Rattle.pt_types.specs.declared.firing.Task.{Task}
+use Rattle.pt_types.specs.declared.firing.OnLink.{OnLink}
+use Rattle.pt_semantics.specs.Claiming.{Claims}
+use Rattle.pt_semantics.specs.Safe.{NothingSafe}
+use Rattle.pt_semantics.specs.Units.{unit_inputs, unit_of}
+use Rattle.pt_queue.specs.Events.{waiting_in}
+use Rattle.pt_state.specs.declared.fields.Fields.{Fields}
+use Rattle.pt_state.specs.State.{busy_in, state_of, states_in}
+
+-- the task of a unit's events at t: its number is how many claims were made
+pub record IsTaskOf (g : Graph) (f : Fields) (u : Part) (t : Tag) (task : Task) : Type 0 where
+  pub unit : unit_of g task ≡ u
+  pub actor : task.actor ≡ u.actor
+  pub tag : task.tag ≡ t
+  pub inputs : task.inputs ≡ unit_inputs g (waiting_in f.queue.events) u t
+  pub state : task.state ≡ states_in f.states.items u.actor
+  pub number : task.number ≡ f.claims
+
+-- all stays the same but for what waits, the open claims and their number
+pub record OthersStay (old new : Fields) : Type 0 where
+  pub spare : new.queue.spare ≡ old.queue.spare
+  pub groups : new.queue.groups ≡ old.queue.groups
+  pub states : new.states ≡ old.states
+  pub sensors : new.sensors ≡ old.sensors
+  pub outbox : new.outbox ≡ old.outbox
+  pub reading : new.reading ≡ old.reading
+  pub closed : new.closed ≡ old.closed
+
+-- a part of the greedy list from its beginning was claimed, its tasks stand behind those of before, and it is all of it
+-- or was cut at `most` tasks or at 200,000 claims
+pub record AreClaimed (g : Graph) (r most : ℕ) (old new : Fields) (before after : List Task) : Type 0 where
+  pub claimed : List Task
+  pub appended : after ≡ before ++ claimed
+  pub claims : (taken : List OnLink) → Claims g r (state_of old taken) claimed (state_of new taken)
+  pub at_most : length claimed ≤ most
+  pub count : new.claims ≡ old.claims + length claimed
+  pub open_claims : vec_len new.open_claims ≡ vec_len old.open_claims + length claimed
+  pub in_all : new.claims ≤ 200000
+  pub all_or : NothingSafe g (waiting_in new.queue.events) (busy_in new.open_claims.items) r ⊎ ((most ≤ length claimed) ⊎ (200000 ≤ new.claims))

@@ -1,0 +1,108 @@
+//! Claiming: one unit, and all that a turn claims.
+
+ghost use Rattle.std.specs.Prelude.{◌≡◌, ◌+◌, ◌<◌, ◌≤◌, None, List as Sequence, length, vec_len, vec_capacity};
+ghost use Rattle.pt_types.specs.declared.firing.OnLink.{OnLink};
+ghost use Rattle.pt_types.specs.Lawful.{IsLawful};
+ghost use Rattle.pt_semantics.specs.Claiming.{after_claim};
+ghost use Rattle.pt_semantics.specs.Units.{HasEvent};
+ghost use Rattle.pt_delays.specs.Delays.{AreLeast, IsUnit, least_of};
+ghost use Rattle.pt_offsets.specs.Plans.{AreOffsets};
+ghost use Rattle.pt_queue.specs.Events.{waiting_in};
+ghost use Rattle.pt_state.specs.State.{busy_in, state_of, states_in, IsSound};
+ghost use Rattle.pt_claim.specs.Claimed.{AreClaimed, IsTaskOf, OthersStay};
+
+use crate::next::{SafeUnit, next_safe};
+use pt_delays::Least;
+use pt_offsets::Offsets;
+use pt_state::{Fields, OpenClaim, add_claim};
+use pt_types::{Graph, Task, Unit};
+
+/// How many claims a platform makes at most. (This project's own choice.)
+const MOST_CLAIMS: u64 = 200_000;
+
+/// The number that an actor keeps.
+fn state_at(states: &[i64], actor: u32) -> i64
+    requires there { actor < length states.now }
+    ensures { result ≡ states_in states.now actor }
+{
+    states[actor as usize]
+}
+
+/// A task of a unit as an open claim.
+fn open_claim(unit: Unit, task: &Task) -> OpenClaim
+    ensures { result ≡ record { unit = unit; task = task.now } }
+{
+    OpenClaim { unit, task: *task }
+}
+
+/// Makes the events of a unit at a tag an open claim, and gives its task. This takes no memory.
+pub fn claim(fields: &mut Fields, graph: &Graph, next: SafeUnit) -> Task
+    requires sound { IsSound graph.now fields.old }
+    requires unit { IsUnit graph.now next.unit }
+    requires event { HasEvent graph.now (waiting_in fields.old.queue.events) next.unit next.tag }
+    requires free { busy_in fields.old.open_claims.items next.unit ≡ None }
+    requires room { vec_len fields.old.open_claims < vec_capacity fields.old.open_claims }
+    requires claims { fields.old.claims < 200000 }
+    ensures task { IsTaskOf graph.now fields.old next.unit next.tag result }
+    ensures after { (taken : Sequence OnLink) → state_of fields.new taken ≡ after_claim graph.now (state_of fields.old taken) next.unit result }
+    ensures sound { IsSound graph.now fields.new }
+    ensures others { OthersStay fields.old fields.new }
+    ensures claims { fields.new.claims ≡ fields.old.claims + 1 }
+    ensures open_claims { vec_len fields.new.open_claims ≡ vec_len fields.old.open_claims + 1 }
+    ensures capacity { vec_capacity fields.old.open_claims ≤ vec_capacity fields.new.open_claims }
+{
+    let task = Task {
+        number: fields.claims,
+        actor: next.unit.actor,
+        tag: next.tag,
+        inputs: fields.queue.take(next.unit, next.tag),
+        state: state_at(fields.states.as_slice(), next.unit.actor),
+    };
+    add_claim(&mut fields.open_claims, open_claim(next.unit, &task));
+    fields.claims += 1;
+    task
+}
+
+/// Claims safe units, each time the one with the least tag, actor and group, and appends their tasks.
+/// (The order is this project's own choice.)
+///
+/// It stops where no unit is safe at that reading (in microseconds), after `most` claims, and where the platform made
+/// 200,000. This takes no memory.
+pub fn claims(
+    fields: &mut Fields,
+    graph: &Graph,
+    least: &Least,
+    offsets: &Offsets,
+    reading: u64,
+    most: usize,
+    tasks: &mut Vec<Task>,
+)
+    requires lawful { IsLawful graph.now }
+    requires sound { IsSound graph.now fields.old }
+    requires least { AreLeast graph.now (least_of least.now) }
+    requires offsets { AreOffsets graph.now offsets.now }
+    requires claims { fields.old.claims ≤ 200000 }
+    requires room { vec_len fields.old.open_claims + most ≤ vec_capacity fields.old.open_claims }
+    requires tasks { vec_len tasks.old + most ≤ vec_capacity tasks.old }
+    ensures claimed { AreClaimed graph.now reading most fields.old fields.new tasks.old.items tasks.new.items }
+    ensures sound { IsSound graph.now fields.new }
+    ensures others { OthersStay fields.old fields.new }
+    ensures capacity { vec_capacity fields.old.open_claims ≤ vec_capacity fields.new.open_claims }
+    ensures tasks { vec_capacity tasks.old ≤ vec_capacity tasks.new }
+{
+    for _ in 0..most {
+        if fields.claims >= MOST_CLAIMS {
+            return;
+        }
+        match next_safe(fields, graph, least, offsets, reading) {
+            None => return,
+            Some(next) => {
+                let task = claim(fields, graph, next);
+                match tasks.push(task) {
+                    Ok(()) => (),
+                    Err(_) => unreachable!(),
+                }
+            }
+        }
+    }
+}

@@ -1,0 +1,16 @@
+//! Claiming: the safe units of a platform, and their events as open claims.
+//!
+//! A unit is safe when nothing earlier can still come to it (RTAS 2007): neither a row or a message from outside, which its
+//! paced reading tells, nor anything from what waits or is being fired on the platform, which least delays tell. Safe
+//! units are claimed one by one in the order of tag, actor and group.
+//!
+//! Read first: `claims`, then `safe_tag`.
+#![tactic(auto)]
+
+mod claiming;
+mod next;
+mod safe;
+
+pub use claiming::{claim, claims};
+pub use next::{SafeUnit, next_safe};
+pub use safe::safe_tag;

@@ -1,0 +1,62 @@
+//! Closing a platform.
+
+ghost use Rattle.std.specs.Prelude.{◌≡◌, ◌↔◌, ℕ, ◌+◌, ◌<◌, ◌≤◌, ◌^◌, true, List as Sequence, length, vec_len, vec_capacity};
+ghost use Rattle.pt_types.specs.declared.firing.OnLink.{OnLink};
+ghost use Rattle.pt_types.specs.declared.graph.Graph.{Graph};
+ghost use Rattle.pt_semantics.specs.Closing.{CanClose, Closes};
+ghost use Rattle.pt_semantics.specs.Paced.{IsClosing};
+ghost use Rattle.pt_state.specs.State.{state_of, IsSound};
+
+use crate::ends::shut_links;
+use pt_state::Fields;
+use pt_types::Graph;
+
+/// Whether a platform can close at a reading, by its closing reading, both in microseconds.
+fn can_close(fields: &Fields, closing: u64, reading: u64) -> bool
+    ensures { (g : Graph) (platform : ℕ) (taken : Sequence OnLink) → IsClosing g platform closing → (result ≡ true) ↔ CanClose g platform (state_of fields.now taken) reading }
+{
+    if fields.closed {
+        return false;
+    }
+    if reading < closing {
+        return false;
+    }
+    if !fields.queue.is_empty() {
+        return false;
+    }
+    if !fields.open_claims.is_empty() {
+        return false;
+    }
+    fields.outbox.is_empty()
+}
+
+/// Closes a platform where it can close, unless a message was late: `End` is put into the outbox for each outgoing link.
+///
+/// `closing` is the platform's closing reading, and `reading` that of the turn, both in microseconds. The outbox needs room
+/// for a message on each link of the graph; no memory is taken.
+pub fn close(
+    fields: &mut Fields,
+    graph: &Graph,
+    number: u32,
+    closing: u64,
+    reading: u64,
+    late: bool,
+)
+    requires sound { IsSound graph.now fields.old }
+    requires closing { IsClosing graph.now number closing }
+    requires links { length graph.now.links < 2 ^ 32 }
+    requires messages { vec_len fields.old.outbox + length graph.now.links ≤ vec_capacity fields.old.outbox }
+    ensures sound { IsSound graph.now fields.new }
+    ensures closes { (taken : Sequence OnLink) → Closes graph.now number (state_of fields.old taken) reading late (state_of fields.new taken) }
+    ensures messages { (vec_capacity fields.old.outbox ≤ vec_capacity fields.new.outbox) × (vec_len fields.new.outbox ≤ vec_len fields.old.outbox + length graph.now.links) }
+    ensures frame { (fields.new.queue ≡ fields.old.queue) × (fields.new.open_claims ≡ fields.old.open_claims) × (fields.new.states ≡ fields.old.states) × (fields.new.sensors ≡ fields.old.sensors) × (fields.new.reading ≡ fields.old.reading) × (fields.new.claims ≡ fields.old.claims) }
+{
+    if late {
+        return;
+    }
+    if !can_close(fields, closing, reading) {
+        return;
+    }
+    fields.closed = true;
+    shut_links(&mut fields.outbox, graph, number);
+}

@@ -1,0 +1,4 @@
+pub mod Gathered
+pub mod Growing
+pub mod Joining
+pub mod Reading

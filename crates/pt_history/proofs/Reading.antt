@@ -1,0 +1,62 @@
+-- What heads and lists tell of each turn.
+use Rattle.std.proofs.Common.{rules, ◌≡◌, ℕ, zero, suc, ◌+◌, ◌<◌, ◌&&◌, Bool, List, [], ◌∷◌, ◌++◌, length, get_or, Some, drop, refl, sym, ap, ap₂, ◌∙◌, arith, eqb}
+use Rattle.std.specs.Prelude.{option_map, slice_get}
+use Rattle.std.specs.List.{flat_map}
+use Rattle.std.proofs.lemmas.List.{drop_all, drop_more}
+use Rattle.std.proofs.lemmas.Option.{get_or_from_slice_get}
+use Rattle.pt_types.specs.declared.firing.Task.{Task}
+use Rattle.pt_semantics.specs.Turn.{Turn, is_empty, is_quiet}
+use Rattle.pt_history.specs.declared.head.Head.{Head}
+use Rattle.pt_history.specs.Keeping.{Lists, turn_at, turns_from}
+
+-- a head that stands for none
+abbrev pub no_head : Head
+no_head = record { first = 0; last = 0; count = 0 }
+
+pub length-turns : (p : Lists) (i : ℕ) (hs : List Head) → length (turns_from p i hs) ≡ length hs
+length-turns p i [] = refl
+length-turns p i (h ∷ hs) = ap suc (length-turns p (i + 1) hs)
+
+-- the turn of a number
+get_from : (p : Lists) (i k j : ℕ) (hs : List Head) (h : Head) → i + k ≡ j → k < length hs → slice_get (turns_from p i hs) k ≡ Some (turn_at p j (get_or hs k h))
+get_from p i k j [] h e lt = absurd (omega arith)
+get_from p i zero j (x ∷ hs) h e lt = let same : i ≡ j = omega arith in ap (λ n. Some (turn_at p n x)) same
+get_from p i (suc k) j (x ∷ hs) h e lt = get_from p (i + 1) k j hs h (omega arith) (omega arith)
+
+pub get_turn : (p : Lists) (k : ℕ) (hs : List Head) (h : Head) → k < length hs → slice_get (turns_from p 0 hs) k ≡ Some (turn_at p k (get_or hs k h))
+get_turn p k hs h lt = get_from p 0 k k hs h (omega arith) lt
+
+-- one list of a turn, of which what is read of its number
+pub list_of : {X : Type 0} (f : Turn → List X) (p : Lists) (lists : List (List X)) (k : ℕ) (hs : List Head) (h : Head) (list : List X) → k < length hs → f (turn_at p k (get_or hs k h)) ≡ get_or lists k [] → slice_get lists k ≡ Some list → option_map f (slice_get (turns_from p 0 hs) k) ≡ Some list
+list_of f p lists k hs h list lt is read = ap (option_map f) (get_turn p k hs h lt) ∙ ap Some (is ∙ get_or_from_slice_get lists k list [] read)
+
+-- a number of a head
+pub number_of : (f : Turn → ℕ) (n : Head → ℕ) (p : Lists) (k : ℕ) (hs : List Head) (h : Head) → k < length hs → f (turn_at p k (get_or hs k h)) ≡ n (get_or hs k h) → option_map f (slice_get (turns_from p 0 hs) k) ≡ Some (n (get_or hs k h))
+number_of f n p k hs h lt is = ap (option_map f) (get_turn p k hs h lt) ∙ ap Some is
+
+-- all claims
+claims_from : (p : Lists) (i : ℕ) (hs : List Head) → i + length hs ≡ length p.claimed → flat_map (λ (turn : Turn). turn.claimed) (turns_from p i hs) ≡ flat_map (λ (tasks : List Task). tasks) (drop i p.claimed)
+claims_from p i [] e = sym (ap (flat_map (λ (tasks : List Task). tasks)) (drop_all i p.claimed (omega arith)))
+claims_from p i (h ∷ hs) e =
+    ap (λ tasks. get_or p.claimed i [] ++ tasks) (claims_from p (i + 1) hs (omega arith))
+    ∙ sym (ap (flat_map (λ (tasks : List Task). tasks)) (drop_more p.claimed i [] (omega arith)))
+
+pub all_claims : (p : Lists) (hs : List Head) → length p.claimed ≡ length hs → flat_map (λ (turn : Turn). turn.claimed) (turns_from p 0 hs) ≡ flat_map (λ (tasks : List Task). tasks) p.claimed
+all_claims p hs e = claims_from p 0 hs (omega arith)
+
+-- whether a list is empty, by its length
+pub empty_by_length : {X : Type 0} (xs : List X) → is_empty xs ≡ eqb (length xs) 0
+empty_by_length [] = refl
+empty_by_length (x ∷ xs) = search rules
+
+-- whether a turn is quiet, by its five lists
+pub quiet_by : (p : Lists) (k : ℕ) (hs : List Head) (b1 b2 b3 b4 b5 : Bool) → k < length hs
+    → is_empty (get_or p.posted k []) ≡ b1 → is_empty (get_or p.rows k []) ≡ b2 → is_empty (get_or p.taken k []) ≡ b3 → is_empty (get_or p.claimed k []) ≡ b4 → is_empty (get_or p.sent k []) ≡ b5
+    → option_map is_quiet (slice_get (turns_from p 0 hs) k) ≡ Some (b1 && b2 && b3 && b4 && b5)
+quiet_by p k hs b1 b2 b3 b4 b5 lt e1 e2 e3 e4 e5 =
+    ap (option_map is_quiet) (get_turn p k hs no_head lt)
+    ∙ ap Some (ap₂ (λ u v. u && v) (ap₂ (λ u v. u && v) (ap₂ (λ u v. u && v) (ap₂ (λ u v. u && v) e1 e2) e3) e4) e5)
+
+-- whether the list that is read of a number is empty
+pub empty_read : {X : Type 0} (lists : List (List X)) (k : ℕ) (list : List X) (b : Bool) → slice_get lists k ≡ Some list → b ≡ eqb (length list) 0 → is_empty (get_or lists k []) ≡ b
+empty_read lists k list b read is = ap is_empty (get_or_from_slice_get lists k list [] read) ∙ empty_by_length list ∙ sym is

@@ -1,0 +1,22 @@
+use Rattle.std.proofs.Common.{length, ap, ◌∙◌}
+use Rattle.pt_history.specs.Turns.{RoomyTurns}
+use Rattle.pt_history.specs.Whole.{lists_of}
+use Rattle.pt_pieces.specs.Lists.{on_last}
+use Rattle.pt_history.specs.Turns.{posting}
+use Rattle.pt_history.proofs.Growing.{fits_push, posted_last}
+use Rattle.pt_history.proofs.history.History.post.Goals as goal
+
+pub invariant_of-self : goal.invariant_of-self
+invariant_of-self c = record {
+  heads = c.self.invariant.heads;
+  posted = fits_push (length c.self.inside.heads.items) c.self.inside.room.turns c.self.inside.room.posted c.self.inside.posted c.push.new.self c.args.done c.self.invariant.posted c.push.ensures.lists c.push.ensures.items c.push.ensures.room;
+  rows = c.self.invariant.rows;
+  taken = c.self.invariant.taken;
+  claimed = c.self.invariant.claimed;
+  sent = c.self.invariant.sent;
+}
+
+pub returns-clause-turns : goal.returns-clause-turns
+returns-clause-turns c =
+    posted_last (lists_of c.self.inside) c.args.done c.push.new.self.lists c.self.inside.heads.items c.self.invariant.posted.lists c.push.ensures.lists
+    ∙ ap (λ (v : RoomyTurns). on_last (posting c.args.done) v.turns) c.self.view_is

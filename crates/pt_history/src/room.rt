@@ -1,0 +1,31 @@
+//! How much room a history has.
+
+ghost use Rattle.std.specs.Prelude.{◌≡◌};
+ghost use Rattle.pt_history.specs.Turns.{larger};
+
+/// For how many more turns there is room, and for how many more members of each of their lists.
+#[derive(Clone, Copy, Debug, PartialEq, Eq)]
+pub struct Room {
+    pub turns: usize,
+    pub posted: usize,
+    pub rows: usize,
+    pub taken: usize,
+    pub claimed: usize,
+    pub sent: usize,
+}
+
+impl Room {
+    /// The greater of each number of the two.
+    pub(crate) fn or_more(self, other: Room) -> Room
+        ensures { result ≡ larger self other }
+    {
+        Room {
+            turns: self.turns.max(other.turns),
+            posted: self.posted.max(other.posted),
+            rows: self.rows.max(other.rows),
+            taken: self.taken.max(other.taken),
+            claimed: self.claimed.max(other.claimed),
+            sent: self.sent.max(other.sent),
+        }
+    }
+}

@@ -1,0 +1,145 @@
+//! The list of lists.
+
+ghost use Rattle.std.specs.Prelude.{◌≡◌, ◌+◌, ◌<◌, ◌≤◌, ◌++◌, ◌∷◌, [], OnOk, OnErr, MatchResult, Some, length, max, slice_get, slice_index, slice_range, vec_len, vec_capacity};
+ghost use Rattle.std.specs.List.{flat_map};
+ghost use Rattle.pt_pieces.specs.Lists.{on_last};
+
+use pt_tags::Memory;
+use std::alloc::Global;
+use std::marker::Model;
+
+/// A list of lists, and for how many more items and lists room is kept: contracts see `lists`, `spare_items` and
+/// `spare_lists`.
+#[derive(Drop)]
+pub struct Pieces<T> {
+    items: Vec<T>,
+    /// Where each list ends, counted in items.
+    ends: Vec<usize>,
+    spare_items: usize,
+    spare_lists: usize,
+}
+
+impl<T> Model for Pieces<T> {
+    ghost use Rattle.std.specs.Prelude.{◌+◌, ◌≤◌, length, vec_len, vec_capacity};
+    ghost use Rattle.pt_pieces.specs.Lists.{Rises, RoomyLists, pieces};
+
+    ghost Value = { RoomyLists T };
+
+    ghost view = { λ p. record { lists = pieces 0 p.ends.items p.items.items; spare_items = p.spare_items; spare_lists = p.spare_lists } };
+
+    ghost invariant = { λ p. Rises 0 p.ends.items (length p.items.items) × (vec_len p.items + p.spare_items ≤ vec_capacity p.items) × (vec_len p.ends + p.spare_lists ≤ vec_capacity p.ends) };
+}
+
+impl<T: Drop> Pieces<T> {
+    /// No lists, and no room.
+    pub fn new(alloc: Global) -> Pieces<T>
+        ensures lists { result.lists ≡ [] }
+        ensures spare { (result.spare_items ≡ 0) × (result.spare_lists ≡ 0) }
+    {
+        Pieces {
+            items: Vec::new(alloc),
+            ends: Vec::new(alloc),
+            spare_items: 0,
+            spare_lists: 0,
+        }
+    }
+
+    /// Keeps room for at least so many more items and lists. Where memory runs out all is unchanged.
+    pub fn reserve(&mut self, items: usize, lists: usize) -> Result<(), Memory>
+        ensures lists { self.new.lists ≡ self.old.lists }
+        ensures items { OnOk result (self.new.spare_items ≡ max self.old.spare_items items) }
+        ensures room { OnOk result (self.new.spare_lists ≡ max self.old.spare_lists lists) }
+        ensures unchanged { OnErr result (self.new ≡ self.old) }
+    {
+        let spare_items = widened(&mut self.items, self.spare_items, items)?;
+        let spare_lists = widened(&mut self.ends, self.spare_lists, lists)?;
+        self.spare_items = spare_items;
+        self.spare_lists = spare_lists;
+        Ok(())
+    }
+
+    /// Begins an empty list after the others. No memory is taken.
+    pub fn begin(&mut self)
+        requires { 0 < self.old.spare_lists }
+        ensures lists { self.new.lists ≡ self.old.lists ++ [] ∷ [] }
+        ensures items { self.new.spare_items ≡ self.old.spare_items }
+        ensures room { self.new.spare_lists + 1 ≡ self.old.spare_lists }
+    {
+        match self.ends.push(self.items.len()) {
+            Ok(()) => self.spare_lists -= 1,
+            Err(_) => unreachable!(),
+        }
+    }
+
+    /// Appends an item to the last list. No memory is taken.
+    pub fn push(&mut self, item: T)
+        requires spare { 0 < self.old.spare_items }
+        requires begun { 0 < length self.old.lists }
+        ensures lists { self.new.lists ≡ on_last (λ list. list ++ item ∷ []) self.old.lists }
+        ensures items { self.new.spare_items + 1 ≡ self.old.spare_items }
+        ensures room { self.new.spare_lists ≡ self.old.spare_lists }
+    {
+        match self.items.push(item) {
+            Ok(()) => self.spare_items -= 1,
+            Err(_) => unreachable!(),
+        }
+        let last = self.ends.len() - 1;
+        self.ends[last] = self.items.len();
+    }
+
+    /// How many lists there are.
+    pub fn len(&self) -> usize
+        ensures { result ≡ length self.now.lists }
+    {
+        self.ends.len()
+    }
+
+    /// How many items there are in all lists together.
+    pub fn total(&self) -> usize
+        ensures { result ≡ length (flat_map (λ list. list) self.now.lists) }
+    {
+        self.items.len()
+    }
+
+    /// The list at that place, counted from 0.
+    pub fn get(&self, number: usize) -> &[T]
+        requires { number < length self.now.lists }
+        ensures { slice_get self.now.lists number ≡ Some result.now }
+    {
+        let end = self.ends[number];
+        let start = start_of(self.ends.as_slice(), number);
+        part(self.items.as_slice(), start, end)
+    }
+}
+
+/// Where a list begins: where the one before it ends.
+fn start_of(ends: &[usize], number: usize) -> usize
+    requires { number < length ends.now }
+    ensures { result ≡ slice_index (0 ∷ ends.now) number }
+{
+    if number == 0 { 0 } else { ends[number - 1] }
+}
+
+/// The items from a place on, up to another.
+fn part<T>(items: &[T], start: usize, end: usize) -> &[T]
+    requires rises { start ≤ end }
+    requires within { end ≤ length items.now }
+    ensures { result.now ≡ slice_range items.now start end }
+{
+    &items[start..end]
+}
+
+/// Makes room for at least so many more items, and answers for how many there is room then.
+fn widened<T>(items: &mut Vec<T>, spare: usize, wanted: usize) -> Result<usize, Memory>
+    requires { vec_len items.old + spare ≤ vec_capacity items.old }
+    ensures items { items.new.items ≡ items.old.items }
+    ensures room { MatchResult result (λ room. (room ≡ max spare wanted) × (vec_len items.new + room ≤ vec_capacity items.new)) (λ _. vec_len items.new + spare ≤ vec_capacity items.new) }
+{
+    if spare >= wanted {
+        return Ok(spare);
+    }
+    match items.reserve(wanted) {
+        Ok(()) => Ok(wanted),
+        Err(_) => Err(Memory),
+    }
+}

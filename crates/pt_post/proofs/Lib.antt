@@ -1,0 +1,5 @@
+pub mod Going
+pub mod Opens
+pub mod Counted
+pub mod Posting
+pub mod Fitting

@@ -1,0 +1,62 @@
+use Rattle.std.proofs.Common.{◌≡◌, ◌++◌, ◌∷◌, [], ◌+◌, ◌*◌, ◌≤◌, length, get_or, take, vec_len, vec_capacity, sym, ap, subst, ◌∙◌, arith}
+use Rattle.std.proofs.lemmas.Bool.{false≢true}
+use Rattle.std.proofs.lemmas.List.{take_more}
+use Rattle.pt_state.specs.State.{state_of, busy_in}
+use Rattle.pt_post.specs.Room.{leaving_open}
+use Rattle.pt_post.specs.Posted.{Posted, IsDone}
+use Rattle.pt_post.proofs.Posting.{fit_found, read_each, posted_more, posted_same}
+use Rattle.pt_post.proofs.results.posts.Goals as goal
+use Rattle.pt_post.proofs.results.posts.Goals.{then-post+in-Ok, else-post}
+
+pub post-requires-clause-fits : goal.post-requires-clause-fits
+post-requires-clause-fits c = λ busy. fit_found c.args.graph.now c.loop-done.fields.open_claims.items _ _ c.loop-done.invariant.so_far.fit busy
+
+pub post-requires-clause-absent : goal.post-requires-clause-absent
+post-requires-clause-absent c = λ busy. c.requires.never [] c.loop-done.invariant.so_far.posted (state_of c.loop-done.fields []) c.record-record.result (c.loop-done.invariant.so_far.posts []) busy
+
+pub loop-done-preserved : goal.loop-done-preserved
+loop-done-preserved c =
+    let item : c.record-record.result ≡ get_or c.args.dones.now c.loop-done.done-index c.done-item.result = c.record-record.ensures ∙ c.done-item.is in
+    let handed : take (c.loop-done.done-index + 1) c.args.dones.now ≡ take c.loop-done.done-index c.args.dones.now ++ c.record-record.result ∷ [] = take_more c.args.dones.now c.loop-done.done-index c.done-item.result c.loop-done-test.true ∙ ap (λ d. take c.loop-done.done-index c.args.dones.now ++ d ∷ []) (sym item) in
+    let events : c.args.fields.now.queue.spare + leaving_open c.args.graph.now (busy_in c.post.new.fields.open_claims.items) c.args.graph.now.wires ≤ c.post.new.fields.queue.spare + leaving_open c.args.graph.now (busy_in c.args.fields.now.open_claims.items) c.args.graph.now.wires = omega (arith, c.post.ensures.events, c.loop-done.invariant.events) in
+    let messages : vec_len c.post.new.fields.outbox ≤ vec_len c.args.fields.now.outbox + (c.loop-done.done-index + 1) * length c.args.graph.now.links = omega (arith, c.post.ensures.messages.1, c.loop-done.invariant.messages) in
+    let room : vec_capacity c.args.fields.now.outbox ≤ vec_capacity c.post.new.fields.outbox = omega (arith, c.post.ensures.messages.0, c.loop-done.invariant.messages_room) in
+    let claims : vec_capacity c.post.new.fields.open_claims ≡ vec_capacity c.args.fields.now.open_claims = c.post.ensures.open_claims.0 ∙ c.loop-done.invariant.open_claims in
+    let len : vec_len c.post.new.fields.open_claims ≤ vec_len c.args.fields.now.open_claims = omega (arith, c.post.ensures.open_claims.1, c.loop-done.invariant.open_len) in
+    let frame : (c.post.new.fields.sensors ≡ c.args.fields.now.sensors) × (c.post.new.fields.reading ≡ c.args.fields.now.reading) × (c.post.new.fields.closed ≡ c.args.fields.now.closed) × (c.post.new.fields.claims ≡ c.args.fields.now.claims) = (c.post.ensures.frame.0 ∙ c.loop-done.invariant.frame.0, c.post.ensures.frame.1 ∙ c.loop-done.invariant.frame.1, c.post.ensures.frame.2 ∙ c.loop-done.invariant.frame.2, c.post.ensures.frame.3 ∙ c.loop-done.invariant.frame.3) in
+    let groups = c.post.ensures.groups ∙ c.loop-done.invariant.groups in
+    elim c.if-post.branch [
+      | then-post+in-Ok w ↦
+          let items : c.if-post.kept.items ≡ c.loop-done.kept.items ++ c.record-record.result ∷ [] = ap (λ v. v.items) w.kept-is ∙ w.in-Ok.ensures.items in
+          record {
+            sound = c.post.ensures.sound;
+            so_far = subst (λ ds. Posted c.args.graph.now c.args.fields.now c.post.new.fields ds c.args.kept.now.items c.if-post.kept.items) (sym handed)
+                (posted_more c.args.graph.now c.args.fields.now c.loop-done.fields c.post.new.fields (take c.loop-done.done-index c.args.dones.now) c.args.kept.now.items c.loop-done.kept.items c.if-post.kept.items c.record-record.result c.loop-done.invariant.so_far items
+                (subst (IsDone c.args.graph.now) (sym item) (read_each (IsDone c.args.graph.now) c.args.dones.now c.loop-done.done-index c.done-item.result c.requires.dones c.loop-done-test.true))
+                (c.post.ensures.claimed.0 w.if-post.true) c.post.ensures.sound.open_claims (c.post.ensures.posted w.if-post.true));
+            kept = omega (arith, ap (λ v. vec_len v) w.kept-is, w.push.ensures.upper_bound, c.loop-done.invariant.kept);
+            kept_room = omega (arith, ap (λ v. vec_capacity v) w.kept-is, w.push.ensures.capacity, c.loop-done.invariant.kept_room);
+            events = events;
+            messages = messages;
+            messages_room = room;
+            open_claims = claims;
+            open_len = len;
+            frame = frame;
+            groups = groups;
+          }
+      | else-post w ↦ record {
+        sound = c.post.ensures.sound;
+        so_far = subst (λ ds. Posted c.args.graph.now c.args.fields.now c.post.new.fields ds c.args.kept.now.items c.if-post.kept.items) (sym handed)
+            (posted_same c.args.graph.now c.args.fields.now c.loop-done.fields c.post.new.fields (take c.loop-done.done-index c.args.dones.now) c.args.kept.now.items c.loop-done.kept.items c.if-post.kept.items c.record-record.result c.loop-done.invariant.so_far (ap (λ v. v.items) w.kept-is)
+            (λ busy. false≢true (sym w.if-post.false ∙ c.post.ensures.claimed.1 busy)) (c.post.ensures.passed w.if-post.false));
+        kept = omega (arith, ap (λ v. vec_len v) w.kept-is, c.loop-done.invariant.kept);
+        kept_room = omega (arith, ap (λ v. vec_capacity v) w.kept-is, c.loop-done.invariant.kept_room);
+        events = events;
+        messages = messages;
+        messages_room = room;
+        open_claims = claims;
+        open_len = len;
+        frame = frame;
+        groups = groups;
+      }
+    ]

@@ -1,0 +1,20 @@
+use Rattle.std.proofs.Common.{◌≡◌, ◌+◌, ◌*◌, ◌≤◌, length, take, vec_len, vec_capacity}
+use Rattle.pt_state.specs.State.{IsSound, busy_in}
+use Rattle.pt_post.specs.Room.{leaving_open}
+use Rattle.pt_post.specs.Posted.{Posted}
+use Rattle.pt_post.proofs.results.posts.Given as goal
+
+abbrev pub invariant-loop-done : goal.invariant-loop-done
+invariant-loop-done l = record {
+  sound : IsSound l.graph l.fields;
+  so_far : Posted l.graph l.fn.fields l.fields (take l.done-index l.dones) l.fn.kept.items l.kept.items;
+  kept : vec_len l.kept ≤ vec_len l.fn.kept + l.done-index;
+  kept_room : vec_capacity l.fn.kept ≤ vec_capacity l.kept;
+  events : l.fn.fields.queue.spare + leaving_open l.graph (busy_in l.fields.open_claims.items) l.graph.wires ≤ l.fields.queue.spare + leaving_open l.graph (busy_in l.fn.fields.open_claims.items) l.graph.wires;
+  messages : vec_len l.fields.outbox ≤ vec_len l.fn.fields.outbox + l.done-index * length l.graph.links;
+  messages_room : vec_capacity l.fn.fields.outbox ≤ vec_capacity l.fields.outbox;
+  open_claims : vec_capacity l.fields.open_claims ≡ vec_capacity l.fn.fields.open_claims;
+  open_len : vec_len l.fields.open_claims ≤ vec_len l.fn.fields.open_claims;
+  frame : (l.fields.sensors ≡ l.fn.fields.sensors) × (l.fields.reading ≡ l.fn.fields.reading) × (l.fields.closed ≡ l.fn.fields.closed) × (l.fields.claims ≡ l.fn.fields.claims);
+  groups : l.fields.queue.groups ≡ l.fn.fields.queue.groups;
+}

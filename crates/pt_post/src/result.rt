@@ -1,0 +1,72 @@
+//! One result.
+
+ghost use Rattle.std.specs.Prelude.{◌≡◌, ◌↔◌, ◌+◌, ◌<◌, ◌≤◌, ◌^◌, true, false, List as Sequence, length, vec_len, vec_capacity};
+ghost use Rattle.pt_types.specs.declared.firing.OnLink.{OnLink};
+ghost use Rattle.pt_semantics.specs.Meaning.{put_state};
+ghost use Rattle.pt_semantics.specs.Posting.{after_post};
+ghost use Rattle.pt_semantics.specs.Wired.{IsWired};
+ghost use Rattle.pt_state.specs.State.{state_of, states_in, busy_in, IsSound};
+ghost use Rattle.pt_post.specs.Room.{leaving_open};
+ghost use Rattle.pt_post.specs.Sent.{FindsNothing, IsClaimed, SumsFit};
+
+use crate::claims::{close_claim, find_open};
+use crate::emit::emit;
+use crate::outbox::send;
+use pt_state::Fields;
+use pt_types::{Done, Graph};
+
+/// Sets the number that an actor keeps.
+fn set_state(states: &mut Vec<i64>, actor: u32, value: i64)
+    requires { actor < length states.old.items }
+    ensures after { states_in states.new.items ≡ put_state (states_in states.old.items) actor value }
+    ensures len { length states.new.items ≡ length states.old.items }
+{
+    states[actor as usize] = value;
+}
+
+/// Posts a result, where its task is an open claim, and says whether it was: its claim is closed, the actor's state is
+/// set, and its outputs go along wires into the queue and along links into the outbox. Any other result changes nothing.
+///
+/// The sums of the task's tag and the actor's delays have to stay in 64 bits, and where an output goes nothing may wait:
+/// both hold in every state that a history leads to, in which no message came late.
+pub fn post(fields: &mut Fields, graph: &Graph, done: &Done) -> bool
+    requires sound { IsSound graph.now fields.old }
+    requires wired { IsWired graph.now }
+    requires links { length graph.now.links < 2 ^ 32 }
+    requires fits { IsClaimed graph.now fields.old done.now.task → SumsFit graph.now done.now.task.actor done.now.task.tag }
+    requires events { leaving_open graph.now (busy_in fields.old.open_claims.items) graph.now.wires ≤ fields.old.queue.spare }
+    requires messages { vec_len fields.old.outbox + length graph.now.links ≤ vec_capacity fields.old.outbox }
+    requires absent { IsClaimed graph.now fields.old done.now.task → FindsNothing graph.now fields.old done.now }
+    ensures sound { IsSound graph.now fields.new }
+    ensures claimed { (result ≡ true) ↔ IsClaimed graph.now fields.old done.now.task }
+    ensures posted { result ≡ true → (taken : Sequence OnLink) → state_of fields.new taken ≡ after_post graph.now (state_of fields.old taken) done.now }
+    ensures passed { result ≡ false → fields.new ≡ fields.old }
+    ensures events { fields.old.queue.spare + leaving_open graph.now (busy_in fields.new.open_claims.items) graph.now.wires ≤ fields.new.queue.spare + leaving_open graph.now (busy_in fields.old.open_claims.items) graph.now.wires }
+    ensures messages { (vec_capacity fields.old.outbox ≤ vec_capacity fields.new.outbox) × (vec_len fields.new.outbox ≤ vec_len fields.old.outbox + length graph.now.links) }
+    ensures open_claims { (vec_capacity fields.new.open_claims ≡ vec_capacity fields.old.open_claims) × (vec_len fields.new.open_claims ≤ vec_len fields.old.open_claims) }
+    ensures frame { (fields.new.sensors ≡ fields.old.sensors) × (fields.new.reading ≡ fields.old.reading) × (fields.new.closed ≡ fields.old.closed) × (fields.new.claims ≡ fields.old.claims) }
+    ensures groups { fields.new.queue.groups ≡ fields.old.queue.groups }
+{
+    match find_open(fields.open_claims.as_slice(), &done.task) {
+        None => false,
+        Some(unit) => {
+            close_claim(&mut fields.open_claims, unit);
+            emit(
+                &mut fields.queue,
+                graph,
+                unit,
+                done.task.tag,
+                &done.fired.outputs,
+            );
+            set_state(&mut fields.states, done.task.actor, done.fired.state);
+            send(
+                &mut fields.outbox,
+                graph,
+                done.task.actor,
+                done.task.tag,
+                &done.fired.outputs,
+            );
+            true
+        }
+    }
+}

@@ -1,0 +1,47 @@
+//! Results in a row.
+
+ghost use Rattle.std.specs.Prelude.{◌≡◌, ◌+◌, ◌*◌, ◌<◌, ◌≤◌, ◌^◌, List as Sequence, length, vec_len, vec_capacity};
+ghost use Rattle.pt_types.specs.declared.firing.OnLink.{OnLink};
+ghost use Rattle.pt_semantics.specs.Wired.{IsWired};
+ghost use Rattle.pt_state.specs.State.{state_of, busy_in, IsSound};
+ghost use Rattle.pt_post.specs.Posted.{AreDone, ClaimsFit, NeverPosts, Posted};
+ghost use Rattle.pt_post.specs.Room.{leaving_open};
+
+use crate::result::post;
+use pt_actors::Done;
+use pt_state::Fields;
+use pt_types::{Done as Record, Graph};
+
+/// Posts those results whose tasks are open claims, one after another, and appends them to `kept`.
+///
+/// Every result has to be what its actor's kind gives for its task. All together need room for one event on each wire
+/// that leaves a unit with an open claim, since a claim is closed once; each may need room for a message on each link.
+pub fn posts(fields: &mut Fields, graph: &Graph, dones: &[Done], kept: &mut Vec<Record>)
+    requires sound { IsSound graph.now fields.old }
+    requires wired { IsWired graph.now }
+    requires links { length graph.now.links < 2 ^ 32 }
+    requires dones { AreDone graph.now dones.now }
+    requires fit { ClaimsFit graph.now fields.old.open_claims.items }
+    requires never { (taken : Sequence OnLink) → NeverPosts graph.now (state_of fields.old taken) }
+    requires events { leaving_open graph.now (busy_in fields.old.open_claims.items) graph.now.wires ≤ fields.old.queue.spare }
+    requires messages { vec_len fields.old.outbox + length dones.now * length graph.now.links ≤ vec_capacity fields.old.outbox }
+    requires kept { vec_len kept.old + length dones.now ≤ vec_capacity kept.old }
+    ensures sound { IsSound graph.now fields.new }
+    ensures posted { Posted graph.now fields.old fields.new dones.now kept.old.items kept.new.items }
+    ensures events { fields.old.queue.spare + leaving_open graph.now (busy_in fields.new.open_claims.items) graph.now.wires ≤ fields.new.queue.spare + leaving_open graph.now (busy_in fields.old.open_claims.items) graph.now.wires }
+    ensures messages { (vec_capacity fields.old.outbox ≤ vec_capacity fields.new.outbox) × (vec_len fields.new.outbox ≤ vec_len fields.old.outbox + length dones.now * length graph.now.links) }
+    ensures kept { (vec_capacity kept.old ≤ vec_capacity kept.new) × (vec_len kept.new ≤ vec_len kept.old + length dones.now) }
+    ensures open_claims { (vec_capacity fields.new.open_claims ≡ vec_capacity fields.old.open_claims) × (vec_len fields.new.open_claims ≤ vec_len fields.old.open_claims) }
+    ensures frame { (fields.new.sensors ≡ fields.old.sensors) × (fields.new.reading ≡ fields.old.reading) × (fields.new.closed ≡ fields.old.closed) × (fields.new.claims ≡ fields.old.claims) }
+    ensures groups { fields.new.queue.groups ≡ fields.old.queue.groups }
+{
+    for done in dones {
+        let record = done.record();
+        if post(fields, graph, &record) {
+            match kept.push(record) {
+                Ok(()) => (),
+                Err(_) => unreachable!(),
+            }
+        }
+    }
+}

@@ -1,0 +1,274 @@
+-- Events of units, the least tag, and what blocks.
+use Rattle.std.proofs.Common.{◌≡◌, ℕ, ◌<◌, ◌==◌, ◌&&◌, ◌||◌, ◌⊎◌, ◌≢◌, ◌↔◌, not, Bool, true, false, List, [], ◌∷◌, Option, Some, None, ℤ, if◌then◌else◌, refl, sym, ap, ap₂, subst, ◌∙◌, inl, inr, ⊎_elim, eqb-true, eq-eqb, ne_eqb, length, arith}
+use Rattle.std.specs.List.{list_any}
+use Rattle.std.proofs.lemmas.Bool.{cases_Bool, and_parts, and_from, false≢true, ltb-true, lt-ltb}
+use Rattle.pt_tags.specs.declared.tag.Tag.{Tag}
+use Rattle.pt_tags.specs.declared.tag.Delay.{Delay}
+use Rattle.pt_tags.specs.Tags.{same_tag, UpTo, Before, tag_lt, plus}
+use Rattle.pt_types.specs.declared.firing.Event.{Event}
+use Rattle.pt_types.specs.declared.graph.Graph.{Graph}
+use Rattle.pt_types.specs.declared.graph.Unit.{Unit as Part}
+use Rattle.pt_types.specs.Lawful.{IsLawful}
+use Rattle.pt_semantics.specs.Lists.{first_of, IsIn, Each, or_else}
+use Rattle.pt_semantics.specs.Edges.{Edge}
+use Rattle.pt_semantics.specs.Paths.{Goes}
+use Rattle.pt_semantics.specs.Ranks.{sum_along}
+use Rattle.pt_semantics.specs.Meaning.{Values}
+use Rattle.pt_semantics.specs.Units.{HasEvent, at_input, same_part}
+use Rattle.pt_semantics.proofs.Tags.{same_tag-true, same_tag-refl, tag_lt-true, tag_lt-from}
+use Rattle.pt_semantics.proofs.Words.{when-true}
+use Rattle.pt_semantics.proofs.Lookups.{first_of_found, when_found, same_some, none_some, Each-in, same_part-true, same_part-refl, same_part_not}
+use Rattle.pt_semantics.proofs.Claiming.{event_found, has_event}
+use Rattle.pt_semantics.proofs.Least.{past_least}
+use Rattle.pt_delays.specs.Delays.{AreLeast, HasLeast, IsUnit}
+use Rattle.pt_delays.proofs.Lawful.{ends_are_units}
+use Rattle.pt_queue.specs.declared.groups.Groups.{Groups}
+use Rattle.pt_queue.specs.Groups.{AreGroups, group_in, groups_at}
+use Rattle.pt_queue.specs.Events.{waiting_in, value_in, IsPlaced, IsLeastTag, IsClear, IsBlocked}
+use Rattle.pt_queue.specs.Scans.{is_of, unit_in, has_unit, least_from, sooner_if, sooner, blocks, reaches}
+use Rattle.pt_queue.proofs.Waits.{unit_at, placed_actor}
+
+-- an event of a unit at a tag, in the list
+pub record Has (table : List Groups) (xs : List Event) (u : Part) (t : Tag) : Type 0 where
+  pub event : Event
+  pub in_list : IsIn event xs
+  pub unit : unit_in table event ≡ u
+  pub tag : event.tag ≡ t
+
+pub event_of : (g : Graph) (table : List Groups) (xs : List Event) (u : Part) (t : Tag) → AreGroups g table → Each (IsPlaced table) xs → HasEvent g (waiting_in xs) u t → Has table xs u t
+event_of g table xs u t are placed h =
+    let a = event_found g (waiting_in xs) u t h in
+    let f = first_of_found (λ (e : Event). value_in e u.actor a.port t) xs a.value a.waits_there in
+    let w = when_found (f.0.actor == u.actor && f.0.port == a.port && same_tag f.0.tag t) (Some f.0.value) a.value f.2 in
+    let two = and_parts (f.0.actor == u.actor && f.0.port == a.port) (same_tag f.0.tag t) w.0 in
+    let ports = and_parts (f.0.actor == u.actor) (f.0.port == a.port) two.0 in
+    let actor : f.0.actor ≡ u.actor = eqb-true f.0.actor u.actor ports.0 in
+    let port : f.0.port ≡ a.port = eqb-true f.0.port a.port ports.1 in
+    record {
+      event = f.0;
+      in_list = f.1;
+      unit = sym (unit_at g table f.0 are (Each-in (IsPlaced table) xs placed f.0 f.1)) ∙ ap₂ (at_input g) actor port ∙ a.unit;
+      tag = same_tag-true f.0.tag t two.1;
+    }
+
+or_some : (x y : Option ℤ) (v : ℤ) → y ≡ Some v → (w : ℤ) × (or_else x y ≡ Some w)
+or_some None y v h = (v, h)
+or_some (Some x) y v h = (x, refl)
+
+some_of : (h : Event → Option ℤ) (xs : List Event) (e : Event) (v : ℤ) → IsIn e xs → h e ≡ Some v → (w : ℤ) × (first_of h xs ≡ Some w)
+some_of h [] e v mem f = absurd mem
+some_of h (x ∷ xs) e v mem f =
+    ⊎_elim
+    (λ (same : e ≡ x). (v, ap (λ o. or_else o (first_of h xs)) (ap h (sym same) ∙ f)))
+    (λ (rest : IsIn e xs). let r = some_of h xs e v rest f in or_some (h x) (first_of h xs) r.0 r.1)
+    mem
+
+here : (e : Event) → (e.actor == e.actor && e.port == e.port && same_tag e.tag e.tag) ≡ true
+here e = and_from (e.actor == e.actor && e.port == e.port) (same_tag e.tag e.tag) (and_from (e.actor == e.actor) (e.port == e.port) (grind arith) (grind arith)) (same_tag-refl e.tag)
+
+pub has_of : (g : Graph) (table : List Groups) (xs : List Event) (e : Event) → AreGroups g table → Each (IsPlaced table) xs → IsIn e xs → HasEvent g (waiting_in xs) (unit_in table e) e.tag
+has_of g table xs e are placed mem =
+    let p : IsPlaced table e = Each-in (IsPlaced table) xs placed e mem in
+    let w = some_of (λ (y : Event). value_in y e.actor e.port e.tag) xs e e.value mem (when-true (e.actor == e.actor && e.port == e.port && same_tag e.tag e.tag) (Some e.value) (here e)) in
+    subst (λ z. HasEvent g (waiting_in xs) z e.tag) (unit_at g table e are p) (has_event g (waiting_in xs) e.actor e.port e.tag w.0 p.port w.1)
+
+-- where the group of an event is one of its actor's, the event waits for a unit of the graph, and the other way round
+unit_is : (g : Graph) (table : List Groups) (e : Event) → AreGroups g table → IsPlaced table e → has_unit table e ≡ true → IsUnit g (unit_in table e)
+unit_is g table e are placed h = (placed_actor g table e are placed, subst (λ n. group_in table e.actor e.port < n) (are.counts e.actor) (ltb-true (group_in table e.actor e.port) (groups_at table e.actor).count h))
+
+has_one : (g : Graph) (table : List Groups) (e : Event) → AreGroups g table → IsUnit g (unit_in table e) → has_unit table e ≡ true
+has_one g table e are unit = lt-ltb (group_in table e.actor e.port) (groups_at table e.actor).count (subst (λ n. group_in table e.actor e.port < n) (sym (are.counts e.actor)) unit.1)
+
+-- the least tag so far, over a list
+
+pub record Over (table : List Groups) (u : Part) (best : Option Tag) (es : List Event) (t : Tag) : Type 0 where
+  pub found : (best ≡ Some t) ⊎ ((e : Event) × IsIn e es × (is_of table u e ≡ true) × (e.tag ≡ t))
+  pub below : (b : Tag) → best ≡ Some b → UpTo t b
+  pub all : (e : Event) → IsIn e es → is_of table u e ≡ true → UpTo t e.tag
+
+abbrev OverAll : List Groups → Part → Option Tag → List Event → Option Tag → Type 0
+OverAll table u best es None = (best ≡ None) × ((e : Event) → IsIn e es → is_of table u e ≡ false)
+OverAll table u best es (Some t) = Over table u best es t
+
+up_refl : (t : Tag) → UpTo t t
+up_refl t = omega arith
+
+up_trans : (t u v : Tag) → UpTo t u → UpTo u v → UpTo t v
+up_trans t u v a b = grind arith
+
+up_from : (t u : Tag) → tag_lt u t ≡ false → UpTo t u
+up_from t u h = ⊎_elim (λ (b : Before u t). absurd (false≢true (sym h ∙ tag_lt-from u t b))) (λ k. k) (either t u)
+  where
+    either : (t u : Tag) → Before u t ⊎ UpTo t u
+    either t u = grind arith
+
+skip : (table : List Groups) (u : Part) (best : Option Tag) (e : Event) (es : List Event) (r : Option Tag) → is_of table u e ≡ false → OverAll table u best es r → OverAll table u best (e ∷ es) r
+skip table u best e es None h k = (k.0, λ x m. ⊎_elim (λ (same : x ≡ e). subst (λ z. is_of table u z ≡ false) (sym same) h) (λ (rest : IsIn x es). k.1 x rest) m)
+skip table u best e es (Some t) h k = record {
+  found = ⊎_elim (λ (b : best ≡ Some t). inl b) (λ (w : (x : Event) × IsIn x es × (is_of table u x ≡ true) × (x.tag ≡ t)). inr (w.0, inr w.1, w.2, w.3)) k.found;
+  below = k.below;
+  all = λ x m y. ⊎_elim (λ (same : x ≡ e). absurd (false≢true (sym h ∙ ap (is_of table u) (sym same) ∙ y))) (λ (rest : IsIn x es). k.all x rest y) m;
+}
+
+-- one event more of the unit, where the new best b is at most both
+take_one : (table : List Groups) (u : Part) (best : Option Tag) (e : Event) (es : List Event) (r : Option Tag) (b : Tag) → is_of table u e ≡ true → UpTo b e.tag → ((c : Tag) → best ≡ Some c → UpTo b c) → ((best ≡ Some b) ⊎ (e.tag ≡ b)) → OverAll table u (Some b) es r → OverAll table u best (e ∷ es) r
+take_one table u best e es None b h up old is k = absurd (none_some b (sym k.0))
+take_one table u best e es (Some t) b h up old is k = let tb : UpTo t b = k.below b refl in record {
+  found = ⊎_elim
+      (λ (s : Some b ≡ Some t). ⊎_elim (λ (o : best ≡ Some b). inl (o ∙ s)) (λ (o : e.tag ≡ b). inr (e, inl refl, h, o ∙ same_some b t s)) is)
+      (λ (w : (x : Event) × IsIn x es × (is_of table u x ≡ true) × (x.tag ≡ t)). inr (w.0, inr w.1, w.2, w.3)) k.found;
+  below = λ c o. up_trans t b c tb (old c o);
+  all = λ x m y. ⊎_elim (λ (same : x ≡ e). subst (λ (z : Event). UpTo t z.tag) (sym same) (up_trans t b e.tag tb up)) (λ (rest : IsIn x es). k.all x rest y) m;
+}
+
+take_two : (table : List Groups) (u : Part) (c : Tag) (e : Event) (es : List Event) (r : Option Tag) (b : Bool) → is_of table u e ≡ true → tag_lt e.tag c ≡ b → OverAll table u (if b then Some e.tag else Some c) es r → OverAll table u (Some c) (e ∷ es) r
+take_two table u c e es r true h lt k = take_one table u (Some c) e es r e.tag h (up_refl e.tag) (λ d s. let l : Before e.tag c = tag_lt-true e.tag c lt in subst (λ z. UpTo e.tag z) (same_some c d s) (weak e.tag c l)) (inr refl) k
+  where
+    weak : (s t : Tag) → Before s t → UpTo s t
+    weak s t l = grind arith
+take_two table u c e es r false h lt k = take_one table u (Some c) e es r c h (up_from c e.tag lt) (λ d s. subst (λ z. UpTo c z) (same_some c d s) (up_refl c)) (inl refl) k
+
+taking : (table : List Groups) (u : Part) (best : Option Tag) (e : Event) (es : List Event) (r : Option Tag) → is_of table u e ≡ true → OverAll table u (sooner best e.tag) es r → OverAll table u best (e ∷ es) r
+taking table u None e es r h k = take_one table u None e es r e.tag h (up_refl e.tag) (λ c s. absurd (none_some c s)) (inr refl) k
+taking table u (Some c) e es r h k = take_two table u c e es r (tag_lt e.tag c) h refl k
+
+stepping : (table : List Groups) (u : Part) (best : Option Tag) (e : Event) (es : List Event) (r : Option Tag) (b : Bool) → is_of table u e ≡ b → OverAll table u (sooner_if b best e.tag) es r → OverAll table u best (e ∷ es) r
+stepping table u best e es r true h k = taking table u best e es r h k
+stepping table u best e es r false h k = skip table u best e es r h k
+
+least_over : (table : List Groups) (u : Part) (best : Option Tag) (es : List Event) → OverAll table u best es (least_from table u best es)
+least_over table u None [] = (refl, λ e m. absurd m)
+least_over table u (Some b) [] = record { found = inl refl; below = λ c s. subst (λ z. UpTo b z) (same_some b c s) (up_refl b); all = λ e m. absurd m }
+least_over table u best (e ∷ es) = stepping table u best e es (least_from table u best (e ∷ es)) (is_of table u e) refl (least_over table u (sooner_if (is_of table u e) best e.tag) es)
+
+of_unit : (table : List Groups) (u : Part) (e : Event) → unit_in table e ≡ u → is_of table u e ≡ true
+of_unit table u e h = subst (λ z. same_part (unit_in table e) z ≡ true) h (same_part-refl (unit_in table e))
+
+from_over : (g : Graph) (table : List Groups) (xs : List Event) (u : Part) (r : Option Tag) → AreGroups g table → Each (IsPlaced table) xs → OverAll table u None xs r → IsLeastTag g (waiting_in xs) u r
+from_over g table xs u None are placed k = λ t h. let f = event_of g table xs u t are placed h in false≢true (sym (k.1 f.event f.in_list) ∙ of_unit table u f.event f.unit)
+from_over g table xs u (Some t) are placed k = (
+  ⊎_elim (λ (s : None ≡ Some t). absurd (none_some t s))
+      (λ (w : (x : Event) × IsIn x xs × (is_of table u x ≡ true) × (x.tag ≡ t)).
+      subst (λ z. HasEvent g (waiting_in xs) u z) w.3 (subst (λ z. HasEvent g (waiting_in xs) z w.0.tag) (same_part-true (unit_in table w.0) u w.2) (has_of g table xs w.0 are placed w.1))) k.found,
+  λ w h. let f = event_of g table xs u w are placed h in subst (λ z. UpTo t z) f.tag (k.all f.event f.in_list (of_unit table u f.event f.unit)),
+)
+
+pub least_is : (g : Graph) (table : List Groups) (xs : List Event) (u : Part) → AreGroups g table → Each (IsPlaced table) xs → IsLeastTag g (waiting_in xs) u (least_from table u None xs)
+least_is g table xs u are placed = from_over g table xs u (least_from table u None xs) are placed (least_over table u None xs)
+
+-- what blocks
+
+either_false : (b c : Bool) → (b || c) ≡ false → (b ≡ false) × (c ≡ false)
+either_false true c h = absurd (false≢true (sym h))
+either_false false c h = (refl, h)
+
+none_blocks : (test : Event → Bool) (xs : List Event) → list_any test xs ≡ false → (e : Event) → IsIn e xs → test e ≡ false
+none_blocks test [] h e mem = absurd mem
+none_blocks test (x ∷ xs) h e mem =
+    let parts = either_false (test x) (list_any test xs) h in
+    ⊎_elim (λ (same : e ≡ x). ap test same ∙ parts.0) (λ (rest : IsIn e xs). none_blocks test xs parts.1 e rest) mem
+
+all_pass : (test : Event → Bool) (xs : List Event) → ((e : Event) → IsIn e xs → test e ≡ false) → list_any test xs ≡ false
+all_pass test [] h = refl
+all_pass test (x ∷ xs) h = ap (λ b. b || list_any test xs) (h x (inl refl)) ∙ all_pass test xs (λ e m. h e (inr m))
+
+not_true : (b : Bool) → not b ≡ false → b ≡ true
+not_true true h = refl
+not_true false h = absurd (false≢true (sym h))
+
+pub reach_past : (g : Graph) (x u : Part) (d : Option Delay) (t w : Tag) → HasLeast g x u d → reaches d w t ≡ false → (path : List Edge) → Goes g x path u → Before t (plus w (sum_along path))
+reach_past g x u None t w is h path go = absurd (is path go)
+reach_past g x u (Some d) t w is h path go = (past_least g x u d t w is).0 (tag_lt-true t (plus w d) (not_true (tag_lt t (plus w d)) h)) path go
+
+pub past_reach : (g : Graph) (x u : Part) (d : Option Delay) (t w : Tag) → HasLeast g x u d → ((path : List Edge) → Goes g x path u → Before t (plus w (sum_along path))) → reaches d w t ≡ false
+past_reach g x u None t w is h = refl
+past_reach g x u (Some d) t w is h = ap not (tag_lt-from t (plus w d) ((past_least g x u d t w is).1 h))
+
+not_false : (b : Bool) → not b ≡ true → b ≡ false
+not_false true h = sym h
+not_false false h = refl
+
+and_false : (b c : Bool) → (b && c) ≡ false → b ≡ true → c ≡ false
+and_false true c h b = h
+and_false false c h b = absurd (false≢true b)
+
+false_and : (b c : Bool) → (b ≡ true → c ≡ false) → (b && c) ≡ false
+false_and true c h = h refl
+false_and false c h = refl
+
+-- a path leads from another unit alone
+from_unit : (g : Graph) (x u : Part) (path : List Edge) → IsLawful g → x ≢ u → Goes g x path u → IsUnit g x
+from_unit g x u [] lawful ne go = absurd (ne go)
+from_unit g x u (e ∷ path) lawful ne go = subst (IsUnit g) go.1 (ends_are_units g e lawful go.0).0
+
+-- what there is to know of one event: where it waits for another unit, it doesn't block this one exactly where no path
+-- leads to it in time
+record AtEvent (g : Graph) (table : List Groups) (least : Part → Part → Option Delay) (u : Part) (t : Tag) (e : Event) : Type 0 where
+  far : blocks table least u t e ≡ false → is_of table u e ≡ false → (path : List Edge) → unit_in table e ≢ u → Goes g (unit_in table e) path u → Before t (plus e.tag (sum_along path))
+  near : (is_of table u e ≡ false → (path : List Edge) → Goes g (unit_in table e) path u → Before t (plus e.tag (sum_along path))) → blocks table least u t e ≡ false
+
+at_event : (g : Graph) (table : List Groups) (least : Part → Part → Option Delay) (u : Part) (t : Tag) (e : Event) → IsLawful g → AreGroups g table → AreLeast g least → IsUnit g u → IsPlaced table e → AtEvent g table least u t e
+at_event g table least u t e lawful are is unit placed = record {
+  far = λ h other path ne go.
+      let own : IsUnit g (unit_in table e) = from_unit g (unit_in table e) u path lawful ne go in
+      let rest = and_false (not (is_of table u e)) (has_unit table e && reaches (least (unit_in table e) u) e.tag t) h (ap not other) in
+      let r = and_false (has_unit table e) (reaches (least (unit_in table e) u) e.tag t) rest (has_one g table e are own) in
+      reach_past g (unit_in table e) u (least (unit_in table e) u) t e.tag (is (unit_in table e) u own unit) r path go;
+  near = λ clear.
+      false_and (not (is_of table u e)) (has_unit table e && reaches (least (unit_in table e) u) e.tag t) (λ away.
+      false_and (has_unit table e) (reaches (least (unit_in table e) u) e.tag t) (λ has.
+      past_reach g (unit_in table e) u (least (unit_in table e) u) t e.tag (is (unit_in table e) u (unit_is g table e are placed has) unit) (clear (not_false (is_of table u e) away))));
+}
+
+pub clear_is : (g : Graph) (table : List Groups) (least : Part → Part → Option Delay) (xs : List Event) (u : Part) (t : Tag) → IsLawful g → AreGroups g table → Each (IsPlaced table) xs → AreLeast g least → IsUnit g u → (list_any (blocks table least u t) xs ≡ false) ↔ IsClear g (waiting_in xs) u t
+clear_is g table least xs u t lawful are placed is unit = (
+  (λ h x w path ne ev go.
+      let f = event_of g table xs x w are placed ev in
+      let one = at_event g table least u t f.event lawful are is unit (Each-in (IsPlaced table) xs placed f.event f.in_list) in
+      let ne2 : unit_in table f.event ≢ u = λ s. ne (sym f.unit ∙ s) in
+      let far = one.far (none_blocks (blocks table least u t) xs h f.event f.in_list) (same_part_not (unit_in table f.event) u ne2) path ne2 (subst (λ z. Goes g z path u) (sym f.unit) go) in
+      subst (λ z. Before t (plus z (sum_along path))) f.tag far),
+  (λ clear. all_pass (blocks table least u t) xs (λ e mem.
+      (at_event g table least u t e lawful are is unit (Each-in (IsPlaced table) xs placed e mem)).near (λ other path go.
+      clear (unit_in table e) e.tag path (λ s. false≢true (sym other ∙ of_unit table u e s)) (has_of g table xs e are placed mem) go))),
+)
+
+one_blocks : (test : Event → Bool) (xs : List Event) → list_any test xs ≡ true → (e : Event) × IsIn e xs × (test e ≡ true)
+one_blocks test [] h = absurd (false≢true h)
+one_blocks test (x ∷ xs) h = ⊎_elim
+    (λ (y : test x ≡ true). (x, inl refl, y))
+    (λ (n : test x ≡ false). let rest = one_blocks test xs (sym (ap (λ b. b || list_any test xs) n) ∙ h) in (rest.0, inr rest.1, rest.2))
+    (cases_Bool (test x))
+
+blocked_by : (g : Graph) (waits : Values) (x u : Part) (t w : Tag) (o : Option Delay) → HasLeast g x u o → reaches o w t ≡ true → x ≢ u → HasEvent g waits x w → IsBlocked g waits u t
+blocked_by g waits x u t w None is r ne ev = absurd (false≢true r)
+blocked_by g waits x u t w (Some d) is r ne ev = record { unit = x; tag = w; delay = d; other = ne; event = ev; least = is; in_time = up_from (plus w d) t (not_false (tag_lt t (plus w d)) r) }
+
+not_both_ways : (t w : Tag) → Before t w → UpTo w t → ⊥
+not_both_ways t w b up = let less = b.1 up.0 in let most = up.1 b.0 in omega (arith, less, most)
+
+pub blocked_is : (g : Graph) (table : List Groups) (least : Part → Part → Option Delay) (xs : List Event) (u : Part) (t : Tag) → IsLawful g → AreGroups g table → Each (IsPlaced table) xs → AreLeast g least → IsUnit g u → (list_any (blocks table least u t) xs ≡ true) ↔ IsBlocked g (waiting_in xs) u t
+blocked_is g table least xs u t lawful are placed is unit = (
+  (λ h.
+      let f = one_blocks (blocks table least u t) xs h in
+      let one = and_parts (not (is_of table u f.0)) (has_unit table f.0 && reaches (least (unit_in table f.0) u) f.0.tag t) f.2 in
+      let two = and_parts (has_unit table f.0) (reaches (least (unit_in table f.0) u) f.0.tag t) one.1 in
+      let own = unit_is g table f.0 are (Each-in (IsPlaced table) xs placed f.0 f.1) two.0 in
+      blocked_by g (waiting_in xs) (unit_in table f.0) u t f.0.tag (least (unit_in table f.0) u) (is (unit_in table f.0) u own unit) two.1
+      (λ s. false≢true (sym (not_false (is_of table u f.0) one.0) ∙ of_unit table u f.0 s)) (has_of g table xs f.0 are placed f.1)),
+  (λ k. ⊎_elim (λ (y : list_any (blocks table least u t) xs ≡ true). y)
+      (λ (n : list_any (blocks table least u t) xs ≡ false).
+      let clear = (clear_is g table least xs u t lawful are placed is unit).0 n in
+      let before : Before t (plus k.tag k.delay) = subst (λ z. Before t (plus k.tag z)) k.least.along.2 (clear k.unit k.tag k.least.along.0 k.other k.event k.least.along.1) in
+      absurd (not_both_ways t (plus k.tag k.delay) before k.in_time))
+      (cases_Bool (list_any (blocks table least u t) xs))),
+)
+
+-- nothing waits exactly where the list is empty
+pub empty_waits : (xs : List Event) (n : ℕ) (b : Bool) → n ≡ length xs → b ≡ (n == 0) → (b ≡ true) ↔ ((a p : ℕ) (t : Tag) → waiting_in xs a p t ≡ None)
+empty_waits [] n b len is = (λ e a p t. refl, λ h. is ∙ eq-eqb n 0 len)
+empty_waits (e ∷ es) n b len is = (
+  λ y. absurd (false≢true (sym (is ∙ ne_eqb n 0 (λ z. absurd (omega arith))) ∙ y)),
+  λ h. let w = some_of (λ (y : Event). value_in y e.actor e.port e.tag) (e ∷ es) e e.value (inl refl) (when-true (e.actor == e.actor && e.port == e.port && same_tag e.tag e.tag) (Some e.value) (here e)) in
+      absurd (none_some w.0 (sym (h e.actor e.port e.tag) ∙ w.1)),
+)

@@ -1,0 +1,81 @@
+-- The table of the groups of a graph's actors.
+use Rattle.std.proofs.Common.{◌≡◌, ℕ, zero, suc, ◌-◌, ◌<◌, ◌≤◌, ◌==◌, ◌&&◌, Bool, true, false, cond, List, [], ◌∷◌, map, length, slice_index_or, nat_le, nat_lt, refl, sym, ap, subst, ◌∙◌, arith}
+use Rattle.std.specs.Prelude.{sum}
+use Rattle.std.specs.List.{list_all}
+use Rattle.std.proofs.lemmas.Bool.{and_parts, leb-true}
+use Rattle.std.proofs.lemmas.List.{length-map}
+use Rattle.pt_types.specs.declared.graph.Graph.{Graph}
+use Rattle.pt_types.specs.declared.graph.Actor.{Actor}
+use Rattle.pt_types.specs.declared.kind.Kind.{Kind}
+use Rattle.pt_types.specs.declared.kind.Kind.TheVariants.{Lanes}
+use Rattle.pt_types.specs.Kinds.{kind_is_lawful, is_among, visible_inputs, visible_outputs}
+use Rattle.pt_types.specs.Names.{is_name}
+use Rattle.pt_types.specs.Lawful.{IsLawful, actor_is_lawful}
+use Rattle.pt_semantics.specs.Edges.{kind_of, no_actor}
+use Rattle.pt_semantics.specs.Units.{cell_of, groups, input_group}
+use Rattle.pt_queue.specs.declared.groups.Groups.{Groups}
+use Rattle.pt_queue.specs.Groups.{groups_of, groups_at, one_unit, AreGroups}
+
+at_map : (actors : List Actor) (i : ℕ) → slice_index_or (map (λ (a : Actor). groups_of a.kind) actors) i one_unit ≡ groups_of (slice_index_or actors i no_actor).kind
+at_map [] i = refl
+at_map (a ∷ actors) zero = refl
+at_map (a ∷ actors) (suc i) = at_map actors i
+
+input_at : (k : Kind) (p : ℕ) → p < 8 → slice_index_or (groups_of k).inputs p 0 ≡ input_group k p
+input_at k zero l = refl
+input_at k (suc zero) l = refl
+input_at k (suc (suc zero)) l = refl
+input_at k (suc (suc (suc zero))) l = refl
+input_at k (suc (suc (suc (suc zero)))) l = refl
+input_at k (suc (suc (suc (suc (suc zero))))) l = refl
+input_at k (suc (suc (suc (suc (suc (suc zero)))))) l = refl
+input_at k (suc (suc (suc (suc (suc (suc (suc zero))))))) l = refl
+input_at k (suc (suc (suc (suc (suc (suc (suc (suc p)))))))) l = absurd (omega arith)
+
+-- the groups of each actor in turn are the graph's
+pub table_is : (g : Graph) (table : List Groups) → table ≡ map (λ (a : Actor). groups_of a.kind) g.actors → AreGroups g table
+table_is g table h = record {
+  len = ap length h ∙ length-map g.actors (λ (a : Actor). groups_of a.kind);
+  inputs = λ a p l. ap (λ (x : Groups). slice_index_or x.inputs p 0) (at a) ∙ input_at (kind_of g a) p l;
+  counts = λ a. ap (λ (x : Groups). x.count) (at a);
+}
+  where
+    at : (a : ℕ) → groups_at table a ≡ groups_of (kind_of g a)
+    at a = ap (λ (xs : List Groups). slice_index_or xs a one_unit) h ∙ at_map g.actors a
+
+cells_few : (k : Kind) → kind_is_lawful k ≡ true → groups k ≤ 8
+cells_few (Lanes cells) h =
+    let two = and_parts (is_among 1 8 (length cells) && list_all (is_among 1 8) cells) (nat_le (sum cells) 8) h in
+    let one = and_parts (is_among 1 8 (length cells)) (list_all (is_among 1 8) cells) two.0 in
+    leb-true (length cells) 8 (and_parts (nat_le 1 (length cells)) (nat_le (length cells) 8) one.0).1
+cells_few _ h = omega arith
+
+lawful_one : (n : ℕ) (a : Actor) → actor_is_lawful n a ≡ true → kind_is_lawful a.kind ≡ true
+lawful_one n a h =
+    let four = and_parts (is_name a.name && nat_lt a.platform n && kind_is_lawful a.kind && a.inputs == visible_inputs a.kind) (a.outputs == visible_outputs a.kind) h in
+    let three = and_parts (is_name a.name && nat_lt a.platform n && kind_is_lawful a.kind) (a.inputs == visible_inputs a.kind) four.0 in
+    (and_parts (is_name a.name && nat_lt a.platform n) (kind_is_lawful a.kind) three.0).1
+
+few_in : (n : ℕ) (actors : List Actor) (i : ℕ) (d : Actor) → list_all (actor_is_lawful n) actors ≡ true → i < length actors → groups (slice_index_or actors i d).kind ≤ 8
+few_in n [] i d h l = absurd (omega arith)
+few_in n (a ∷ actors) zero d h l = cells_few a.kind (lawful_one n a (and_parts (actor_is_lawful n a) (list_all (actor_is_lawful n) actors) h).0)
+few_in n (a ∷ actors) (suc i) d h l = few_in n actors i d (and_parts (actor_is_lawful n a) (list_all (actor_is_lawful n) actors) h).1 (omega arith)
+
+-- an actor of a lawful graph has few groups
+pub few_groups : (g : Graph) (actors : List Actor) (i : ℕ) (a d : Actor) → IsLawful g → actors ≡ g.actors → i < length actors → a ≡ slice_index_or actors i d → groups a.kind ≤ 8
+few_groups g actors i a d lawful same below is =
+    let all : list_all (actor_is_lawful (length g.platforms)) actors ≡ true = subst (λ (xs : List Actor). list_all (actor_is_lawful (length g.platforms)) xs ≡ true) (sym same) lawful.actors in
+    subst (λ (x : Actor). groups x.kind ≤ 8) (sym is) (few_in (length g.platforms) actors i d all below)
+
+less_step : (b : Bool) (c n : ℕ) → c ≤ n → cond b 0 (suc c) ≤ suc n
+less_step true c n l = omega arith
+less_step false c n l = omega arith
+
+cell_few : (cells : List ℕ) (p : ℕ) → cell_of cells p ≤ length cells
+cell_few [] p = omega arith
+cell_few (n ∷ ns) p = less_step (nat_lt p n) (cell_of ns (p - n)) (length ns) (cell_few ns (p - n))
+
+-- a group is at most the number of groups
+pub input_few : (k : Kind) (p : ℕ) → input_group k p ≤ groups k
+input_few (Lanes cells) p = cell_few cells p
+input_few _ p = omega arith

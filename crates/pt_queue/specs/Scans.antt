@@ -1,0 +1,49 @@
+-- How a program goes over a list of events.
+use Rattle.std.specs.Prelude.{◌&&◌, nat_lt, Bool, false, not, List, [], ◌∷◌, Option, Some, None, if◌then◌else◌}
+use Rattle.pt_tags.specs.declared.tag.Tag.{Tag}
+use Rattle.pt_tags.specs.declared.tag.Delay.{Delay}
+use Rattle.pt_tags.specs.Tags.{same_tag, tag_lt, plus}
+use Rattle.pt_types.specs.declared.firing.Event.{Event}
+use Rattle.pt_types.specs.declared.graph.Unit.{Unit as Part}
+use Rattle.pt_semantics.specs.Units.{same_part}
+use Rattle.pt_queue.specs.declared.groups.Groups.{Groups}
+use Rattle.pt_queue.specs.Groups.{groups_at, group_in}
+
+-- the unit that an event waits for
+abbrev pub unit_in : List Groups → Event → Part
+unit_in table e = record { actor = e.actor; group = group_in table e.actor e.port }
+
+-- an event waits for this unit
+abbrev pub is_of : List Groups → Part → Event → Bool
+is_of table u e = same_part (unit_in table e) u
+
+-- and at this tag
+abbrev pub is_at : List Groups → Part → Tag → Event → Bool
+is_at table u t e = is_of table u e && same_tag t e.tag
+
+-- the lesser of the least tag so far and one more
+abbrev pub sooner : Option Tag → Tag → Option Tag
+sooner None t = Some t
+sooner (Some b) t = if tag_lt t b then Some t else Some b
+
+-- the least tag so far and after one event
+abbrev pub sooner_if : Bool → Option Tag → Tag → Option Tag
+sooner_if b best t = if b then sooner best t else best
+
+-- the least tag so far and after these events
+abbrev pub least_from : List Groups → Part → Option Tag → List Event → Option Tag
+least_from table u best [] = best
+least_from table u best (e ∷ events) = least_from table u (sooner_if (is_of table u e) best e.tag) events
+
+-- an event at w leads to t or before, along a path of that delay
+abbrev pub reaches : Option Delay → Tag → Tag → Bool
+reaches None w t = false
+reaches (Some d) w t = not (tag_lt t (plus w d))
+
+-- the group of an event is one of its actor's
+abbrev pub has_unit : List Groups → Event → Bool
+has_unit table e = nat_lt (group_in table e.actor e.port) (groups_at table e.actor).count
+
+-- an event waits for another unit, and leads to this one at t or before
+abbrev pub blocks : List Groups → (Part → Part → Option Delay) → Part → Tag → Event → Bool
+blocks table least u t e = not (is_of table u e) && (has_unit table e && reaches (least (unit_in table e) u) e.tag t)

@@ -1,0 +1,91 @@
+//! The groups of the inputs of each actor.
+
+ghost use Rattle.std.specs.Prelude.{◌≡◌, ◌≤◌, IfOk, slice_index_or};
+ghost use Rattle.pt_types.specs.Lawful.{IsLawful};
+ghost use Rattle.pt_semantics.specs.Units.{groups, input_group};
+ghost use Rattle.pt_queue.specs.Groups.{groups_of, groups_at, group_in, one_unit, AreGroups};
+
+use pt_types::{Graph, Kind};
+use pt_units::input_group;
+use std::alloc::{AllocError, Global};
+
+/// How the inputs of an actor are grouped into units.
+#[derive(Clone, Copy)]
+pub struct Groups {
+    /// The group of each of eight inputs, hidden ones counted.
+    pub inputs: [u32; 8],
+    /// How many groups there are.
+    pub count: u32,
+}
+
+/// The group of an input of an actor of this kind.
+fn group(kind: &Kind, input: u32) -> u32
+    requires few { groups kind.now ≤ 8 }
+    ensures { result ≡ input_group kind.now input }
+{
+    input_group(kind, input) as u32
+}
+
+/// How many groups a kind has.
+fn count(kind: &Kind) -> u32
+    requires few { groups kind.now ≤ 8 }
+    ensures { result ≡ groups kind.now }
+{
+    match kind {
+        Kind::Lanes { cells } => cells.as_slice().len() as u32,
+        _ => 1,
+    }
+}
+
+/// How the inputs of an actor of this kind are grouped.
+fn groups_of(kind: &Kind) -> Groups
+    requires few { groups kind.now ≤ 8 }
+    ensures { result ≡ groups_of kind.now }
+{
+    Groups {
+        inputs: [
+            group(kind, 0),
+            group(kind, 1),
+            group(kind, 2),
+            group(kind, 3),
+            group(kind, 4),
+            group(kind, 5),
+            group(kind, 6),
+            group(kind, 7),
+        ],
+        count: count(kind),
+    }
+}
+
+/// The groups of every actor of a graph.
+pub fn all_groups(alloc: Global, graph: &Graph) -> Result<Vec<Groups>, AllocError>
+    requires lawful { IsLawful graph.now }
+    ensures { IfOk result (λ v. AreGroups graph.now v.items) }
+{
+    let mut groups = Vec::new(alloc);
+    for actor in graph.actors.as_slice() {
+        groups.push(groups_of(&actor.kind))?;
+    }
+    Ok(groups)
+}
+
+/// The groups of an actor; past the table's end, those of an actor that is one unit.
+pub fn groups_at(table: &[Groups], actor: u32) -> Groups
+    ensures { result ≡ groups_at table.now actor }
+{
+    match table.get(actor as usize) {
+        Some(groups) => *groups,
+        None => Groups {
+            inputs: [0; 8],
+            count: 1,
+        },
+    }
+}
+
+/// The group of an input of an actor.
+pub fn group_in(table: &[Groups], actor: u32, input: u32) -> u32
+    ensures { result ≡ group_in table.now actor input }
+{
+    let groups = groups_at(table, actor);
+    groups.inputs.get(input as usize).copied().unwrap_or(0)
+}

@@ -1,0 +1,67 @@
+-- The state that the fields of a platform stand for.
+use Rattle.std.specs.Prelude.{◌≡◌, ℕ, ◌==◌, List, [], Option, Some, None, ℤ, pos, drop, length, slice_index_or, unwrap_or}
+use Rattle.pt_tags.specs.declared.tag.Tag.{Tag}
+use Rattle.pt_types.specs.declared.graph.Graph.{Graph}
+use Rattle.pt_types.specs.declared.rows.Row.{Row}
+use Rattle.pt_types.specs.declared.firing.Task.{Task}
+use Rattle.pt_types.specs.declared.firing.OnLink.{OnLink}
+use Rattle.pt_types.specs.declared.graph.Unit.{Unit as Part}
+use Rattle.pt_types.specs.Ports.{when}
+use Rattle.pt_semantics.specs.Lists.{first_of, Each, IsIn}
+use Rattle.pt_semantics.specs.Units.{at_input, same_part, unit_of}
+use Rattle.pt_semantics.specs.Platform.{State}
+use Rattle.pt_semantics.specs.Closing.{on_link}
+use Rattle.pt_delays.specs.Units.{IsUnit}
+use Rattle.pt_queue.specs.Groups.{AreGroups}
+use Rattle.pt_queue.specs.Events.{waiting_in}
+use Rattle.pt_state.specs.declared.fields.OpenClaim.{OpenClaim}
+use Rattle.pt_state.specs.declared.fields.Sensor.{Sensor}
+use Rattle.pt_state.specs.declared.fields.Fields.{Fields}
+
+-- the open claim of each unit
+abbrev pub busy_in : List OpenClaim → Part → Option Task
+busy_in claims u = first_of (λ (c : OpenClaim). when (same_part c.unit u) (Some c.task)) claims
+
+-- the number of each actor
+abbrev pub states_in : List ℤ → ℕ → ℤ
+states_in states a = slice_index_or states a (pos 0)
+
+-- the rows left of a sensor, where the actor is this one
+abbrev pub rows_left : ℕ → Sensor → Option (List Row)
+rows_left a s = when (s.actor == a) (Some (drop s.entered s.rows))
+
+-- the rows left of each sensor; an actor that is none of the sensors has none
+abbrev pub left_in : List Sensor → ℕ → List Row
+left_in sensors a = unwrap_or (first_of (rows_left a) sensors) []
+
+-- the state, by the fields and by all the messages that were taken
+abbrev pub state_of : Fields → List OnLink → State
+state_of f taken = record {
+  waits = waiting_in f.queue.events;
+  busy = busy_in f.open_claims.items;
+  states = states_in f.states.items;
+  left = left_in f.sensors.items;
+  outbox = λ l. on_link l f.outbox.items;
+  taken = λ l. on_link l taken;
+  reading = f.reading;
+  closed = f.closed;
+  claims = f.claims;
+}
+
+-- an open claim is kept with its unit, which is one of the graph, and is what is found for that unit
+pub record IsOpen (g : Graph) (claims : List OpenClaim) (c : OpenClaim) : Type 0 where
+  pub unit : c.unit ≡ unit_of g c.task
+  pub is_unit : IsUnit g c.unit
+  pub found : busy_in claims c.unit ≡ Some c.task
+
+-- the unit of an open claim that is this task, or no open claim is this task
+abbrev pub IsFound : List OpenClaim → Task → Option Part → Type 0
+IsFound claims task None = (c : OpenClaim) → IsIn c claims → c.task ≡ task → ⊥
+IsFound claims task (Some u) = (c : OpenClaim) × IsIn c claims × (c.unit ≡ u) × (c.task ≡ task)
+
+-- what holds of the fields between two changes: they are of this graph, and what waits does so for one of its units
+pub record IsSound (g : Graph) (f : Fields) : Type 0 where
+  pub groups : AreGroups g f.queue.groups
+  pub states : length f.states.items ≡ length g.actors
+  pub open_claims : Each (IsOpen g f.open_claims.items) f.open_claims.items
+  pub at_units : (a p : ℕ) (t : Tag) (v : ℤ) → waiting_in f.queue.events a p t ≡ Some v → IsUnit g (at_input g a p)

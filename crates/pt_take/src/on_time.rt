@@ -1,0 +1,31 @@
+//! Whether messages are on time.
+
+ghost use Rattle.std.specs.Prelude.{◌≡◌, ℕ, MatchBool, Some};
+ghost use Rattle.pt_semantics.specs.Taking.{IsOnTime};
+ghost use Rattle.pt_offsets.specs.Timings.{bound_in};
+
+use pt_offsets::Offsets;
+use pt_tags::Message;
+
+/// The bound of a receiver, in microseconds; 0 where it has none.
+pub fn bound(offsets: &Offsets, receiver: u32) -> u64
+    ensures { (b : ℕ) → bound_in offsets.now receiver ≡ Some b → result ≡ b }
+{
+    match offsets.bound(receiver) {
+        Some(bound) => bound,
+        None => 0,
+    }
+}
+
+/// Whether a message is on time, by the last reading before the turn and its receiver's bound, in microseconds.
+pub fn is_on_time(last: Option<u64>, bound: u64, message: Message) -> bool
+    ensures { MatchBool result (IsOnTime last bound message) (IsOnTime last bound message → ⊥) }
+{
+    match message {
+        Message::End => true,
+        Message::Event { tag, value: _ } => match last {
+            None => true,
+            Some(last) => last as u128 <= tag.time as u128 + bound as u128,
+        },
+    }
+}
