@@ -1,110 +1,15 @@
--- OpenClaim claims: one is closed, and what is found.
-use Rattle.std.proofs.Common.{◌≡◌, ℕ, zero, suc, ◌+◌, ◌⊎◌, ◌==◌, ◌<◌, Bool, true, false, not, cond, List, [], ◌∷◌, Option, Some, None, ℤ, pos, filter, get_or, set, length, refl, sym, ap, subst, ◌∙◌, inl, inr, ⊎_elim, if◌then◌else◌, eqb-true, eq-eqb, get_or-set_same, get_or-set_other, take, arith}
-use Rattle.std.proofs.lemmas.Bool.{cases_Bool, false≢true, cond-true, cond-false}
-use Rattle.std.proofs.lemmas.List.{take_more}
+-- An open claim that was found is of an actor of the graph.
+use Rattle.std.proofs.Common.{◌<◌, List, Some, length, ap, subst, ◌∙◌}
 use Rattle.pt_types.specs.declared.graph.Graph.{Graph}
-use Rattle.pt_types.specs.declared.firing.Task.{Task}
 use Rattle.pt_types.specs.declared.graph.Unit.{Unit as Part}
-use Rattle.pt_semantics.specs.Lists.{or_else, IsIn, Each}
-use Rattle.pt_types.specs.Ports.{when}
-use Rattle.pt_semantics.specs.Meaning.{put_state}
-use Rattle.pt_semantics.specs.Units.{same_part, unit_of}
-use Rattle.pt_semantics.specs.Platform.{put_busy}
-use Rattle.pt_semantics.proofs.Lookups.{when_found, first_of_found, same_some, same_part-true, same_part-refl, same_part_not, Each-in, Each-from, IsIn-append}
+use Rattle.pt_types.specs.declared.firing.Task.{Task}
+use Rattle.pt_semantics.specs.Lists.{Each}
+use Rattle.pt_semantics.specs.Units.{unit_of}
+use Rattle.pt_semantics.proofs.Lookups.{Each-in}
 use Rattle.pt_state.specs.declared.fields.OpenClaim.{OpenClaim}
-use Rattle.pt_state.specs.State.{busy_in, IsOpen, states_in}
-use Rattle.pt_post.specs.Sent.{IsFound}
-
--- the claims of the other units
-abbrev pub others : Part → List OpenClaim → List OpenClaim
-others u opens = filter (λ (o : OpenClaim). not (same_part o.unit u)) opens
-
-part_sym : (u v : Part) → same_part u v ≡ false → same_part v u ≡ false
-part_sym u v h = same_part_not v u (λ e. false≢true (sym h ∙ subst (λ z. same_part z v ≡ true) e (same_part-refl v)))
-
-none_either : (b : Bool) → ◌≡◌ {A = Option Task} (if b then None else None) None
-none_either true = refl
-none_either false = refl
-
-one : (o : OpenClaim) (ys : List OpenClaim) (c : Bool) (v : Part) → busy_in (cond c (o ∷ ys) ys) v ≡ or_else (when c (when (same_part o.unit v) (Some o.task))) (busy_in ys v)
-one o ys true v = refl
-one o ys false v = refl
-
-join : (b c d : Bool) (x y : Option Task) → (b ≡ true → c ≡ true → d ≡ true) → (c ≡ true → d ≡ true → b ≡ true) → (b ≡ true → d ≡ true → c ≡ true) → or_else (when (not b) (when d x)) (if c then None else y) ≡ (if c then None else or_else (when d x) y)
-join true true d x y f h k = refl
-join true false true x y f h k = absurd (false≢true (k refl refl))
-join true false false x y f h k = refl
-join false true true x y f h k = absurd (false≢true (h refl refl))
-join false true false x y f h k = refl
-join false false d x y f h k = refl
-
-at_others : (u : Part) (opens : List OpenClaim) (v : Part) → busy_in (others u opens) v ≡ put_busy (busy_in opens) u None v
-at_others u [] v = sym (none_either (same_part u v))
-at_others u (o ∷ os) v =
-    one o (others u os) (not (same_part o.unit u)) v
-    ∙ ap (or_else (when (not (same_part o.unit u)) (when (same_part o.unit v) (Some o.task)))) (at_others u os v)
-    ∙ join (same_part o.unit u) (same_part u v) (same_part o.unit v) (Some o.task) (busy_in os v)
-    (λ b c. subst (λ z. same_part o.unit z ≡ true) (same_part-true u v c) b)
-    (λ c d. subst (λ z. same_part o.unit z ≡ true) (sym (same_part-true u v c)) d)
-    (λ b d. subst (λ z. same_part z v ≡ true) (same_part-true o.unit u b) d)
-
-pub busy_others : (u : Part) (opens : List OpenClaim) → busy_in (others u opens) ≡ put_busy (busy_in opens) u None
-busy_others u opens = λ i v. at_others u opens v i
-
-filter_in : (test : OpenClaim → Bool) (xs : List OpenClaim) (x : OpenClaim) → IsIn x (filter test xs) → IsIn x xs × (test x ≡ true)
-filter_in test [] x mem = absurd mem
-filter_in test (y ∷ ys) x mem = step (test y) refl mem (filter_in test ys x)
-  where
-    step : (b : Bool) → test y ≡ b → IsIn x (cond b (y ∷ filter test ys) (filter test ys)) → (IsIn x (filter test ys) → IsIn x ys × (test x ≡ true)) → IsIn x (y ∷ ys) × (test x ≡ true)
-    step true is m f = ⊎_elim (λ (s : x ≡ y). (inl s, ap test s ∙ is)) (λ (r : IsIn x (filter test ys)). let q = f r in (inr q.0, q.1)) m
-    step false is m f = let q = f m in (inr q.0, q.1)
-
-not_false : (b : Bool) → not b ≡ true → b ≡ false
-not_false true h = absurd (false≢true h)
-not_false false h = refl
-
--- what is left is still found
-pub sound_others : (g : Graph) (u : Part) (opens : List OpenClaim) → Each (IsOpen g opens) opens → Each (IsOpen g (others u opens)) (others u opens)
-sound_others g u opens h = Each-from (IsOpen g (others u opens)) (others u opens) (λ o mem.
-    let m = filter_in (λ (x : OpenClaim). not (same_part x.unit u)) opens o mem in
-    let was : IsOpen g opens o = Each-in (IsOpen g opens) opens h o m.0 in
-    record { unit = was.unit; is_unit = was.is_unit; found = at_others u opens o.unit ∙ cond-false (same_part u o.unit) None (busy_in opens o.unit) (part_sym o.unit u (not_false (same_part o.unit u) m.1)) ∙ was.found })
-
--- an open claim that was found
-pub found_is : (g : Graph) (opens : List OpenClaim) (task : Task) (u : Part) → Each (IsOpen g opens) opens → IsFound opens task (Some u) → (u ≡ unit_of g task) × (busy_in opens (unit_of g task) ≡ Some task)
-found_is g opens task u h f =
-    let was : IsOpen g opens f.0 = Each-in (IsOpen g opens) opens h f.0 f.1 in
-    let unit : f.0.unit ≡ unit_of g task = was.unit ∙ ap (unit_of g) f.3 in
-    (sym f.2 ∙ unit, ap (busy_in opens) (sym unit) ∙ was.found ∙ ap Some f.3)
+use Rattle.pt_state.specs.State.{IsOpen, IsFound}
 
 pub found_actor : (g : Graph) (opens : List OpenClaim) (task : Task) (u : Part) → Each (IsOpen g opens) opens → IsFound opens task (Some u) → task.actor < length g.actors
 found_actor g opens task u h f =
     let was : IsOpen g opens f.0 = Each-in (IsOpen g opens) opens h f.0 f.1 in
     subst (λ (v : Part). v.actor < length g.actors) (was.unit ∙ ap (unit_of g) f.3) was.is_unit.0
-
-pub not_found : (g : Graph) (opens : List OpenClaim) (task : Task) → IsFound opens task None → busy_in opens (unit_of g task) ≡ Some task → ⊥
-not_found g opens task none h =
-    let f = first_of_found (λ (o : OpenClaim). when (same_part o.unit (unit_of g task)) (Some o.task)) opens task h in
-    none f.0 f.1 (same_some f.0.task task (when_found (same_part f.0.unit (unit_of g task)) (Some f.0.task) task f.2).1)
-
--- one number is set
-pub states_set : (states : List ℤ) (a : ℕ) (q : ℤ) → a < length states → states_in (set states a q) ≡ put_state (states_in states) a q
-states_set states a q lt = λ i b. at b i
-  where
-    at : (b : ℕ) → states_in (set states a q) b ≡ put_state (states_in states) a q b
-    at b =
-        ⊎_elim
-        (λ (y : (b == a) ≡ true). ap (states_in (set states a q)) (eqb-true b a y) ∙ get_or-set_same states a q (pos 0) lt ∙ sym (cond-true (b == a) q (states_in states b) y))
-        (λ (n : (b == a) ≡ false). get_or-set_other states a b q (pos 0) (λ e. false≢true (sym n ∙ eq-eqb b a e)) ∙ sym (cond-false (b == a) q (states_in states b) n))
-        (cases_Bool (b == a))
-
--- members of a list read one by one
-pub in_more : (xs : List OpenClaim) (i : ℕ) (d o : OpenClaim) → i < length xs → IsIn o (take (i + 1) xs) → IsIn o (take i xs) ⊎ (o ≡ get_or xs i d)
-in_more xs i d o lt mem =
-    ⊎_elim (λ (l : IsIn o (take i xs)). inl l) (λ (r : IsIn o (get_or xs i d ∷ [])). ⊎_elim (λ (s : o ≡ get_or xs i d). inr s) (λ (n : ⊥). absurd n) r)
-    (IsIn-append o (take i xs) (get_or xs i d ∷ []) (subst (IsIn o) (take_more xs i d lt) mem))
-
-pub read_in : (xs : List OpenClaim) (i : ℕ) (d : OpenClaim) → i < length xs → IsIn (get_or xs i d) xs
-read_in [] i d lt = absurd (omega arith)
-read_in (x ∷ xs) zero d lt = inl refl
-read_in (x ∷ xs) (suc i) d lt = inr (read_in xs i d (omega arith))

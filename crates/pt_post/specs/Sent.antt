@@ -1,5 +1,5 @@
 -- What a result needs, and what its outputs send along one wire and one link.
-use Rattle.std.specs.Prelude.{◌≡◌, ℕ, suc, ◌==◌, ◌&&◌, nat_lt, List, [], Option, Some, None, ℤ, if◌then◌else◌}
+use Rattle.std.specs.Prelude.{◌≡◌, ℕ, suc, ◌==◌, ◌&&◌, nat_lt, List, [], Option, Some, ℤ, if◌then◌else◌}
 use Rattle.pt_tags.specs.declared.tag.Tag.{Tag}
 use Rattle.pt_tags.specs.declared.tag.Delay.{Delay}
 use Rattle.pt_tags.specs.declared.message.Message.{Message}
@@ -17,7 +17,6 @@ use Rattle.pt_semantics.specs.Lists.{IsIn}
 use Rattle.pt_semantics.specs.Meaning.{Values, going}
 use Rattle.pt_semantics.specs.Posting.{as_message}
 use Rattle.pt_semantics.specs.Units.{leaves_unit, unit_of}
-use Rattle.pt_state.specs.declared.fields.OpenClaim.{OpenClaim}
 use Rattle.pt_state.specs.declared.fields.Fields.{Fields}
 use Rattle.pt_state.specs.State.{busy_in}
 use Rattle.pt_queue.specs.Events.{waiting_in}
@@ -45,8 +44,3 @@ along g u t outputs w a p x = when (leaves_unit g u (of_wire g w)) (sent w (weig
 -- what an actor's output puts into the outbox for link `number`, as link l has it
 abbrev pub sent_on : ℕ → ℕ → Link → ℕ → Tag → Option ℤ → List Message
 sent_on l number link a t output = if l == number then (if link.from == a then as_message t output else []) else []
-
--- the unit of the open claim that is a task, or there is none
-abbrev pub IsFound : List OpenClaim → Task → Option Part → Type 0
-IsFound claims task None = (c : OpenClaim) → IsIn c claims → c.task ≡ task → ⊥
-IsFound claims task (Some u) = (c : OpenClaim) × IsIn c claims × (c.unit ≡ u) × (c.task ≡ task)

@@ -6,7 +6,6 @@
 //! Read first: `post`, then `after_post` in `specs/Posting.antt` of pt_semantics.
 #![tactic(auto)]
 
-mod claims;
 mod emit;
 mod fits;
 mod outbox;

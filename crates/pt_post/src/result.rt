@@ -2,27 +2,16 @@
 
 ghost use Rattle.std.specs.Prelude.{◌≡◌, ◌↔◌, ◌+◌, ◌<◌, ◌≤◌, ◌^◌, true, false, List as Sequence, length, vec_len, vec_capacity};
 ghost use Rattle.pt_types.specs.declared.firing.OnLink.{OnLink};
-ghost use Rattle.pt_semantics.specs.Meaning.{put_state};
 ghost use Rattle.pt_semantics.specs.Posting.{after_post};
 ghost use Rattle.pt_semantics.specs.Wired.{IsWired};
-ghost use Rattle.pt_state.specs.State.{state_of, states_in, busy_in, IsSound};
+ghost use Rattle.pt_state.specs.State.{state_of, busy_in, IsSound};
 ghost use Rattle.pt_post.specs.Room.{leaving_open};
 ghost use Rattle.pt_post.specs.Sent.{FindsNothing, IsClaimed, SumsFit};
 
-use crate::claims::{close_claim, find_open};
 use crate::emit::emit;
 use crate::outbox::send;
-use pt_state::Fields;
+use pt_state::{Fields, close_claim, find_claim, set_state};
 use pt_types::{Done, Graph};
-
-/// Sets the number that an actor keeps.
-fn set_state(states: &mut Vec<i64>, actor: u32, value: i64)
-    requires { actor < length states.old.items }
-    ensures after { states_in states.new.items ≡ put_state (states_in states.old.items) actor value }
-    ensures len { length states.new.items ≡ length states.old.items }
-{
-    states[actor as usize] = value;
-}
 
 /// Posts a result, where its task is an open claim, and says whether it was: its claim is closed, the actor's state is
 /// set, and its outputs go along wires into the queue and along links into the outbox. Any other result changes nothing.
@@ -47,7 +36,7 @@ pub fn post(fields: &mut Fields, graph: &Graph, done: &Done) -> bool
     ensures frame { (fields.new.sensors ≡ fields.old.sensors) × (fields.new.reading ≡ fields.old.reading) × (fields.new.closed ≡ fields.old.closed) × (fields.new.claims ≡ fields.old.claims) }
     ensures groups { fields.new.queue.groups ≡ fields.old.queue.groups }
 {
-    match find_open(fields.open_claims.as_slice(), &done.task) {
+    match find_claim(fields.open_claims.as_slice(), &done.task) {
         None => false,
         Some(unit) => {
             close_claim(&mut fields.open_claims, unit);

@@ -2,7 +2,6 @@ use Rattle.std.proofs.Common.{◌≡◌, ◌<◌, ◌≤◌, ◌+◌, arith, len
 use Rattle.std.proofs.lemmas.Bool.{false≢true}
 use Rattle.pt_types.specs.declared.graph.Unit.{Unit as Part}
 use Rattle.pt_semantics.specs.Edges.{wires}
-use Rattle.pt_semantics.specs.Lists.{Each}
 use Rattle.pt_semantics.specs.Meaning.{Values, added, going, put_state}
 use Rattle.pt_semantics.specs.Units.{at_input, unit_of, leaves_unit}
 use Rattle.pt_semantics.specs.Platform.{put_busy}
@@ -10,15 +9,16 @@ use Rattle.pt_semantics.specs.Closing.{on_link}
 use Rattle.pt_semantics.specs.Floor.{NothingThere}
 use Rattle.pt_queue.specs.Events.{waiting_in}
 use Rattle.pt_queue.specs.Groups.{AreGroups}
-use Rattle.pt_state.specs.State.{busy_in, states_in, left_in, IsOpen}
-use Rattle.pt_post.specs.Sent.{IsFound, SumsFit}
+use Rattle.pt_state.specs.State.{busy_in, states_in, left_in, IsFound}
+use Rattle.pt_state.proofs.OpenClaims.{found_is, not_found}
+use Rattle.pt_post.specs.Sent.{SumsFit}
 use Rattle.pt_delays.specs.Units.{IsUnit}
 use Rattle.pt_types.specs.declared.graph.Graph.{Graph}
 use Rattle.pt_tags.specs.declared.tag.Tag.{Tag}
 use Rattle.pt_post.specs.Room.{leaving, leaving_open}
 use Rattle.pt_post.proofs.Counted.{closed_less}
 use Rattle.pt_post.proofs.Going.{going_units, added_units}
-use Rattle.pt_post.proofs.Opens.{found_actor, found_is, not_found, busy_others, sound_others}
+use Rattle.pt_post.proofs.Opens.{found_actor}
 use Rattle.pt_post.proofs.result.post.Goals as goal
 
 abbrev AtUnits : Graph → Values → Type 0
@@ -37,7 +37,7 @@ emit-requires-clause-absent c =
 pub set_state-requires : goal.set_state-requires
 set_state-requires c =
     let actor : c.args.done.now.task.actor < length c.args.graph.now.actors = found_actor c.args.graph.now c.args.fields.now.open_claims.items c.args.done.now.task c.in-Some.unit c.requires.sound.open_claims (subst (λ os. IsFound os c.args.done.now.task (Some c.in-Some.unit)) c.as_slice.ensures.value c.in-Some.ensures) in
-    subst (λ n. c.args.done.now.task.actor < n) (sym c.requires.sound.states) actor
+    record { actor = subst (λ n. c.args.done.now.task.actor < n) (sym c.requires.sound.states) actor }
 
 pub returns-in-None-clause-claimed : goal.returns-in-None-clause-claimed
 returns-in-None-clause-claimed c = (
@@ -49,7 +49,7 @@ pub returns-in-Some-clause-sound : goal.returns-in-Some-clause-sound
 returns-in-Some-clause-sound c = record {
   groups = subst (AreGroups c.args.graph.now) (sym c.emit.ensures.groups) c.requires.sound.groups;
   states = c.set_state.ensures.len ∙ c.requires.sound.states;
-  open_claims = subst (λ os. Each (IsOpen c.args.graph.now os) os) (sym c.close_claim.ensures.left) (sound_others c.args.graph.now c.in-Some.unit c.args.fields.now.open_claims.items c.requires.sound.open_claims);
+  open_claims = c.close_claim.ensures.open_claims c.args.graph.now c.requires.sound.open_claims;
   at_units = subst (AtUnits c.args.graph.now) (sym c.emit.ensures.waits) (added_units c.args.graph.now (waiting_in c.args.fields.now.queue.events) _ c.requires.sound.at_units (going_units c.args.graph.now (leaves_unit c.args.graph.now c.in-Some.unit) c.args.done.now.task.tag c.args.done.now.fired.outputs c.requires.wired));
 }
 
@@ -62,7 +62,7 @@ pub returns-in-Some-clause-posted : goal.returns-in-Some-clause-posted
 returns-in-Some-clause-posted c = λ e taken.
     let found = found_is c.args.graph.now c.args.fields.now.open_claims.items c.args.done.now.task c.in-Some.unit c.requires.sound.open_claims (subst (λ os. IsFound os c.args.done.now.task (Some c.in-Some.unit)) c.as_slice.ensures.value c.in-Some.ensures) in
     let waits = c.emit.ensures.waits ∙ ap (λ u. added (waiting_in c.args.fields.now.queue.events) (going c.args.graph.now (wires c.args.graph.now) (leaves_unit c.args.graph.now u) c.args.done.now.task.tag c.args.done.now.fired.outputs)) found.0 in
-    let busy = ap busy_in c.close_claim.ensures.left ∙ busy_others c.in-Some.unit c.args.fields.now.open_claims.items ∙ ap (λ u. put_busy (busy_in c.args.fields.now.open_claims.items) u None) found.0 in
+    let busy = c.close_claim.ensures.busy ∙ ap (λ u. put_busy (busy_in c.args.fields.now.open_claims.items) u None) found.0 in
     let states : states_in c.set_state.new.states.items ≡ put_state (states_in c.args.fields.now.states.items) c.args.done.now.task.actor c.args.done.now.fired.state = search rules in
     λ i. record {
       waits = waits i;
@@ -86,7 +86,7 @@ pub returns-in-Some-clause-events : goal.returns-in-Some-clause-events
 returns-in-Some-clause-events c =
     let found = found_is c.args.graph.now c.args.fields.now.open_claims.items c.args.done.now.task c.in-Some.unit c.requires.sound.open_claims (subst (λ os. IsFound os c.args.done.now.task (Some c.in-Some.unit)) c.as_slice.ensures.value c.in-Some.ensures) in
     let sum = closed_less c.args.graph.now (busy_in c.args.fields.now.open_claims.items) (unit_of c.args.graph.now c.args.done.now.task) c.args.done.now.task c.args.graph.now.wires found.1 in
-    let busy = ap busy_in c.close_claim.ensures.left ∙ busy_others c.in-Some.unit c.args.fields.now.open_claims.items ∙ ap (λ u. put_busy (busy_in c.args.fields.now.open_claims.items) u None) found.0 in
+    let busy = c.close_claim.ensures.busy ∙ ap (λ u. put_busy (busy_in c.args.fields.now.open_claims.items) u None) found.0 in
     let new = ap (λ b. leaving_open c.args.graph.now b c.args.graph.now.wires) busy in
     let spare : c.args.fields.now.queue.spare ≤ c.emit.new.queue.spare + leaving c.args.graph.now (unit_of c.args.graph.now c.args.done.now.task) c.args.graph.now.wires = subst (λ (u : Part). c.args.fields.now.queue.spare ≤ c.emit.new.queue.spare + leaving c.args.graph.now u c.args.graph.now.wires) found.0 c.emit.ensures.spare in
     omega (arith, sum, new, spare)
