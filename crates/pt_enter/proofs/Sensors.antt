@@ -17,16 +17,16 @@ use Rattle.pt_semantics.specs.Units.{at_input}
 use Rattle.pt_semantics.proofs.Lookups.{none_some, or_else_none, or_else_assoc, when_found, when_none}
 use Rattle.pt_delays.specs.Units.{IsUnit}
 use Rattle.pt_state.specs.declared.fields.Sensor.{Sensor}
-use Rattle.pt_state.specs.State.{left_in, rows_left}
+use Rattle.pt_state.specs.State.{left_in, rows_left, rows_of}
 use Rattle.pt_enter.specs.Sensors.{at_sensor, seen_at, IsSensor, RiseFrom}
 
 -- the rows that are due of one sensor, and of several
 abbrev pub due_of : ℕ → Sensor → List Row
 due_of r s = due r (drop s.entered s.rows)
 
-abbrev pub rows_of : ℕ → List Sensor → List RowAt
-rows_of r [] = []
-rows_of r (s ∷ ss) = map (at_sensor s.actor) (due_of r s) ++ rows_of r ss
+abbrev pub due_rows : ℕ → List Sensor → List RowAt
+due_rows r [] = []
+due_rows r (s ∷ ss) = map (at_sensor s.actor) (due_of r s) ++ due_rows r ss
 
 -- what the rows that are due bring
 abbrev pub brought : ℕ → List Sensor → Values
@@ -94,7 +94,7 @@ le_cases : (m k : ℕ) → m ≤ k → (m ≡ k) ⊎ (m < k)
 le_cases m k le = ⊎_elim (λ (e : (m == k) ≡ true). inl (eqb-true m k e)) (λ (e : (m == k) ≡ false). inr (lt_of m k e le)) (cases_Bool (m == k))
 
 -- sensor after sensor, or actor after actor
-all_from : (r : ℕ) (left : ℕ → List Row) (ss : List Sensor) (a n : ℕ) → RiseFrom a ss → Each (λ (s : Sensor). s.actor < a + n) ss → ((x : ℕ) → a ≤ x → left x ≡ left_in ss x) → flat_map (λ x. map (at_sensor x) (due r (left x))) (range_with_len a n) ≡ rows_of r ss
+all_from : (r : ℕ) (left : ℕ → List Row) (ss : List Sensor) (a n : ℕ) → RiseFrom a ss → Each (λ (s : Sensor). s.actor < a + n) ss → ((x : ℕ) → a ≤ x → left x ≡ left_in ss x) → flat_map (λ x. map (at_sensor x) (due r (left x))) (range_with_len a n) ≡ due_rows r ss
 all_from r left [] a zero rise below same = refl
 all_from r left (s ∷ ss) a zero rise below same = let from : a ≤ s.actor = rise.0 in let to : s.actor < a + 0 = below.0 in absurd (omega (arith, from, to))
 all_from r left [] a (suc n) rise below same =
@@ -120,7 +120,7 @@ all_from r left (s ∷ ss) a (suc n) rise below same =
     more [] h = tt
     more (x ∷ xs) h = let lt : x.actor < a + suc n = h.0 in (omega (arith, lt), more xs h.1)
 
-pub all_due_is : (g : Graph) (r : ℕ) (ss : List Sensor) → RiseFrom 0 ss → Each (IsSensor g) ss → all_due g r (left_in ss) ≡ rows_of r ss
+pub all_due_is : (g : Graph) (r : ℕ) (ss : List Sensor) → RiseFrom 0 ss → Each (IsSensor g) ss → all_due g r (left_in ss) ≡ due_rows r ss
 all_due_is g r ss rise each = all_from r (left_in ss) ss 0 (length g.actors) rise (below ss each) (λ x le. refl)
   where
     below : (xs : List Sensor) → Each (IsSensor g) xs → Each (λ (s : Sensor). s.actor < 0 + length g.actors) xs
@@ -130,6 +130,7 @@ all_due_is g r ss rise each = all_from r (left_in ss) ss 0 (length g.actors) ris
 -- one sensor, before and after its rows entered
 pub record Entered (r : ℕ) (old new : Sensor) : Type 0 where
   pub actor : new.actor ≡ old.actor
+  pub rows : new.rows ≡ old.rows
   pub within : new.entered ≤ length new.rows
   pub left : drop new.entered new.rows ≡ not_due r (drop old.entered old.rows)
 
@@ -156,6 +157,24 @@ left_after r (x ∷ xs) (y ∷ ys) len h a =
     ⊎_elim
     (λ (e : (x.actor == a) ≡ true). left_here y ys a (ap (λ n. n == a) one.actor ∙ e) ∙ one.left ∙ ap (not_due r) (sym (left_here x xs a e)))
     (λ (e : (x.actor == a) ≡ false). left_other y ys a (ap (λ n. n == a) one.actor ∙ e) ∙ left_after r xs ys (omega (arith, len)) (λ k lt. h (suc k) (omega (arith, lt))) a ∙ ap (not_due r) (sym (left_other x xs a e)))
+    (cases_Bool (x.actor == a))
+
+-- all rows of each sensor stay
+rows_here : (s : Sensor) (ss : List Sensor) (a : ℕ) → (s.actor == a) ≡ true → rows_of (s ∷ ss) a ≡ s.rows
+rows_here s ss a e = ap (λ b. unwrap_or (or_else (when b (Some s.rows)) (first_of (λ (z : Sensor). when (z.actor == a) (Some z.rows)) ss)) []) e
+
+rows_other : (s : Sensor) (ss : List Sensor) (a : ℕ) → (s.actor == a) ≡ false → rows_of (s ∷ ss) a ≡ rows_of ss a
+rows_other s ss a e = ap (λ b. unwrap_or (or_else (when b (Some s.rows)) (first_of (λ (z : Sensor). when (z.actor == a) (Some z.rows)) ss)) []) e
+
+pub rows_after : (r : ℕ) (xs ys : List Sensor) → length ys ≡ length xs → AllEntered r xs ys → (a : ℕ) → rows_of ys a ≡ rows_of xs a
+rows_after r [] [] len h a = refl
+rows_after r [] (y ∷ ys) len h a = absurd (omega (arith, len))
+rows_after r (x ∷ xs) [] len h a = absurd (omega (arith, len))
+rows_after r (x ∷ xs) (y ∷ ys) len h a =
+    let one : Entered r x y = h 0 (omega arith) in
+    ⊎_elim
+    (λ (e : (x.actor == a) ≡ true). rows_here y ys a (ap (λ n. n == a) one.actor ∙ e) ∙ one.rows ∙ sym (rows_here x xs a e))
+    (λ (e : (x.actor == a) ≡ false). rows_other y ys a (ap (λ n. n == a) one.actor ∙ e) ∙ rows_after r xs ys (omega (arith, len)) (λ k lt. h (suc k) (omega (arith, lt))) a ∙ sym (rows_other x xs a e))
     (cases_Bool (x.actor == a))
 
 pub rise_after : (r n : ℕ) (xs ys : List Sensor) → length ys ≡ length xs → AllEntered r xs ys → RiseFrom n xs → RiseFrom n ys

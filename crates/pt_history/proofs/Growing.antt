@@ -21,45 +21,45 @@ turns_last f p q i n [] e before last = refl
 turns_last f p q i n (h ∷ []) e before last = ap (λ t. t ∷ []) (last i h (omega arith))
 turns_last f p q i n (h ∷ k ∷ hs) e before last = ap₂ (λ t ts. t ∷ ts) (before i h (omega arith)) (turns_last f p q (i + 1) n (k ∷ hs) (omega arith) before last)
 
-pub posted_last : (p : Lists) (done : Done) (new : List (List Done)) (hs : List Head) → length p.posted ≡ length hs → new ≡ on_last (λ (l : List Done). l ++ done ∷ []) p.posted → turns_from (record p { posted = new }) 0 hs ≡ on_last (posting done) (turns_from p 0 hs)
-posted_last p done new hs e is =
+pub posted_last : (p : Lists) (dones : List Done) (new : List (List Done)) (hs : List Head) → length p.posted ≡ length hs → new ≡ on_last (λ (l : List Done). l ++ dones) p.posted → turns_from (record p { posted = new }) 0 hs ≡ on_last (posting dones) (turns_from p 0 hs)
+posted_last p dones new hs e is =
     ap (λ (l : List (List Done)). turns_from (record p { posted = l }) 0 hs) is
-    ∙ turns_last (posting done) p (record p { posted = on_last (λ (l : List Done). l ++ done ∷ []) p.posted }) 0 (length hs) hs (omega arith)
-    (λ j h lt. ap (λ (l : List Done). record (turn_at p j h) { posted = l }) (before_last (λ (l : List Done). l ++ done ∷ []) p.posted j [] (omega arith)))
-    (λ j h eq. ap (λ (l : List Done). record (turn_at p j h) { posted = l }) (at_last (λ (l : List Done). l ++ done ∷ []) p.posted j [] (omega arith)))
+    ∙ turns_last (posting dones) p (record p { posted = on_last (λ (l : List Done). l ++ dones) p.posted }) 0 (length hs) hs (omega arith)
+    (λ j h lt. ap (λ (l : List Done). record (turn_at p j h) { posted = l }) (before_last (λ (l : List Done). l ++ dones) p.posted j [] (omega arith)))
+    (λ j h eq. ap (λ (l : List Done). record (turn_at p j h) { posted = l }) (at_last (λ (l : List Done). l ++ dones) p.posted j [] (omega arith)))
 
-pub rows_last : (p : Lists) (row : RowAt) (new : List (List RowAt)) (hs : List Head) → length p.rows ≡ length hs → new ≡ on_last (λ (l : List RowAt). l ++ row ∷ []) p.rows → turns_from (record p { rows = new }) 0 hs ≡ on_last (entering row) (turns_from p 0 hs)
-rows_last p row new hs e is =
+pub rows_last : (p : Lists) (more : List RowAt) (new : List (List RowAt)) (hs : List Head) → length p.rows ≡ length hs → new ≡ on_last (λ (l : List RowAt). l ++ more) p.rows → turns_from (record p { rows = new }) 0 hs ≡ on_last (entering more) (turns_from p 0 hs)
+rows_last p more new hs e is =
     ap (λ (l : List (List RowAt)). turns_from (record p { rows = l }) 0 hs) is
-    ∙ turns_last (entering row) p (record p { rows = on_last (λ (l : List RowAt). l ++ row ∷ []) p.rows }) 0 (length hs) hs (omega arith)
-    (λ j h lt. ap (λ (l : List RowAt). record (turn_at p j h) { rows = l }) (before_last (λ (l : List RowAt). l ++ row ∷ []) p.rows j [] (omega arith)))
-    (λ j h eq. ap (λ (l : List RowAt). record (turn_at p j h) { rows = l }) (at_last (λ (l : List RowAt). l ++ row ∷ []) p.rows j [] (omega arith)))
+    ∙ turns_last (entering more) p (record p { rows = on_last (λ (l : List RowAt). l ++ more) p.rows }) 0 (length hs) hs (omega arith)
+    (λ j h lt. ap (λ (l : List RowAt). record (turn_at p j h) { rows = l }) (before_last (λ (l : List RowAt). l ++ more) p.rows j [] (omega arith)))
+    (λ j h eq. ap (λ (l : List RowAt). record (turn_at p j h) { rows = l }) (at_last (λ (l : List RowAt). l ++ more) p.rows j [] (omega arith)))
 
-pub taken_last : (p : Lists) (message : OnLink) (new : List (List OnLink)) (hs : List Head) → length p.taken ≡ length hs → new ≡ on_last (λ (l : List OnLink). l ++ message ∷ []) p.taken → turns_from (record p { taken = new }) 0 hs ≡ on_last (taking message) (turns_from p 0 hs)
-taken_last p message new hs e is =
+pub taken_last : (p : Lists) (messages : List OnLink) (new : List (List OnLink)) (hs : List Head) → length p.taken ≡ length hs → new ≡ on_last (λ (l : List OnLink). l ++ messages) p.taken → turns_from (record p { taken = new }) 0 hs ≡ on_last (taking messages) (turns_from p 0 hs)
+taken_last p messages new hs e is =
     ap (λ (l : List (List OnLink)). turns_from (record p { taken = l }) 0 hs) is
-    ∙ turns_last (taking message) p (record p { taken = on_last (λ (l : List OnLink). l ++ message ∷ []) p.taken }) 0 (length hs) hs (omega arith)
-    (λ j h lt. ap (λ (l : List OnLink). record (turn_at p j h) { taken = l }) (before_last (λ (l : List OnLink). l ++ message ∷ []) p.taken j [] (omega arith)))
-    (λ j h eq. ap (λ (l : List OnLink). record (turn_at p j h) { taken = l }) (at_last (λ (l : List OnLink). l ++ message ∷ []) p.taken j [] (omega arith)))
+    ∙ turns_last (taking messages) p (record p { taken = on_last (λ (l : List OnLink). l ++ messages) p.taken }) 0 (length hs) hs (omega arith)
+    (λ j h lt. ap (λ (l : List OnLink). record (turn_at p j h) { taken = l }) (before_last (λ (l : List OnLink). l ++ messages) p.taken j [] (omega arith)))
+    (λ j h eq. ap (λ (l : List OnLink). record (turn_at p j h) { taken = l }) (at_last (λ (l : List OnLink). l ++ messages) p.taken j [] (omega arith)))
 
-pub claimed_last : (p : Lists) (task : Task) (new : List (List Task)) (hs : List Head) → length p.claimed ≡ length hs → new ≡ on_last (λ (l : List Task). l ++ task ∷ []) p.claimed → turns_from (record p { claimed = new }) 0 hs ≡ on_last (claiming task) (turns_from p 0 hs)
-claimed_last p task new hs e is =
+pub claimed_last : (p : Lists) (tasks : List Task) (new : List (List Task)) (hs : List Head) → length p.claimed ≡ length hs → new ≡ on_last (λ (l : List Task). l ++ tasks) p.claimed → turns_from (record p { claimed = new }) 0 hs ≡ on_last (claiming tasks) (turns_from p 0 hs)
+claimed_last p tasks new hs e is =
     ap (λ (l : List (List Task)). turns_from (record p { claimed = l }) 0 hs) is
-    ∙ turns_last (claiming task) p (record p { claimed = on_last (λ (l : List Task). l ++ task ∷ []) p.claimed }) 0 (length hs) hs (omega arith)
-    (λ j h lt. ap (λ (l : List Task). record (turn_at p j h) { claimed = l }) (before_last (λ (l : List Task). l ++ task ∷ []) p.claimed j [] (omega arith)))
-    (λ j h eq. ap (λ (l : List Task). record (turn_at p j h) { claimed = l }) (at_last (λ (l : List Task). l ++ task ∷ []) p.claimed j [] (omega arith)))
+    ∙ turns_last (claiming tasks) p (record p { claimed = on_last (λ (l : List Task). l ++ tasks) p.claimed }) 0 (length hs) hs (omega arith)
+    (λ j h lt. ap (λ (l : List Task). record (turn_at p j h) { claimed = l }) (before_last (λ (l : List Task). l ++ tasks) p.claimed j [] (omega arith)))
+    (λ j h eq. ap (λ (l : List Task). record (turn_at p j h) { claimed = l }) (at_last (λ (l : List Task). l ++ tasks) p.claimed j [] (omega arith)))
 
-pub sent_last : (p : Lists) (message : OnLink) (new : List (List OnLink)) (hs : List Head) → length p.sent ≡ length hs → new ≡ on_last (λ (l : List OnLink). l ++ message ∷ []) p.sent → turns_from (record p { sent = new }) 0 hs ≡ on_last (sending message) (turns_from p 0 hs)
-sent_last p message new hs e is =
+pub sent_last : (p : Lists) (messages : List OnLink) (new : List (List OnLink)) (hs : List Head) → length p.sent ≡ length hs → new ≡ on_last (λ (l : List OnLink). l ++ messages) p.sent → turns_from (record p { sent = new }) 0 hs ≡ on_last (sending messages) (turns_from p 0 hs)
+sent_last p messages new hs e is =
     ap (λ (l : List (List OnLink)). turns_from (record p { sent = l }) 0 hs) is
-    ∙ turns_last (sending message) p (record p { sent = on_last (λ (l : List OnLink). l ++ message ∷ []) p.sent }) 0 (length hs) hs (omega arith)
-    (λ j h lt. ap (λ (l : List OnLink). record (turn_at p j h) { sent = l }) (before_last (λ (l : List OnLink). l ++ message ∷ []) p.sent j [] (omega arith)))
-    (λ j h eq. ap (λ (l : List OnLink). record (turn_at p j h) { sent = l }) (at_last (λ (l : List OnLink). l ++ message ∷ []) p.sent j [] (omega arith)))
+    ∙ turns_last (sending messages) p (record p { sent = on_last (λ (l : List OnLink). l ++ messages) p.sent }) 0 (length hs) hs (omega arith)
+    (λ j h lt. ap (λ (l : List OnLink). record (turn_at p j h) { sent = l }) (before_last (λ (l : List OnLink). l ++ messages) p.sent j [] (omega arith)))
+    (λ j h eq. ap (λ (l : List OnLink). record (turn_at p j h) { sent = l }) (at_last (λ (l : List OnLink). l ++ messages) p.sent j [] (omega arith)))
 
--- one item more in the last list takes one place of the room
-pub fits_push : {X : Type 0} (turns more_turns items : ℕ) (old new : RoomyLists X) (x : X) → Fits turns more_turns items old → new.lists ≡ on_last (λ (l : List X). l ++ x ∷ []) old.lists → new.spare_items + 1 ≡ old.spare_items → new.spare_lists ≡ old.spare_lists → Fits turns more_turns (items - 1) new
-fits_push {X = X} turns more_turns items old new x fits lists spare_items spare_lists = record {
-  lists = ap length lists ∙ length-on_last (λ (l : List X). l ++ x ∷ []) old.lists ∙ fits.lists;
+-- more items in the last list take their places of the room
+pub fits_extend : {X : Type 0} (turns more_turns items : ℕ) (old new : RoomyLists X) (more : List X) → Fits turns more_turns items old → new.lists ≡ on_last (λ (l : List X). l ++ more) old.lists → new.spare_items + length more ≡ old.spare_items → new.spare_lists ≡ old.spare_lists → Fits turns more_turns (items - length more) new
+fits_extend {X = X} turns more_turns items old new more fits lists spare_items spare_lists = record {
+  lists = ap length lists ∙ length-on_last (λ (l : List X). l ++ more) old.lists ∙ fits.lists;
   turns_fit = omega (arith, spare_lists, fits.turns_fit);
   items_fit = omega (arith, spare_items, fits.items_fit);
 }

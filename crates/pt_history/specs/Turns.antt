@@ -31,22 +31,22 @@ quiet first last count = record { first = first; last = last; count = count; pos
 abbrev pub fresh : ℕ → Turn
 fresh reading = quiet reading reading 1
 
--- a turn in which one result more was posted
-abbrev pub posting : Done → Turn → Turn
-posting done turn = record turn { posted = turn.posted ++ done ∷ [] }
+-- a turn in which more results were posted
+abbrev pub posting : List Done → Turn → Turn
+posting dones turn = record turn { posted = turn.posted ++ dones }
 
--- a turn in which one row more entered
-abbrev pub entering : RowAt → Turn → Turn
-entering row turn = record turn { rows = turn.rows ++ row ∷ [] }
+-- a turn in which more rows entered
+abbrev pub entering : List RowAt → Turn → Turn
+entering rows turn = record turn { rows = turn.rows ++ rows }
 
--- a turn in which one message more was taken
-abbrev pub taking : OnLink → Turn → Turn
-taking message turn = record turn { taken = turn.taken ++ message ∷ [] }
+-- a turn in which more messages were taken
+abbrev pub taking : List OnLink → Turn → Turn
+taking messages turn = record turn { taken = turn.taken ++ messages }
 
--- a turn in which one task more was claimed
-abbrev pub claiming : Task → Turn → Turn
-claiming task turn = record turn { claimed = turn.claimed ++ task ∷ [] }
+-- a turn in which more tasks were claimed
+abbrev pub claiming : List Task → Turn → Turn
+claiming tasks turn = record turn { claimed = turn.claimed ++ tasks }
 
--- a turn after which one message more was sent
-abbrev pub sending : OnLink → Turn → Turn
-sending message turn = record turn { sent = turn.sent ++ message ∷ [] }
+-- a turn after which more messages were sent
+abbrev pub sending : List OnLink → Turn → Turn
+sending messages turn = record turn { sent = turn.sent ++ messages }

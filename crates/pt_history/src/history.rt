@@ -1,6 +1,6 @@
 //! The turns of a platform, one after another.
 
-ghost use Rattle.std.specs.Prelude.{◌≡◌, ◌+◌, ◌-◌, ◌<◌, ◌++◌, ◌∷◌, [], MatchOption, OnErr, OnOk, Some, length, option_map, slice_get, take};
+ghost use Rattle.std.specs.Prelude.{◌≡◌, ◌+◌, ◌-◌, ◌<◌, ◌≤◌, ◌++◌, ◌∷◌, [], MatchOption, OnErr, OnOk, Some, length, option_map, slice_get, take};
 ghost use Rattle.std.specs.List.{flat_map};
 ghost use Rattle.pt_pieces.specs.Lists.{on_last};
 ghost use Rattle.pt_semantics.specs.Turn.{is_quiet};
@@ -180,59 +180,59 @@ impl History {
         posted & rows & taken & claimed & sent
     }
 
-    /// Appends a result to those that the last turn posted. No memory is taken.
-    pub fn post(&mut self, done: Done)
-        requires room { 0 < self.old.room.posted }
+    /// Appends results to those that the last turn posted. No memory is taken.
+    pub fn post(&mut self, dones: &[Done])
+        requires room { length dones.now ≤ self.old.room.posted }
         requires begun { 0 < length self.old.turns }
-        ensures turns { self.new.turns ≡ on_last (posting done) self.old.turns }
-        ensures room { self.new.room ≡ record self.old.room { posted = self.old.room.posted - 1 } }
+        ensures turns { self.new.turns ≡ on_last (posting dones.now) self.old.turns }
+        ensures room { self.new.room ≡ record self.old.room { posted = self.old.room.posted - length dones.now } }
     {
-        self.posted.push(done);
-        self.room.posted -= 1;
+        self.posted.extend(dones);
+        self.room.posted -= dones.len();
     }
 
-    /// Appends a row to those that entered in the last turn. No memory is taken.
-    pub fn enter(&mut self, row: RowAt)
-        requires room { 0 < self.old.room.rows }
+    /// Appends rows to those that entered in the last turn. No memory is taken.
+    pub fn enter(&mut self, rows: &[RowAt])
+        requires room { length rows.now ≤ self.old.room.rows }
         requires begun { 0 < length self.old.turns }
-        ensures turns { self.new.turns ≡ on_last (entering row) self.old.turns }
-        ensures room { self.new.room ≡ record self.old.room { rows = self.old.room.rows - 1 } }
+        ensures turns { self.new.turns ≡ on_last (entering rows.now) self.old.turns }
+        ensures room { self.new.room ≡ record self.old.room { rows = self.old.room.rows - length rows.now } }
     {
-        self.rows.push(row);
-        self.room.rows -= 1;
+        self.rows.extend(rows);
+        self.room.rows -= rows.len();
     }
 
-    /// Appends a message to those that the last turn took. No memory is taken.
-    pub fn take(&mut self, message: OnLink)
-        requires room { 0 < self.old.room.taken }
+    /// Appends messages to those that the last turn took. No memory is taken.
+    pub fn take(&mut self, messages: &[OnLink])
+        requires room { length messages.now ≤ self.old.room.taken }
         requires begun { 0 < length self.old.turns }
-        ensures turns { self.new.turns ≡ on_last (taking message) self.old.turns }
-        ensures room { self.new.room ≡ record self.old.room { taken = self.old.room.taken - 1 } }
+        ensures turns { self.new.turns ≡ on_last (taking messages.now) self.old.turns }
+        ensures room { self.new.room ≡ record self.old.room { taken = self.old.room.taken - length messages.now } }
     {
-        self.taken.push(message);
-        self.room.taken -= 1;
+        self.taken.extend(messages);
+        self.room.taken -= messages.len();
     }
 
-    /// Appends a task to those that the last turn claimed. No memory is taken.
-    pub fn claim(&mut self, task: Task)
-        requires room { 0 < self.old.room.claimed }
+    /// Appends tasks to those that the last turn claimed. No memory is taken.
+    pub fn claim(&mut self, tasks: &[Task])
+        requires room { length tasks.now ≤ self.old.room.claimed }
         requires begun { 0 < length self.old.turns }
-        ensures turns { self.new.turns ≡ on_last (claiming task) self.old.turns }
-        ensures room { self.new.room ≡ record self.old.room { claimed = self.old.room.claimed - 1 } }
+        ensures turns { self.new.turns ≡ on_last (claiming tasks.now) self.old.turns }
+        ensures room { self.new.room ≡ record self.old.room { claimed = self.old.room.claimed - length tasks.now } }
     {
-        self.claimed.push(task);
-        self.room.claimed -= 1;
+        self.claimed.extend(tasks);
+        self.room.claimed -= tasks.len();
     }
 
-    /// Appends a message to those that went out after the last turn. No memory is taken.
-    pub fn send(&mut self, message: OnLink)
-        requires room { 0 < self.old.room.sent }
+    /// Appends messages to those that went out after the last turn. No memory is taken.
+    pub fn send(&mut self, messages: &[OnLink])
+        requires room { length messages.now ≤ self.old.room.sent }
         requires begun { 0 < length self.old.turns }
-        ensures turns { self.new.turns ≡ on_last (sending message) self.old.turns }
-        ensures room { self.new.room ≡ record self.old.room { sent = self.old.room.sent - 1 } }
+        ensures turns { self.new.turns ≡ on_last (sending messages.now) self.old.turns }
+        ensures room { self.new.room ≡ record self.old.room { sent = self.old.room.sent - length messages.now } }
     {
-        self.sent.push(message);
-        self.room.sent -= 1;
+        self.sent.extend(messages);
+        self.room.sent -= messages.len();
     }
 
     /// How many turns are kept; a run of quiet ones counts as one.

@@ -63,13 +63,13 @@ fn keeps_a_run_of_quiet_turns_as_one(rt: HostRuntime) -> Result<(), Fail> {
         },
     };
     history.begin(50);
-    history.enter(row);
-    history.claim(task(0));
+    history.enter([row].as_slice());
+    history.claim([task(0)].as_slice());
     history.begin(60);
     history.begin(70);
     history.begin(70);
     history.begin(80);
-    history.claim(task(1));
+    history.claim([task(1)].as_slice());
     assert_eq!(rt; history.turns(), 3);
     assert_eq!(rt; history.first(1), 60);
     assert_eq!(rt; history.last(1), 70);
@@ -87,9 +87,9 @@ fn keeps_what_was_posted_taken_and_sent(rt: HostRuntime) -> Result<(), Fail> {
     let mut history = History::new(rt.alloc());
     history.reserve(ROOM)?;
     history.begin(0);
-    history.post(done());
-    history.take(end(1));
-    history.send(end(6));
+    history.post([done()].as_slice());
+    history.take([end(1)].as_slice());
+    history.send([end(6)].as_slice());
     assert_eq!(rt; history.turns(), 1);
     assert_eq!(rt; only(history.posted(0)), Some(done()));
     assert_eq!(rt; only(history.taken(0)), Some(end(1)));

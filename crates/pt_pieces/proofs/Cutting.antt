@@ -23,26 +23,26 @@ pub pieces_begin : {X : Type 0} (from : ℕ) (es : List ℕ) (xs : List X) → R
 pieces_begin from [] xs h = ap (λ p. p ∷ []) (ap (drop from) (take-length xs) ∙ drop_all from xs (omega arith))
 pieces_begin from (e ∷ es) xs h = ap (λ ps. drop from (take e xs) ∷ ps) (pieces_begin e es xs h.1)
 
-pub rises_push : (from : ℕ) (es : List ℕ) (n k : ℕ) → k + 1 ≡ length es → Rises from es n → Rises from (set es k (n + 1)) (n + 1)
-rises_push from [] n k e h = absurd (omega arith)
-rises_push from (e ∷ []) n zero l h = let a : from ≤ e = h.0 in let b : e ≡ n = h.1 in (omega arith, refl)
-rises_push from (e ∷ []) n (suc k) l h = absurd (omega arith)
-rises_push from (e ∷ f ∷ es) n zero l h = absurd (omega arith)
-rises_push from (e ∷ f ∷ es) n (suc k) l h = (h.0, rises_push e (f ∷ es) n k (omega arith) h.1)
+pub rises_extend : (from : ℕ) (es : List ℕ) (n m k : ℕ) → k + 1 ≡ length es → Rises from es n → Rises from (set es k (n + m)) (n + m)
+rises_extend from [] n m k e h = absurd (omega arith)
+rises_extend from (e ∷ []) n m zero l h = let a : from ≤ e = h.0 in let b : e ≡ n = h.1 in (omega arith, refl)
+rises_extend from (e ∷ []) n m (suc k) l h = absurd (omega arith)
+rises_extend from (e ∷ f ∷ es) n m zero l h = absurd (omega arith)
+rises_extend from (e ∷ f ∷ es) n m (suc k) l h = (h.0, rises_extend e (f ∷ es) n m k (omega arith) h.1)
 
-whole : {X : Type 0} (from e : ℕ) (xs : List X) (x : X) → from ≤ e → e ≡ length xs → drop from (take (length xs + 1) (xs ++ x ∷ [])) ≡ drop from (take e xs) ++ x ∷ []
-whole from e xs x le is =
-    ap (drop from) (take_all (length xs + 1) (xs ++ x ∷ []) (subst (λ n. n ≤ length xs + 1) (sym (length-append xs (x ∷ []))) (omega arith)))
-    ∙ drop-append-le from xs (x ∷ []) (omega arith)
-    ∙ ap (λ p. drop from p ++ x ∷ []) (sym (take_all e xs (omega arith)))
+whole : {X : Type 0} (from e : ℕ) (xs more : List X) → from ≤ e → e ≡ length xs → drop from (take (length xs + length more) (xs ++ more)) ≡ drop from (take e xs) ++ more
+whole from e xs more le is =
+    ap (drop from) (take_all (length xs + length more) (xs ++ more) (subst (λ n. n ≤ length xs + length more) (sym (length-append xs more)) (omega arith)))
+    ∙ drop-append-le from xs more (omega arith)
+    ∙ ap (λ p. drop from p ++ more) (sym (take_all e xs (omega arith)))
 
-pub pieces_push : {X : Type 0} (from : ℕ) (es : List ℕ) (xs : List X) (x : X) (k : ℕ) → k + 1 ≡ length es → Rises from es (length xs) → pieces from (set es k (length xs + 1)) (xs ++ x ∷ []) ≡ on_last (λ (l : List X). l ++ x ∷ []) (pieces from es xs)
-pieces_push from [] xs x k l h = absurd (omega arith)
-pieces_push from (e ∷ []) xs x zero l h = ap (λ p. p ∷ []) (whole from e xs x h.0 h.1)
-pieces_push from (e ∷ []) xs x (suc k) l h = absurd (omega arith)
-pieces_push from (e ∷ f ∷ es) xs x zero l h = absurd (omega arith)
-pieces_push from (e ∷ f ∷ es) xs x (suc k) l h =
-    ap₂ (λ p ps. p ∷ ps) (ap (drop from) (take-append-le e xs (x ∷ []) (rises_below e (f ∷ es) (length xs) h.1))) (pieces_push e (f ∷ es) xs x k (omega arith) h.1)
+pub pieces_extend : {X : Type 0} (from : ℕ) (es : List ℕ) (xs more : List X) (k : ℕ) → k + 1 ≡ length es → Rises from es (length xs) → pieces from (set es k (length xs + length more)) (xs ++ more) ≡ on_last (λ (l : List X). l ++ more) (pieces from es xs)
+pieces_extend from [] xs more k l h = absurd (omega arith)
+pieces_extend from (e ∷ []) xs more zero l h = ap (λ p. p ∷ []) (whole from e xs more h.0 h.1)
+pieces_extend from (e ∷ []) xs more (suc k) l h = absurd (omega arith)
+pieces_extend from (e ∷ f ∷ es) xs more zero l h = absurd (omega arith)
+pieces_extend from (e ∷ f ∷ es) xs more (suc k) l h =
+    ap₂ (λ p ps. p ∷ ps) (ap (drop from) (take-append-le e xs more (rises_below e (f ∷ es) (length xs) h.1))) (pieces_extend e (f ∷ es) xs more k (omega arith) h.1)
 
 -- where the piece of a number begins and ends
 pub record IsWithin (from : ℕ) (es : List ℕ) (i n : ℕ) : Type 0 where

@@ -71,22 +71,6 @@ impl<T: Drop> Pieces<T> {
         }
     }
 
-    /// Appends an item to the last list. No memory is taken.
-    pub fn push(&mut self, item: T)
-        requires spare { 0 < self.old.spare_items }
-        requires begun { 0 < length self.old.lists }
-        ensures lists { self.new.lists ≡ on_last (λ list. list ++ item ∷ []) self.old.lists }
-        ensures items { self.new.spare_items + 1 ≡ self.old.spare_items }
-        ensures room { self.new.spare_lists ≡ self.old.spare_lists }
-    {
-        match self.items.push(item) {
-            Ok(()) => self.spare_items -= 1,
-            Err(_) => unreachable!(),
-        }
-        let last = self.ends.len() - 1;
-        self.ends[last] = self.items.len();
-    }
-
     /// How many lists there are.
     pub fn len(&self) -> usize
         ensures { result ≡ length self.now.lists }
@@ -109,6 +93,24 @@ impl<T: Drop> Pieces<T> {
         let end = self.ends[number];
         let start = start_of(self.ends.as_slice(), number);
         part(self.items.as_slice(), start, end)
+    }
+}
+
+impl<T: Copy> Pieces<T> {
+    /// Appends items to the last list. No memory is taken.
+    pub fn extend(&mut self, more: &[T])
+        requires spare { length more.now ≤ self.old.spare_items }
+        requires begun { 0 < length self.old.lists }
+        ensures lists { self.new.lists ≡ on_last (λ list. list ++ more.now) self.old.lists }
+        ensures items { self.new.spare_items + length more.now ≡ self.old.spare_items }
+        ensures room { self.new.spare_lists ≡ self.old.spare_lists }
+    {
+        match self.items.extend_from_slice(more) {
+            Ok(()) => self.spare_items -= more.len(),
+            Err(_) => unreachable!(),
+        }
+        let last = self.ends.len() - 1;
+        self.ends[last] = self.items.len();
     }
 }
 

@@ -8,11 +8,11 @@ fn gives_back_each_list(rt: HostRuntime) -> Result<(), Fail> {
     let mut pieces = Pieces::new(rt.alloc());
     pieces.reserve(3, 3)?;
     pieces.begin();
-    pieces.push(7u8);
-    pieces.push(8);
+    pieces.extend([7u8, 8].as_slice());
     pieces.begin();
     pieces.begin();
-    pieces.push(9);
+    pieces.extend([].as_slice());
+    pieces.extend([9].as_slice());
     assert_eq!(rt; pieces.len(), 3);
     assert_eq!(rt; pieces.total(), 3);
     assert_eq!(rt; pieces.get(0), [7, 8].as_slice());

@@ -15,7 +15,7 @@ use Rattle.pt_queue.specs.Groups.{AreGroups}
 use Rattle.pt_state.specs.declared.fields.Sensor.{Sensor}
 use Rattle.pt_state.specs.State.{busy_in, states_in, left_in, IsOpen}
 use Rattle.pt_enter.specs.Sensors.{at_sensor, seen_at, IsSensor, RiseFrom}
-use Rattle.pt_enter.proofs.Sensors.{AllEntered, Entered, brought, brought_more, brought_nil, brought_unit, due_of, rows_of, no_sensor, never_sensor, never_rest, rise_less, all_due_is, left_after, rise_after, each_after}
+use Rattle.pt_enter.proofs.Sensors.{AllEntered, Entered, brought, brought_more, brought_nil, brought_unit, due_of, due_rows, no_sensor, never_sensor, never_rest, rise_less, all_due_is, left_after, rows_after, rise_after, each_after}
 use Rattle.pt_enter.proofs.entering.enter.Goals as goal
 
 pub loop-i-init : goal.loop-i-init
@@ -138,8 +138,8 @@ enter_due-entered-requires-clause-spare c =
     let rows : c.as_slice.result.now ≡ s.rows = c.as_slice.ensures ∙ ap (λ (z : Sensor). z.rows) is in
     let same : drop c.index-sensor.result.now.entered c.as_slice.result.now ≡ drop s.entered s.rows = ap₂ (λ n (rs : List Row). drop n rs) entered rows in
     let count : length (due c.args.reading (drop c.index-sensor.result.now.entered c.as_slice.result.now)) ≡ length (due_of c.args.reading s) = ap (λ rs. length (due c.args.reading rs)) same in
-    let total : length (rows_of c.args.reading (drop c.loop-i.i sensors)) ≡ length (due_of c.args.reading s) + length (rows_of c.args.reading ss) = ap (λ z. length (rows_of c.args.reading z)) front ∙ length-append (map (at_sensor s.actor) (due_of c.args.reading s)) (rows_of c.args.reading ss) ∙ ap (λ n. n + length (rows_of c.args.reading ss)) (length-map (due_of c.args.reading s) (at_sensor s.actor)) in
-    let all : length (all_due c.args.graph.now c.args.reading (left_in sensors)) ≡ length (rows_of c.args.reading sensors) = ap length (all_due_is c.args.graph.now c.args.reading sensors c.requires.sensors.0 c.requires.sensors.1) in
+    let total : length (due_rows c.args.reading (drop c.loop-i.i sensors)) ≡ length (due_of c.args.reading s) + length (due_rows c.args.reading ss) = ap (λ z. length (due_rows c.args.reading z)) front ∙ length-append (map (at_sensor s.actor) (due_of c.args.reading s)) (due_rows c.args.reading ss) ∙ ap (λ n. n + length (due_rows c.args.reading ss)) (length-map (due_of c.args.reading s) (at_sensor s.actor)) in
+    let all : length (all_due c.args.graph.now c.args.reading (left_in sensors)) ≡ length (due_rows c.args.reading sensors) = ap length (all_due_is c.args.graph.now c.args.reading sensors c.requires.sensors.0 c.requires.sensors.1) in
     omega (arith, count, total, all, c.loop-i.invariant.spare, c.requires.events)
 
 pub enter_due-entered-requires-clause-kept : goal.enter_due-entered-requires-clause-kept
@@ -158,8 +158,8 @@ enter_due-entered-requires-clause-kept c =
     let rows : c.as_slice.result.now ≡ s.rows = c.as_slice.ensures ∙ ap (λ (z : Sensor). z.rows) is in
     let same : drop c.index-sensor.result.now.entered c.as_slice.result.now ≡ drop s.entered s.rows = ap₂ (λ n (rs : List Row). drop n rs) entered rows in
     let count : length (due c.args.reading (drop c.index-sensor.result.now.entered c.as_slice.result.now)) ≡ length (due_of c.args.reading s) = ap (λ rs. length (due c.args.reading rs)) same in
-    let total : length (rows_of c.args.reading (drop c.loop-i.i sensors)) ≡ length (due_of c.args.reading s) + length (rows_of c.args.reading ss) = ap (λ z. length (rows_of c.args.reading z)) front ∙ length-append (map (at_sensor s.actor) (due_of c.args.reading s)) (rows_of c.args.reading ss) ∙ ap (λ n. n + length (rows_of c.args.reading ss)) (length-map (due_of c.args.reading s) (at_sensor s.actor)) in
-    let all : length (all_due c.args.graph.now c.args.reading (left_in sensors)) ≡ length (rows_of c.args.reading sensors) = ap length (all_due_is c.args.graph.now c.args.reading sensors c.requires.sensors.0 c.requires.sensors.1) in
+    let total : length (due_rows c.args.reading (drop c.loop-i.i sensors)) ≡ length (due_of c.args.reading s) + length (due_rows c.args.reading ss) = ap (λ z. length (due_rows c.args.reading z)) front ∙ length-append (map (at_sensor s.actor) (due_of c.args.reading s)) (due_rows c.args.reading ss) ∙ ap (λ n. n + length (due_rows c.args.reading ss)) (length-map (due_of c.args.reading s) (at_sensor s.actor)) in
+    let all : length (all_due c.args.graph.now c.args.reading (left_in sensors)) ≡ length (due_rows c.args.reading sensors) = ap length (all_due_is c.args.graph.now c.args.reading sensors c.requires.sensors.0 c.requires.sensors.1) in
     omega (arith, count, total, all, c.loop-i.invariant.len, c.loop-i.invariant.capacity, c.requires.kept)
 
 pub loop-i-preserved : goal.loop-i-preserved
@@ -179,7 +179,7 @@ loop-i-preserved c =
     let same : drop c.index-sensor.result.now.entered c.as_slice.result.now ≡ drop s.entered s.rows = ap₂ (λ n (rs : List Row). drop n rs) entered rows in
     let never : NothingThere (waiting_in c.loop-i.fields.queue.events) (brought c.args.reading (s ∷ ss)) = subst (λ z. NothingThere (waiting_in c.loop-i.fields.queue.events) (brought c.args.reading z)) front c.loop-i.invariant.never in
     let count : length (due c.args.reading (drop c.index-sensor.result.now.entered c.as_slice.result.now)) ≡ length (due_of c.args.reading s) = ap (λ rs. length (due c.args.reading rs)) same in
-    let total : length (rows_of c.args.reading (drop c.loop-i.i sensors)) ≡ length (due_of c.args.reading s) + length (rows_of c.args.reading ss) = ap (λ z. length (rows_of c.args.reading z)) front ∙ length-append (map (at_sensor s.actor) (due_of c.args.reading s)) (rows_of c.args.reading ss) ∙ ap (λ n. n + length (rows_of c.args.reading ss)) (length-map (due_of c.args.reading s) (at_sensor s.actor)) in
+    let total : length (due_rows c.args.reading (drop c.loop-i.i sensors)) ≡ length (due_of c.args.reading s) + length (due_rows c.args.reading ss) = ap (λ z. length (due_rows c.args.reading z)) front ∙ length-append (map (at_sensor s.actor) (due_of c.args.reading s)) (due_rows c.args.reading ss) ∙ ap (λ n. n + length (due_rows c.args.reading ss)) (length-map (due_of c.args.reading s) (at_sensor s.actor)) in
     let w : Values = waiting_in c.loop-i.fields.queue.events in
     let r : ℕ = c.args.reading in
     let mine : c.index_mut.result.now ≡ s = get_or_read c.loop-i.fields.sensors.items c.loop-i.i c.index_mut.result.now here c.index_mut.ensures.value no_sensor ∙ c.loop-i.invariant.rest c.loop-i.i (omega arith) in
@@ -187,6 +187,7 @@ loop-i-preserved c =
     let own : c.index_mut.result.now.rows ≡ s.rows = ap (λ (z : Sensor). z.rows) mine in
     let done : Entered r s now = record {
       actor = ap (λ (z : Sensor). z.actor) mine;
+      rows = own;
       within = subst (λ (rs : List Row). c.enter_due-entered.result ≤ length rs) (rows ∙ sym own) c.enter_due-entered.ensures.within;
       left = ap (λ (rs : List Row). drop c.enter_due-entered.result rs) (own ∙ sym rows) ∙ c.enter_due-entered.ensures.left ∙ ap (not_due r) same;
     } in
@@ -204,7 +205,7 @@ loop-i-preserved c =
       waits = ap (λ v. added v (brought r ss)) waits ∙ brought_more r w s ss rise.1 ∙ ap (λ z. added w (brought r z)) (sym front) ∙ c.loop-i.invariant.waits;
       spare = omega (arith, count, total, c.enter_due-entered.ensures.spare, c.loop-i.invariant.spare);
       groups = c.enter_due-entered.ensures.groups ∙ c.loop-i.invariant.groups;
-      rows = ap (λ z. z ++ rows_of r ss) (c.enter_due-entered.ensures.rows ∙ ap₂ (λ a (rs : List Row). c.loop-i.kept.items ++ map (at_sensor a) (due r rs)) actor same) ∙ append_assoc c.loop-i.kept.items (map (at_sensor s.actor) (due_of r s)) (rows_of r ss) ∙ ap (λ z. c.loop-i.kept.items ++ rows_of r z) (sym front) ∙ c.loop-i.invariant.rows;
+      rows = ap (λ z. z ++ due_rows r ss) (c.enter_due-entered.ensures.rows ∙ ap₂ (λ a (rs : List Row). c.loop-i.kept.items ++ map (at_sensor a) (due r rs)) actor same) ∙ append_assoc c.loop-i.kept.items (map (at_sensor s.actor) (due_of r s)) (due_rows r ss) ∙ ap (λ z. c.loop-i.kept.items ++ due_rows r z) (sym front) ∙ c.loop-i.invariant.rows;
       len = omega (arith, count, total, c.enter_due-entered.ensures.kept.1, c.loop-i.invariant.len);
       capacity = omega (arith, c.enter_due-entered.ensures.kept.0, c.loop-i.invariant.capacity);
       frame = c.loop-i.invariant.frame;
@@ -250,20 +251,27 @@ returns-clause-entered c =
       claims = c.loop-i.invariant.frame.5 i;
     }
 
+pub returns-clause-all_rows : goal.returns-clause-all_rows
+returns-clause-all_rows c =
+    let sensors : List Sensor = c.args.fields.now.sensors.items in
+    let past : length sensors ≤ c.loop-i.i = omega (arith, c.loop-i-test.false, c.len-i-end.ensures, c.args.fields.now.sensors.ok.0) in
+    let all_entered : AllEntered c.args.reading sensors c.loop-i.fields.sensors.items = λ k lt. c.loop-i.invariant.before k (omega (arith, lt, past)) in
+    rows_after c.args.reading sensors c.loop-i.fields.sensors.items c.loop-i.invariant.count all_entered
+
 pub returns-clause-rows : goal.returns-clause-rows
 returns-clause-rows c =
     let sensors : List Sensor = c.args.fields.now.sensors.items in
     let past : length sensors ≤ c.loop-i.i = omega (arith, c.loop-i-test.false, c.len-i-end.ensures, c.args.fields.now.sensors.ok.0) in
     let none : drop c.loop-i.i sensors ≡ [] = drop_all c.loop-i.i sensors past in
-    sym (append-nil c.loop-i.kept.items) ∙ ap (λ z. c.loop-i.kept.items ++ rows_of c.args.reading z) (sym none) ∙ c.loop-i.invariant.rows ∙ ap (λ z. c.args.kept.now.items ++ z) (sym (all_due_is c.args.graph.now c.args.reading sensors c.requires.sensors.0 c.requires.sensors.1))
+    sym (append-nil c.loop-i.kept.items) ∙ ap (λ z. c.loop-i.kept.items ++ due_rows c.args.reading z) (sym none) ∙ c.loop-i.invariant.rows ∙ ap (λ z. c.args.kept.now.items ++ z) (sym (all_due_is c.args.graph.now c.args.reading sensors c.requires.sensors.0 c.requires.sensors.1))
 
 pub returns-clause-events : goal.returns-clause-events
 returns-clause-events c =
     let sensors : List Sensor = c.args.fields.now.sensors.items in
     let past : length sensors ≤ c.loop-i.i = omega (arith, c.loop-i-test.false, c.len-i-end.ensures, c.args.fields.now.sensors.ok.0) in
     let none : drop c.loop-i.i sensors ≡ [] = drop_all c.loop-i.i sensors past in
-    let all : length (all_due c.args.graph.now c.args.reading (left_in sensors)) ≡ length (rows_of c.args.reading sensors) = ap length (all_due_is c.args.graph.now c.args.reading sensors c.requires.sensors.0 c.requires.sensors.1) in
-    let nothing : length (rows_of c.args.reading (drop c.loop-i.i sensors)) ≡ 0 = ap (λ z. length (rows_of c.args.reading z)) none in
+    let all : length (all_due c.args.graph.now c.args.reading (left_in sensors)) ≡ length (due_rows c.args.reading sensors) = ap length (all_due_is c.args.graph.now c.args.reading sensors c.requires.sensors.0 c.requires.sensors.1) in
+    let nothing : length (due_rows c.args.reading (drop c.loop-i.i sensors)) ≡ 0 = ap (λ z. length (due_rows c.args.reading z)) none in
     omega (arith, all, nothing, c.loop-i.invariant.spare)
 
 pub returns-clause-kept : goal.returns-clause-kept

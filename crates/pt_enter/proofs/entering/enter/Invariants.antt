@@ -4,7 +4,7 @@ use Rattle.pt_semantics.specs.Lists.{Each}
 use Rattle.pt_semantics.specs.Meaning.{added}
 use Rattle.pt_queue.specs.Events.{waiting_in}
 use Rattle.pt_enter.specs.Sensors.{IsSensor, RiseFrom}
-use Rattle.pt_enter.proofs.Sensors.{Entered, brought, no_sensor, rows_of}
+use Rattle.pt_enter.proofs.Sensors.{Entered, brought, no_sensor, due_rows}
 use Rattle.pt_enter.proofs.entering.enter.Given as goal
 
 abbrev pub invariant-loop-i : goal.invariant-loop-i
@@ -16,10 +16,10 @@ invariant-loop-i l = record {
   each : Each (IsSensor l.graph) (drop l.i l.fn.fields.sensors.items);
   never : NothingThere (waiting_in l.fields.queue.events) (brought l.reading (drop l.i l.fn.fields.sensors.items));
   waits : added (waiting_in l.fields.queue.events) (brought l.reading (drop l.i l.fn.fields.sensors.items)) ≡ added (waiting_in l.fn.fields.queue.events) (brought l.reading l.fn.fields.sensors.items);
-  spare : l.fields.queue.spare + length (rows_of l.reading l.fn.fields.sensors.items) ≡ l.fn.fields.queue.spare + length (rows_of l.reading (drop l.i l.fn.fields.sensors.items));
+  spare : l.fields.queue.spare + length (due_rows l.reading l.fn.fields.sensors.items) ≡ l.fn.fields.queue.spare + length (due_rows l.reading (drop l.i l.fn.fields.sensors.items));
   groups : l.fields.queue.groups ≡ l.fn.fields.queue.groups;
-  rows : l.kept.items ++ rows_of l.reading (drop l.i l.fn.fields.sensors.items) ≡ l.fn.kept.items ++ rows_of l.reading l.fn.fields.sensors.items;
-  len : vec_len l.kept + length (rows_of l.reading (drop l.i l.fn.fields.sensors.items)) ≡ vec_len l.fn.kept + length (rows_of l.reading l.fn.fields.sensors.items);
+  rows : l.kept.items ++ due_rows l.reading (drop l.i l.fn.fields.sensors.items) ≡ l.fn.kept.items ++ due_rows l.reading l.fn.fields.sensors.items;
+  len : vec_len l.kept + length (due_rows l.reading (drop l.i l.fn.fields.sensors.items)) ≡ vec_len l.fn.kept + length (due_rows l.reading l.fn.fields.sensors.items);
   capacity : vec_capacity l.fn.kept ≤ vec_capacity l.kept;
   frame : (l.fields.open_claims ≡ l.fn.fields.open_claims) × (l.fields.states ≡ l.fn.fields.states) × (l.fields.outbox ≡ l.fn.fields.outbox) × (l.fields.reading ≡ l.fn.fields.reading) × (l.fields.closed ≡ l.fn.fields.closed) × (l.fields.claims ≡ l.fn.fields.claims);
 }

@@ -3,7 +3,7 @@ use Rattle.pt_history.specs.Turns.{RoomyTurns}
 use Rattle.pt_history.specs.Whole.{lists_of}
 use Rattle.pt_pieces.specs.Lists.{on_last}
 use Rattle.pt_history.specs.Turns.{claiming}
-use Rattle.pt_history.proofs.Growing.{fits_push, claimed_last}
+use Rattle.pt_history.proofs.Growing.{fits_extend, claimed_last}
 use Rattle.pt_history.proofs.history.History.claim.Goals as goal
 
 pub invariant_of-self : goal.invariant_of-self
@@ -12,11 +12,11 @@ invariant_of-self c = record {
   posted = c.self.invariant.posted;
   rows = c.self.invariant.rows;
   taken = c.self.invariant.taken;
-  claimed = fits_push (length c.self.inside.heads.items) c.self.inside.room.turns c.self.inside.room.claimed c.self.inside.claimed c.push.new.self c.args.task c.self.invariant.claimed c.push.ensures.lists c.push.ensures.items c.push.ensures.room;
+  claimed = fits_extend (length c.self.inside.heads.items) c.self.inside.room.turns c.self.inside.room.claimed c.self.inside.claimed c.extend.new.self c.args.tasks.now c.self.invariant.claimed c.extend.ensures.lists c.extend.ensures.items c.extend.ensures.room;
   sent = c.self.invariant.sent;
 }
 
 pub returns-clause-turns : goal.returns-clause-turns
 returns-clause-turns c =
-    claimed_last (lists_of c.self.inside) c.args.task c.push.new.self.lists c.self.inside.heads.items c.self.invariant.claimed.lists c.push.ensures.lists
-    ∙ ap (λ (v : RoomyTurns). on_last (claiming c.args.task) v.turns) c.self.view_is
+    claimed_last (lists_of c.self.inside) c.args.tasks.now c.extend.new.self.lists c.self.inside.heads.items c.self.invariant.claimed.lists c.extend.ensures.lists
+    ∙ ap (λ (v : RoomyTurns). on_last (claiming c.args.tasks.now) v.turns) c.self.view_is

@@ -3,13 +3,13 @@ use Rattle.pt_history.specs.Turns.{RoomyTurns}
 use Rattle.pt_history.specs.Whole.{lists_of}
 use Rattle.pt_pieces.specs.Lists.{on_last}
 use Rattle.pt_history.specs.Turns.{posting}
-use Rattle.pt_history.proofs.Growing.{fits_push, posted_last}
+use Rattle.pt_history.proofs.Growing.{fits_extend, posted_last}
 use Rattle.pt_history.proofs.history.History.post.Goals as goal
 
 pub invariant_of-self : goal.invariant_of-self
 invariant_of-self c = record {
   heads = c.self.invariant.heads;
-  posted = fits_push (length c.self.inside.heads.items) c.self.inside.room.turns c.self.inside.room.posted c.self.inside.posted c.push.new.self c.args.done c.self.invariant.posted c.push.ensures.lists c.push.ensures.items c.push.ensures.room;
+  posted = fits_extend (length c.self.inside.heads.items) c.self.inside.room.turns c.self.inside.room.posted c.self.inside.posted c.extend.new.self c.args.dones.now c.self.invariant.posted c.extend.ensures.lists c.extend.ensures.items c.extend.ensures.room;
   rows = c.self.invariant.rows;
   taken = c.self.invariant.taken;
   claimed = c.self.invariant.claimed;
@@ -18,5 +18,5 @@ invariant_of-self c = record {
 
 pub returns-clause-turns : goal.returns-clause-turns
 returns-clause-turns c =
-    posted_last (lists_of c.self.inside) c.args.done c.push.new.self.lists c.self.inside.heads.items c.self.invariant.posted.lists c.push.ensures.lists
-    ∙ ap (λ (v : RoomyTurns). on_last (posting c.args.done) v.turns) c.self.view_is
+    posted_last (lists_of c.self.inside) c.args.dones.now c.extend.new.self.lists c.self.inside.heads.items c.self.invariant.posted.lists c.extend.ensures.lists
+    ∙ ap (λ (v : RoomyTurns). on_last (posting c.args.dones.now) v.turns) c.self.view_is

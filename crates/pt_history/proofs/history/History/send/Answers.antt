@@ -3,7 +3,7 @@ use Rattle.pt_history.specs.Turns.{RoomyTurns}
 use Rattle.pt_history.specs.Whole.{lists_of}
 use Rattle.pt_pieces.specs.Lists.{on_last}
 use Rattle.pt_history.specs.Turns.{sending}
-use Rattle.pt_history.proofs.Growing.{fits_push, sent_last}
+use Rattle.pt_history.proofs.Growing.{fits_extend, sent_last}
 use Rattle.pt_history.proofs.history.History.send.Goals as goal
 
 pub invariant_of-self : goal.invariant_of-self
@@ -13,10 +13,10 @@ invariant_of-self c = record {
   rows = c.self.invariant.rows;
   taken = c.self.invariant.taken;
   claimed = c.self.invariant.claimed;
-  sent = fits_push (length c.self.inside.heads.items) c.self.inside.room.turns c.self.inside.room.sent c.self.inside.sent c.push.new.self c.args.message c.self.invariant.sent c.push.ensures.lists c.push.ensures.items c.push.ensures.room;
+  sent = fits_extend (length c.self.inside.heads.items) c.self.inside.room.turns c.self.inside.room.sent c.self.inside.sent c.extend.new.self c.args.messages.now c.self.invariant.sent c.extend.ensures.lists c.extend.ensures.items c.extend.ensures.room;
 }
 
 pub returns-clause-turns : goal.returns-clause-turns
 returns-clause-turns c =
-    sent_last (lists_of c.self.inside) c.args.message c.push.new.self.lists c.self.inside.heads.items c.self.invariant.sent.lists c.push.ensures.lists
-    ∙ ap (λ (v : RoomyTurns). on_last (sending c.args.message) v.turns) c.self.view_is
+    sent_last (lists_of c.self.inside) c.args.messages.now c.extend.new.self.lists c.self.inside.heads.items c.self.invariant.sent.lists c.extend.ensures.lists
+    ∙ ap (λ (v : RoomyTurns). on_last (sending c.args.messages.now) v.turns) c.self.view_is

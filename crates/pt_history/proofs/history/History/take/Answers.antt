@@ -3,7 +3,7 @@ use Rattle.pt_history.specs.Turns.{RoomyTurns}
 use Rattle.pt_history.specs.Whole.{lists_of}
 use Rattle.pt_pieces.specs.Lists.{on_last}
 use Rattle.pt_history.specs.Turns.{taking}
-use Rattle.pt_history.proofs.Growing.{fits_push, taken_last}
+use Rattle.pt_history.proofs.Growing.{fits_extend, taken_last}
 use Rattle.pt_history.proofs.history.History.take.Goals as goal
 
 pub invariant_of-self : goal.invariant_of-self
@@ -11,12 +11,12 @@ invariant_of-self c = record {
   heads = c.self.invariant.heads;
   posted = c.self.invariant.posted;
   rows = c.self.invariant.rows;
-  taken = fits_push (length c.self.inside.heads.items) c.self.inside.room.turns c.self.inside.room.taken c.self.inside.taken c.push.new.self c.args.message c.self.invariant.taken c.push.ensures.lists c.push.ensures.items c.push.ensures.room;
+  taken = fits_extend (length c.self.inside.heads.items) c.self.inside.room.turns c.self.inside.room.taken c.self.inside.taken c.extend.new.self c.args.messages.now c.self.invariant.taken c.extend.ensures.lists c.extend.ensures.items c.extend.ensures.room;
   claimed = c.self.invariant.claimed;
   sent = c.self.invariant.sent;
 }
 
 pub returns-clause-turns : goal.returns-clause-turns
 returns-clause-turns c =
-    taken_last (lists_of c.self.inside) c.args.message c.push.new.self.lists c.self.inside.heads.items c.self.invariant.taken.lists c.push.ensures.lists
-    ∙ ap (λ (v : RoomyTurns). on_last (taking c.args.message) v.turns) c.self.view_is
+    taken_last (lists_of c.self.inside) c.args.messages.now c.extend.new.self.lists c.self.inside.heads.items c.self.invariant.taken.lists c.extend.ensures.lists
+    ∙ ap (λ (v : RoomyTurns). on_last (taking c.args.messages.now) v.turns) c.self.view_is

@@ -1,0 +1,33 @@
+-- What a turn claims, and how it ends.
+use Rattle.std.specs.Prelude.{◌≡◌, ℕ, ◌<◌, ◌≤◌, Bool, true, false, List}
+use Rattle.pt_types.specs.declared.graph.Graph.{Graph}
+use Rattle.pt_types.specs.declared.firing.Task.{Task}
+use Rattle.pt_semantics.specs.Safe.{NothingSafe}
+use Rattle.pt_queue.specs.Events.{waiting_in}
+use Rattle.pt_state.specs.declared.fields.Fields.{Fields}
+use Rattle.pt_state.specs.State.{busy_in}
+use Rattle.pt_claim.specs.Claimed.{AreClaimed}
+use Rattle.pt_steps.specs.declared.claimed.Ending.{Ending}
+use Rattle.pt_steps.specs.declared.claimed.Ending.TheVariants.{On, Late, Long}
+
+-- no unit is safe at reading r
+abbrev pub IsIdle : Graph → Fields → ℕ → Type 0
+IsIdle g f r = NothingSafe g (waiting_in f.queue.events) (busy_in f.open_claims.items) r
+
+-- how a turn without a late message ends, before which all claims were made
+abbrev pub IsFull : Graph → Fields → ℕ → Ending → Type 0
+IsFull g f r On = IsIdle g f r
+IsFull g f r Late = ⊥
+IsFull g f r Long = IsIdle g f r → ⊥
+
+-- how a turn ends: with a late message; or, where all claims were made before it, by whether a unit is safe
+abbrev pub EndsIn : Graph → ℕ → Fields → Fields → Bool → Ending → Type 0
+EndsIn g r old new late On = (late ≡ false) × (200000 ≤ old.claims → IsIdle g new r)
+EndsIn g r old new late Late = late ≡ true
+EndsIn g r old new late Long = (late ≡ false) × (200000 ≤ old.claims) × (IsIdle g new r → ⊥)
+
+-- in a late turn nothing is claimed; else the greedy list or a front of it, and nothing more where all claims were made
+pub record HasClaimed (g : Graph) (r most : ℕ) (old new : Fields) (before after : List Task) (late : Bool) (ending : Ending) : Type 0 where
+  pub claimed : late ≡ false → AreClaimed g r most old new before after
+  pub none : late ≡ true → (new ≡ old) × (after ≡ before)
+  pub ends : EndsIn g r old new late ending

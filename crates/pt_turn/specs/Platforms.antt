@@ -1,0 +1,117 @@
+-- What contracts see of a platform, and what always holds of it.
+use Rattle.std.specs.Prelude.{◌≡◌, ℕ, ℤ, ◌+◌, ◌*◌, ◌<◌, ◌≤◌, Bool, List, Option, None, Some, MatchOption, length, vec_len}
+use Rattle.std.specs.Arc.{arc_value}
+use Rattle.std.specs.List.{flat_map}
+use Rattle.pt_types.specs.declared.graph.Graph.{Graph}
+use Rattle.pt_types.specs.declared.rows.Row.{Row}
+use Rattle.pt_types.specs.declared.firing.Event.{Event}
+use Rattle.pt_types.specs.declared.firing.OnLink.{OnLink}
+use Rattle.pt_semantics.specs.Closing.{on_link}
+use Rattle.pt_semantics.specs.Paced.{IsClosing}
+use Rattle.pt_semantics.specs.Platform.{State}
+use Rattle.pt_semantics.specs.Readings.{later_of}
+use Rattle.pt_semantics.specs.Rows.{FitRows}
+use Rattle.pt_semantics.specs.Turn.{Turn}
+use Rattle.pt_ranks.specs.Ranked.{level_of}
+use Rattle.pt_offsets.specs.Plans.{IsAdmitted, Parts}
+use Rattle.pt_state.specs.declared.fields.OpenClaim.{OpenClaim}
+use Rattle.pt_state.specs.declared.fields.Sensor.{Sensor}
+use Rattle.pt_queue.specs.Events.{waiting_in}
+use Rattle.pt_state.specs.State.{busy_in, left_in, rows_of, state_of, states_in, IsSound}
+use Rattle.pt_enter.specs.Sensors.{AreSensors}
+use Rattle.pt_steps.specs.Steps.{AreEmpty, HasRoom, count_due}
+use Rattle.pt_turn.specs.declared.fault.TurnFault.{TurnFault}
+use Rattle.pt_turn.specs.declared.room.Room.{Room}
+use Rattle.pt_turn.specs.declared.platform.Platform.TheInside.{Inside}
+use Rattle.pt_turn.specs.Running.{Ran}
+
+-- the platform of a plan that has this number: its sensors with the rows that it opened with, its kept turns, the parts of
+-- the state that they lead to, why no turn may follow, and for what it has memory
+pub record PlatformView : Type 0 where
+  pub plan : Parts
+  pub number : ℕ
+  pub sensors : List Sensor
+  pub turns : List Turn
+  pub events : List Event
+  pub open_claims : List OpenClaim
+  pub states : List ℤ
+  pub outbox : List OnLink
+  pub reading : Option ℕ
+  pub closed : Bool
+  pub claims : ℕ
+  pub fault : Option TurnFault
+  pub room : Option Room
+
+-- all messages that were taken in these turns
+abbrev pub messages_of : List Turn → List OnLink
+messages_of turns = flat_map (λ (turn : Turn). turn.taken) turns
+
+-- the state of a platform
+abbrev pub state_at : PlatformView → State
+state_at v = record {
+  waits = waiting_in v.events;
+  busy = busy_in v.open_claims;
+  states = states_in v.states;
+  left = left_in v.sensors;
+  outbox = λ l. on_link l v.outbox;
+  taken = λ l. on_link l (messages_of v.turns);
+  reading = v.reading;
+  closed = v.closed;
+  claims = v.claims;
+}
+
+-- the rows that it opened with
+abbrev pub rows_at : PlatformView → ℕ → List Row
+rows_at v = rows_of v.sensors
+
+-- the levels of its actors
+abbrev pub level_at : PlatformView → ℕ → ℕ
+level_at v = level_of v.plan.ranks
+
+abbrev pub graph_of : Inside → Graph
+graph_of p = (arc_value p.plan).graph
+
+abbrev pub view_of : Inside → PlatformView
+view_of p = record {
+  plan = arc_value p.plan;
+  number = p.number;
+  sensors = p.fields.sensors.items;
+  turns = p.history.turns;
+  events = p.fields.queue.events;
+  open_claims = p.fields.open_claims.items;
+  states = p.fields.states.items;
+  outbox = p.fields.outbox.items;
+  reading = p.fields.reading;
+  closed = p.fields.closed;
+  claims = p.fields.claims;
+  fault = p.fault;
+  room = p.room;
+}
+
+-- a reading handed in, raised to the last one
+abbrev pub raised_to : Option ℕ → ℕ → ℕ
+raised_to None r = r
+raised_to (Some p) r = later_of p r
+
+-- there is memory for a turn at a reading, with so many results, messages and claims
+pub record IsRoomy (p : Inside) (r : Room) : Type 0 where
+  pub fields : HasRoom (graph_of p) p.fields p.lists (raised_to p.fields.reading r.reading) r.done r.taken r.most
+  pub turns : 0 < p.history.room.turns
+  pub posted : r.done ≤ p.history.room.posted
+  pub rows : count_due (graph_of p) (raised_to p.fields.reading r.reading) p.fields ≤ p.history.room.rows
+  pub taken : r.taken ≤ p.history.room.taken
+  pub claimed : r.most ≤ p.history.room.claimed
+  pub sent : vec_len p.fields.outbox + r.done * length (graph_of p).links + length (graph_of p).links ≤ p.history.room.sent
+
+-- what always holds of a platform: its turns follow one another from its opening, and lead to its state
+pub record IsPlatform (p : Inside) : Type 0 where
+  pub admitted : IsAdmitted (arc_value p.plan)
+  pub sound : IsSound (graph_of p) p.fields
+  pub sensors : AreSensors (graph_of p) p.fields.sensors.items
+  pub fit : FitRows (graph_of p) (rows_of p.fields.sensors.items)
+  pub closing : IsClosing (graph_of p) p.number p.closing
+  pub claims : p.fields.claims ≤ 200000
+  pub ran : Ran (graph_of p) (level_of (arc_value p.plan).ranks) p.number (rows_of p.fields.sensors.items) p.history.turns (state_of p.fields (messages_of p.history.turns)) p.fault
+  pub empty : AreEmpty p.lists
+  pub sent : vec_len p.fields.outbox ≤ p.history.room.sent
+  pub room : MatchOption p.room (Unit {0}) (IsRoomy p)

@@ -1,0 +1,71 @@
+-- All turns of a platform since it opened.
+use Rattle.std.specs.Prelude.{◌≡◌, ℕ, ◌+◌, ◌<◌, ◌≤◌, ◌++◌, ◌∷◌, [], false, ℤ, List, Option, None, Some, slice_get}
+use Rattle.pt_tags.specs.declared.tag.Tag.{Tag}
+use Rattle.pt_tags.specs.declared.message.Message.TheVariants.{Event}
+use Rattle.pt_types.specs.declared.graph.Graph.{Graph}
+use Rattle.pt_types.specs.declared.graph.Link.{Link}
+use Rattle.pt_types.specs.declared.firing.OnLink.{OnLink}
+use Rattle.pt_types.specs.declared.rows.Row.{Row}
+use Rattle.pt_semantics.specs.Bounds.{link_bound}
+use Rattle.pt_semantics.specs.History.{Legal}
+use Rattle.pt_semantics.specs.Kept.{IsSingle, kept}
+use Rattle.pt_semantics.specs.Lists.{Each}
+use Rattle.pt_semantics.specs.Platform.{State, opened}
+use Rattle.pt_semantics.specs.Safe.{NothingSafe}
+use Rattle.pt_semantics.specs.Turn.{IsLast, IsTurn, Turn}
+use Rattle.pt_turn.specs.declared.fault.TurnFault.{TurnFault}
+use Rattle.pt_turn.specs.declared.fault.TurnFault.TheVariants.{Late, Long}
+
+-- these turns of platform i follow one another from s to new, and after each of them another may come
+abbrev pub GoesOn : Graph → (ℕ → ℕ) → ℕ → State → List Turn → State → Type 0
+GoesOn g level i s [] new = new ≡ s
+GoesOn g level i s (turn ∷ turns) new =
+    (mid : State) × (is : IsTurn g level i s turn false mid) × (IsLast g s turn.last false is.ready → ⊥) × GoesOn g level i mid turns new
+
+-- the last reading of kept turns
+abbrev pub last_reading : List Turn → Option ℕ
+last_reading [] = None
+last_reading (x ∷ []) = Some x.last
+last_reading (x ∷ y ∷ turns) = last_reading (y ∷ turns)
+
+-- kept turns show a late message for an actor at a tag: the last turn took it last, after a reading that was past its time
+-- and its link's bound
+pub record ShowsLate (g : Graph) (turns : List Turn) (actor : ℕ) (tag : Tag) (reading limit : ℕ) : Type 0 where
+  pub before : List Turn
+  pub turn : Turn
+  pub ends : turns ≡ before ++ turn ∷ []
+  pub number : ℕ
+  pub value : ℤ
+  pub taken : List OnLink
+  pub last : turn.taken ≡ taken ++ record { link = number; message = Event tag value } ∷ []
+  pub link : Link
+  pub at : slice_get g.links number ≡ Some link
+  pub receiver : link.to ≡ actor
+  pub read : last_reading before ≡ Some reading
+  pub limit_is : limit ≡ tag.time + link_bound g link
+  pub past : limit < reading
+
+-- all claims were made, and a unit is safe at the last reading
+pub record ShowsLong (g : Graph) (s : State) : Type 0 where
+  pub all : 200000 ≤ s.claims
+  pub reading : ℕ
+  pub read : s.reading ≡ Some reading
+  pub safe : NothingSafe g s.waits s.busy reading → ⊥
+
+-- the kept turns and the state that they lead to show the cause of a fault
+abbrev pub Shows : Graph → List Turn → State → TurnFault → Type 0
+Shows g turns s (Late actor tag reading limit) = ShowsLate g turns actor tag reading limit
+Shows g turns s Long = ShowsLong g s
+
+-- turns of a platform from its opening: another may come after each of them, or the last one shows a fault
+abbrev pub Leads : Graph → (ℕ → ℕ) → ℕ → State → List Turn → List Turn → State → Option TurnFault → Type 0
+Leads g level i start turns all s None = GoesOn g level i start all s
+Leads g level i start turns all s (Some fault) = Legal g level i start all s × Shows g turns s fault
+
+-- the kept turns are all single turns since the platform opened, as a history keeps them
+pub record Ran (g : Graph) (level : ℕ → ℕ) (i : ℕ) (rows : ℕ → List Row) (turns : List Turn) (s : State) (fault : Option TurnFault) : Type 0 where
+  pub all : List Turn
+  pub single : Each IsSingle all
+  pub are_kept : turns ≡ kept all
+  pub leads : Leads g level i (opened g i rows) turns all s fault
+  pub read : s.reading ≡ last_reading turns

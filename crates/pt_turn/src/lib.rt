@@ -1,0 +1,12 @@
+//! A platform: what it keeps, and what it does in a turn.
+//!
+//! Read first: `Platform`, then `specs/Platforms.antt` and `specs/Turned.antt`.
+#![tactic(auto)]
+
+mod fault;
+mod platform;
+mod room;
+
+pub use fault::TurnFault;
+pub use platform::Platform;
+pub use room::Room;

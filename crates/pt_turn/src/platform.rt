@@ -1,0 +1,102 @@
+//! The platform.
+
+ghost use Rattle.std.specs.Prelude.{◌≡◌, MatchOption, length, option_map, slice_get};
+ghost use Rattle.std.specs.Arc.{arc_value};
+ghost use Rattle.pt_semantics.specs.History.{IsLegal};
+ghost use Rattle.pt_turn.specs.Platforms.{level_at, rows_at, state_at};
+ghost use Rattle.pt_turn.specs.Running.{Shows};
+
+use crate::fault::TurnFault;
+use crate::room::Room;
+use pt_history::History;
+use pt_offsets::Plan;
+use pt_state::Fields;
+use pt_steps::Lists;
+use pt_types::Task;
+use std::marker::Model;
+use std::sync::Arc;
+
+/// A platform of a plan.
+///
+/// Contracts see its plan and number, the rows that it opened with, its kept turns, the state that they lead to, its open
+/// claims, its fault, and for what it has memory.
+#[derive(Drop)]
+pub struct Platform {
+    pub(crate) plan: Arc<Plan>,
+    pub(crate) number: u32,
+    /// From this reading on it may close, in microseconds.
+    pub(crate) closing: u64,
+    pub(crate) fields: Fields,
+    pub(crate) history: History,
+    /// What the turn under way did; nothing between turns.
+    pub(crate) lists: Lists,
+    pub(crate) fault: Option<TurnFault>,
+    pub(crate) room: Option<Room>,
+}
+
+impl Model for Platform {
+    ghost use Rattle.pt_turn.specs.Platforms.{PlatformView, IsPlatform, view_of};
+
+    ghost Value = { PlatformView };
+
+    ghost view = { view_of };
+
+    ghost invariant = { IsPlatform };
+}
+
+impl Platform {
+    /// The plan.
+    pub fn plan(&self) -> &Arc<Plan>
+        ensures { arc_value result.now ≡ self.now.plan }
+    {
+        &self.plan
+    }
+
+    /// The number of the platform in the graph.
+    pub fn number(&self) -> u32
+        ensures { result ≡ self.now.number }
+    {
+        self.number
+    }
+
+    /// Its kept turns: a legal history, from its opening to its state.
+    pub fn history(&self) -> &History
+        ensures turns { result.now.turns ≡ self.now.turns }
+        ensures legal { IsLegal self.now.plan.graph (level_at self.now) self.now.number (rows_at self.now) self.now.turns (state_at self.now) }
+    {
+        &self.history
+    }
+
+    /// The fault that a turn answered, which the kept turns show; `None` exactly where no turn answered one.
+    pub fn fault(&self) -> Option<TurnFault>
+        ensures fault { result ≡ self.now.fault }
+        ensures shows { MatchOption result (Unit {0}) (Shows self.now.plan.graph self.now.turns (state_at self.now)) }
+    {
+        self.fault
+    }
+
+    /// Whether it is closed.
+    pub fn closed(&self) -> bool
+        ensures { result ≡ self.now.closed }
+    {
+        self.fields.closed
+    }
+
+    /// How many claims are open.
+    pub fn open_claims(&self) -> usize
+        ensures { result ≡ length self.now.open_claims }
+    {
+        self.fields.open_claims.len()
+    }
+
+    /// The open claim of a number, counted from 0 in the order in which they were made; `None` exactly where there are
+    /// not so many.
+    pub fn open_claim(&self, number: usize) -> Option<&Task>
+        ensures { option_map (λ task. task.now) result ≡ option_map (λ claim. claim.task) (slice_get self.now.open_claims number) }
+    {
+        match self.fields.open_claims.as_slice().get(number) {
+            None => None,
+            Some(claim) => Some(&claim.task),
+        }
+    }
+}
