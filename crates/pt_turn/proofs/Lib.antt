@@ -1,1 +1,9 @@
 pub mod Turns
+pub mod Changing
+pub mod Naming
+pub mod Lateness
+pub mod Coming
+pub mod Rooms
+pub mod Readiness
+pub mod Onward
+pub mod Again

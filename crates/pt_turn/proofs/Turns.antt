@@ -84,7 +84,7 @@ last_of_pair x y true = refl
 last_of_pair x y false = refl
 
 last_after : (x : Turn) (xs ys : List Turn) (r : ℕ) → last_reading xs ≡ Some r → last_reading (x ∷ xs) ≡ Some r
-last_after x [] ys r h = absurd (none_some h)
+last_after x [] ys r h = absurd (none_some r h)
 last_after x (y ∷ xs) ys r h = h
 
 last_is : (x : Turn) (xs : List Turn) → (r : ℕ) × (last_reading (x ∷ xs) ≡ Some r)

@@ -1,3 +1,5 @@
 pub mod Running
 pub mod Platforms
 pub mod Turned
+pub mod Faults
+pub mod Making

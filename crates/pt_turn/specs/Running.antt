@@ -28,22 +28,26 @@ last_reading [] = None
 last_reading (x ∷ []) = Some x.last
 last_reading (x ∷ y ∷ turns) = last_reading (y ∷ turns)
 
--- kept turns show a late message for an actor at a tag: the last turn took it last, after a reading that was past its time
--- and its link's bound
+-- the last of these messages is late: it is an event for an actor at a tag, and the reading before was past its time and
+-- its link's bound
+pub record LastIsLate (g : Graph) (last : Option ℕ) (messages : List OnLink) (actor : ℕ) (tag : Tag) (reading limit : ℕ) : Type 0 where
+  pub number : ℕ
+  pub value : ℤ
+  pub before : List OnLink
+  pub ends : messages ≡ before ++ record { link = number; message = Event tag value } ∷ []
+  pub link : Link
+  pub at : slice_get g.links number ≡ Some link
+  pub receiver : link.to ≡ actor
+  pub read : last ≡ Some reading
+  pub limit_is : limit ≡ tag.time + link_bound g link
+  pub past : limit < reading
+
+-- the last of the kept turns took a late message
 pub record ShowsLate (g : Graph) (turns : List Turn) (actor : ℕ) (tag : Tag) (reading limit : ℕ) : Type 0 where
   pub before : List Turn
   pub turn : Turn
   pub ends : turns ≡ before ++ turn ∷ []
-  pub number : ℕ
-  pub value : ℤ
-  pub taken : List OnLink
-  pub last : turn.taken ≡ taken ++ record { link = number; message = Event tag value } ∷ []
-  pub link : Link
-  pub at : slice_get g.links number ≡ Some link
-  pub receiver : link.to ≡ actor
-  pub read : last_reading before ≡ Some reading
-  pub limit_is : limit ≡ tag.time + link_bound g link
-  pub past : limit < reading
+  pub late : LastIsLate g (last_reading before) turn.taken actor tag reading limit
 
 -- all claims were made, and a unit is safe at the last reading
 pub record ShowsLong (g : Graph) (s : State) : Type 0 where

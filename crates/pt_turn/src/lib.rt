@@ -4,8 +4,12 @@
 #![tactic(auto)]
 
 mod fault;
+mod finding;
+mod keeping;
+mod making;
 mod platform;
 mod room;
+mod turning;
 
 pub use fault::TurnFault;
 pub use platform::Platform;

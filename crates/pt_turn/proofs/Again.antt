@@ -1,0 +1,137 @@
+-- After a turn it is a platform again, and what the turn did.
+use Rattle.std.proofs.Common.{◌≡◌, ℕ, ◌+◌, ◌*◌, ◌<◌, ◌≤◌, ◌⊎◌, ◌^◌, Bool, false, List, [], ◌∷◌, ◌++◌, Option, Some, None, length, refl, sym, ap, subst, ◌∙◌, arith, vec_len}
+use Rattle.std.specs.Arc.{arc_value}
+use Rattle.std.proofs.Math.Nat.{mul-le-mul_right}
+use Rattle.pt_types.specs.declared.graph.Graph.{Graph}
+use Rattle.pt_types.specs.declared.firing.Done.{Done}
+use Rattle.pt_types.specs.declared.firing.OnLink.{OnLink}
+use Rattle.pt_types.specs.declared.firing.Task.{Task}
+use Rattle.pt_types.specs.declared.rows.Row.{Row}
+use Rattle.pt_semantics.specs.Kept.{IsSingle, kept_with}
+use Rattle.pt_semantics.specs.Platform.{State}
+use Rattle.pt_semantics.specs.Rows.{FitRows}
+use Rattle.pt_semantics.specs.Safe.{NothingSafe}
+use Rattle.pt_semantics.specs.Turn.{IsLast, IsTurn, Turn}
+use Rattle.pt_ranks.specs.Ranked.{level_of}
+use Rattle.pt_offsets.specs.Plans.{Parts}
+use Rattle.pt_enter.specs.Sensors.{AreSensors}
+use Rattle.pt_history.specs.declared.history.History.{History}
+use Rattle.pt_state.specs.declared.fields.Fields.{Fields}
+use Rattle.pt_state.specs.State.{rows_of, state_of, IsSound}
+use Rattle.pt_steps.specs.declared.claimed.Ending.{Ending}
+use Rattle.pt_steps.specs.declared.claimed.Ending.TheVariants.{Long as LongEnd}
+use Rattle.pt_steps.specs.declared.steps.Lists.{Lists}
+use Rattle.pt_steps.specs.Steps.{AreEmpty, ShowsEnd, is_late as ends_late, turn_of}
+use Rattle.pt_turn.specs.declared.fault.TurnFault.{TurnFault}
+use Rattle.pt_turn.specs.declared.room.Room.{Room}
+use Rattle.pt_turn.specs.declared.platform.Platform.TheInside.{Inside}
+use Rattle.pt_turn.specs.Making.{IsKept}
+use Rattle.pt_turn.specs.Platforms.{IsPlatform, IsRoomy, graph_of, messages_of, raised_to, view_of}
+use Rattle.pt_turn.specs.Running.{Ran, ShowsLong}
+use Rattle.pt_steps.specs.Steps.{IsFront}
+use Rattle.pt_turn.specs.Turned.{Ends, IsTurned, StaysThere, is_late}
+use Rattle.pt_turn.proofs.Onward.{ends_as, late_as, ran_on}
+use Rattle.pt_turn.proofs.Readiness.{basis_of, still_runs}
+use Rattle.pt_turn.proofs.Turns.{messages_more}
+
+-- all that a turn over the parts gives
+pub record IsDone (p : Inside) (r most : ℕ) (dones : List Done) (messages : List OnLink) (new : Fields) (history : History) (lists : Lists) (fault : Option TurnFault) (handed now : List Task) : Type 0 where
+  pub kept : IsKept (arc_value p.plan) (basis_of p) r most dones messages p.fields new p.history.turns history.turns handed now fault
+  pub sound : IsSound (graph_of p) new
+  pub sensors : AreSensors (graph_of p) new.sensors.items
+  pub all_rows : (a : ℕ) → rows_of new.sensors.items a ≡ rows_of p.fields.sensors.items a
+  pub reading : new.reading ≡ Some r
+  pub claims : new.claims ≤ 200000
+  pub empty : AreEmpty lists
+  pub sent : vec_len new.outbox ≤ history.room.sent
+  pub fits : r < 2 ^ 64
+
+-- by the clauses of the call
+pub is_done : (p : Inside) (plan : Parts) (room : Room) (r most : ℕ) (dones : List Done) (messages : List OnLink) (new : Fields) (history : History) (lists : Lists) (fault : Option TurnFault) (handed now : List Task) → plan ≡ arc_value p.plan → IsRoomy p room → length dones ≤ room.done
+    → IsKept plan (record { level = level_of plan.ranks; platform = p.number; taken = messages_of p.history.turns }) r most dones messages p.fields new p.history.turns history.turns handed now fault
+    → IsSound plan.graph new → AreSensors plan.graph new.sensors.items → ((a : ℕ) → rows_of new.sensors.items a ≡ rows_of p.fields.sensors.items a) → new.reading ≡ Some r → new.claims ≤ 200000 → AreEmpty lists
+    → vec_len new.outbox ≤ vec_len p.fields.outbox + length dones * length plan.graph.links + length plan.graph.links → history.room.sent ≡ p.history.room.sent → r < 2 ^ 64 → IsDone p r most dones messages new history lists fault handed now
+is_done p plan room r most dones messages new history lists fault handed now same roomy few kept sound sensors all_rows reading claims empty outbox sent fits =
+    let bound : vec_len new.outbox ≤ vec_len p.fields.outbox + length dones * length (graph_of p).links + length (graph_of p).links = subst (λ (z : Parts). vec_len new.outbox ≤ vec_len p.fields.outbox + length dones * length z.graph.links + length z.graph.links) same outbox in
+    let product : length dones * length (graph_of p).links ≤ room.done * length (graph_of p).links = mul-le-mul_right (length (graph_of p).links) few in
+    record {
+      kept = subst (λ (z : Parts). IsKept z (record { level = level_of z.ranks; platform = p.number; taken = messages_of p.history.turns }) r most dones messages p.fields new p.history.turns history.turns handed now fault) same kept;
+      sound = subst (λ (z : Parts). IsSound z.graph new) same sound;
+      sensors = subst (λ (z : Parts). AreSensors z.graph new.sensors.items) same sensors;
+      all_rows = all_rows;
+      reading = reading;
+      claims = claims;
+      empty = empty;
+      sent = omega (arith, bound, product, sent, roomy.sent);
+      fits = fits;
+    }
+
+abbrev pub after : Inside → Fields → History → Lists → Option TurnFault → Inside
+after p fields history lists fault = record { plan = p.plan; number = p.number; closing = p.closing; fields = fields; history = history; lists = lists; fault = fault; room = None }
+
+shows_long : (g : Graph) (new : Fields) (taken : List OnLink) (r : ℕ) (ending : Ending) → new.reading ≡ Some r → ShowsEnd g r new ending → ending ≡ LongEnd → ShowsLong g (state_of new taken)
+shows_long g new taken r ending read full is =
+    let shown : ShowsEnd g r new LongEnd = subst (ShowsEnd g r new) is full in
+    record { all = shown.0; reading = r; read = read; safe = shown.1; }
+
+taken_is : (p : Inside) (history : History) (turn : Turn) → history.turns ≡ kept_with p.history.turns turn → messages_of history.turns ≡ messages_of p.history.turns ++ turn.taken
+taken_is p history turn is = ap messages_of is ∙ messages_more p.history.turns turn
+
+pub is_again : (p : Inside) (r most : ℕ) (dones : List Done) (messages : List OnLink) (new : Fields) (history : History) (lists : Lists) (fault : Option TurnFault) (handed now : List Task) → IsPlatform p → p.fault ≡ None → IsDone p r most dones messages new history lists fault handed now → IsPlatform (after p new history lists fault)
+is_again p r most dones messages new history lists fault handed now is on d =
+    let k = d.kept in
+    let turn : Turn = turn_of r k.lists in
+    let rows : rows_of new.sensors.items ≡ rows_of p.fields.sensors.items = λ i a. d.all_rows a i in
+    let ran : Ran (graph_of p) (level_of (arc_value p.plan).ranks) p.number (rows_of p.fields.sensors.items) (kept_with p.history.turns turn) (state_of new (messages_of p.history.turns ++ k.lists.taken.items)) fault =
+        ran_on (graph_of p) (level_of (arc_value p.plan).ranks) p.number (rows_of p.fields.sensors.items) p.history.turns turn (state_of p.fields (messages_of p.history.turns)) (state_of new (messages_of p.history.turns ++ k.lists.taken.items)) k.ending fault (still_runs p is on)
+        (record { once = refl; one_reading = refl; fits = d.fits; }) k.made.turn k.made.last k.names (shows_long (graph_of p) new (messages_of p.history.turns ++ k.lists.taken.items) r k.ending d.reading k.full) d.reading in
+    record {
+      admitted = is.admitted;
+      sound = d.sound;
+      sensors = d.sensors;
+      fit = subst (FitRows (graph_of p)) (sym rows) is.fit;
+      closing = is.closing;
+      claims = d.claims;
+      ran = subst (λ z. Ran (graph_of p) (level_of (arc_value p.plan).ranks) p.number z history.turns (state_of new (messages_of history.turns)) fault) (sym rows)
+          (subst (λ ts. Ran (graph_of p) (level_of (arc_value p.plan).ranks) p.number (rows_of p.fields.sensors.items) ts (state_of new (messages_of history.turns)) fault) (sym k.turns)
+          (subst (λ ms. Ran (graph_of p) (level_of (arc_value p.plan).ranks) p.number (rows_of p.fields.sensors.items) (kept_with p.history.turns turn) (state_of new ms) fault) (sym (taken_is p history turn k.turns)) ran));
+      empty = d.empty;
+      sent = d.sent;
+      room = tt;
+    }
+
+-- a turn with what it claims and how it ends
+record TurnPart (g : Graph) (level : ℕ → ℕ) (i : ℕ) (s : State) (turn : Turn) (most : ℕ) (fault : Option TurnFault) (late : Bool) (new : State) : Type 0 where
+  is : IsTurn g level i s turn late new
+  all_or : late ≡ false → NothingSafe g is.ready.waits is.ready.busy turn.last ⊎ ((most ≤ length turn.claimed) ⊎ (200000 ≤ is.ready.claims))
+  last : Ends fault (IsLast g s turn.last late is.ready)
+
+-- the turn that was made
+pub is_turned : (p : Inside) (r reading most : ℕ) (dones : List Done) (messages : List OnLink) (new : Fields) (history : History) (lists : Lists) (fault : Option TurnFault) (handed now : List Task) → r ≡ raised_to p.fields.reading reading → IsDone p r most dones messages new history lists fault handed now
+    → (made : IsTurned (view_of p) (view_of (after p new history lists fault)) reading most dones messages) × (now ≡ handed ++ made.turn.claimed) × StaysThere (view_of p) (view_of (after p new history lists fault))
+is_turned p r reading most dones messages new history lists fault handed now raised d =
+    let k = d.kept in
+    let g : Graph = graph_of p in
+    let level : ℕ → ℕ = level_of (arc_value p.plan).ranks in
+    let s : State = state_of p.fields (messages_of p.history.turns) in
+    let turn : Turn = turn_of r k.lists in
+    let late : is_late fault ≡ ends_late k.ending = late_as g p.fields.reading k.lists.taken.items k.ending fault k.names in
+    let first : TurnPart g level p.number s turn most fault (ends_late k.ending) (state_of new (messages_of p.history.turns ++ k.lists.taken.items)) = record {
+          is = k.made.turn;
+          all_or = k.made.all_or;
+          last = ends_as g p.fields.reading k.lists.taken.items k.ending fault (IsLast g s turn.last (ends_late k.ending) k.made.turn.ready) k.names k.made.last;
+        } in
+    let part : TurnPart g level p.number s turn most fault (is_late fault) (state_of new (messages_of history.turns)) =
+        subst (λ ms. TurnPart g level p.number s turn most fault (is_late fault) (state_of new ms)) (sym (taken_is p history turn k.turns))
+        (subst (λ b. TurnPart g level p.number s turn most fault b (state_of new (messages_of p.history.turns ++ k.lists.taken.items))) (sym late) first) in
+    (record {
+      turn = turn;
+      at = (raised, raised, refl, refl);
+      is = part.is;
+      posted = k.made.posted;
+      taken = subst (IsFront messages turn.taken) (sym late) k.made.taken;
+      few = k.made.few;
+      all_or = part.all_or;
+      last = part.last;
+      turns = k.turns;
+    }, k.tasks, record { plan = refl; number = refl; rows = λ i a. d.all_rows a i; })

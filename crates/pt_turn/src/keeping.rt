@@ -1,0 +1,60 @@
+//! What a turn did is kept.
+
+ghost use Rattle.std.specs.Prelude.{◌≡◌, ◌+◌, ◌<◌, ◌≤◌, ◌++◌, length};
+ghost use Rattle.pt_semantics.specs.Kept.{kept_with};
+ghost use Rattle.pt_steps.specs.Steps.{AreEmpty, turn_of};
+ghost use Rattle.pt_turn.specs.Platforms.{raised_to};
+
+use pt_actors::Tasks;
+use pt_history::History;
+use pt_steps::Lists;
+use pt_types::Task;
+
+/// A reading handed in, raised to the last one, in microseconds.
+pub fn raised_to(last: Option<u64>, reading: u64) -> u64
+    ensures { result ≡ raised_to last reading }
+{
+    match last {
+        None => reading,
+        Some(last) => {
+            if last <= reading {
+                reading
+            } else {
+                last
+            }
+        }
+    }
+}
+
+/// Keeps a turn at a reading, in microseconds, and empties the lists. No memory is taken.
+pub fn keep(history: &mut History, reading: u64, lists: &mut Lists)
+    requires turns { 0 < history.old.room.turns }
+    requires posted { length lists.old.posted.items ≤ history.old.room.posted }
+    requires rows { length lists.old.rows.items ≤ history.old.room.rows }
+    requires taken { length lists.old.taken.items ≤ history.old.room.taken }
+    requires claimed { length lists.old.claimed.items ≤ history.old.room.claimed }
+    ensures turns { history.new.turns ≡ kept_with history.old.turns (turn_of reading lists.old) }
+    ensures sent { history.new.room.sent ≡ history.old.room.sent }
+    ensures empty { AreEmpty lists.new }
+{
+    history.begin(reading);
+    history.post(lists.posted.as_slice());
+    history.enter(lists.rows.as_slice());
+    history.take(lists.taken.as_slice());
+    history.claim(lists.claimed.as_slice());
+    lists.posted.clear();
+    lists.rows.clear();
+    lists.taken.clear();
+    lists.claimed.clear();
+}
+
+/// Appends tasks to those that are handed out. No memory is taken.
+pub fn hand_out(claimed: &[Task], tasks: &mut Tasks)
+    requires { length claimed.now ≤ tasks.old.spare }
+    ensures tasks { tasks.new.tasks ≡ tasks.old.tasks ++ claimed.now }
+    ensures spare { tasks.old.spare ≤ tasks.new.spare + length claimed.now }
+{
+    for task in claimed {
+        tasks.push(*task);
+    }
+}
