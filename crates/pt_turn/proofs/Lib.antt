@@ -7,3 +7,4 @@ pub mod Rooms
 pub mod Readiness
 pub mod Onward
 pub mod Again
+pub mod Wider

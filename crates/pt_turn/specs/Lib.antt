@@ -3,3 +3,4 @@ pub mod Platforms
 pub mod Turned
 pub mod Faults
 pub mod Making
+pub mod Growing

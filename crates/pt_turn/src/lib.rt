@@ -3,12 +3,16 @@
 //! Read first: `Platform`, then `specs/Platforms.antt` and `specs/Turned.antt`.
 #![tactic(auto)]
 
+mod counting;
 mod fault;
 mod finding;
 mod keeping;
 mod making;
+mod making_room;
+mod needing;
 mod platform;
 mod room;
+mod rooming;
 mod turning;
 
 pub use fault::TurnFault;

@@ -1,0 +1,76 @@
+-- More memory for the same platform.
+use Rattle.std.specs.Prelude.{◌≡◌, ℕ, ◌+◌, ◌*◌, ◌≤◌, Vec, length, vec_len, vec_capacity}
+use Rattle.pt_types.specs.declared.graph.Graph.{Graph}
+use Rattle.pt_history.specs.declared.history.History.{History}
+use Rattle.pt_history.specs.declared.room.Room.{Room as HistoryRoom}
+use Rattle.pt_state.specs.declared.fields.Fields.{Fields}
+use Rattle.pt_steps.specs.declared.steps.Lists.{Lists}
+use Rattle.pt_steps.specs.Steps.{count_due}
+use Rattle.pt_turn.specs.declared.making_room.Needs.{Needs}
+use Rattle.pt_turn.specs.declared.room.Room.{Room}
+
+-- the same members, with no less memory
+pub record IsWider {X Z : Type 0} (old new : Vec X Z) : Type 0 where
+  pub items : new.items ≡ old.items
+  pub len : vec_len new ≡ vec_len old
+  pub capacity : vec_capacity old ≤ vec_capacity new
+
+-- the same fields, with no less memory
+pub record AreWider (old new : Fields) : Type 0 where
+  pub events : new.queue.events ≡ old.queue.events
+  pub groups : new.queue.groups ≡ old.queue.groups
+  pub spare : old.queue.spare ≤ new.queue.spare
+  pub open_claims : IsWider old.open_claims new.open_claims
+  pub states : new.states ≡ old.states
+  pub sensors : new.sensors ≡ old.sensors
+  pub outbox : IsWider old.outbox new.outbox
+  pub reading : new.reading ≡ old.reading
+  pub closed : new.closed ≡ old.closed
+  pub claims : new.claims ≡ old.claims
+
+pub record ListsAreWider (old new : Lists) : Type 0 where
+  pub posted : IsWider old.posted new.posted
+  pub rows : IsWider old.rows new.rows
+  pub taken : IsWider old.taken new.taken
+  pub claimed : IsWider old.claimed new.claimed
+
+pub record HistoryIsWider (old new : History) : Type 0 where
+  pub turns : new.turns ≡ old.turns
+  pub more_turns : old.room.turns ≤ new.room.turns
+  pub posted : old.room.posted ≤ new.room.posted
+  pub rows : old.room.rows ≤ new.room.rows
+  pub taken : old.room.taken ≤ new.room.taken
+  pub claimed : old.room.claimed ≤ new.room.claimed
+  pub sent : old.room.sent ≤ new.room.sent
+
+-- there is memory for all that is needed: in the fields,
+pub record FieldsMeet (needs : Needs) (f : Fields) : Type 0 where
+  pub events : needs.events ≤ f.queue.spare
+  pub outbox : vec_len f.outbox + needs.messages ≤ vec_capacity f.outbox
+  pub open_claims : vec_len f.open_claims + needs.claimed ≤ vec_capacity f.open_claims
+
+-- the lists of a turn,
+pub record ListsMeet (needs : Needs) (lists : Lists) : Type 0 where
+  pub posted : vec_len lists.posted + needs.posted ≤ vec_capacity lists.posted
+  pub rows : vec_len lists.rows + needs.rows ≤ vec_capacity lists.rows
+  pub taken : vec_len lists.taken + needs.taken ≤ vec_capacity lists.taken
+  pub claimed : vec_len lists.claimed + needs.claimed ≤ vec_capacity lists.claimed
+
+-- and the history
+pub record HistoryMeets (needs : Needs) (room : HistoryRoom) : Type 0 where
+  pub turns : 1 ≤ room.turns
+  pub posted : needs.posted ≤ room.posted
+  pub rows : needs.rows ≤ room.rows
+  pub taken : needs.taken ≤ room.taken
+  pub claimed : needs.claimed ≤ room.claimed
+  pub sent : needs.sent ≤ room.sent
+
+-- so much is enough for a turn at reading r
+pub record AreEnough (g : Graph) (f : Fields) (r : ℕ) (room : Room) (needs : Needs) : Type 0 where
+  pub events : length g.wires + count_due g r f + room.taken ≤ needs.events
+  pub messages : room.done * length g.links + length g.links ≤ needs.messages
+  pub sent : vec_len f.outbox + room.done * length g.links + length g.links ≤ needs.sent
+  pub posted : room.done ≤ needs.posted
+  pub rows : count_due g r f ≤ needs.rows
+  pub taken : room.taken ≤ needs.taken
+  pub claimed : room.most ≤ needs.claimed
