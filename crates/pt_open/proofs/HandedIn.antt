@@ -1,42 +1,46 @@
 -- Rows that were handed in, as those of sensors of which none has entered.
-use Rattle.std.proofs.Common.{◌≡◌, ℕ, ◌<◌, ◌≤◌, ◌==◌, Bool, true, false, if◌then◌else◌, List, [], ◌∷◌, Option, Some, drop, length, map, unwrap_or, refl, sym, ap, subst, ◌∙◌, ⊎_elim, eqb-true, eq-eqb, arith}
-use Rattle.std.proofs.lemmas.Bool.{cases_Bool, cases_lt, cond-true, cond-false, false≢true}
-use Rattle.pt_types.specs.declared.graph.Graph.{Graph}
+use Rattle.std.proofs.Common.{◌≡◌, ℕ, ◌<◌, ◌≤◌, ◌==◌, Bool, true, false, if◌then◌else◌, List, [], ◌∷◌, Option, Some, drop, length, map, unwrap_or, refl, sym, ap, subst, ◌∙◌, ⊎_elim, eqb-true, eq-eqb, arith, suc, ◌-◌, ◌&&◌, nat_lt, nat_le, sum, leb-true, lt-ltb}
+use Rattle.std.proofs.lemmas.Bool.{cases_Bool, cond-true, cond-false, false≢true}
+use Rattle.std.specs.List.{list_all}
+use Rattle.std.proofs.lemmas.Bool.{and_parts}
+use Rattle.pt_types.specs.Kinds.{is_among, kind_is_lawful}
+use Rattle.pt_types.specs.Lawful.{IsLawful}
 use Rattle.pt_types.specs.declared.kind.Kind.{Kind}
-use Rattle.pt_types.specs.declared.kind.Kind.TheVariants.{Receive, Sensor as SensorKind}
+use Rattle.pt_types.specs.declared.kind.Kind.TheVariants.{Lanes}
+use Rattle.pt_graph.proofs.Actors.{any_kind}
+use Rattle.pt_types.specs.declared.graph.Graph.{Graph}
 use Rattle.pt_types.specs.declared.rows.Row.{Row}
 use Rattle.pt_types.specs.Ports.{when}
 use Rattle.pt_sensors.specs.declared.sensor_rows.SensorRows.{SensorRows}
 use Rattle.pt_semantics.specs.Edges.{kind_of, platform_of}
 use Rattle.pt_semantics.specs.Lists.{Each, first_of, or_else}
 use Rattle.pt_semantics.specs.Rows.{FitRows, FitsRow, NeverFalls, TimesRise}
-use Rattle.pt_semantics.specs.Units.{at_input, groups, input_group}
-use Rattle.pt_delays.specs.Units.{IsUnit}
-use Rattle.pt_offsets.proofs.Small.{past_kind}
+use Rattle.pt_semantics.specs.Units.{cell_of, groups, input_group}
 use Rattle.pt_state.specs.State.{left_in, rows_of}
 use Rattle.pt_enter.specs.Sensors.{AreSensors, IsSensor}
 use Rattle.pt_open.specs.Handed.{rows_in, unentered, AreHanded, IsHanded}
 
--- a sensor is an actor of the graph, and one unit
-sensor_unit : (g : Graph) (a bound : ℕ) (file : List ℕ) → kind_of g a ≡ SensorKind file bound → IsUnit g (at_input g a 0)
-sensor_unit g a bound file is = (
-  ⊎_elim (λ (lt : a < length g.actors). lt) (λ (past : length g.actors ≤ a). absurd (receives (sym (past_kind g a past) ∙ is))) (cases_lt a (length g.actors)),
-  subst (λ k. input_group k 0 < groups k) (sym is) (omega arith),
-)
-  where
-    is_sensor : Kind → Bool
-    is_sensor (SensorKind file bound) = true
-    is_sensor _ = false
+-- input 0 is one of a unit's
+first_cell : (cells : List ℕ) → 1 ≤ length cells → list_all (is_among 1 8) cells ≡ true → cell_of cells 0 < length cells
+first_cell [] some h = absurd (omega (arith, some))
+first_cell (n ∷ ns) some h =
+    let among = and_parts (is_among 1 8 n) (list_all (is_among 1 8) ns) h in
+    let one : 1 ≤ n = leb-true 1 n (and_parts (nat_le 1 n) (nat_le n 8) among.0).0 in
+    subst (λ c. c < length (n ∷ ns)) (sym (cond-true (nat_lt 0 n) 0 (suc (cell_of ns (0 - n))) (lt-ltb 0 n one))) (omega arith)
 
-    receives : Receive ≡ SensorKind file bound → ⊥
-    receives e = false≢true (ap is_sensor e)
+first_group : (kind : Kind) → kind_is_lawful kind ≡ true → input_group kind 0 < groups kind
+first_group (Lanes cells) h =
+    let all = and_parts (is_among 1 8 (length cells) && list_all (is_among 1 8) cells) (nat_le (sum cells) 8) h in
+    let some = and_parts (is_among 1 8 (length cells)) (list_all (is_among 1 8) cells) all.0 in
+    first_cell cells (leb-true 1 (length cells) (and_parts (nat_le 1 (length cells)) (nat_le (length cells) 8) some.0).0) some.1
+first_group _ h = omega arith
 
-are_each : (g : Graph) (i : ℕ) (handed : List SensorRows) → Each (IsHanded g i) handed → Each (IsSensor g) (map unentered handed)
-are_each g i [] h = tt
-are_each g i (s ∷ ss) h = (record { unit = sensor_unit g s.actor h.0.bound h.0.file h.0.sensor; entered = omega arith; times = h.0.times }, are_each g i ss h.1)
+are_each : (g : Graph) (i : ℕ) (handed : List SensorRows) → IsLawful g → Each (IsHanded g i) handed → Each (IsSensor g) (map unentered handed)
+are_each g i [] lawful h = tt
+are_each g i (s ∷ ss) lawful h = (record { unit = (h.0.there, first_group (kind_of g s.actor) (any_kind g s.actor lawful)); entered = omega arith; times = h.0.times }, are_each g i ss lawful h.1)
 
-pub are_sensors : (g : Graph) (i : ℕ) (handed : List SensorRows) → AreHanded g i handed → AreSensors g (map unentered handed)
-are_sensors g i handed h = (h.0, are_each g i handed h.1)
+pub are_sensors : (g : Graph) (i : ℕ) (handed : List SensorRows) → IsLawful g → AreHanded g i handed → AreSensors g (map unentered handed)
+are_sensors g i handed lawful h = (h.0, are_each g i handed lawful h.1)
 
 pub rows_same : (handed : List SensorRows) → rows_of (map unentered handed) ≡ rows_in handed
 rows_same handed = λ i a. at handed a i

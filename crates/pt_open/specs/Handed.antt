@@ -1,11 +1,10 @@
 -- The rows that a platform is opened with.
-use Rattle.std.specs.Prelude.{◌≡◌, ◌==◌, ℕ, List, [], Some, map, unwrap_or}
+use Rattle.std.specs.Prelude.{◌≡◌, ◌<◌, ◌==◌, ℕ, List, [], Some, length, map, unwrap_or}
 use Rattle.pt_types.specs.declared.graph.Graph.{Graph}
 use Rattle.pt_types.specs.declared.rows.Row.{Row}
-use Rattle.pt_types.specs.declared.kind.Kind.TheVariants.{Sensor as SensorKind}
 use Rattle.pt_types.specs.Ports.{when}
 use Rattle.pt_sensors.specs.declared.sensor_rows.SensorRows.{SensorRows}
-use Rattle.pt_semantics.specs.Edges.{kind_of, platform_of}
+use Rattle.pt_semantics.specs.Edges.{platform_of}
 use Rattle.pt_semantics.specs.Lists.{Each, first_of}
 use Rattle.pt_semantics.specs.Rows.{FitsRow, NeverFalls, TimesRise}
 use Rattle.pt_state.specs.declared.fields.Sensor.{Sensor}
@@ -21,10 +20,8 @@ unentered s = record { actor = s.actor; rows = s.rows; entered = 0 }
 
 -- the rows of a sensor of platform i, as a run has them: each fits, seens never fall and times rise
 pub record IsHanded (g : Graph) (i : ℕ) (s : SensorRows) : Type 0 where
+  pub there : s.actor < length g.actors
   pub home : platform_of g s.actor ≡ i
-  pub file : List ℕ
-  pub bound : ℕ
-  pub sensor : kind_of g s.actor ≡ SensorKind file bound
   pub fit : Each (FitsRow g s.actor) s.rows
   pub in_order : NeverFalls s.rows
   pub times : TimesRise s.rows

@@ -34,13 +34,9 @@ rows_left a s = when (s.actor == a) (Some (drop s.entered s.rows))
 abbrev pub left_in : List Sensor → ℕ → List Row
 left_in sensors a = unwrap_or (first_of (rows_left a) sensors) []
 
--- all rows of a sensor, where the actor is this one
-abbrev pub rows_at : ℕ → Sensor → Option (List Row)
-rows_at a s = when (s.actor == a) (Some s.rows)
-
--- all rows of each sensor, those that entered too; an actor that is none of the sensors has none
+-- all rows of each sensor, those that entered too
 abbrev pub rows_of : List Sensor → ℕ → List Row
-rows_of sensors a = unwrap_or (first_of (rows_at a) sensors) []
+rows_of sensors a = unwrap_or (first_of (λ (s : Sensor). when (s.actor == a) (Some s.rows)) sensors) []
 
 -- the state, by the fields and by all the messages that were taken
 abbrev pub state_of : Fields → List OnLink → State

@@ -37,4 +37,4 @@ returns-clause-sound c =
     sound_is g c.args.platform f groups waits c.new.ensures.items states
 
 pub returns-clause-sensors : goal.returns-clause-sensors
-returns-clause-sensors c = subst (AreSensors c.args.plan.now.graph) (sym c.in-Ok-all_unentered.ensures) (are_sensors c.args.plan.now.graph c.args.platform c.args.rows.items c.requires)
+returns-clause-sensors c = subst (AreSensors c.args.plan.now.graph) (sym c.in-Ok-all_unentered.ensures) (are_sensors c.args.plan.now.graph c.args.platform c.args.rows.items c.graph.ensures.admitted.lawful c.requires)
