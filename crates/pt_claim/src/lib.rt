@@ -13,4 +13,4 @@ mod safe;
 
 pub use claiming::{claim, claims};
 pub use next::{SafeUnit, next_safe};
-pub use safe::safe_tag;
+pub use safe::{has_open, safe_tag};

@@ -29,7 +29,7 @@ fn is_due(offset: Option<i64>, tag: Tag, reading: u64) -> bool
 }
 
 /// Whether a unit has an open claim.
-fn has_open(claims: &[OpenClaim], unit: Unit) -> bool
+pub fn has_open(claims: &[OpenClaim], unit: Unit) -> bool
     ensures { result ≡ is_some (busy_in claims.now unit) }
 {
     for claim in claims {

@@ -1,0 +1,4 @@
+pub mod Least
+pub mod Bounds
+pub mod Units
+pub mod Candidates

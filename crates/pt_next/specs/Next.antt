@@ -1,0 +1,30 @@
+-- Readings at which something can happen, by sensor and by unit.
+use Rattle.std.specs.Prelude.{◌≡◌, ◌∷◌, [], ℕ, List, Option, None, drop}
+use Rattle.pt_tags.specs.declared.tag.Tag.{Tag}
+use Rattle.pt_tags.specs.Tags.{UpTo}
+use Rattle.pt_types.specs.declared.graph.Graph.{Graph}
+use Rattle.pt_types.specs.declared.graph.Unit.{Unit as Part}
+use Rattle.pt_types.specs.declared.rows.Row.{Row}
+use Rattle.pt_types.specs.declared.firing.Task.{Task}
+use Rattle.pt_semantics.specs.Edges.{kind_of}
+use Rattle.pt_semantics.specs.Meaning.{Values}
+use Rattle.pt_semantics.specs.Paced.{IsPaced}
+use Rattle.pt_semantics.specs.Units.{HasEvent, groups}
+use Rattle.pt_state.specs.declared.fields.Sensor.{Sensor}
+use Rattle.pt_next.specs.Least.{Below}
+
+-- what stands for a sensor past the end of a list
+abbrev pub no_sensor : Sensor
+no_sensor = record { actor = 0; rows = []; entered = 0 }
+
+-- the first row left of a sensor is seen at c
+abbrev pub IsSeenNext : Sensor → ℕ → Type 0
+IsSeenNext s c = (row : Row) × (rest : List Row) × (drop s.entered s.rows ≡ row ∷ rest) × (c ≡ row.seen)
+
+-- c is the paced reading of a unit that has no open claim, at the least tag of its events
+abbrev pub IsPacedNext : Graph → Values → (Part → Option Task) → Part → ℕ → Type 0
+IsPacedNext g waits busy u c = (t : Tag) × HasEvent g waits u t × ((w : Tag) → HasEvent g waits u w → UpTo t w) × (busy u ≡ None) × IsPaced g u t c
+
+-- that of one of an actor's units
+abbrev pub IsPacedOfActor : Graph → Values → (Part → Option Task) → ℕ → ℕ → Type 0
+IsPacedOfActor g waits busy a = Below (groups (kind_of g a)) (λ k. IsPacedNext g waits busy (record { actor = a; group = k }))
