@@ -3,6 +3,7 @@
 ghost use Rattle.std.specs.Prelude.{◌≡◌, [], None, false, IfOk};
 ghost use Rattle.pt_semantics.specs.Platform.{opened};
 ghost use Rattle.pt_semantics.specs.Rows.{FitRows};
+ghost use Rattle.pt_offsets.specs.Plans.{IsAdmitted};
 ghost use Rattle.pt_state.specs.State.{rows_of, state_of, IsSound};
 ghost use Rattle.pt_enter.specs.Sensors.{AreSensors};
 ghost use Rattle.pt_open.specs.Handed.{rows_in, AreHanded};
@@ -24,6 +25,7 @@ pub fn open_fields(
     rows: Vec<SensorRows>,
 ) -> Result<Fields, Memory>
     requires { AreHanded plan.now.graph platform rows.items }
+    ensures admitted { IsAdmitted plan.now }
     ensures opened { IfOk result (λ fields. state_of fields [] ≡ opened plan.now.graph platform (rows_of fields.sensors.items)) }
     ensures rows { IfOk result (λ fields. rows_of fields.sensors.items ≡ rows_in rows.items) }
     ensures fit { IfOk result (λ fields. FitRows plan.now.graph (rows_of fields.sensors.items)) }

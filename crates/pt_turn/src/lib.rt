@@ -10,6 +10,7 @@ mod keeping;
 mod making;
 mod making_room;
 mod needing;
+mod opening;
 mod platform;
 mod room;
 mod rooming;

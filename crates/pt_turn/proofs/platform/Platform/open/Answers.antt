@@ -1,0 +1,41 @@
+use Rattle.std.proofs.Common.{◌≡◌, ◌≤◌, ◌+◌, [], None, List, length, refl, ap, subst, ◌∙◌, sym, arith, vec_len}
+use Rattle.std.specs.Arc.{arc_value}
+use Rattle.pt_types.specs.declared.firing.OnLink.{OnLink}
+use Rattle.pt_semantics.specs.Paced.{IsClosing}
+use Rattle.pt_semantics.specs.Platform.{State, opened}
+use Rattle.pt_semantics.specs.Rows.{FitRows}
+use Rattle.pt_semantics.specs.Turn.{Turn}
+use Rattle.pt_ranks.specs.Ranked.{level_of}
+use Rattle.pt_offsets.specs.Plans.{IsAdmitted, Parts}
+use Rattle.pt_enter.specs.Sensors.{AreSensors}
+use Rattle.pt_state.specs.State.{rows_of, state_of, IsSound}
+use Rattle.pt_turn.specs.Platforms.{messages_of}
+use Rattle.pt_turn.specs.Running.{Ran, last_reading}
+use Rattle.pt_turn.proofs.platform.Platform.open.Goals as goal
+
+pub invariant_of-result : goal.invariant_of-result
+invariant_of-result c =
+    let f = c.in_ok-fields.fields in
+    let e = c.in_ok-fields.ensures in
+    let plan : c.deref.result.now ≡ arc_value c.args.plan = c.deref.ensures in
+    let none : vec_len f.outbox ≡ 0 = f.outbox.ok.0 ∙ ap length e.outbox in
+    let turns : c.new.result.turns ≡ [] = c.new.ensures.turns in
+    let start : state_of f [] ≡ opened (arc_value c.args.plan).graph c.args.platform (rows_of f.sensors.items) = subst (λ (z : Parts). state_of f [] ≡ opened z.graph c.args.platform (rows_of f.sensors.items)) plan e.opened in
+    record {
+      admitted = subst IsAdmitted plan e.admitted;
+      sound = subst (λ (z : Parts). IsSound z.graph f) plan e.sound;
+      sensors = subst (λ (z : Parts). AreSensors z.graph f.sensors.items) plan e.sensors;
+      fit = subst (λ (z : Parts). FitRows z.graph (rows_of f.sensors.items)) plan e.fit;
+      closing = subst (λ (z : Parts). IsClosing z.graph c.args.platform c.closing_reading-closing.result) c.deref-2.ensures c.closing_reading-closing.ensures;
+      claims = subst (λ n. n ≤ 200000) (sym e.claims) (omega arith);
+      ran = subst (λ (ts : List Turn). Ran (arc_value c.args.plan).graph (level_of (arc_value c.args.plan).ranks) c.args.platform (rows_of f.sensors.items) ts (state_of f (messages_of ts)) None) (sym turns) (record {
+        all = [];
+        single = tt;
+        are_kept = refl;
+        leads = start;
+        read = e.reading;
+      });
+      empty = record { posted = c.new-2.ensures.items; rows = c.new-3.ensures.items; taken = c.new-4.ensures.items; claimed = c.new-5.ensures.items; };
+      sent = omega (arith, none);
+      room = tt;
+    }

@@ -1,0 +1,70 @@
+//! A platform that opens.
+
+ghost use Rattle.std.specs.Prelude.{◌≡◌, [], None, IfOk, MatchOption, true, false};
+ghost use Rattle.std.specs.Arc.{arc_value};
+ghost use Rattle.pt_semantics.specs.Paced.{IsNextReading};
+ghost use Rattle.pt_open.specs.Handed.{rows_in, AreHanded};
+ghost use Rattle.pt_turn.specs.Platforms.{rows_at, state_at};
+
+use crate::platform::Platform;
+use pt_history::History;
+use pt_next::{closing_reading, next_reading};
+use pt_offsets::Plan;
+use pt_open::open_fields;
+use pt_sensors::SensorRows;
+use pt_steps::Lists;
+use pt_tags::Memory;
+use std::alloc::Global;
+use std::sync::Arc;
+
+impl Platform {
+    /// A platform of a plan, with the rows of its sensors in the order of the graph: each is on time and not past the
+    /// horizon. Its starting events wait, and no turn was made.
+    pub fn open(
+        alloc: Global,
+        plan: Arc<Plan>,
+        platform: u32,
+        rows: Vec<SensorRows>,
+    ) -> Result<Platform, Memory>
+        requires { AreHanded (arc_value plan).graph platform rows.items }
+        ensures plan { IfOk result (λ opened. opened.plan ≡ arc_value plan) }
+        ensures number { IfOk result (λ opened. opened.number ≡ platform) }
+        ensures rows { IfOk result (λ opened. rows_at opened ≡ rows_in rows.items) }
+        ensures turns { IfOk result (λ opened. opened.turns ≡ []) }
+        ensures new { IfOk result (λ opened. (opened.fault ≡ None) × (opened.room ≡ None) × (opened.open_claims ≡ []) × (opened.outbox ≡ []) × (opened.reading ≡ None)) }
+    {
+        let fields = open_fields(alloc, &plan, platform, rows)?;
+        let closing = closing_reading(&plan, platform);
+        Ok(Platform {
+            plan,
+            number: platform,
+            closing,
+            fields,
+            history: History::new(alloc),
+            lists: Lists {
+                posted: Vec::new(alloc),
+                rows: Vec::new(alloc),
+                taken: Vec::new(alloc),
+                claimed: Vec::new(alloc),
+            },
+            fault: None,
+            room: None,
+        })
+    }
+
+    /// The least reading, in microseconds, at which something can happen: a row is seen, a unit comes to its paced
+    /// reading, or the platform can close. `None` exactly where it is closed.
+    pub fn next_reading(&self) -> Option<u64>
+        ensures { MatchOption result (self.now.closed ≡ true) (λ next. (self.now.closed ≡ false) × IsNextReading self.now.plan.graph self.now.number (state_at self.now) next) }
+    {
+        if self.fields.closed {
+            return None;
+        }
+        Some(next_reading(
+            &self.fields,
+            &self.plan,
+            self.number,
+            self.closing,
+        ))
+    }
+}
