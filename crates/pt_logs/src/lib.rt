@@ -13,3 +13,6 @@ mod turns;
 
 pub use miss::miss_line;
 pub use turns::{push_head, push_history, push_turn};
+
+#[cfg(test)]
+mod tests;
