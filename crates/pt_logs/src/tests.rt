@@ -101,73 +101,106 @@ fn done(number: u64) -> Done {
     }
 }
 
-/// A turn in which nothing is done.
-fn quiet(history: &mut History, reading: u64) -> Result<(), Memory> {
+/// Begins a turn.
+fn begin(history: &mut History, reading: u64) -> Result<(), Memory> {
     history.reserve(ONE)?;
     history.begin(reading);
     Ok(())
 }
 
-/// A turn in which the row is seen.
-fn enters(history: &mut History) -> Result<(), Memory> {
+/// The last turn posts the result of a task.
+fn post(history: &mut History, number: u64) -> Result<(), Memory> {
     history.reserve(ONE)?;
-    history.begin(55);
-    history.enter(RowAt {
-        sensor: 0,
-        row: Row {
-            time: 50,
-            seen: 55,
-            value: 7,
-        },
-    });
+    if history.turns() > 0 {
+        history.post(done(number));
+    }
     Ok(())
 }
 
-/// A turn that claims a task.
-fn claims(history: &mut History, number: u64) -> Result<(), Memory> {
+/// A row enters in the last turn.
+fn enter(history: &mut History, row: RowAt) -> Result<(), Memory> {
     history.reserve(ONE)?;
-    history.begin(61);
-    history.claim(task(number));
+    if history.turns() > 0 {
+        history.enter(row);
+    }
     Ok(())
 }
 
-/// A turn that posts the result of a task and claims the next.
-fn posts_and_claims(history: &mut History, number: u64) -> Result<(), Memory> {
+/// The last turn claims a task.
+fn claim(history: &mut History, number: u64) -> Result<(), Memory> {
     history.reserve(ONE)?;
-    history.begin(61);
-    history.post(done(number));
-    history.claim(task(number + 1));
+    if history.turns() > 0 {
+        history.claim(task(number));
+    }
     Ok(())
 }
 
-/// A turn that posts the result of a task.
-fn posts(history: &mut History, number: u64) -> Result<(), Memory> {
+/// The last turn takes a message.
+fn take(history: &mut History, message: Message) -> Result<(), Memory> {
     history.reserve(ONE)?;
-    history.begin(61);
-    history.post(done(number));
+    if history.turns() > 0 {
+        history.take(OnLink { link: 0, message });
+    }
     Ok(())
+}
+
+/// A message is sent after the last turn.
+fn send(history: &mut History, message: Message) -> Result<(), Memory> {
+    history.reserve(ONE)?;
+    if history.turns() > 0 {
+        history.send(OnLink { link: 0, message });
+    }
+    Ok(())
+}
+
+const ROW: RowAt = RowAt {
+    sensor: 0,
+    row: Row {
+        time: 50,
+        seen: 55,
+        value: 7,
+    },
+};
+
+/// The row is seen, and the sensor is claimed.
+fn open(history: &mut History) -> Result<(), Memory> {
+    begin(history, 55)?;
+    enter(history, ROW)?;
+    begin(history, 55)?;
+    begin(history, 61)?;
+    claim(history, 0)
+}
+
+/// A result is posted, and the next task is claimed.
+fn step(history: &mut History, posted: u64, claimed: u64) -> Result<(), Memory> {
+    begin(history, 61)?;
+    post(history, posted)?;
+    claim(history, claimed)
+}
+
+/// The actuator's result is posted, and the platform closes.
+fn close(history: &mut History) -> Result<(), Memory> {
+    begin(history, 61)?;
+    post(history, 3)?;
+    begin(history, 61)?;
+    begin(history, 1011)
 }
 
 /// The turns of the smallest example, under the paced clock.
-fn basic(alloc: Global) -> Result<History, Memory> {
-    let mut history = History::new(alloc);
-    enters(&mut history)?;
-    quiet(&mut history, 55)?;
-    claims(&mut history, 0)?;
-    for number in 0..3 {
-        posts_and_claims(&mut history, number)?;
-    }
-    posts(&mut history, 3)?;
-    quiet(&mut history, 61)?;
-    quiet(&mut history, 1011)?;
-    Ok(history)
+fn basic(history: &mut History) -> Result<(), Memory> {
+    open(history)?;
+    step(history, 0, 1)?;
+    step(history, 1, 2)?;
+    step(history, 2, 3)?;
+    close(history)
 }
 
 /// The log of one platform.
-fn log_of(alloc: Global, graph: &Graph, history: &History) -> Result<String, AllocError> {
+fn log_of(alloc: Global, names: &[&str], history: &History) -> Result<String, AllocError> {
+    let graph = graph(alloc, names)?;
     let mut text = String::new(alloc);
     push_head(&mut text)?;
-    push_history(&mut text, graph, 0, history)?;
+    push_history(&mut text, &graph, 0, history)?;
     Ok(text)
 }
 
@@ -195,19 +228,10 @@ turn,p,1011,1011,1
 #[test]
 fn writes_the_log_of_the_smallest_example(rt: HostRuntime) -> Result<(), Fail> {
     let alloc = rt.alloc();
-    let graph = graph(alloc, &["s", "x", "d", "out"])?;
-    let history = basic(alloc)?;
-    let text = log_of(alloc, &graph, &history)?;
+    let mut history = History::new(alloc);
+    basic(&mut history)?;
+    let text = log_of(alloc, &["s", "x", "d", "out"], &history)?;
     assert_eq!(rt; text.as_str(), BASIC);
-    Ok(())
-}
-
-/// A turn that takes a message, after which one is sent.
-fn passes(history: &mut History, reading: u64, message: Message) -> Result<(), Memory> {
-    history.reserve(ONE)?;
-    history.begin(reading);
-    history.take(OnLink { link: 0, message });
-    history.send(OnLink { link: 0, message });
     Ok(())
 }
 
@@ -216,15 +240,20 @@ const EVENT: Message = Message::Event {
     value: -9,
 };
 
+/// A turn that takes a message, after which it is sent on.
+fn pass(history: &mut History, reading: u64, message: Message) -> Result<(), Memory> {
+    begin(history, reading)?;
+    take(history, message)?;
+    send(history, message)
+}
+
 /// A run of quiet turns, and two turns with messages.
-fn messages(alloc: Global) -> Result<History, Memory> {
-    let mut history = History::new(alloc);
-    quiet(&mut history, 10)?;
-    quiet(&mut history, 20)?;
-    quiet(&mut history, 30)?;
-    passes(&mut history, 40, EVENT)?;
-    passes(&mut history, 50, Message::End)?;
-    Ok(history)
+fn messages(history: &mut History) -> Result<(), Memory> {
+    begin(history, 10)?;
+    begin(history, 20)?;
+    begin(history, 30)?;
+    pass(history, 40, EVENT)?;
+    pass(history, 50, Message::End)
 }
 
 const MESSAGES: &str = "log
@@ -240,9 +269,9 @@ sent,a,end
 #[test]
 fn writes_runs_and_messages(rt: HostRuntime) -> Result<(), Fail> {
     let alloc = rt.alloc();
-    let graph = graph(alloc, &["s", "a", "b"])?;
-    let history = messages(alloc)?;
-    let text = log_of(alloc, &graph, &history)?;
+    let mut history = History::new(alloc);
+    messages(&mut history)?;
+    let text = log_of(alloc, &["s", "a", "b"], &history)?;
     assert_eq!(rt; text.as_str(), MESSAGES);
     Ok(())
 }

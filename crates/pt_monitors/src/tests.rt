@@ -83,45 +83,60 @@ fn done(actor: u32) -> Done {
 
 const EVENT: Message = Message::Event { tag: AT, value: 7 };
 
-/// A turn that posts a result of an actor, and after which a message is sent.
-fn turn(history: &mut History, reading: u64, actor: u32, message: Message) -> Result<(), Memory> {
+/// A turn that posts a result of an actor.
+fn post(history: &mut History, reading: u64, actor: u32) -> Result<(), Memory> {
     history.reserve(ONE)?;
     history.begin(reading);
     history.post(done(actor));
-    history.send(OnLink { link: 0, message });
     Ok(())
 }
 
-fn missed(alloc: Global, graph: &Graph, history: &History) -> Result<Vec<Miss>, Memory> {
+/// A message is sent after the last turn.
+fn send(history: &mut History, message: Message) -> Result<(), Memory> {
+    history.reserve(ONE)?;
+    if history.turns() > 0 {
+        history.send(OnLink { link: 0, message });
+    }
+    Ok(())
+}
+
+/// A result and a message at their limits, and what has no limit later.
+fn in_time(history: &mut History) -> Result<(), Memory> {
+    post(history, 53, 3)?;
+    send(history, EVENT)?;
+    post(history, 55, 0)?;
+    post(history, 60, 3)?;
+    send(history, Message::End)
+}
+
+/// A message past its limit, and then a result and a message.
+fn too_late(history: &mut History) -> Result<(), Memory> {
+    post(history, 55, 0)?;
+    send(history, EVENT)?;
+    post(history, 56, 0)?;
+    send(history, EVENT)
+}
+
+fn missed(alloc: Global, history: &History) -> Result<Vec<Miss>, Memory> {
+    let graph = match graph(alloc) {
+        Ok(graph) => graph,
+        Err(_) => return Err(Memory),
+    };
     let mut misses = Vec::new(alloc);
-    missed_in(graph, history, &mut misses)?;
+    missed_in(&graph, history, &mut misses)?;
     Ok(misses)
 }
 
-#[test]
-fn at_the_limit_nothing_is_missed(rt: HostRuntime) -> Result<(), Fail> {
-    let alloc = rt.alloc();
-    let graph = graph(alloc)?;
+fn missed_in_time(alloc: Global) -> Result<Vec<Miss>, Memory> {
     let mut history = History::new(alloc);
-    turn(&mut history, 53, 3, EVENT)?;
-    turn(&mut history, 55, 0, Message::End)?;
-    turn(&mut history, 60, 3, Message::End)?;
-    let misses = missed(alloc, &graph, &history)?;
-    assert!(rt; misses.is_empty());
-    Ok(())
+    in_time(&mut history)?;
+    missed(alloc, &history)
 }
 
-#[test]
-fn what_is_past_its_slack_is_missed(rt: HostRuntime) -> Result<(), Fail> {
-    let alloc = rt.alloc();
-    let graph = graph(alloc)?;
+fn missed_too_late(alloc: Global) -> Result<Vec<Miss>, Memory> {
     let mut history = History::new(alloc);
-    turn(&mut history, 55, 0, EVENT)?;
-    turn(&mut history, 56, 0, EVENT)?;
-    let misses = missed(alloc, &graph, &history)?;
-    let expected = [miss(1, 55, 53), miss(0, 56, 55), miss(1, 56, 53)];
-    assert_eq!(rt; misses.as_slice(), expected.as_slice());
-    Ok(())
+    too_late(&mut history)?;
+    missed(alloc, &history)
 }
 
 fn miss(actor: u32, reading: u64, limit: u64) -> Miss {
@@ -131,4 +146,19 @@ fn miss(actor: u32, reading: u64, limit: u64) -> Miss {
         reading,
         limit,
     }
+}
+
+#[test]
+fn at_the_limit_nothing_is_missed(rt: HostRuntime) -> Result<(), Fail> {
+    let misses = missed_in_time(rt.alloc())?;
+    assert!(rt; misses.is_empty());
+    Ok(())
+}
+
+#[test]
+fn what_is_past_its_slack_is_missed(rt: HostRuntime) -> Result<(), Fail> {
+    let misses = missed_too_late(rt.alloc())?;
+    let expected = [miss(1, 55, 53), miss(0, 56, 55), miss(1, 56, 53)];
+    assert_eq!(rt; misses.as_slice(), expected.as_slice());
+    Ok(())
 }
