@@ -8,3 +8,4 @@ pub mod Readiness
 pub mod Onward
 pub mod Again
 pub mod Wider
+pub mod Moving

@@ -7,6 +7,7 @@ mod counting;
 mod fault;
 mod finding;
 mod keeping;
+mod laws;
 mod making;
 mod making_room;
 mod needing;
@@ -17,5 +18,6 @@ mod rooming;
 mod turning;
 
 pub use fault::TurnFault;
+pub use laws::{platforms_move, platforms_wait};
 pub use platform::Platform;
 pub use room::Room;
