@@ -11,6 +11,8 @@ mod document;
 mod fault;
 mod kinds;
 mod lines;
+mod number;
+mod reading;
 mod version;
 mod whole;
 
