@@ -1,2 +1,4 @@
 pub mod Each
 pub mod Turns
+pub mod Listed
+pub mod Hollow

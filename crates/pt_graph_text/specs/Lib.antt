@@ -1,4 +1,5 @@
 pub mod Decoding
+pub mod Apart
 pub mod Versions
 pub mod Rows
 pub mod Kinds

@@ -6,6 +6,7 @@
 //! Read first: `Document`, and `specs/Whole.antt`, which says what the document of a JSON value is.
 #![tactic(auto)]
 
+mod apart;
 mod decode;
 mod document;
 mod fault;
