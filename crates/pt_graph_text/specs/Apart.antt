@@ -35,3 +35,21 @@ abbrev pub and_part : {A : Type 0} → Result (List A) ℕ → Option A → Resu
 and_part (Ok front) None = Err (length front)
 and_part (Ok front) (Some x) = Ok (front ++ x ∷ [])
 and_part (Err i) part = Err i
+
+-- an object whose arrays lost their items; any other value as it is
+abbrev pub emptied : Data → Data
+emptied null = null
+emptied (boolean b) = boolean b
+emptied (number n) = number n
+emptied (string s) = string s
+emptied (array ds) = array ds
+emptied (object ms) = object (hollow_members ms)
+
+-- the members of an object; none where the value is no object
+abbrev pub members_in : Data → Members
+members_in null = no_members
+members_in (boolean b) = no_members
+members_in (number n) = no_members
+members_in (string s) = no_members
+members_in (array ds) = no_members
+members_in (object ms) = ms

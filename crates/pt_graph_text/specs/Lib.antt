@@ -6,4 +6,5 @@ pub mod Kinds
 pub mod Documents
 pub mod Faults
 pub mod Whole
+pub mod Arrays
 pub mod Lines

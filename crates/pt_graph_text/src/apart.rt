@@ -8,7 +8,7 @@ ghost use Rattle.serde_json.specs.View.{view};
 ghost use Rattle.pt_graph_text.specs.Decoding.{each_from};
 ghost use Rattle.pt_graph_text.specs.Apart.{hollow, list_in, so_far, and_part};
 
-use crate::decode::Decode;
+use crate::decode::{Decode, Misfit};
 use crate::reading::{Unread, value_from};
 use crate::version::Version;
 use json::{Reader, Token};
@@ -94,5 +94,35 @@ pub fn read_apart<T: Decode>(
             *listed = None;
             Ok(value_from(alloc, token, reader, depth)?)
         }
+    }
+}
+
+/// What is left of the next value without its items.
+pub fn read_hollow(
+    alloc: Global,
+    version: Version,
+    reader: &mut Reader<'_>,
+    depth: usize,
+) -> Result<Value, Unread>
+    ensures ok { IfOk result
+        (λ left. (d : Data) × (converted of_json (value depth reader.old) ≡ Some (d, reader.new))
+        × (view left ≡ hollow d)) }
+    ensures shorter { OnOk result (length reader.new < length reader.old) }
+    ensures err { result ≡ Err Unread.NotJson
+        → converted of_json (value depth reader.old) ≡ None }
+{
+    let mut items: Option<Listed<Unused>> = None;
+    Ok(read_apart(alloc, version, &mut items, reader, depth)?)
+}
+
+/// A part that no file has.
+#[derive(Drop)]
+struct Unused;
+
+impl Decode for Unused {
+    ghost decoded = { λ version d. None };
+
+    fn decode(_alloc: Global, _version: Version, _value: &Value) -> Result<Unused, Misfit> {
+        Err(Misfit::Member)
     }
 }

@@ -7,12 +7,14 @@
 #![tactic(auto)]
 
 mod apart;
+mod arrays;
 mod decode;
 mod document;
 mod fault;
 mod kinds;
 mod lines;
 mod number;
+mod object;
 mod reading;
 mod version;
 mod whole;
