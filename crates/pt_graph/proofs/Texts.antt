@@ -14,6 +14,10 @@ use Rattle.pt_graph_text.specs.declared.fault.GraphFault.TheVariants as fault
 use Rattle.pt_graph.specs.Checking.{document_of_bytes}
 use Rattle.pt_graph.specs.GraphOf.{json_of, checked, built, graph_in}
 
+pub json_of-text : (bytes : List ℕ) (d : Data) → IsUtf8 bytes × (read bytes ≡ Some d) → json_of bytes ≡ Some d
+unfolding json_of
+json_of-text bytes d h = rw (is_utf8-from_IsUtf8 bytes h.0) h.1
+
 pub document_of_bytes-text : (bytes : List ℕ) → IsUtf8 bytes → document_of_bytes bytes ≡ document_of_text bytes
 unfolding document_of_bytes document_of_text json_of
 document_of_bytes-text bytes h = ap (λ b. or_fault fault.NotJson (cond b (read bytes) None) >>= document_of) (is_utf8-from_IsUtf8 bytes h)

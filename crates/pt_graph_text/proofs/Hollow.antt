@@ -8,7 +8,7 @@ use Rattle.json.specs.Json.{Parse, parse_map, value_with, value}
 use Rattle.json.specs.Reads.{token_of}
 use Rattle.json.specs.declared.token.Token.{Token as Handed}
 use Rattle.json.specs.declared.token.Token.TheVariants.{BeginObject, EndObject, BeginArray, EndArray, Key, String, Number, Bool, Null, Bad}
-use Rattle.serde_json.specs.Data.{Data, Num, null, boolean, number, string, array, object, Items, no_items, Members, no_members}
+use Rattle.serde_json.specs.Data.{Data, Num, number, object, Members, no_members}
 use Rattle.serde_json.specs.Find.{as_array}
 use Rattle.serde_json.specs.Read.{number_of, of_json, of_members, converted}
 use Rattle.pt_graph_text.specs.Apart.{hollow}

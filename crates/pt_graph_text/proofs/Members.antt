@@ -10,7 +10,7 @@ use Rattle.json.specs.Json.{Parse, parse_map, value_with, value}
 use Rattle.json.specs.Reads.{token_of}
 use Rattle.json.specs.declared.token.Token.{Token as Handed}
 use Rattle.json.specs.declared.token.Token.TheVariants.{BeginObject, EndObject, BeginArray, EndArray, Key, String, Number, Bool, Null, Bad}
-use Rattle.serde_json.specs.Data.{Data, Num, null, boolean, number, string, array, object, Items, Members, no_members, member, put}
+use Rattle.serde_json.specs.Data.{Data, Num, number, array, Items, Members, no_members, member, put}
 use Rattle.serde_json.specs.Read.{number_of, of_json, of_items, converted}
 use Rattle.pt_graph_text.specs.Apart.{hollow, hollow_members, emptied, members_in}
 use Rattle.pt_graph_text.proofs.Turns.{converted_some}

@@ -1,16 +1,16 @@
 -- The document of what was read apart is that of the whole.
 use Rattle.std.proofs.Common.{◌≡◌, ◌≢◌, ℕ, suc, List, ◌==◌, Option, Some, None, Result, Ok, Err, option_map, option_and_then, true, false, true≢false, refl, sym, ap, ◌∙◌}
 use Rattle.std.specs.Prelude.{codes}
-use Rattle.serde_json.specs.Data.{Data, Num, null, boolean, number, string, array, object, Items, no_items, Members, no_members, member}
+use Rattle.serde_json.specs.Data.{Data, null, boolean, number, string, array, object, Items, Members, no_members, member}
 use Rattle.serde_json.specs.Events.{members_len}
-use Rattle.serde_json.specs.Find.{get, get_member, as_str, as_array}
+use Rattle.serde_json.specs.Find.{get_member, as_str, as_array}
 use Rattle.std.specs.Ordering.{nat_cmp, match_ordering}
 use Rattle.std.specs.Cmp.Lexicographic.{slice_cmp}
 use Rattle.std.proofs.Common.{Ordering, Less, Equal, Greater}
 use Rattle.serde_json.specs.Read.{read}
 use Rattle.pt_graph_text.specs.declared.arrays.Arrays.{Arrays}
 use Rattle.pt_graph_text.specs.Decoding.{field, whole, has_members, each_from}
-use Rattle.pt_graph_text.specs.Apart.{hollow, hollow_members, emptied, members_in, list_in, list_at}
+use Rattle.pt_graph_text.specs.Apart.{hollow, hollow_members, emptied, members_in, list_at}
 use Rattle.pt_graph_text.specs.Arrays.{arrays_of, pairs_in, document_with}
 use Rattle.pt_graph_text.specs.Versions.{version_of, is_second}
 use Rattle.pt_graph_text.specs.Whole as whole_file

@@ -1,6 +1,6 @@
 -- An object whose arrays are read apart from it: what is left of it, and what its arrays list.
 use Rattle.std.specs.Prelude.{ℕ, List, [], ◌∷◌, ◌++◌, length, Option, Some, None, Result, Ok, Err, option_map, option_and_then}
-use Rattle.serde_json.specs.Data.{Data, null, boolean, number, string, array, object, Items, no_items, Members, no_members, member}
+use Rattle.serde_json.specs.Data.{Data, null, boolean, number, string, array, object, no_items, Members, no_members, member}
 use Rattle.serde_json.specs.Find.{get_member, as_array}
 use Rattle.pt_graph_text.specs.Decoding.{each_from}
 

@@ -1,4 +1,4 @@
-use Rattle.std.proofs.Common.{◌≡◌, suc, ◌-◌, [], ◌∷◌, length, false, Some, None, option_map, sym, ap, ap₂, ◌∙◌, arith}
+use Rattle.std.proofs.Common.{◌≡◌, suc, ◌-◌, [], ◌∷◌, length, Some, option_map, sym, ap, ap₂, ◌∙◌, arith}
 use Rattle.json.specs.Json.{parse_map, items, value}
 use Rattle.json.specs.Reads.{token_of}
 use Rattle.json.proofs.Grammar.{value_is, value-begin_array}
@@ -8,7 +8,7 @@ use Rattle.serde_json.specs.View.{view, items_view}
 use Rattle.pt_graph_text.specs.Decoding.{each_from}
 use Rattle.serde_json.proofs.Views.{view-Array}
 use Rattle.pt_graph_text.proofs.Turns.{converted-array}
-use Rattle.pt_graph_text.proofs.Hollow.{opens_array, opens_no_array, whole_value}
+use Rattle.pt_graph_text.proofs.Hollow.{opens_no_array, whole_value}
 use Rattle.pt_graph_text.proofs.apart.read_apart.Goals as goal
 
 pub returns-in_err-token-clause-err : goal.returns-in_err-token-clause-err

@@ -1,6 +1,6 @@
-use Rattle.std.proofs.Common.{◌≡◌, ◌-◌, ◌<◌, ◌≤◌, [], length, Ok, Err, Some, None, sym, ap, ◌∙◌, arith}
+use Rattle.std.proofs.Common.{◌≡◌, ◌-◌, ◌<◌, length, None, sym, ap, ◌∙◌, arith}
 use Rattle.json.specs.Json.{after_end_array, items, value}
-use Rattle.serde_json.specs.Read.{of_json, of_items, converted}
+use Rattle.serde_json.specs.Read.{of_items, converted}
 use Rattle.pt_graph_text.specs.Apart.{so_far, and_part}
 use Rattle.pt_graph_text.proofs.Turns.{item_read, item_refused, items_over}
 use Rattle.pt_graph_text.proofs.Listed.{joined, joined-item, joined-end, joined-all, joined-none}

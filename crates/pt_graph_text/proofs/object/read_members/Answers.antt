@@ -1,8 +1,7 @@
-use Rattle.std.proofs.Common.{◌≡◌, ◌-◌, ◌<◌, length, Some, None, string_bytes, refl, sym, ap, ◌∙◌, arith, rules}
-use Rattle.json.specs.Json.{read_key, members, value}
+use Rattle.std.proofs.Common.{◌≡◌, ◌-◌, length, Some, string_bytes, refl, sym, ap, ◌∙◌, arith, rules}
+use Rattle.json.specs.Json.{read_key, value}
 use Rattle.json.proofs.Grammar.{read_key-shorter}
 use Rattle.serde_json.specs.Data.{no_members, object, put}
-use Rattle.serde_json.specs.Read.{of_json, of_members, converted}
 use Rattle.serde_json.specs.View.{view, members_view}
 use Rattle.serde_json.proofs.Views.{view-Object, members_view-insert_entry}
 use Rattle.pt_graph_text.specs.Apart.{hollow, hollow_members}

@@ -1,4 +1,4 @@
-use Rattle.std.proofs.Common.{◌≡◌, sym, ap, ◌∙◌}
+use Rattle.std.proofs.Common.{sym, ap, ◌∙◌}
 use Rattle.serde_json.specs.Data.{put}
 use Rattle.pt_graph_text.specs.Arrays.{arrays_of}
 use Rattle.pt_graph_text.proofs.Tops.{made, with_platforms, with_actors, with_wires, with_links, with_pairs, with_other}
