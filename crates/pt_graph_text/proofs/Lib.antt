@@ -5,3 +5,4 @@ pub mod Hollow
 pub mod Members
 pub mod Tops
 pub mod Wholes
+pub mod Inners

@@ -23,7 +23,7 @@ pub list_at-put_other : {A : Type 0} (f : Data → Option A) (q k : List ℕ) (d
 list_at-put_other f q k d ms other = ap (option_and_then (list_in f)) (get_member-put_other q k d ms other)
 
 -- the list of another key stays as it is
-kept : {A : Type 0} (f : Data → Option A) (q k : List ℕ) (d : Data) (ms : Members) (was : Option (Result (List A) ℕ)) → (q ≡ k → ⊥) → was ≡ list_at f q ms → was ≡ list_at f q (put k d ms)
+pub kept : {A : Type 0} (f : Data → Option A) (q k : List ℕ) (d : Data) (ms : Members) (was : Option (Result (List A) ℕ)) → (q ≡ k → ⊥) → was ≡ list_at f q ms → was ≡ list_at f q (put k d ms)
 kept f q k d ms was other e = e ∙ sym (list_at-put_other f q k d ms other)
 
 abbrev pub made : Option (Result (List (List ℕ)) ℕ) → Option (Result (List ActorText) ℕ) → Option (Result (List WireText) ℕ) → Option (Result (List LinkText) ℕ) → Option (Result (List PairText) ℕ) → Arrays
@@ -33,7 +33,7 @@ same : {p p' : Option (Result (List (List ℕ)) ℕ)} {a a' : Option (Result (Li
     → p ≡ p' → a ≡ a' → w ≡ w' → l ≡ l' → r ≡ r' → made p a w l r ≡ made p' a' w' l' r'
 same {p' = p'} {a} {a'} {w} {w'} {l} {l'} {r} hp ha hw hl hr = ap (λ x. made x a w l r) hp ∙ ap (λ x. made p' x w l r) ha ∙ ap (λ x. made p' a' x l r) hw ∙ ap (λ x. made p' a' w' x r) hl ∙ ap (λ x. made p' a' w' l' x) hr
 
-differ : (q k : List ℕ) → bytes_eq q k ≡ false → q ≡ k → ⊥
+pub differ : (q k : List ℕ) → bytes_eq q k ≡ false → q ≡ k → ⊥
 differ q k e h = true≢false (sym ((bytes_eq-Decides q k).1 h) ∙ e)
 
 module _ (v : Version) (d : Data) (ms : Members) (a : Arrays) (was : a ≡ arrays_of v ms) where

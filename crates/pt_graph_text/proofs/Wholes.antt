@@ -36,7 +36,7 @@ hollow-match_ordering Less a b = refl
 hollow-match_ordering Equal a b = refl
 hollow-match_ordering Greater a b = refl
 
-get_member-hollow : (k : List ℕ) (ms : Members) → get_member k (hollow_members ms) ≡ option_map hollow (get_member k ms)
+pub get_member-hollow : (k : List ℕ) (ms : Members) → get_member k (hollow_members ms) ≡ option_map hollow (get_member k ms)
 get_member-hollow k no_members = refl
 get_member-hollow k (member l d ms) = rw (get_member-hollow k ms) (sym (hollow-match_ordering (slice_cmp nat_cmp k l) (get_member k ms) (Some d)))
 

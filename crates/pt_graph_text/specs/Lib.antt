@@ -7,4 +7,5 @@ pub mod Documents
 pub mod Faults
 pub mod Whole
 pub mod Arrays
+pub mod Inner
 pub mod Lines

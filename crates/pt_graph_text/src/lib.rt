@@ -11,6 +11,7 @@ mod arrays;
 mod decode;
 mod document;
 mod fault;
+mod inner;
 mod kinds;
 mod lines;
 mod number;
