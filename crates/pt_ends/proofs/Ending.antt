@@ -32,6 +32,7 @@ rounds_push g level [] c d b x y z ms (e, same) round fine on follows =
 rounds_push g level (ns ∷ rounds) c d b x y z ms (a, mid, round1, fine1, on1, follows1, rest) round fine on follows =
     (a, mid, round1, fine1, on1, follows1, rounds_push g level rounds a d b mid y z ms rest round fine on follows)
 
+-- a paced run with one round more
 pub run_push : (g : Graph) (level : ℕ → ℕ) (rows : ℕ → List Row) (rounds : List (List Made)) (c b : ℕ) (x y : Together) (ms : List Made) → IsPacedRun g level rows rounds c x → Round g level c (length g.platforms) 0 x ms y → Each (λ (m : Made). m.fault ≡ false) ms → (AreFinished g y → ⊥) → Follows g c x ms y b → IsPacedRun g level rows (rounds ++ ms ∷ []) b y
 run_push g level rows rounds c b x y ms run round fine on follows =
     record { begins = run.begins; begins_at = run.begins_at; goes = rounds_push g level rounds run.begins c b (together_at_start g rows) x y ms run.goes round fine on follows }
@@ -49,7 +50,8 @@ module _ (g : Graph) (level : ℕ → ℕ) (rows : ℕ → List Row) (offset : P
     quiet : IsQuietRound before made x
     next : IsLeastNext g x c
 
-  -- how many rounds can follow: three for each move; one fewer where nothing is open, and two fewer where the last round was quiet besides
+  -- how many rounds can follow: three for each move left, and two; one fewer where nothing is open, since a round without a
+  -- move is quiet then; and two fewer where the last round was quiet besides, since no two quiet ones follow one another
   record AreShort (c : ℕ) (x : Together) (n : ℕ) : Type 0 where
     any : n ≤ 3 * all_to_do g x + 2
     free : IsFree x (length g.platforms) 0 → n ≤ 3 * all_to_do g x + 1

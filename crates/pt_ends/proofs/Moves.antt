@@ -62,12 +62,14 @@ all_empty : {X : Type 0} (f : ℕ → List X) (n : ℕ) → AllOrOne f n
 all_empty f zero = inl (λ k l. absurd (omega (arith, l)))
 all_empty f (suc n) = empty_more f n (f n) refl (all_empty f n)
 
+-- what is empty at each number joins to nothing
 nothing_along : {X : Type 0} (f : ℕ → List X) (n a : ℕ) → ((k : ℕ) → k < a + n → f k ≡ []) → flat_map f (range_with_len a n) ≡ []
 nothing_along f zero a none = refl
 nothing_along f (suc n) a none =
     ap (λ z. z ++ flat_map f (range_with_len (a + 1) n)) (none a (omega arith))
     ∙ nothing_along f n (a + 1) (λ k l. none k (omega (arith, l)))
 
+-- a row is due or left
 due_length : (r : ℕ) (rows : List Row) → length (due r rows) + length (not_due r rows) ≡ length rows
 due_length r rows = sym (length-append (due r rows) (not_due r rows)) ∙ ap length (due_split r rows)
 
@@ -75,6 +77,7 @@ due_length r rows = sym (length-append (due r rows) (not_due r rows)) ∙ ap len
 abbrev pub Falls : Type 0 → ℕ → ℕ → Type 0
 Falls P before after = (after ≤ before) × (P ⊎ (after < before))
 
+-- and so do two together
 pub both_fall : (P Q : Type 0) (a b c d : ℕ) → Falls P a b → Falls Q c d → Falls (P × Q) (a + c) (b + d)
 both_fall P Q a b c d (le, one) (le2, other) = (
   omega (arith, le, le2),
@@ -136,10 +139,12 @@ messages_fall g ms before after is few = (sum_le (λ l. 200001 - after l) (λ l.
         let mem : IsIn m ms = subst (IsIn m) (sym e) (inl refl) in
         inr (sum_lt (λ l. 200001 - after l) (λ l. 200001 - before l) (length g.links) m.link fewer (few.link m mem) (less m.link (some_in m.message (on_link m.link ms) (in_on_link m ms mem)) (few.few m mem)))
 
+-- with a claim, fewer are left
 claims_fall : (tasks : List Task) (before after : ℕ) → after ≡ length tasks + before → after ≤ 200000 → Falls (tasks ≡ []) (200000 - before) (200000 - after)
 claims_fall [] before after e le = (omega (arith, e), inl refl)
 claims_fall (task ∷ tasks) before after e le = (omega (arith, e), inr (omega (arith, e, le)))
 
+-- a platform closes once
 closings_fall : (before after : Bool) → (before ≡ true → after ≡ true) → Falls (after ≡ before) (if before then 0 else 1) (if after then 0 else 1)
 closings_fall true true stays = (omega arith, inl refl)
 closings_fall true false stays = (absurd (false≢true (stays refl)), inl (stays refl))
