@@ -8,3 +8,6 @@ pub mod Readiness
 pub mod Onward
 pub mod Again
 pub mod Wider
+pub mod Leaving
+pub mod Sending
+pub mod Lighter

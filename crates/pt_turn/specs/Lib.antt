@@ -4,3 +4,4 @@ pub mod Turned
 pub mod Faults
 pub mod Making
 pub mod Growing
+pub mod Gone

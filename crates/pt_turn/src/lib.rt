@@ -6,6 +6,7 @@
 mod counting;
 mod fault;
 mod finding;
+mod going;
 mod keeping;
 mod making;
 mod making_room;
