@@ -11,3 +11,4 @@ pub mod Wider
 pub mod Leaving
 pub mod Sending
 pub mod Lighter
+pub mod Ends

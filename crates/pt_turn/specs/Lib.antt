@@ -5,3 +5,4 @@ pub mod Faults
 pub mod Making
 pub mod Growing
 pub mod Gone
+pub mod Finished

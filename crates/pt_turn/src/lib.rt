@@ -6,6 +6,7 @@
 mod counting;
 mod fault;
 mod finding;
+mod finishing;
 mod going;
 mod keeping;
 mod making;
