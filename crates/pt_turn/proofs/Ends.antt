@@ -1,8 +1,8 @@
 -- The ends that were taken.
-use Rattle.std.proofs.Common.{◌≡◌, ℕ, ◌+◌, ◌<◌, ◌≤◌, Bool, true, false, List, [], ◌∷◌, ◌++◌, Option, Some, length, suc, get_or, refl, sym, ap, ap₂, subst, ◌∙◌, arith, inl, inr, ⊎_elim, ◌⊎◌, eqb-true, eq-eqb}
+use Rattle.std.proofs.Common.{◌≡◌, ℕ, ◌+◌, ◌<◌, ◌≤◌, Bool, true, false, List, [], ◌∷◌, Some, length, suc, get_or, refl, sym, ap, subst, ◌∙◌, arith, inl, inr, ⊎_elim, ◌⊎◌, eqb-true, eq-eqb}
 use Rattle.std.specs.List.{cons_option, list_any}
 use Rattle.std.specs.Prelude.{◌==◌, ◌&&◌, ◌||◌, option_map, slice_get}
-use Rattle.std.proofs.lemmas.Bool.{cases_Bool, false≢true, eqb-false, or_cases}
+use Rattle.std.proofs.lemmas.Bool.{cases_Bool, false≢true, eqb-false}
 use Rattle.std.proofs.lemmas.List.Folds.{list_any-append}
 use Rattle.std.proofs.lemmas.Option.{get_or_from_slice_get, slice_get-get_or, slice_get_within}
 use Rattle.pt_tags.specs.declared.message.Message.{Message}
@@ -60,9 +60,9 @@ pub one_link_more : (n : ℕ) (g : Graph) (i : ℕ) (turns : List Turn) (d : Lin
 one_link_more n g i turns d below one k link lt at home =
     ⊎_elim
     (λ (e : (k == n) ≡ true).
-        let same : k ≡ n = eqb-true k n e in
-        let here : get_or g.links n d ≡ link = sym (ap (λ j. get_or g.links j d) same) ∙ get_or_from_slice_get g.links k link d at in
-        subst (λ j. IsIn End (on_link j (messages_of turns))) (sym same) (one (ap (λ (x : Link). platform_of g x.to) here ∙ home)))
+    let same : k ≡ n = eqb-true k n e in
+    let here : get_or g.links n d ≡ link = sym (ap (λ j. get_or g.links j d) same) ∙ get_or_from_slice_get g.links k link d at in
+    subst (λ j. IsIn End (on_link j (messages_of turns))) (sym same) (one (ap (λ (x : Link). platform_of g x.to) here ∙ home)))
     (λ (e : (k == n) ≡ false). below k link (lower k n lt (eqb-false k n e)) at home)
     (cases_Bool (k == n))
   where

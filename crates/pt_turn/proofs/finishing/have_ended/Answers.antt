@@ -1,4 +1,4 @@
-use Rattle.std.proofs.Common.{◌≡◌, ◌<◌, ◌≤◌, true, false, List, length, get_or, refl, sym, ap, subst, ◌∙◌, arith}
+use Rattle.std.proofs.Common.{◌≡◌, ◌<◌, ◌≤◌, List, length, get_or, refl, sym, ap, subst, ◌∙◌, arith}
 use Rattle.std.proofs.lemmas.Bool.{false≢true}
 use Rattle.pt_types.specs.declared.graph.Link.{Link}
 use Rattle.pt_semantics.specs.Edges.{platform_of}
@@ -10,7 +10,7 @@ pub returns-then-not-took_end : goal.returns-then-not-took_end
 returns-then-not-took_end c =
     let lt : c.loop-l.l < length c.args.graph.now.links = subst (λ (ls : List Link). c.loop-l.l < length ls) c.as_slice-links.ensures c.loop-l-test.true in
     let home : platform_of c.args.graph.now (get_or c.args.graph.now.links c.loop-l.l no_link).to ≡ c.args.number =
-        sym (c.platform.ensures ∙ ap (λ (ls : List Link). platform_of c.args.graph.now (get_or ls c.loop-l.l no_link).to) c.as_slice-links.ensures) ∙ c.if-platform-number.false in
+    sym (c.platform.ensures ∙ ap (λ (ls : List Link). platform_of c.args.graph.now (get_or ls c.loop-l.l no_link).to) c.as_slice-links.ensures) ∙ c.if-platform-number.false in
     (λ e. absurd (false≢true e), λ all. absurd (not_ended c.loop-l.l c.args.graph.now c.args.number c.args.history.now.turns no_link lt home (sym c.took_end.ensures ∙ c.if-not-took_end.true) all))
 
 pub loop-l-preserved : goal.loop-l-preserved

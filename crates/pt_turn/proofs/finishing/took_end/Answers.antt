@@ -1,4 +1,4 @@
-use Rattle.std.proofs.Common.{◌≡◌, ◌<◌, ◌||◌, true, false, length, get_or, sym, ap₂, ◌∙◌, arith}
+use Rattle.std.proofs.Common.{◌<◌, ◌||◌, length, sym, ap₂, ◌∙◌, arith}
 use Rattle.std.proofs.lemmas.List.Folds.{list_any_at, list_any_more}
 use Rattle.pt_history.specs.Turns.{fresh}
 use Rattle.pt_turn.specs.Finished.{takes_end}
