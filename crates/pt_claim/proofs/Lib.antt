@@ -1,4 +1,5 @@
 pub mod SafeTags
-pub mod Firsts
+pub mod Ordering
+pub mod Fronts
 pub mod Making
 pub mod Cut

@@ -11,7 +11,8 @@ ghost use Rattle.pt_queue.specs.Events.{waiting_in};
 ghost use Rattle.pt_state.specs.State.{busy_in, state_of, states_in, IsSound};
 ghost use Rattle.pt_claim.specs.Claimed.{AreClaimed, IsTaskOf, OthersStay};
 
-use crate::next::{SafeUnit, next_safe};
+use crate::front::Front;
+use crate::next::SafeUnit;
 use pt_delays::Least;
 use pt_offsets::Offsets;
 use pt_state::{Fields, OpenClaim, add_claim};
@@ -90,11 +91,15 @@ pub fn claims(
     ensures capacity { vec_capacity fields.old.open_claims ≤ vec_capacity fields.new.open_claims }
     ensures tasks { vec_capacity tasks.old ≤ vec_capacity tasks.new }
 {
+    if fields.queue.is_empty() {
+        return;
+    }
+    let mut front = Front::new();
     for _ in 0..most {
         if fields.claims >= MOST_CLAIMS {
             return;
         }
-        match next_safe(fields, graph, least, offsets, reading) {
+        match front.take(fields, graph, least, offsets, reading) {
             None => return,
             Some(next) => {
                 let task = claim(fields, graph, next);

@@ -2,6 +2,8 @@
 use Rattle.std.specs.Prelude.{◌≡◌, ◌≢◌, ℕ, List, Result, Ok, Err}
 use Rattle.std.specs.BTreeMap.{BTreeMap}
 use denote.Ref.{Bor}
+use Rattle.pt_graph_text.specs.Faults.{◌>>=◌, or_fault}
+use Rattle.pt_graph_text.specs.Whole.{document_of}
 use Rattle.pt_graph_text.specs.declared.document.Document.{Document}
 use Rattle.pt_graph_text.specs.declared.fault.GraphFault.{GraphFault}
 use Rattle.pt_graph_text.specs.declared.fault.GraphFault.TheVariants as fault
@@ -9,7 +11,7 @@ use Rattle.pt_graph.specs.declared.reader.Wiring.{Wiring}
 use Rattle.pt_graph.specs.Known.{number_in, actor_name}
 use Rattle.pt_graph.specs.Index.{at_name}
 use Rattle.pt_graph.specs.Graphs.{wires_of, links_of}
-use Rattle.pt_graph.specs.GraphOf.{checked}
+use Rattle.pt_graph.specs.GraphOf.{json_of, checked}
 
 -- a document passed its checks, and a map has the numbers of its actors; or it has this fault
 abbrev pub GivesNumbers : Document → Result (BTreeMap (Bor (List ℕ)) ℕ) GraphFault → Type 0
@@ -20,3 +22,7 @@ GivesNumbers d (Err e) = e ≢ fault.Memory → checked d ≡ Err e
 abbrev pub GivesWiring : Document → Result Wiring GraphFault → Type 0
 GivesWiring d (Ok w) = (checked d ≡ Ok tt) × (w.wires.items ≡ wires_of d) × (w.links.items ≡ links_of d)
 GivesWiring d (Err e) = e ≢ fault.Memory → checked d ≡ Err e
+
+-- the document of a text
+unfoldable pub document_of_bytes : List ℕ → Result Document GraphFault
+document_of_bytes bytes = or_fault fault.NotJson (json_of bytes) >>= document_of

@@ -1,19 +1,18 @@
 //! The graph of a text.
 
 ghost use Rattle.std.specs.Prelude.{◌≡◌, ◌++◌, IfOk, option_map};
-ghost use Rattle.serde_json.specs.View.{view};
 ghost use Rattle.pt_types.specs.Lawful.{IsLawful};
-ghost use Rattle.pt_graph_text.specs.Faults.{Gives, GivesValue};
+ghost use Rattle.pt_graph_text.specs.Faults.{Gives};
 ghost use Rattle.pt_graph_text.specs.declared.fault.GraphFault.TheVariants as fault;
 ghost use Rattle.pt_graph.specs.Chains.{refused};
 ghost use Rattle.pt_graph.specs.Ranges.{range_place};
 ghost use Rattle.pt_graph.specs.Naming.{name_place};
 ghost use Rattle.pt_graph.specs.Known.{repeated_place, unknown_by};
 ghost use Rattle.pt_graph.specs.Index.{at_name};
-ghost use Rattle.pt_graph.specs.Checking.{GivesNumbers, GivesWiring};
+ghost use Rattle.pt_graph.specs.Checking.{document_of_bytes, GivesNumbers, GivesWiring};
 ghost use Rattle.pt_graph.specs.EndFaults.{joined, block_place};
 ghost use Rattle.pt_graph.specs.Graphs.{actors_of, wires_of, links_of, graph_with, whole};
-ghost use Rattle.pt_graph.specs.GraphOf.{json_of, built, graph_in, graph_of};
+ghost use Rattle.pt_graph.specs.GraphOf.{built, graph_in, graph_of};
 
 use crate::blocks::block_place;
 use crate::convert::{actors_of, links_of, pairs_of, wires_of};
@@ -27,7 +26,6 @@ use pt_blocks::{Blocks, Named};
 use pt_graph_text::{Document, GraphFault, Head, read_document};
 use pt_tags::{List, Name};
 use pt_types::{Actor, Graph, Link, PairError, Wire};
-use serde_json::Value;
 use std::alloc::{AllocError, Global};
 use std::collections::BTreeMap;
 
@@ -48,30 +46,21 @@ pub fn read_graph(alloc: Global, bytes: &[u8], blocks: &Blocks) -> Result<Graph,
     graph_in(alloc, bytes, blocks.listed())
 }
 
-#[tactic(auto, unfolding(crate::specs::GraphOf::graph_in))]
 fn graph_in(alloc: Global, bytes: &[u8], listed: &[Named]) -> Result<Graph, GraphFault>
     ensures { Gives (graph_in listed.now bytes.now) result }
 {
-    let value = json(alloc, bytes)?;
-    let document = read_document(alloc, &value)?;
-    drop(value);
+    let document = document(alloc, bytes)?;
     let wiring = wired(alloc, &document)?;
     build(alloc, document, wiring, listed)
 }
 
-/// The value of the bytes.
-fn json(alloc: Global, bytes: &[u8]) -> Result<Value, GraphFault>
-    ensures { GivesValue (json_of bytes.now) result }
+/// The document of the bytes, which must be text.
+fn document(alloc: Global, bytes: &[u8]) -> Result<Document, GraphFault>
+    ensures { Gives (document_of_bytes bytes.now) result }
 {
-    match Value::from_slice(alloc, bytes) {
-        Ok(value) => Ok(value),
-        Err(error) => {
-            if error.is_memory() {
-                Err(GraphFault::Memory)
-            } else {
-                Err(GraphFault::NotJson)
-            }
-        }
+    match str::from_utf8(bytes) {
+        Ok(text) => read_document(alloc, text),
+        Err(_) => Err(GraphFault::NotJson),
     }
 }
 

@@ -1,12 +1,7 @@
 -- Faults and the places that they name.
 use Rattle.std.specs.Prelude.{◌≡◌, ◌≢◌, ℕ, ◌-◌, ◌^◌, min, Option, Some, None, Result, Ok, Err}
-use Rattle.serde_json.specs.Data.{Data}
-use Rattle.serde_json.specs.View.{view}
-use Rattle.serde_json.specs.declared.value.Value.{Value}
 use Rattle.pt_graph_text.specs.declared.fault.Part.{Part}
 use Rattle.pt_graph_text.specs.declared.fault.Part.TheVariants as part
-use Rattle.pt_graph_text.specs.declared.decode.Stop.{Stop}
-use Rattle.pt_graph_text.specs.declared.decode.Stop.TheVariants as stop
 use Rattle.pt_graph_text.specs.declared.fault.Place.{Place}
 use Rattle.pt_graph_text.specs.declared.fault.GraphFault.{GraphFault}
 use Rattle.pt_graph_text.specs.declared.fault.GraphFault.TheVariants as fault
@@ -37,17 +32,3 @@ or_fault e (Some x) = Ok x
 abbrev pub parts : {A : Type 0} → Part → Result A ℕ → Result A GraphFault
 parts p (Ok xs) = Ok xs
 parts p (Err i) = Err (fault.Member (at p i))
-
--- the same of what a loop over an array returned
-abbrev pub stop_fault : Part → Stop → GraphFault
-stop_fault p stop.Memory = fault.Memory
-stop_fault p (stop.At i) = fault.Member (at p i)
-
-abbrev pub StopsAt : {A : Type 0} → Part → Result A Stop → Result A GraphFault → Type 0
-StopsAt p (Ok xs) result = result ≡ Ok xs
-StopsAt p (Err e) result = result ≡ Err (stop_fault p e)
-
--- the value of a text, seen as data, or that it has none
-abbrev pub GivesValue : Option Data → Result Value GraphFault → Type 0
-GivesValue read (Ok v) = read ≡ Some (view v)
-GivesValue read (Err e) = e ≢ fault.Memory → (read ≡ None) × (e ≡ fault.NotJson)

@@ -1,8 +1,11 @@
 pub mod Decoding
+pub mod Apart
 pub mod Versions
 pub mod Rows
 pub mod Kinds
 pub mod Documents
 pub mod Faults
 pub mod Whole
+pub mod Arrays
+pub mod Inner
 pub mod Lines

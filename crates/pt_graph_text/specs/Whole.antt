@@ -2,6 +2,7 @@
 use Rattle.std.specs.Prelude.{ℕ, List, Option, Some, codes, Result, Ok, option_and_then}
 use Rattle.serde_json.specs.Data.{Data, Items, no_items}
 use Rattle.serde_json.specs.Find.{get, as_str, as_array}
+use Rattle.serde_json.specs.Read.{read}
 use Rattle.pt_graph_text.specs.Decoding as decoding
 use Rattle.pt_graph_text.specs.Decoding.{only, field, whole, has_members, each_from}
 use Rattle.pt_graph_text.specs.Versions.{version_of}
@@ -54,3 +55,9 @@ document_in v d = do
 
 abbrev pub document_of : Data → Result Document GraphFault
 document_of d = document_in (version_of d) d
+
+-- the document of a text: that of the value which serde_json reads from it
+unfoldable pub document_of_text : List ℕ → Result Document GraphFault
+document_of_text text = do
+  value ← or_fault fault.NotJson (read text)
+  document_of value

@@ -1,13 +1,17 @@
 //! Decoding of JSON values, part by part.
 
-ghost use Rattle.std.specs.Prelude.{◌≡◌, List, Option, codes};
+ghost use Rattle.std.specs.Prelude.{◌≡◌, ◌<◌, List, Option, Some, None, Err, IfOk, OnOk, codes, length};
+ghost use Rattle.json.specs.Json.{value};
 ghost use Rattle.serde_json.specs.Data.{Data};
 ghost use Rattle.serde_json.specs.Find.{get, as_str};
+ghost use Rattle.serde_json.specs.Read.{of_json, converted};
 ghost use Rattle.serde_json.specs.View.{view, items_view};
 ghost use Rattle.pt_graph_text.specs.declared.version.Version.{Version};
 ghost use Rattle.pt_graph_text.specs.Decoding.{Decodes, DecodesEach, whole, field, optional_field, place, has_members, has_items, each_from};
 
+use crate::reading::{Unread, read_value};
 use crate::version::Version;
+use json::Reader;
 use pt_tags::{List, Name};
 use serde_json::Value;
 use std::alloc::Global;
@@ -34,6 +38,28 @@ pub trait Decode: Drop {
 
     fn decode(alloc: Global, version: Version, value: &Value) -> Result<Self, Misfit>
         ensures { Decodes (decoded version (view value.now)) result };
+
+    /// The next value of the reader, decoded; None where it has another form.
+    fn read(
+        alloc: Global,
+        version: Version,
+        reader: &mut Reader<'_>,
+        depth: usize,
+    ) -> Result<Option<Self>, Unread>
+        ensures ok { IfOk result
+            (λ part. (d : Data) × (converted of_json (value depth reader.old) ≡ Some (d, reader.new))
+            × (part ≡ decoded version d)) }
+        ensures shorter { OnOk result (length reader.new < length reader.old) }
+        ensures err { result ≡ Err Unread.NotJson
+            → converted of_json (value depth reader.old) ≡ None }
+    {
+        let value = read_value(alloc, reader, depth)?;
+        match Self::decode(alloc, version, &value) {
+            Ok(part) => Ok(Some(part)),
+            Err(Misfit::Member) => Ok(None),
+            Err(Misfit::Memory) => Err(Unread::Memory),
+        }
+    }
 }
 
 impl Decode for i64 {

@@ -7,8 +7,12 @@ ghost use Rattle.pt_graph_text.specs.Rows.{row_members};
 use crate::decode::{
     Decode, Misfit, Stop, each, has_items, has_members, item, member, optional_member,
 };
+use crate::inner::with_inner;
 use crate::kinds::{KindText, kind_of};
+use crate::object::{Object, read_object};
+use crate::reading::Unread;
 use crate::version::Version;
+use json::Reader;
 use pt_tags::{List, Name};
 use serde_json::Value;
 use std::alloc::Global;
@@ -221,5 +225,19 @@ impl Decode for ActorText {
             platform: member(alloc, version, value, "platform")?,
             kind: kind_of(alloc, version, kind.as_str(), value)?,
         })
+    }
+
+    fn read(
+        alloc: Global,
+        version: Version,
+        reader: &mut Reader<'_>,
+        depth: usize,
+    ) -> Result<Option<ActorText>, Unread> {
+        let Object { left, lists } = read_object(alloc, version, reader, depth)?;
+        match ActorText::decode(alloc, version, &left) {
+            Ok(actor) => Ok(with_inner(actor, lists)),
+            Err(Misfit::Member) => Ok(None),
+            Err(Misfit::Memory) => Err(Unread::Memory),
+        }
     }
 }

@@ -6,11 +6,17 @@
 //! Read first: `Document`, and `specs/Whole.antt`, which says what the document of a JSON value is.
 #![tactic(auto)]
 
+mod apart;
+mod arrays;
 mod decode;
 mod document;
 mod fault;
+mod inner;
 mod kinds;
 mod lines;
+mod number;
+mod object;
+mod reading;
 mod version;
 mod whole;
 

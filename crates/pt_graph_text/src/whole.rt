@@ -1,18 +1,30 @@
 //! The whole file as it is written.
 
-ghost use Rattle.std.specs.Prelude.{◌≡◌, option_map, Err};
-ghost use Rattle.serde_json.specs.View.{view, items_view};
+ghost use Rattle.std.specs.Prelude.{◌≡◌, ◌≢◌, Some, None, IfOk, IfErr};
+ghost use Rattle.serde_json.specs.Data.{Data};
+ghost use Rattle.serde_json.specs.Read.{read};
+ghost use Rattle.serde_json.specs.View.{view};
 ghost use Rattle.pt_graph_text.specs.Decoding.{Decodes};
-ghost use Rattle.pt_graph_text.specs.Faults.{Gives, StopsAt, at, or_fault, top, parts};
-ghost use Rattle.pt_graph_text.specs.Whole.{head_of, array, pairs_of, top_members, document_in, document_of};
+ghost use Rattle.pt_graph_text.specs.Faults.{Gives, at, or_fault, top, parts};
+ghost use Rattle.pt_graph_text.specs.Apart.{emptied, members_in};
+ghost use Rattle.pt_graph_text.specs.Arrays.{arrays_of, pairs_in, document_with};
+ghost use Rattle.pt_graph_text.specs.Whole.{head_of, top_members, document_of_text};
 
-use crate::decode::{Misfit, Stop, each, has_members, member};
-use crate::document::{Document, Head};
+use crate::apart::Listed;
+use crate::arrays::Arrays;
+use crate::decode::{Misfit, has_members, member};
+use crate::document::{Document, Head, PairText};
 use crate::fault::{GraphFault, Part, Place};
+use crate::object::{Object, read_object};
+use crate::reading::Unread;
 use crate::version::{Version, version_of};
+use json::{Reader, Scratch};
 use pt_tags::List;
 use serde_json::Value;
 use std::alloc::Global;
+
+/// How deep arrays and objects may nest.
+const MOST_DEPTH: usize = 127;
 
 /// The place of that part and index.
 pub fn place(part: Part, index: usize) -> Place
@@ -24,32 +36,70 @@ pub fn place(part: Part, index: usize) -> Place
     }
 }
 
-/// The whole file, or the first member that it has wrong.
-pub fn read_document(alloc: Global, value: &Value) -> Result<Document, GraphFault>
-    ensures { Gives (document_of (view value.now)) result }
+/// The document of a text, or its first fault.
+///
+/// The version decides how the arrays are decoded, and may stand behind them: the second is tried first.
+pub fn read_document(alloc: Global, text: &str) -> Result<Document, GraphFault>
+    ensures { Gives (document_of_text text.now) result }
 {
-    document_in(alloc, version_of(value), value)
+    let Object { left, lists } = read_top(alloc, Version::Second, text)?;
+    if version_of(&left).is_second() {
+        return document_with(alloc, Version::Second, &left, lists);
+    }
+    drop(lists);
+    drop(left);
+    let Object { left, lists } = read_top(alloc, Version::First, text)?;
+    document_with(alloc, Version::First, &left, lists)
 }
 
-#[tactic(auto, unfolding(crate::specs::Whole::document_in))]
-fn document_in(alloc: Global, version: Version, value: &Value) -> Result<Document, GraphFault>
-    ensures { Gives (document_in version (view value.now)) result }
+/// The top object with its arrays apart, as those of that version.
+fn read_top(alloc: Global, version: Version, text: &str) -> Result<Object<Arrays>, GraphFault>
+    ensures ok { IfOk result
+        (λ object. (d : Data) × (read text.now ≡ Some d) × (view object.left ≡ emptied d)
+        × (object.lists ≡ arrays_of version (members_in d))) }
+    ensures err { IfErr result
+        (λ e. e ≢ GraphFault.Memory → (e ≡ GraphFault.NotJson) × (read text.now ≡ None)) }
 {
-    let head = match head(alloc, version, value) {
+    let mut scratch = Scratch::new(alloc);
+    let Ok(mut reader) = Reader::new(text, &mut scratch) else {
+        return Err(GraphFault::Memory);
+    };
+    match read_object(alloc, version, &mut reader, MOST_DEPTH) {
+        Ok(object) => if reader.next().is_none() {
+            Ok(object)
+        } else {
+            Err(GraphFault::NotJson)
+        },
+        Err(Unread::NotJson) => Err(GraphFault::NotJson),
+        Err(Unread::Memory) => Err(GraphFault::Memory),
+    }
+}
+
+#[tactic(auto, unfolding(crate::specs::Arrays::document_with))]
+fn document_with(
+    alloc: Global,
+    version: Version,
+    left: &Value,
+    arrays: Arrays,
+) -> Result<Document, GraphFault>
+    ensures { Gives (document_with version (view left.now) arrays) result }
+{
+    let head = match head(alloc, version, left) {
         Ok(head) => head,
         Err(Misfit::Member) => return Err(GraphFault::Member(place(Part::Top, 0))),
         Err(Misfit::Memory) => return Err(GraphFault::Memory),
     };
-    let platforms = top(array(value, "platforms"))?;
-    let actors = top(array(value, "actors"))?;
-    let wires = top(array(value, "wires"))?;
-    let links = top(array(value, "links"))?;
-    let pairs = top(pairs(version, value))?;
-    let platforms = within(Part::Platform, each(alloc, version, platforms))?;
-    let actors = within(Part::Actor, each(alloc, version, actors))?;
-    let wires = within(Part::Wire, each(alloc, version, wires))?;
-    let links = within(Part::Link, each(alloc, version, links))?;
-    let pairs = within(Part::Pair, each(alloc, version, pairs))?;
+    let pairs = pairs_in(alloc, version, arrays.pairs);
+    let platforms = top(arrays.platforms)?;
+    let actors = top(arrays.actors)?;
+    let wires = top(arrays.wires)?;
+    let links = top(arrays.links)?;
+    let pairs = top(pairs)?;
+    let platforms = within(Part::Platform, platforms)?;
+    let actors = within(Part::Actor, actors)?;
+    let wires = within(Part::Wire, wires)?;
+    let links = within(Part::Link, links)?;
+    let pairs = within(Part::Pair, pairs)?;
     Ok(Document {
         version,
         head,
@@ -85,40 +135,33 @@ fn top_members(version: Version) -> usize
     }
 }
 
-/// The clock errors of pairs.
-fn pairs(version: Version, value: &Value) -> Option<&[Value]>
-    ensures { option_map (λ s. items_view s.now) result ≡ pairs_of version (view value.now) }
+/// The clock errors of pairs; version 1 has none.
+fn pairs_in(
+    alloc: Global,
+    version: Version,
+    pairs: Option<Listed<PairText>>,
+) -> Option<Listed<PairText>>
+    ensures { result ≡ pairs_in version pairs }
 {
     match version {
-        Version::First => Some(&[]),
-        Version::Second => array(value, "clock_errors"),
+        Version::First => Some(Ok(List::new(Vec::new(alloc)))),
+        Version::Second => pairs,
     }
 }
 
-/// The items of the array at that key.
-fn array<'a>(value: &'a Value, key: &str) -> Option<&'a [Value]>
-    ensures { option_map (λ s. items_view s.now) result ≡ array key.now (view value.now) }
-{
-    value
-        .get(key)
-        .and_then(Value::as_array)
-        .map(|items| items.as_slice())
-}
-
 /// What the top object has, or its fault.
-fn top(items: Option<&[Value]>) -> Result<&[Value], GraphFault>
-    ensures { result ≡ or_fault (GraphFault.Member top) items.entry }
+fn top<T>(listed: Option<Listed<T>>) -> Result<Listed<T>, GraphFault>
+    ensures { result ≡ or_fault (GraphFault.Member top) listed }
 {
-    items.ok_or(GraphFault::Member(place(Part::Top, 0)))
+    listed.ok_or(GraphFault::Member(place(Part::Top, 0)))
 }
 
 /// The parts of an array, or the place of the first that has another form.
-fn within<T>(part: Part, parts: Result<List<T>, Stop>) -> Result<List<T>, GraphFault>
-    ensures { StopsAt part parts result }
+fn within<T>(part: Part, listed: Listed<T>) -> Result<List<T>, GraphFault>
+    ensures { result ≡ parts part listed }
 {
-    match parts {
+    match listed {
         Ok(parts) => Ok(parts),
-        Err(Stop::At(index)) => Err(GraphFault::Member(place(part, index))),
-        Err(Stop::Memory) => Err(GraphFault::Memory),
+        Err(index) => Err(GraphFault::Member(place(part, index))),
     }
 }

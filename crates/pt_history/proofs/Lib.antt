@@ -1,3 +1,4 @@
+pub mod Along
 pub mod Gathered
 pub mod Growing
 pub mod Joining

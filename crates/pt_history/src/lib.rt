@@ -8,9 +8,11 @@
 
 mod head;
 mod history;
+mod miss;
 mod room;
 
 pub use history::History;
+pub use miss::Miss;
 pub use room::Room;
 
 #[cfg(test)]

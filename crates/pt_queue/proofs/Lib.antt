@@ -1,3 +1,12 @@
+pub mod Tables
 pub mod Waits
 pub mod Found
-pub mod Tables
+pub mod Rising
+pub mod Numbers
+pub mod Listed
+pub mod Flat
+pub mod Soonest
+pub mod Blocking
+pub mod Removing
+pub mod Nearest
+pub mod Views

@@ -1,3 +1,4 @@
 pub mod Groups
 pub mod Events
+pub mod Lines
 pub mod Scans

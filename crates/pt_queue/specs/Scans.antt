@@ -1,10 +1,11 @@
 -- How a program goes over a list of events.
-use Rattle.std.specs.Prelude.{◌&&◌, nat_lt, Bool, false, not, List, [], ◌∷◌, Option, Some, None, if◌then◌else◌}
+use Rattle.std.specs.Prelude.{◌≡◌, ℕ, ◌<◌, ◌≤◌, ◌⊎◌, ◌&&◌, nat_lt, min, Bool, false, not, List, [], ◌∷◌, Option, Some, None, if◌then◌else◌}
 use Rattle.pt_tags.specs.declared.tag.Tag.{Tag}
 use Rattle.pt_tags.specs.declared.tag.Delay.{Delay}
 use Rattle.pt_tags.specs.Tags.{same_tag, tag_lt, plus}
 use Rattle.pt_types.specs.declared.firing.Event.{Event}
 use Rattle.pt_types.specs.declared.graph.Unit.{Unit as Part}
+use Rattle.pt_semantics.specs.Lists.{Each, IsIn}
 use Rattle.pt_semantics.specs.Units.{same_part}
 use Rattle.pt_queue.specs.declared.groups.Groups.{Groups}
 use Rattle.pt_queue.specs.Groups.{groups_at, group_in}
@@ -47,3 +48,17 @@ has_unit table e = nat_lt (group_in table e.actor e.port) (groups_at table e.act
 -- an event waits for another unit, and leads to this one at t or before
 abbrev pub blocks : List Groups → (Part → Part → Option Delay) → Part → Tag → Event → Bool
 blocks table least u t e = not (is_of table u e) && (has_unit table e && reaches (least (unit_in table e) u) e.tag t)
+
+-- of these events' actors from `from` on, b is the least, or there are none
+abbrev pub IsNextIn : ℕ → List Event → Option ℕ → Type 0
+IsNextIn from es None = Each (λ (e : Event). e.actor < from) es
+IsNextIn from es (Some b) = (from ≤ b) × ((e : Event) × IsIn e es × (e.actor ≡ b)) × Each (λ (e : Event). (e.actor < from) ⊎ (b ≤ e.actor)) es
+
+-- the lesser of the least actor so far and one more
+abbrev pub lesser : Option ℕ → ℕ → Option ℕ
+lesser None a = Some a
+lesser (Some b) a = Some (min b a)
+
+-- where that one is from `from` on
+abbrev pub nearer : ℕ → Option ℕ → ℕ → Option ℕ
+nearer from best a = if nat_lt a from then best else lesser best a

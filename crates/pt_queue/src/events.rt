@@ -1,18 +1,18 @@
-//! Lists of events: the least tag of a unit, what waits at its inputs, and what blocks it.
+//! Events: which unit each waits for, and which it blocks.
 
-ghost use Rattle.std.specs.Prelude.{◌≡◌, ◌≤◌, ◌==◌, None, not, filter, vec_len, vec_capacity};
+ghost use Rattle.std.specs.Prelude.{◌≡◌, ◌≤◌, not, filter};
 ghost use Rattle.std.specs.List.{list_any};
+ghost use Rattle.std.specs.VecDeque.{deque_len, deque_capacity};
 ghost use Rattle.pt_tags.specs.Tags.{tag_lt, plus};
-ghost use Rattle.pt_types.specs.Ports.{when, eight};
 ghost use Rattle.pt_delays.specs.Delays.{least_of};
-ghost use Rattle.pt_queue.specs.Groups.{group_in};
 ghost use Rattle.pt_queue.specs.Events.{waiting_in};
 ghost use Rattle.pt_queue.specs.Scans.{is_at, is_of, least_from, sooner, reaches, blocks};
 
 use crate::groups::{Groups, group_in, groups_at};
 use pt_delays::Least;
 use pt_tags::{Delay, Tag};
-use pt_types::{Event, Ports, Unit};
+use pt_types::{Event, Unit};
+use std::collections::VecDeque;
 
 /// Whether an event waits for a unit.
 fn is_of(table: &[Groups], unit: Unit, event: &Event) -> bool
@@ -29,16 +29,16 @@ fn is_at(table: &[Groups], unit: Unit, tag: Tag, event: &Event) -> bool
 }
 
 /// Removes the events that wait for a unit at a tag.
-pub fn remove(events: &mut Vec<Event>, table: &[Groups], unit: Unit, tag: Tag)
+pub fn remove(events: &mut VecDeque<Event>, table: &[Groups], unit: Unit, tag: Tag)
     ensures left { events.new.items ≡ filter (λ e. not (is_at table.now unit tag e)) events.old.items }
-    ensures len { vec_len events.new ≤ vec_len events.old }
-    ensures capacity { vec_capacity events.new ≡ vec_capacity events.old }
+    ensures len { deque_len events.new ≤ deque_len events.old }
+    ensures capacity { deque_capacity events.new ≡ deque_capacity events.old }
 {
     events.retain(|event| !is_at(table, unit, tag, event));
 }
 
 /// The lesser of the least tag so far and one more.
-fn sooner(best: Option<Tag>, tag: Tag) -> Option<Tag>
+pub fn sooner(best: Option<Tag>, tag: Tag) -> Option<Tag>
     ensures { result ≡ sooner best tag }
 {
     match best {
@@ -53,13 +53,19 @@ fn sooner(best: Option<Tag>, tag: Tag) -> Option<Tag>
     }
 }
 
-/// The least tag of the events that wait for a unit.
-pub fn least_tag(table: &[Groups], events: &[Event], unit: Unit) -> Option<Tag>
-    ensures { result ≡ least_from table.now unit None events.now }
+/// The least tag so far and of the events that wait for a unit.
+pub fn least_tag(
+    table: &[Groups],
+    events: &VecDeque<Event>,
+    unit: Unit,
+    so_far: Option<Tag>,
+) -> Option<Tag>
+    ensures { result ≡ least_from table.now unit so_far events.now.items }
 {
-    let mut best = None;
-    for event in events {
-        if is_of(table, unit, event) {
+    let mut best = so_far;
+    for place in 0..events.len() {
+        let event = events[place];
+        if is_of(table, unit, &event) {
             best = sooner(best, event.tag);
         }
     }
@@ -67,42 +73,16 @@ pub fn least_tag(table: &[Groups], events: &[Event], unit: Unit) -> Option<Tag>
 }
 
 /// The value that waits at an input of an actor at a tag.
-fn value_at(events: &[Event], actor: u32, port: u32, tag: Tag) -> Option<i64>
-    ensures { result ≡ waiting_in events.now actor port tag }
+pub fn value_at(events: &VecDeque<Event>, actor: u32, port: u32, tag: Tag) -> Option<i64>
+    ensures { result ≡ waiting_in events.now.items actor port tag }
 {
-    for event in events {
+    for place in 0..events.len() {
+        let event = events[place];
         if event.actor == actor && event.port == port && event.tag == tag {
             return Some(event.value);
         }
     }
     None
-}
-
-/// The value that waits at an input at a tag, where the input is one of the unit's.
-fn value_of(table: &[Groups], events: &[Event], unit: Unit, port: u32, tag: Tag) -> Option<i64>
-    ensures { result ≡ when (group_in table.now unit.actor port == unit.group) (waiting_in events.now unit.actor port tag) }
-{
-    if group_in(table, unit.actor, port) == unit.group {
-        value_at(events, unit.actor, port, tag)
-    } else {
-        None
-    }
-}
-
-/// The values that wait at a unit's inputs at a tag.
-pub fn values_of(table: &[Groups], events: &[Event], unit: Unit, tag: Tag) -> Ports
-    ensures { result ≡ eight (λ p. when (group_in table.now unit.actor p == unit.group) (waiting_in events.now unit.actor p tag)) }
-{
-    Ports::from_values([
-        value_of(table, events, unit, 0, tag),
-        value_of(table, events, unit, 1, tag),
-        value_of(table, events, unit, 2, tag),
-        value_of(table, events, unit, 3, tag),
-        value_of(table, events, unit, 4, tag),
-        value_of(table, events, unit, 5, tag),
-        value_of(table, events, unit, 6, tag),
-        value_of(table, events, unit, 7, tag),
-    ])
 }
 
 /// Whether a tag is before the sum of another and a delay, which 64 bits need not hold.
@@ -125,7 +105,7 @@ pub fn reaches(delay: Option<Delay>, from: Tag, tag: Tag) -> bool
 }
 
 /// Whether an event waits for another unit, and leads to this one at the tag or before.
-fn blocks(table: &[Groups], least: &Least, unit: Unit, tag: Tag, event: &Event) -> bool
+pub fn blocks(table: &[Groups], least: &Least, unit: Unit, tag: Tag, event: &Event) -> bool
     ensures { result ≡ blocks table.now (least_of least.now) unit tag event.now }
 {
     if is_of(table, unit, event) {
@@ -143,10 +123,20 @@ fn blocks(table: &[Groups], least: &Least, unit: Unit, tag: Tag, event: &Event) 
 }
 
 /// Whether one of the events does.
-pub fn is_blocked(table: &[Groups], events: &[Event], unit: Unit, tag: Tag, least: &Least) -> bool
-    ensures { result ≡ list_any (blocks table.now (least_of least.now) unit tag) events.now }
+pub fn is_blocked(
+    table: &[Groups],
+    events: &VecDeque<Event>,
+    unit: Unit,
+    tag: Tag,
+    least: &Least,
+) -> bool
+    ensures { result ≡ list_any (blocks table.now (least_of least.now) unit tag) events.now.items }
 {
-    events
-        .iter()
-        .any(|event| blocks(table, least, unit, tag, event))
+    for place in 0..events.len() {
+        let event = events[place];
+        if blocks(table, least, unit, tag, &event) {
+            return true;
+        }
+    }
+    false
 }

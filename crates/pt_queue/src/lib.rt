@@ -1,14 +1,21 @@
 //! The events that wait on a platform, taken unit by unit.
 //!
-//! The queue is one plain list of events, and a table of the groups of every actor's inputs. Its contracts speak of what
-//! waits at each input and tag alone, so that they hold of any other way to keep the events.
+//! The queue keeps a line of events for each input of each actor, in rising order of tag, and a table of the groups of every
+//! actor's inputs. Its contracts speak of what waits at each input and tag alone, so that they hold of any other way to keep
+//! the events.
 //!
 //! Read first: `Queue`, then `specs/Events.antt`.
 #![tactic(auto)]
 
+mod busy;
 mod events;
 mod groups;
+mod line;
+mod lines;
+mod loose;
 mod queue;
+mod scan;
+mod whole;
 
 pub use events::reaches;
 pub use queue::Queue;

@@ -1,6 +1,6 @@
 //! The queue of a platform.
 
-ghost use Rattle.std.specs.Prelude.{◌≡◌, ◌↔◌, ℕ, ◌+◌, ◌<◌, ◌≤◌, true, false, None, [], length, IfOk, OnOk, OnErr, vec_len, vec_capacity};
+ghost use Rattle.std.specs.Prelude.{◌≡◌, ◌↔◌, ℕ, ◌+◌, ◌<◌, ◌≤◌, true, false, None, [], length, IfOk, OnOk, OnErr};
 ghost use Rattle.pt_tags.specs.declared.tag.Tag.{Tag};
 ghost use Rattle.pt_types.specs.declared.graph.Graph.{Graph};
 ghost use Rattle.pt_types.specs.Lawful.{IsLawful};
@@ -10,37 +10,47 @@ ghost use Rattle.pt_semantics.specs.Meaning.{added};
 ghost use Rattle.pt_semantics.specs.Units.{unit_inputs};
 ghost use Rattle.pt_delays.specs.Delays.{AreLeast, IsUnit, least_of};
 ghost use Rattle.pt_queue.specs.Groups.{AreGroups};
-ghost use Rattle.pt_queue.specs.Events.{waiting_in, value_in, IsPlaced, IsLeastTag, IsBlocked, IsClear};
+ghost use Rattle.pt_queue.specs.Events.{waiting_in, value_in, IsPlaced, IsLeastTag, IsBlocked, IsClear, IsNextActive};
 
-use crate::events::{is_blocked, least_tag, remove, values_of};
+use crate::events::remove;
 use crate::groups::{Groups, all_groups};
+use crate::lines::Lines;
+use crate::loose::{next_in_all, settle};
+use crate::scan::{line_number, next_in_lines, remove_from_lines};
+use crate::whole::{is_none, is_unit_blocked, least_of_unit, values_of};
 use pt_delays::Least;
 use pt_tags::{Memory, Tag};
 use pt_types::{Event, Graph, Ports, Unit};
 use std::alloc::Global;
+use std::collections::VecDeque;
 use std::marker::Model;
 
 /// The events that wait on a platform.
 ///
 /// Contracts see the groups of the actors' inputs, the list of the events, and `spare`: for how many more there is memory.
 /// What they say of a graph holds for each graph whose actors have these groups.
+///
+/// An event joins the line of its input. Where that would take memory, or where it comes out of order, it is loose until
+/// `reserve` makes room, or until it is taken.
 #[derive(Drop)]
 pub struct Queue {
     groups: Vec<Groups>,
-    events: Vec<Event>,
+    lines: Lines,
+    loose: VecDeque<Event>,
     spare: usize,
 }
 
 impl Model for Queue {
-    ghost use Rattle.std.specs.Prelude.{◌+◌, ◌≤◌, vec_len, vec_capacity};
-    ghost use Rattle.pt_semantics.specs.Lists.{Each};
-    ghost use Rattle.pt_queue.specs.Events.{Queued, IsPlaced};
+    ghost use Rattle.std.specs.Prelude.{◌+◌, ◌≤◌};
+    ghost use Rattle.std.specs.VecDeque.{deque_len, deque_capacity};
+    ghost use Rattle.pt_queue.specs.Events.{Queued};
+    ghost use Rattle.pt_queue.specs.Lines.{AreKept, all_of, settled};
 
     ghost Value = { Queued };
 
-    ghost view = { λ q. record { groups = q.groups.items; events = q.events.items; spare = q.spare } };
+    ghost view = { λ q. record { groups = q.groups.items; events = all_of (settled q.lines q.loose.items); spare = q.spare } };
 
-    ghost invariant = { λ q. (q.spare + vec_len q.events ≤ vec_capacity q.events) × Each (IsPlaced q.groups.items) q.events.items };
+    ghost invariant = { λ q. AreKept q.groups.items q.lines q.loose.items × (q.spare + deque_len q.loose ≤ deque_capacity q.loose) };
 }
 
 impl Queue {
@@ -50,14 +60,18 @@ impl Queue {
         ensures empty { IfOk result (λ queue. queue.events ≡ []) }
         ensures groups { IfOk result (λ queue. AreGroups graph.now queue.groups) }
     {
-        match all_groups(alloc, graph) {
-            Ok(groups) => Ok(Queue {
-                groups,
-                events: Vec::new(alloc),
-                spare: 0,
-            }),
-            Err(_) => Err(Memory),
-        }
+        let Ok(groups) = all_groups(alloc, graph) else {
+            return Err(Memory);
+        };
+        let Ok(lines) = Lines::new(alloc, 8 * groups.len()) else {
+            return Err(Memory);
+        };
+        Ok(Queue {
+            groups,
+            lines,
+            loose: VecDeque::new(alloc),
+            spare: 0,
+        })
     }
 
     /// Makes sure that there is memory for `count` more events at least; a refusal leaves all unchanged.
@@ -68,10 +82,11 @@ impl Queue {
         ensures groups { self.new.groups ≡ self.old.groups }
         ensures refused { OnErr result (self.new ≡ self.old) }
     {
+        settle(&mut self.lines, &mut self.loose);
         if self.spare >= count {
             return Ok(());
         }
-        match self.events.reserve(count) {
+        match self.loose.reserve(count) {
             Ok(()) => {
                 self.spare = count;
                 Ok(())
@@ -91,9 +106,11 @@ impl Queue {
         ensures groups { self.new.groups ≡ self.old.groups }
     {
         self.spare -= 1;
-        match self.events.push(event) {
-            Ok(()) => (),
-            Err(_) => unreachable!(),
+        if !self.lines.push(line_number(event.actor, event.port), event) {
+            match self.loose.push_back(event) {
+                Ok(()) => (),
+                Err(_) => unreachable!(),
+            }
         }
     }
 
@@ -101,7 +118,7 @@ impl Queue {
     pub fn least(&self, unit: Unit) -> Option<Tag>
         ensures { (g : Graph) → AreGroups g self.now.groups → IsLeastTag g (waiting_in self.now.events) unit result }
     {
-        least_tag(self.groups.as_slice(), self.events.as_slice(), unit)
+        least_of_unit(self.groups.as_slice(), &self.lines, &self.loose, unit)
     }
 
     /// Takes the events of a tag at a unit's inputs, and gives the values that they have.
@@ -111,8 +128,10 @@ impl Queue {
         ensures spare { self.new.spare ≡ self.old.spare }
         ensures groups { self.new.groups ≡ self.old.groups }
     {
-        let inputs = values_of(self.groups.as_slice(), self.events.as_slice(), unit, tag);
-        remove(&mut self.events, self.groups.as_slice(), unit, tag);
+        let table = self.groups.as_slice();
+        let inputs = values_of(table, &self.lines, &self.loose, unit, tag);
+        remove_from_lines(&mut self.lines, table, unit, tag);
+        remove(&mut self.loose, table, unit, tag);
         inputs
     }
 
@@ -126,13 +145,22 @@ impl Queue {
         ensures clear { (g : Graph) → IsLawful g → AreGroups g self.now.groups → AreLeast g (least_of least.now) → IsUnit g unit
             → (result ≡ false) ↔ IsClear g (waiting_in self.now.events) unit tag }
     {
-        is_blocked(
+        is_unit_blocked(
             self.groups.as_slice(),
-            self.events.as_slice(),
+            &self.lines,
+            &self.loose,
             unit,
             tag,
             least,
         )
+    }
+
+    /// Of the actors from `from` on, the least one that has an event; `None` exactly where there is none.
+    pub fn next_active(&self, from: u32) -> Option<u32>
+        ensures { IsNextActive (waiting_in self.now.events) from result }
+    {
+        let best = next_in_lines(&self.lines, from);
+        next_in_all(&self.loose, from, best)
     }
 
     /// How many actors the graph has. Each event stands at one of them, at one of eight inputs.
@@ -147,6 +175,6 @@ impl Queue {
     pub fn is_empty(&self) -> bool
         ensures { (result ≡ true) ↔ ((a p : ℕ) (t : Tag) → waiting_in self.now.events a p t ≡ None) }
     {
-        self.events.is_empty()
+        is_none(&self.lines, &self.loose)
     }
 }

@@ -1,17 +1,22 @@
-//! Reads a graph from each line of its input, puts three events into its queue, and writes what the queue says of them.
+//! Reads a graph from each line of its input, puts three events into its queue, and writes what the queue says of them; and
+//! then whether a queue says the same as a plain list through many steps.
 //!
 //! The graph in `stdin` has a sensor 0, a delay 2 of 5 microseconds and an actor 3 with two lanes; the delay leads from the
 //! sensor to the first lane. What `stdout` must have was found by hand.
 #![tactic(auto)]
 
 ghost use Rattle.std.specs.Prelude.{◌≡◌, ◌≤◌, [], length};
+ghost use Rattle.pt_types.specs.Lawful.{IsLawful};
 
+mod beside;
+
+use crate::beside::stays_same;
 use pt_blocks::Blocks;
 use pt_delays::{Least, least_delays};
 use pt_graph::read_graph;
 use pt_queue::Queue;
 use pt_tags::Tag;
-use pt_types::{Event, Unit};
+use pt_types::{Event, Graph, Unit};
 use std::alloc::{AllocError, Global};
 use std::io;
 
@@ -46,7 +51,24 @@ fn answers(alloc: Global, text: &str, blocks: &Blocks) -> Result<String, AllocEr
     fill(&mut queue);
     let mut text = String::new(alloc);
     write_answers(&mut text, &mut queue, &least)?;
+    write_same(alloc, &mut text, &graph)?;
     Ok(text)
+}
+
+/// Writes whether another queue of the graph says what a plain list of its events does.
+fn write_same(alloc: Global, text: &mut String, graph: &Graph) -> Result<(), AllocError>
+    requires lawful { IsLawful graph.now }
+{
+    let Ok(queue) = Queue::new(alloc, graph) else {
+        return Err(AllocError);
+    };
+    let mut queue = queue;
+    if queue.actors() < 4 {
+        return text.push_str("few actors\n");
+    }
+    let mut events = Vec::new(alloc);
+    let same = stays_same(&mut queue, graph, &mut events)?;
+    text.push_str(if same { "the same\n" } else { "not the same\n" })
 }
 
 fn event(time: u64, actor: u32, port: u32, value: i64) -> Event

@@ -12,3 +12,4 @@ pub mod Leaving
 pub mod Sending
 pub mod Lighter
 pub mod Ends
+pub mod Moving

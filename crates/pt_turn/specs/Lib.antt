@@ -6,3 +6,4 @@ pub mod Making
 pub mod Growing
 pub mod Gone
 pub mod Finished
+pub mod Laws

@@ -9,6 +9,7 @@ mod finding;
 mod finishing;
 mod going;
 mod keeping;
+mod laws;
 mod making;
 mod making_room;
 mod needing;
@@ -19,5 +20,6 @@ mod rooming;
 mod turning;
 
 pub use fault::TurnFault;
+pub use laws::{platforms_move, platforms_wait};
 pub use platform::Platform;
 pub use room::Room;

@@ -1,6 +1,8 @@
-use Rattle.std.proofs.Common.{◌≡◌, ◌+◌, ◌≤◌, vec_len, vec_capacity}
-use Rattle.pt_state.specs.State.{IsSound}
+use Rattle.std.proofs.Common.{◌≡◌, ◌+◌, ◌≤◌, drop, vec_len, vec_capacity}
+use Rattle.pt_queue.specs.Events.{waiting_in}
+use Rattle.pt_state.specs.State.{IsSound, busy_in}
 use Rattle.pt_claim.specs.Claimed.{OthersStay}
+use Rattle.pt_claim.specs.Fronts.{AreFront}
 use Rattle.pt_claim.proofs.Making.{SoFar}
 use Rattle.pt_claim.proofs.claiming.claims.Given as goal
 
@@ -15,4 +17,5 @@ invariant-loop l = record {
   others : OthersStay l.fn.fields l.fields;
   count : l.fields.claims ≡ l.fn.fields.claims + l.counter;
   so_far : SoFar l.graph l.fn.fields l.fields l.reading l.counter l.fn.tasks.items l.tasks.items;
+  front : AreFront l.graph (waiting_in l.fields.queue.events) (busy_in l.fields.open_claims.items) l.reading l.front.more (drop l.front.taken l.front.units.items);
 }

@@ -5,7 +5,7 @@ use Rattle.pt_semantics.specs.Edges.{kind_of}
 use Rattle.pt_semantics.specs.Units.{groups}
 use Rattle.pt_queue.specs.Events.{waiting_in}
 use Rattle.pt_state.specs.State.{busy_in}
-use Rattle.pt_claim.proofs.Firsts.{groups_are}
+use Rattle.pt_claim.proofs.Fronts.{groups_are}
 use Rattle.pt_next.specs.Least.{AtOrIn, Below, IsLeastOf}
 use Rattle.pt_next.specs.Next.{IsPacedNext}
 use Rattle.pt_next.proofs.Least.{below_more}

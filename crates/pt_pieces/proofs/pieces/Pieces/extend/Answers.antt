@@ -1,4 +1,4 @@
-use Rattle.std.proofs.Common.{◌≡◌, List, ◌++◌, [], ◌+◌, ◌-◌, ◌<◌, length, length-append, set, ap, ap₂, sym, subst, ◌∙◌, arith}
+use Rattle.std.proofs.Common.{◌≡◌, List, ◌++◌, ◌+◌, ◌-◌, ◌<◌, length, length-append, set, ap, ap₂, sym, subst, ◌∙◌, arith}
 use Rattle.pt_pieces.specs.Lists.{RoomyLists, pieces, Rises, on_last}
 use Rattle.pt_pieces.proofs.Cutting.{pieces_extend, rises_extend, length-pieces}
 use Rattle.pt_pieces.proofs.pieces.Pieces.extend.Goals as goal

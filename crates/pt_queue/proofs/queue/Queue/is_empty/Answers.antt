@@ -1,8 +1,13 @@
-use Rattle.std.proofs.Common.{◌≡◌, ◌↔◌, ℕ, None, true, ap, subst}
+use Rattle.std.proofs.Common.{◌≡◌, ◌↔◌, ◌++◌, ℕ, None, true, length, ap, refl, sym, subst}
 use Rattle.pt_tags.specs.declared.tag.Tag.{Tag}
-use Rattle.pt_queue.specs.Events.{waiting_in, Queued}
+use Rattle.pt_queue.specs.Events.{Queued}
+use Rattle.pt_queue.specs.Lines.{all_of}
 use Rattle.pt_queue.proofs.Found.{empty_waits}
+use Rattle.pt_queue.proofs.Views.{view_waits}
 use Rattle.pt_queue.proofs.queue.Queue.is_empty.Goals as goal
 
 pub returns : goal.returns
-returns c = subst (λ xs. (c.is_empty.result ≡ true) ↔ ((a p : ℕ) (t : Tag) → waiting_in xs a p t ≡ None)) (ap (λ (v : Queued). v.events) c.self.view_is) (empty_waits c.self.inside.events.items _ c.is_empty.result c.self.inside.events.ok.0 c.is_empty.ensures)
+returns c =
+    let events = all_of c.self.inside.lines ++ c.self.inside.loose.items in
+    let waits = view_waits c.self.inside.groups.items c.self.inside.lines c.self.inside.loose.items c.args.self.now.events c.self.invariant.0 (ap (λ (v : Queued). v.events) c.self.view_is) in
+    subst (λ w. (c.is_none.result ≡ true) ↔ ((a p : ℕ) (t : Tag) → w a p t ≡ None)) (sym waits) (empty_waits events (length events) c.is_none.result refl c.is_none.ensures)

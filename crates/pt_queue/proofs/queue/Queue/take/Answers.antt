@@ -1,19 +1,43 @@
-use Rattle.std.proofs.Common.{filter, not, ap, ap₂, ◌∙◌, subst, sym, arith}
+use Rattle.std.proofs.Common.{◌≡◌, ◌++◌, ◌==◌, map, filter, not, ap, ap₂, ◌∙◌, subst, sym, arith}
+use Rattle.pt_types.specs.Ports.{eight, when}
 use Rattle.pt_types.specs.declared.firing.Event.{Event}
-use Rattle.pt_semantics.specs.Lists.{Each}
-use Rattle.pt_queue.specs.Events.{waiting_in, IsPlaced, Queued}
+use Rattle.pt_semantics.specs.Claiming.{without_unit}
+use Rattle.pt_semantics.specs.Units.{unit_inputs}
+use Rattle.pt_queue.specs.Groups.{AreGroups, group_in}
+use Rattle.pt_queue.specs.Events.{waiting_in, Queued}
+use Rattle.pt_queue.specs.Lines.{AreKept, all_of, settled}
 use Rattle.pt_queue.specs.Scans.{is_at}
-use Rattle.pt_queue.proofs.Waits.{waiting_drop, placed_filter}
+use Rattle.pt_queue.proofs.Removing.{filtered_kept}
+use Rattle.pt_queue.proofs.Views.{inputs_whole, removed_waits, view_waits}
 use Rattle.pt_queue.proofs.queue.Queue.take.Goals as goal
 
 pub invariant_of-self : goal.invariant_of-self
-invariant_of-self c = (
-  omega (arith, c.remove.ensures.len, c.remove.ensures.capacity, c.self.invariant.0),
-  subst (Each (IsPlaced c.self.inside.groups.items)) (sym c.remove.ensures.left) (placed_filter c.self.inside.groups.items _ c.self.inside.events.items c.self.invariant.1),
-)
+invariant_of-self c =
+    let table = c.self.inside.groups.items in
+    let keep = λ (e : Event). not (is_at table c.args.unit c.args.tag e) in
+    let lines : c.remove_from_lines.new.lines ≡ map (filter keep) c.self.inside.lines = c.remove_from_lines.ensures ∙ ap (λ gs. map (filter (λ (e : Event). not (is_at gs c.args.unit c.args.tag e))) c.self.inside.lines) c.as_slice-table.ensures.value in
+    let loose : c.remove.new.events.items ≡ filter keep c.self.inside.loose.items = c.remove.ensures.left ∙ ap (λ gs. filter (λ (e : Event). not (is_at gs c.args.unit c.args.tag e)) c.self.inside.loose.items) c.as_slice-table.ensures.value in (
+      subst (λ ls. AreKept table ls c.remove.new.events.items) (sym lines) (subst (AreKept table (map (filter keep) c.self.inside.lines)) (sym loose) (filtered_kept table keep c.self.inside.lines c.self.inside.loose.items c.self.invariant.0)),
+      omega (arith, c.remove.ensures.len, c.remove.ensures.capacity, c.self.invariant.1),
+    )
+
+pub returns-clause-inputs : goal.returns-clause-inputs
+returns-clause-inputs c = λ g are.
+    let table = c.self.inside.groups.items in
+    let events = all_of c.self.inside.lines ++ c.self.inside.loose.items in
+    let groups : table ≡ c.args.self.now.groups = ap (λ (v : Queued). v.groups) c.self.view_is in
+    let waits = view_waits table c.self.inside.lines c.self.inside.loose.items c.args.self.now.events c.self.invariant.0 (ap (λ (v : Queued). v.events) c.self.view_is) in
+    c.values_of-inputs.ensures
+    ∙ ap (λ gs. eight (λ p. when (group_in gs c.args.unit.actor p == c.args.unit.group) (waiting_in events c.args.unit.actor p c.args.tag))) c.as_slice-table.ensures.value
+    ∙ inputs_whole g table c.args.unit c.args.tag (waiting_in events) (subst (AreGroups g) (sym groups) are)
+    ∙ ap (λ w. unit_inputs g w c.args.unit c.args.tag) (sym waits)
 
 pub returns-clause-waits : goal.returns-clause-waits
 returns-clause-waits c = λ g are.
-    let placed : Each (IsPlaced c.args.self.now.groups) c.args.self.now.events = subst (λ (v : Queued). Each (IsPlaced v.groups) v.events) c.self.view_is c.self.invariant.1 in
-    ap waiting_in (c.remove.ensures.left ∙ ap₂ (λ gs es. filter (λ (e : Event). not (is_at gs c.args.unit c.args.tag e)) es) (c.as_slice-3.ensures.value ∙ ap (λ (v : Queued). v.groups) c.self.view_is) (ap (λ (v : Queued). v.events) c.self.view_is))
-    ∙ waiting_drop g c.args.self.now.groups c.args.unit c.args.tag c.args.self.now.events are placed
+    let table = c.self.inside.groups.items in
+    let groups : table ≡ c.args.self.now.groups = ap (λ (v : Queued). v.groups) c.self.view_is in
+    ap₂ (λ lines loose. waiting_in (all_of (settled lines loose)))
+    (c.remove_from_lines.ensures ∙ ap (λ gs. map (filter (λ (e : Event). not (is_at gs c.args.unit c.args.tag e))) c.self.inside.lines) c.as_slice-table.ensures.value)
+    (c.remove.ensures.left ∙ ap (λ gs. filter (λ (e : Event). not (is_at gs c.args.unit c.args.tag e)) c.self.inside.loose.items) c.as_slice-table.ensures.value)
+    ∙ removed_waits g table c.args.unit c.args.tag c.self.inside.lines c.self.inside.loose.items (subst (AreGroups g) (sym groups) are) c.self.invariant.0
+    ∙ ap (λ (v : Queued). without_unit g (waiting_in v.events) c.args.unit c.args.tag) c.self.view_is

@@ -1,0 +1,283 @@
+-- The safe units that come first, one unit after another, and after a claim.
+use Rattle.std.proofs.Common.{◌≡◌, ℕ, ◌+◌, ◌<◌, ◌≤◌, ◌==◌, ◌⊎◌, Bool, true, false, List, [], ◌∷◌, Option, Some, None, length, take, drop, refl, sym, ap, subst, ◌∙◌, inl, inr, ⊎_elim, eq-eqb, arith}
+use Rattle.std.specs.List.{insert}
+use Rattle.std.proofs.lemmas.Bool.{false≢true}
+use Rattle.std.proofs.lemmas.List.{length-take}
+use Rattle.std.proofs.lemmas.List.Edits.{length-insert}
+use Rattle.pt_tags.specs.declared.tag.Tag.{Tag}
+use Rattle.pt_types.specs.declared.firing.Task.{Task}
+use Rattle.pt_types.specs.declared.graph.Graph.{Graph}
+use Rattle.pt_types.specs.declared.graph.Unit.{Unit as Part}
+use Rattle.pt_types.specs.Lawful.{IsLawful}
+use Rattle.pt_types.specs.Groups.{held, actor_at, groups_of}
+use Rattle.pt_semantics.specs.Edges.{kind_of}
+use Rattle.pt_semantics.specs.Lists.{Each, IsIn}
+use Rattle.pt_semantics.specs.Meaning.{Values}
+use Rattle.pt_semantics.specs.Platform.{State}
+use Rattle.pt_semantics.specs.Safe.{IsSafe, NothingSafe}
+use Rattle.pt_semantics.specs.Claiming.{NoLater, after_claim}
+use Rattle.pt_semantics.specs.Units.{groups}
+use Rattle.pt_semantics.proofs.Candidates.{claims_apart}
+use Rattle.pt_semantics.proofs.Claiming.{event_found}
+use Rattle.pt_semantics.proofs.Lookups.{Each-in, none_some}
+use Rattle.pt_delays.specs.Delays.{IsUnit}
+use Rattle.pt_delays.proofs.Numbering.{groups_held}
+use Rattle.pt_state.specs.declared.fields.Fields.{Fields}
+use Rattle.pt_state.specs.State.{IsSound, busy_in}
+use Rattle.pt_queue.specs.Events.{waiting_in}
+use Rattle.pt_claim.specs.declared.next.SafeUnit.{SafeUnit}
+use Rattle.pt_claim.specs.Safe.{IsSafeAt}
+use Rattle.pt_claim.specs.Fronts.{AreFirst, AreFront, IsAhead, IsAmong, IsInOrder, IsPut, IsSafeUnit, IsTaken, IsNextSafe, StandsBefore}
+use Rattle.pt_claim.proofs.Ordering.{ahead_or, ahead_trans, cut_off, each_drop, each_insert, each_map, each_take, in_drop, in_insert, itself_in, order_insert, order_take, some_behind, take_insert}
+use Rattle.pt_claim.proofs.SafeTags.{same_tags}
+
+-- a unit before the next group stands before this one, or is this one
+this_or : (u : Part) (a k : ℕ) → StandsBefore u a (k + 1) → StandsBefore u a k ⊎ (u ≡ record { actor = a; group = k })
+this_or u a k h = ⊎_elim (λ (l : u.actor < a). inl (inl l))
+    (λ (s : (u.actor ≡ a) × (u.group < k + 1)). ⊎_elim (λ (l : u.group < k). inl (inr (s.0, l))) (λ (e : u.group ≡ k). inr (same u a k s.0 e)) (last u.group k s.1)) h
+  where
+    last : (n m : ℕ) → n < m + 1 → (n < m) ⊎ (n ≡ m)
+    last n m l = grind arith
+
+    same : (u : Part) (a k : ℕ) → u.actor ≡ a → u.group ≡ k → u ≡ record { actor = a; group = k }
+    same u a k x y = λ i. record { actor = x i; group = y i }
+
+stands_next : (u : Part) (a k : ℕ) → StandsBefore u a k → StandsBefore u a (k + 1)
+stands_next u a k h = ⊎_elim (λ (l : u.actor < a). inl l) (λ (s : (u.actor ≡ a) × (u.group < k)). inr (s.0, omega (arith, s.1))) h
+
+-- one that stands before a group isn't the unit of that group
+other_than : (u : Part) (a k : ℕ) → StandsBefore u a k → u ≡ record { actor = a; group = k } → ⊥
+other_than u a k h e =
+    let x : u.actor ≡ a = ap (λ (z : Part). z.actor) e in
+    let y : u.group ≡ k = ap (λ (z : Part). z.group) e in
+    ⊎_elim (λ (l : u.actor < a). omega (arith, l, x)) (λ (s : (u.actor ≡ a) × (u.group < k)). omega (arith, s.1, y)) h
+
+-- a unit is safe at one tag alone
+pub one_tag : (g : Graph) (waits : Values) (busy : Part → Option Task) (r : ℕ) (u v : Part) (t w : Tag) → IsSafe g waits busy r u t → v ≡ u → IsSafe g waits busy r v w → w ≡ t
+one_tag g waits busy r u v t w safe e other =
+    let moved : IsSafe g waits busy r u w = subst (λ z. IsSafe g waits busy r z w) e other in
+    same_tags w t (moved.least t safe.event) (safe.least w moved.event)
+
+-- all that isn't ahead of a unit comes behind it
+behind_it : (c : SafeUnit) (a k : ℕ) (cs : List SafeUnit) → c.unit ≡ record { actor = a; group = k } → Each (λ (d : SafeUnit). StandsBefore d.unit a k) cs → Each (λ (d : SafeUnit). IsAhead d c → ⊥) cs → Each (IsAhead c) cs
+behind_it c a k [] is h n = tt
+behind_it c a k (d ∷ cs) is h n = (
+  ⊎_elim (λ (x : IsAhead c d). x) (λ (y : IsAhead d c). absurd (n.0 y)) (ahead_or c d (λ e. other_than d.unit a k h.0 (sym e ∙ is))),
+  behind_it c a k cs is h.1 n.1,
+)
+
+either_place : (p : ℕ) → (p < 64) ⊎ (64 ≤ p)
+either_place p = grind arith
+
+-- a safe unit was put among those that come first
+pub first_put : (g : Graph) (waits : Values) (busy : Part → Option Task) (r a k : ℕ) (tag : Tag) (old new : List SafeUnit) → AreFirst g waits busy r a k old → IsUnit g (record { actor = a; group = k }) → IsSafe g waits busy r (record { actor = a; group = k }) tag →
+    IsPut (record { unit = record { actor = a; group = k }; tag = tag }) old new → AreFirst g waits busy r a (k + 1) new
+first_put g waits busy r a k tag old new first unit safe put = subst (AreFirst g waits busy r a (k + 1)) (sym put.is) (record {
+  in_order = order_take 64 (insert old put.place c) order;
+  safe = each_take (IsSafeUnit g waits busy r) 64 (insert old put.place c) (each_insert (IsSafeUnit g waits busy r) old put.place c first.safe (record { is_unit = unit; safe = safe }));
+  stand = each_take (λ (d : SafeUnit). StandsBefore d.unit a (k + 1)) 64 (insert old put.place c) (each_insert (λ (d : SafeUnit). StandsBefore d.unit a (k + 1)) old put.place c (each_map (λ (d : SafeUnit). StandsBefore d.unit a k) (λ (d : SafeUnit). StandsBefore d.unit a (k + 1)) old (λ d h. stands_next d.unit a k h) first.stand) (inr (refl, omega arith)));
+  among = λ u t own stands other. ⊎_elim
+      (λ (b : StandsBefore u a k). ⊎_elim
+      (λ (m : IsIn (record { unit = u; tag = t }) old). cut_off (record { unit = u; tag = t }) 64 (insert old put.place c) order (in_insert (record { unit = u; tag = t }) old put.place c m))
+      (λ (full : (64 ≤ length old) × Each (λ (d : SafeUnit). IsAhead d (record { unit = u; tag = t })) old). inr (still_full full.0, still_ahead (record { unit = u; tag = t }) full.0 full.1))
+      (first.among u t own b other))
+      (λ (e : u ≡ record { actor = a; group = k }).
+      let at : t ≡ tag = one_tag g waits busy r (record { actor = a; group = k }) u tag t safe e other in
+      subst (λ z. IsAmong z t (take 64 (insert old put.place c))) (sym e) (subst (λ z. IsAmong (record { actor = a; group = k }) z (take 64 (insert old put.place c))) (sym at)
+      (cut_off c 64 (insert old put.place c) order (itself_in old put.place c))))
+      (this_or u a k stands);
+})
+  where
+    c : SafeUnit
+    c = record { unit = record { actor = a; group = k }; tag = tag }
+
+    behind : Each (IsAhead c) (drop put.place old)
+    behind = behind_it c a k (drop put.place old) refl (each_drop (λ (d : SafeUnit). StandsBefore d.unit a k) put.place old first.stand) put.is_place.behind
+
+    order : IsInOrder (insert old put.place c)
+    order = order_insert old put.place c first.in_order put.is_place.before behind
+
+    still_full : 64 ≤ length old → 64 ≤ length (take 64 (insert old put.place c))
+    still_full l = let n = length-insert old put.place c put.is_place.within in omega (arith, l, n, length-take 64 (insert old put.place c))
+
+    still_ahead : (x : SafeUnit) → 64 ≤ length old → Each (λ (d : SafeUnit). IsAhead d x) old → Each (λ (d : SafeUnit). IsAhead d x) (take 64 (insert old put.place c))
+    still_ahead x l h = ⊎_elim
+        (λ (p : put.place < 64).
+        let next = some_behind put.place old (omega (arith, p, l)) in
+        each_take (λ (d : SafeUnit). IsAhead d x) 64 (insert old put.place c) (each_insert (λ (d : SafeUnit). IsAhead d x) old put.place c h
+        (ahead_trans c next.0 x (Each-in (IsAhead c) (drop put.place old) behind next.0 next.1) (Each-in (λ (d : SafeUnit). IsAhead d x) old h next.0 (in_drop next.0 put.place old next.1)))))
+        (λ (p : 64 ≤ put.place). subst (Each (λ (d : SafeUnit). IsAhead d x)) (sym (take_insert old 64 put.place c p put.is_place.within)) (each_take (λ (d : SafeUnit). IsAhead d x) 64 old h))
+        (either_place put.place)
+
+-- a unit that isn't safe changes nothing
+pub first_skip : (g : Graph) (waits : Values) (busy : Part → Option Task) (r a k : ℕ) (cs : List SafeUnit) → AreFirst g waits busy r a k cs → IsSafeAt g waits busy r (record { actor = a; group = k }) None → AreFirst g waits busy r a (k + 1) cs
+first_skip g waits busy r a k cs first none = record {
+  in_order = first.in_order;
+  safe = first.safe;
+  stand = each_map (λ (d : SafeUnit). StandsBefore d.unit a k) (λ (d : SafeUnit). StandsBefore d.unit a (k + 1)) cs (λ d h. stands_next d.unit a k h) first.stand;
+  among = λ u t own stands safe. ⊎_elim
+      (λ (b : StandsBefore u a k). first.among u t own b safe)
+      (λ (e : u ≡ record { actor = a; group = k }). absurd (none t (subst (λ z. IsSafe g waits busy r z t) e safe)))
+      (this_or u a k stands);
+}
+
+-- each unit of the graph that stands before the next actor stands before the end of this one
+before_end : (g : Graph) (u : Part) (a k : ℕ) → groups (kind_of g a) ≤ k → IsUnit g u → StandsBefore u (a + 1) 0 → StandsBefore u a k
+before_end g u a k all unit h = ⊎_elim (λ (l : u.actor < a + 1). ⊎_elim (λ (b : u.actor < a). inl b)
+    (λ (e : u.actor ≡ a). let own : u.group < groups (kind_of g a) = subst (λ n. u.group < groups (kind_of g n)) e unit.1 in inr (e, omega arith)) (last u.actor a l))
+    (λ (s : (u.actor ≡ a + 1) × (u.group < 0)). absurd (none u.group s.1)) h
+  where
+    last : (n m : ℕ) → n < m + 1 → (n < m) ⊎ (n ≡ m)
+    last n m l = grind arith
+
+    none : (n : ℕ) → n < 0 → ⊥
+    none n l = omega arith
+
+-- all groups of an actor are done
+pub first_next : (g : Graph) (waits : Values) (busy : Part → Option Task) (r a k : ℕ) (cs : List SafeUnit) → groups (kind_of g a) ≤ k → AreFirst g waits busy r a k cs → AreFirst g waits busy r (a + 1) 0 cs
+first_next g waits busy r a k cs all first = record {
+  in_order = first.in_order;
+  safe = first.safe;
+  stand = each_map (λ (d : SafeUnit). StandsBefore d.unit a k) (λ (d : SafeUnit). StandsBefore d.unit (a + 1) 0) cs (λ d h. ⊎_elim (λ (l : d.unit.actor < a). inl (omega (arith, l))) (λ (s : (d.unit.actor ≡ a) × (d.unit.group < k)). inl (omega (arith, s.0))) h) first.stand;
+  among = λ u t own stands safe. first.among u t own (before_end g u a k all own stands) safe;
+}
+
+pub groups_are : (g : Graph) (a n : ℕ) → IsLawful g → a < length g.actors → n ≡ held (groups_of (actor_at g.actors a).kind) → n ≡ groups (kind_of g a)
+groups_are g a n lawful less is = groups_held g a 0 n lawful less (omega arith) is
+
+-- no unit of an actor for which nothing waits is safe
+pub not_safe : (g : Graph) (waits : Values) (busy : Part → Option Task) (r : ℕ) (u : Part) (t : Tag) → ((p : ℕ) (w : Tag) → waits u.actor p w ≡ None) → IsSafe g waits busy r u t → ⊥
+not_safe g waits busy r u t none safe = let found = event_found g waits u t safe.event in none_some found.value (sym (none found.port t) ∙ found.waits_there)
+
+-- the actors between for which nothing waits are passed over
+pub first_jump : (g : Graph) (waits : Values) (busy : Part → Option Task) (r a b : ℕ) (cs : List SafeUnit) → a ≤ b → ((c p : ℕ) (t : Tag) → a ≤ c → c < b → waits c p t ≡ None) → AreFirst g waits busy r a 0 cs → AreFirst g waits busy r b 0 cs
+first_jump g waits busy r a b cs le none first = record {
+  in_order = first.in_order;
+  safe = first.safe;
+  stand = each_map (λ (d : SafeUnit). StandsBefore d.unit a 0) (λ (d : SafeUnit). StandsBefore d.unit b 0) cs (λ d h. ⊎_elim (λ (l : d.unit.actor < a). inl (omega (arith, l, le))) (λ (s : (d.unit.actor ≡ a) × (d.unit.group < 0)). absurd (never d.unit.group s.1)) h) first.stand;
+  among = λ u t own stands safe. ⊎_elim
+      (λ (l : u.actor < b). ⊎_elim
+      (λ (m : u.actor < a). first.among u t own (inl m) safe)
+      (λ (m : a ≤ u.actor). absurd (not_safe g waits busy r u t (λ p w. none u.actor p w m l) safe))
+      (either u.actor a))
+      (λ (s : (u.actor ≡ b) × (u.group < 0)). absurd (never u.group s.1))
+      stands;
+}
+  where
+    never : (n : ℕ) → n < 0 → ⊥
+    never n l = omega arith
+
+    either : (m n : ℕ) → (m < n) ⊎ (n ≤ m)
+    either m n = grind arith
+
+-- nothing waits for the actors that are left
+pub first_end : (g : Graph) (waits : Values) (busy : Part → Option Task) (r a : ℕ) (cs : List SafeUnit) → ((c p : ℕ) (t : Tag) → a ≤ c → c < length g.actors → waits c p t ≡ None) → AreFirst g waits busy r a 0 cs → AreFirst g waits busy r (length g.actors) 0 cs
+first_end g waits busy r a cs none first = record {
+  in_order = first.in_order;
+  safe = first.safe;
+  stand = each_map (IsSafeUnit g waits busy r) (λ (d : SafeUnit). StandsBefore d.unit (length g.actors) 0) cs (λ d h. inl h.is_unit.0) first.safe;
+  among = λ u t own stands safe. ⊎_elim
+      (λ (m : u.actor < a). first.among u t own (inl m) safe)
+      (λ (m : a ≤ u.actor). absurd (not_safe g waits busy r u t (λ p w. none u.actor p w m own.0) safe))
+      (either u.actor a);
+}
+  where
+    either : (m n : ℕ) → (m < n) ⊎ (n ≤ m)
+    either m n = grind arith
+
+-- before the first actor there is none
+pub first_none : (g : Graph) (waits : Values) (busy : Part → Option Task) (r : ℕ) (cs : List SafeUnit) → cs ≡ [] → AreFirst g waits busy r 0 0 cs
+first_none g waits busy r cs is = subst (AreFirst g waits busy r 0 0) (sym is) (record {
+  in_order = tt;
+  safe = tt;
+  stand = tt;
+  among = λ u t own stands safe. absurd (⊎_elim (λ (l : u.actor < 0). never u.actor l) (λ (s : (u.actor ≡ 0) × (u.group < 0)). never u.group s.1) stands);
+})
+  where
+    never : (n : ℕ) → n < 0 → ⊥
+    never n l = omega arith
+
+-- what has an event is a unit of the graph
+pub safe_is_unit : (g : Graph) (f : Fields) (r : ℕ) (u : Part) (t : Tag) → IsSound g f → IsSafe g (waiting_in f.queue.events) (busy_in f.open_claims.items) r u t → IsUnit g u
+safe_is_unit g f r u t sound safe =
+    let found = event_found g (waiting_in f.queue.events) u t safe.event in
+    subst (IsUnit g) found.unit (sound.at_units u.actor found.port t found.value found.waits_there)
+
+-- all actors are done
+pub front_found : (g : Graph) (f : Fields) (r : ℕ) (more : Bool) (cs : List SafeUnit) → IsSound g f → length cs ≤ 64 → more ≡ (length cs == 64) → AreFirst g (waiting_in f.queue.events) (busy_in f.open_claims.items) r (length g.actors) 0 cs → AreFront g (waiting_in f.queue.events) (busy_in f.open_claims.items) r more cs
+front_found g f r more cs sound few is first = record {
+  in_order = first.in_order;
+  safe = first.safe;
+  others = λ u t safe.
+      let unit = safe_is_unit g f r u t sound safe in
+      ⊎_elim (λ (m : IsIn (record { unit = u; tag = t }) cs). inl m)
+      (λ (full : (64 ≤ length cs) × Each (λ (c : SafeUnit). IsAhead c (record { unit = u; tag = t })) cs). inr (is ∙ eq-eqb (length cs) 64 (omega (arith, full.0, few)), full.1))
+      (first.among u t unit (inl unit.0) safe);
+}
+
+-- nothing was found yet
+pub front_unknown : (g : Graph) (waits : Values) (busy : Part → Option Task) (r : ℕ) (more : Bool) (cs : List SafeUnit) → cs ≡ [] → more ≡ true → AreFront g waits busy r more cs
+front_unknown g waits busy r more cs empty is = subst (AreFront g waits busy r more) (sym empty) (record { in_order = tt; safe = tt; others = λ u t safe. inr (is, tt) })
+
+-- all that is safe was taken
+pub nothing_left : (g : Graph) (waits : Values) (busy : Part → Option Task) (r : ℕ) (more : Bool) (cs : List SafeUnit) → AreFront g waits busy r more cs → cs ≡ [] → more ≡ false → NothingSafe g waits busy r
+nothing_left g waits busy r more cs front empty none = λ u t safe. ⊎_elim
+    (λ (m : IsIn (record { unit = u; tag = t }) cs). absurd (subst (IsIn (record { unit = u; tag = t })) empty m))
+    (λ (k : (more ≡ true) × Each (λ (c : SafeUnit). IsAhead c (record { unit = u; tag = t })) cs). false≢true (sym none ∙ k.0))
+    (front.others u t safe)
+
+no_later : (c d : SafeUnit) → IsAhead c d → NoLater c.tag c.unit d.tag d.unit
+no_later c d h = grind arith
+
+later_refl : (t : Tag) (u : Part) → NoLater t u t u
+later_refl t u = (omega arith, λ x. (omega arith, λ y. (omega arith, λ z. omega arith)))
+
+-- the first of a front comes before all other safe units
+pub front_first : (g : Graph) (waits : Values) (busy : Part → Option Task) (r : ℕ) (more : Bool) (c : SafeUnit) (left : List SafeUnit) → AreFront g waits busy r more (c ∷ left) → (u : Part) (t : Tag) → IsSafe g waits busy r u t → NoLater c.tag c.unit t u
+front_first g waits busy r more c left h u t safe = ⊎_elim
+    (λ (m : IsIn (record { unit = u; tag = t }) (c ∷ left)). ⊎_elim
+    (λ (e : record { unit = u; tag = t } ≡ c). subst (λ (d : SafeUnit). NoLater c.tag c.unit d.tag d.unit) (sym e) (later_refl c.tag c.unit))
+    (λ (k : IsIn (record { unit = u; tag = t }) left). no_later c (record { unit = u; tag = t }) (Each-in (IsAhead c) left h.in_order.0 (record { unit = u; tag = t }) k)) m)
+    (λ (k : (more ≡ true) × Each (λ (d : SafeUnit). IsAhead d (record { unit = u; tag = t })) (c ∷ left)). no_later c (record { unit = u; tag = t }) k.1.0)
+    (h.others u t safe)
+
+-- it is the next one to be claimed
+pub taken_next : (g : Graph) (waits : Values) (busy : Part → Option Task) (r : ℕ) (more : Bool) (left : List SafeUnit) (o : Option SafeUnit) → IsTaken g waits busy r more left o → IsNextSafe g waits busy r o
+taken_next g waits busy r more left None h = h
+taken_next g waits busy r more left (Some c) h = (h.safe.0.is_unit, h.safe.0.safe, λ u t safe. front_first g waits busy r more c left h u t safe)
+
+not_same : (c d : SafeUnit) → IsAhead c d → d.tag ≡ c.tag → d.unit ≡ c.unit → ⊥
+not_same c d h t u =
+    let a : d.unit.actor ≡ c.unit.actor = ap (λ (x : Part). x.actor) u in
+    let b : d.unit.group ≡ c.unit.group = ap (λ (x : Part). x.group) u in
+    let e : d.tag.time ≡ c.tag.time = ap (λ (x : Tag). x.time) t in
+    let f : d.tag.step ≡ c.tag.step = ap (λ (x : Tag). x.step) t in
+    grind arith
+
+-- a claim of the first leaves the others as they are
+pub front_claimed : (g : Graph) (s : State) (r : ℕ) (more : Bool) (c : SafeUnit) (cs : List SafeUnit) (task : Task) → task.tag ≡ c.tag → AreFront g s.waits s.busy r more (c ∷ cs) → AreFront g (after_claim g s c.unit task).waits (after_claim g s c.unit task).busy r more cs
+front_claimed g s r more c cs task at front = record {
+  in_order = front.in_order.1;
+  safe = keep cs front.in_order.0 front.safe.1;
+  others = λ u t safe.
+      let was = (claims_apart g s r c.unit u task t claimed).1 safe in
+      ⊎_elim
+      (λ (m : IsIn (record { unit = u; tag = t }) (c ∷ cs)). ⊎_elim
+      (λ (e : record { unit = u; tag = t } ≡ c). absurd (was.1 (ap (λ (d : SafeUnit). d.unit) e)))
+      (λ (k : IsIn (record { unit = u; tag = t }) cs). inl k) m)
+      (λ (k : (more ≡ true) × Each (λ (d : SafeUnit). IsAhead d (record { unit = u; tag = t })) (c ∷ cs)). inr (k.0, k.1.1))
+      (front.others u t was.0);
+}
+  where
+    claimed : IsSafe g s.waits s.busy r c.unit task.tag
+    claimed = subst (IsSafe g s.waits s.busy r c.unit) (sym at) front.safe.0.safe
+
+    keep_one : (d : SafeUnit) → IsAhead c d → IsSafeUnit g s.waits s.busy r d → IsSafeUnit g (after_claim g s c.unit task).waits (after_claim g s c.unit task).busy r d
+    keep_one d ahead own = record {
+      is_unit = own.is_unit;
+      safe = (claims_apart g s r c.unit d.unit task d.tag claimed).0 own.safe (λ e. not_same c d ahead (one_tag g s.waits s.busy r c.unit d.unit c.tag d.tag front.safe.0.safe e own.safe) e);
+    }
+
+    keep : (ds : List SafeUnit) → Each (IsAhead c) ds → Each (IsSafeUnit g s.waits s.busy r) ds → Each (IsSafeUnit g (after_claim g s c.unit task).waits (after_claim g s c.unit task).busy r) ds
+    keep [] a h = tt
+    keep (d ∷ ds) a h = (keep_one d a.0 h.0, keep ds a.1 h.1)

@@ -1,0 +1,112 @@
+//! Objects that are read member by member, their arrays apart.
+
+ghost use Rattle.std.specs.Prelude.{◌≡◌, ◌<◌, Some, None, Err, IfOk, OnOk, length};
+ghost use Rattle.json.specs.Json.{value, members};
+ghost use Rattle.serde_json.specs.Data.{Data, Members, no_members, object as object_of, put};
+ghost use Rattle.serde_json.specs.Read.{of_json, of_members, converted};
+ghost use Rattle.serde_json.specs.View.{view, members_view};
+ghost use Rattle.pt_graph_text.specs.Apart.{hollow, hollow_members, emptied, members_in};
+ghost use Rattle.pt_graph_text.specs.declared.version.Version.{Version};
+
+use crate::reading::{Unread, value_from};
+use crate::version::Version;
+use json::{Reader, Token};
+use serde_json::Value;
+use serde_json::value::Map;
+use std::alloc::Global;
+
+/// The arrays of an object that are read apart.
+pub trait Lists: Drop {
+    /// Those of an object with these members.
+    ghost lists_of: { Version → Members → Self };
+
+    fn none() -> Self
+        ensures { (version : Version) → result ≡ lists_of version no_members };
+
+    /// What is left of the value of one more member. Of two members of one key the last counts.
+    fn read(
+        &mut self,
+        alloc: Global,
+        version: Version,
+        key: &str,
+        reader: &mut Reader<'_>,
+        depth: usize,
+    ) -> Result<Value, Unread>
+        ensures ok { IfOk result
+            (λ left. (d : Data) × (converted of_json (value depth reader.old) ≡ Some (d, reader.new))
+            × (view left ≡ hollow d)
+            × ((ms : Members) → self.old ≡ lists_of version ms → self.new ≡ lists_of version (put key.now d ms))) }
+        ensures shorter { OnOk result (length reader.new < length reader.old) }
+        ensures err { result ≡ Err Unread.NotJson
+            → converted of_json (value depth reader.old) ≡ None };
+}
+
+/// A value, where it is an object with its arrays read apart.
+#[derive(Drop)]
+pub struct Object<L: Lists> {
+    /// The value, with no items in the arrays of its members.
+    pub left: Value,
+    pub lists: L,
+}
+
+/// The next value of the reader.
+pub fn read_object<L: Lists>(
+    alloc: Global,
+    version: Version,
+    reader: &mut Reader<'_>,
+    depth: usize,
+) -> Result<Object<L>, Unread>
+    ensures ok { IfOk result
+        (λ object. (d : Data) × (converted of_json (value depth reader.old) ≡ Some (d, reader.new))
+        × (view object.left ≡ emptied d) × (object.lists ≡ L.lists_of version (members_in d))) }
+    ensures shorter { OnOk result (length reader.new < length reader.old) }
+    ensures err { result ≡ Err Unread.NotJson
+        → converted of_json (value depth reader.old) ≡ None }
+{
+    let token = reader.next().ok_or(Unread::NotJson)?;
+    match token {
+        Token::BeginObject => {
+            if depth == 0 {
+                return Err(Unread::NotJson);
+            }
+            Ok(read_members(alloc, version, reader, depth - 1)?)
+        }
+        _ => {
+            let left = value_from(alloc, token, reader, depth)?;
+            Ok(Object {
+                left,
+                lists: L::none(),
+            })
+        }
+    }
+}
+
+/// The members that follow the bracket, and its closing one.
+fn read_members<L: Lists>(
+    alloc: Global,
+    version: Version,
+    reader: &mut Reader<'_>,
+    depth: usize,
+) -> Result<Object<L>, Unread>
+    ensures ok { IfOk result
+        (λ object. (ms : Members)
+        × (converted (λ ms. of_members ms no_members)
+        (members (value depth) (length reader.old) reader.old) ≡ Some (ms, reader.new))
+        × (view object.left ≡ object_of (hollow_members ms)) × (object.lists ≡ L.lists_of version ms)) }
+    ensures shorter { OnOk result (length reader.new < length reader.old) }
+    ensures err { result ≡ Err Unread.NotJson
+        → converted (λ ms. of_members ms no_members)
+        (members (value depth) (length reader.old) reader.old) ≡ None }
+{
+    let mut found = Map::new(alloc);
+    let mut lists = L::none();
+    'members: while let Some(name) = reader.next_key()? {
+        let key = String::from_str(alloc, name)?;
+        let left = lists.read(alloc, version, name, reader, depth)?;
+        drop(found.insert(key, left)?);
+    }
+    Ok(Object {
+        left: Value::Object(found),
+        lists,
+    })
+}

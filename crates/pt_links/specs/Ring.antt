@@ -1,0 +1,6 @@
+-- A ring of places.
+use Rattle.std.specs.Prelude.{ℕ, ◌++◌, List, drop, take}
+
+-- the n items from place k on, round the end
+abbrev pub window : {X : Type 0} → ℕ → ℕ → List X → List X
+window k n xs = take n (drop k xs ++ take k xs)

@@ -1,0 +1,74 @@
+-- The events of each input, one line after another.
+use Rattle.std.specs.Prelude.{◌≡◌, ℕ, ◌+◌, ◌*◌, ◌<◌, ◌≤◌, ◌⊎◌, ◌↔◌, List, [], ◌∷◌, ◌++◌, Option, Some, None, ℤ, length, slice_index_or, slice_set}
+use Rattle.std.specs.List.{Contains, flat_map}
+use Rattle.pt_tags.specs.declared.tag.Tag.{Tag}
+use Rattle.pt_tags.specs.Tags.{same_tag, Before}
+use Rattle.pt_types.specs.declared.firing.Event.{Event}
+use Rattle.pt_types.specs.Ports.{when}
+use Rattle.pt_semantics.specs.Lists.{Each, first_of}
+use Rattle.pt_queue.specs.declared.groups.Groups.{Groups}
+use Rattle.pt_queue.specs.Events.{IsPlaced}
+
+-- the tags of events rise
+abbrev pub InOrder : List Event → Type 0
+InOrder [] = Unit {0}
+InOrder (e ∷ es) = Each (λ (x : Event). Before e.tag x.tag) es × InOrder es
+
+-- the first event of a line
+abbrev pub first : List Event → Option Event
+first [] = None
+first (e ∷ es) = Some e
+
+-- the value at a tag, of the events of a line
+abbrev pub value_on : List Event → Tag → Option ℤ
+value_on line t = first_of (λ (e : Event). when (same_tag e.tag t) (Some e.value)) line
+
+-- the number of the line that an event stands in
+abbrev pub line_of : Event → ℕ
+line_of e = 8 * e.actor + e.port
+
+-- the events of the line of that number
+abbrev pub line_at : List (List Event) → ℕ → List Event
+line_at lines n = slice_index_or lines n []
+
+-- the lines after an event joined the end of its own
+abbrev pub joined_by : List (List Event) → Event → List (List Event)
+joined_by lines e = slice_set lines (line_of e) (line_at lines (line_of e) ++ e ∷ [])
+
+-- the lines after these events joined them
+abbrev pub settled : List (List Event) → List Event → List (List Event)
+settled lines [] = lines
+settled lines (e ∷ es) = settled (joined_by lines e) es
+
+-- the events of all lines
+abbrev pub all_of : List (List Event) → List Event
+all_of lines = flat_map (λ (line : List Event). line) lines
+
+-- an event stands in the line of its actor and input
+pub record IsInLine (table : List Groups) (n : ℕ) (e : Event) : Type 0 where
+  pub line : line_of e ≡ n
+  pub placed : IsPlaced table e
+
+-- each event stands in its line
+abbrev pub AreInLines : List Groups → List (List Event) → Type 0
+AreInLines table lines = (n : ℕ) → Each (IsInLine table n) (line_at lines n)
+
+-- numbers rise
+abbrev pub Rises : List ℕ → Type 0
+Rises ns = (j k : ℕ) → j < k → k < length ns → slice_index_or ns j 0 < slice_index_or ns k 0
+
+-- of these numbers from `from` on, n is the least, or there are none
+abbrev pub IsFirstFrom : ℕ → List ℕ → Option ℕ → Type 0
+IsFirstFrom from ns None = (m : ℕ) → Contains ns m → m < from
+IsFirstFrom from ns (Some n) = (from ≤ n) × Contains ns n × ((m : ℕ) → Contains ns m → (m < from) ⊎ (n ≤ m))
+
+-- the numbers of the lines that have events, in rising order
+pub record AreBusy (lines : List (List Event)) (busy : List ℕ) : Type 0 where
+  pub rising : Rises busy
+  pub exact : (n : ℕ) → Contains busy n ↔ (0 < length (line_at lines n))
+
+-- the parts of a queue: eight lines for each actor, and the events that stand in no line yet
+pub record AreKept (table : List Groups) (lines : List (List Event)) (loose : List Event) : Type 0 where
+  pub count : length lines ≡ 8 * length table
+  pub in_lines : AreInLines table lines
+  pub placed : Each (IsPlaced table) loose

@@ -1,0 +1,127 @@
+//! The events of one input, in rising order of tag.
+
+ghost use Rattle.std.specs.Prelude.{◌≡◌, [], ◌∷◌, ◌++◌, true, not, filter, if◌then◌else◌};
+ghost use Rattle.pt_tags.specs.Tags.{same_tag, Before};
+ghost use Rattle.pt_semantics.specs.Lists.{Each};
+ghost use Rattle.pt_queue.specs.Lines.{InOrder, first, value_on};
+
+use pt_tags::Tag;
+use pt_types::Event;
+use std::alloc::Global;
+use std::collections::VecDeque;
+use std::marker::Model;
+
+/// The events of one input, which contracts see as their list.
+#[derive(Drop)]
+pub struct Line {
+    events: VecDeque<Event>,
+}
+
+impl Model for Line {
+    ghost use Rattle.std.specs.Prelude.{List};
+    ghost use Rattle.pt_types.specs.declared.firing.Event.{Event};
+    ghost use Rattle.pt_queue.specs.Lines.{InOrder};
+
+    ghost Value = { List Event };
+
+    ghost view = { λ l. l.events.items };
+
+    ghost invariant = { λ l. InOrder l.events.items };
+}
+
+impl Line {
+    pub fn new(alloc: Global) -> Line
+        ensures { result ≡ [] }
+    {
+        Line {
+            events: VecDeque::new(alloc),
+        }
+    }
+
+    /// The event with the least tag.
+    pub fn first(&self) -> Option<Event>
+        ensures first { result ≡ first self.now }
+        ensures in_order { InOrder self.now }
+    {
+        self.events.front().copied()
+    }
+
+    /// The value of the event at a tag.
+    pub fn value(&self, tag: Tag) -> Option<i64>
+        ensures { result ≡ value_on self.now tag }
+    {
+        match self.first() {
+            None => None,
+            Some(event) => {
+                if event.tag == tag {
+                    return Some(event.value);
+                }
+                if tag.is_before(event.tag) {
+                    return None;
+                }
+                value_among(&self.events, tag)
+            }
+        }
+    }
+
+    /// Puts an event behind all others, and says whether it did: its tag has to be the greatest, and there has to be room
+    /// for it. This takes no memory.
+    pub fn push(&mut self, event: Event) -> bool
+        ensures { self.new ≡ (if result then self.old ++ event ∷ [] else self.old) }
+    {
+        if self.events.len() >= self.events.capacity() {
+            return false;
+        }
+        if !comes_last(&self.events, event.tag) {
+            return false;
+        }
+        self.events.push_back(event).is_ok()
+    }
+
+    /// Makes room for one more event, if there is memory for it.
+    pub fn grow(&mut self)
+        ensures { self.new ≡ self.old }
+    {
+        let _ = self.events.reserve(1);
+    }
+
+    /// Removes the event at a tag.
+    pub fn take(&mut self, tag: Tag)
+        ensures { self.new ≡ filter (λ e. not (same_tag tag e.tag)) self.old }
+    {
+        match self.first() {
+            None => (),
+            Some(event) => {
+                if event.tag == tag {
+                    self.events.pop_front();
+                } else if event.tag.is_before(tag) {
+                    self.events.retain(|event| tag != event.tag);
+                }
+            }
+        }
+    }
+}
+
+/// The value at a tag, wherever it stands.
+fn value_among(events: &VecDeque<Event>, tag: Tag) -> Option<i64>
+    ensures { result ≡ value_on events.now.items tag }
+{
+    for place in 0..events.len() {
+        let event = events[place];
+        if event.tag == tag {
+            return Some(event.value);
+        }
+    }
+    None
+}
+
+/// Whether a tag is greater than those of all events.
+fn comes_last(events: &VecDeque<Event>, tag: Tag) -> bool
+    requires { InOrder events.now.items }
+    ensures { result ≡ true → Each (λ e. Before e.tag tag) events.now.items }
+{
+    match events.back() {
+        None => true,
+        Some(last) => last.tag.is_before(tag),
+    }
+}
