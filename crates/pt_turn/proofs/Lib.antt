@@ -8,4 +8,8 @@ pub mod Readiness
 pub mod Onward
 pub mod Again
 pub mod Wider
+pub mod Leaving
+pub mod Sending
+pub mod Lighter
+pub mod Ends
 pub mod Moving

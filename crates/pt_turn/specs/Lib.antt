@@ -4,4 +4,6 @@ pub mod Turned
 pub mod Faults
 pub mod Making
 pub mod Growing
+pub mod Gone
+pub mod Finished
 pub mod Laws

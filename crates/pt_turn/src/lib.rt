@@ -6,6 +6,8 @@
 mod counting;
 mod fault;
 mod finding;
+mod finishing;
+mod going;
 mod keeping;
 mod laws;
 mod making;

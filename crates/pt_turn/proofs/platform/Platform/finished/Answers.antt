@@ -1,0 +1,31 @@
+use Rattle.std.proofs.Common.{◌≡◌, ◌↔◌, true, [], length, sym, ap, subst, ◌∙◌, eq-eqb, eqb-true, vec_len}
+use Rattle.std.proofs.lemmas.Bool.{false≢true}
+use Rattle.pt_types.specs.declared.graph.Graph.{Graph}
+use Rattle.pt_semantics.specs.Closing.{on_link}
+use Rattle.pt_semantics.specs.Linked.{IsFinished}
+use Rattle.pt_offsets.specs.Plans.{Parts}
+use Rattle.pt_turn.specs.declared.platform.Platform.TheInside.{Inside}
+use Rattle.pt_turn.specs.Finished.{HaveEnded}
+use Rattle.pt_turn.specs.Platforms.{PlatformView, graph_of, state_at}
+use Rattle.pt_turn.proofs.Ends.{no_members, no_messages}
+use Rattle.pt_turn.proofs.platform.Platform.finished.Goals as goal
+
+pub returns-then-not-is_empty : goal.returns-then-not-is_empty
+returns-then-not-is_empty c =
+    let p : Inside = c.self.inside in (
+      λ e. absurd (false≢true e),
+      λ is.
+          let none : c.args.self.now.outbox ≡ [] = no_messages c.args.self.now.outbox is.all_went in
+          let empty : vec_len p.fields.outbox ≡ 0 = p.fields.outbox.ok.0 ∙ ap length (ap (λ (v : PlatformView). v.outbox) c.self.view_is ∙ none) in
+          absurd (false≢true (sym c.if-not-is_empty.true ∙ (c.is_empty.ensures ∙ eq-eqb (vec_len p.fields.outbox) 0 empty))),
+    )
+
+pub returns : goal.returns
+returns c =
+    let p : Inside = c.self.inside in
+    let len : vec_len p.fields.outbox ≡ 0 = eqb-true (vec_len p.fields.outbox) 0 (sym c.is_empty.ensures ∙ c.if-not-is_empty.false) in
+    let empty : p.fields.outbox.items ≡ [] = no_members p.fields.outbox.items (sym p.fields.outbox.ok.0 ∙ len) in
+    let graph : c.graph.result.now ≡ graph_of p = c.graph.ensures.value ∙ ap (λ (plan : Parts). plan.graph) c.deref.ensures in
+    let ended : (c.have_ended.result ≡ true) ↔ HaveEnded (graph_of p) p.number p.history.turns = subst (λ (g : Graph). (c.have_ended.result ≡ true) ↔ HaveEnded g p.number p.history.turns) graph c.have_ended.ensures in
+    subst (λ (v : PlatformView). (c.have_ended.result ≡ true) ↔ IsFinished v.plan.graph v.number (state_at v)) c.self.view_is
+    (λ e. record { closed = c.if-not-self.false; all_went = λ l. ap (on_link l) empty; ends = ended.0 e }, λ is. ended.1 is.ends)

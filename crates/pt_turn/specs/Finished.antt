@@ -1,0 +1,29 @@
+-- Whether the ends of a platform's incoming links were taken.
+use Rattle.std.specs.Prelude.{◌≡◌, ◌==◌, ◌&&◌, ℕ, Bool, true, false, List, Some, slice_get}
+use Rattle.std.specs.List.{list_any}
+use Rattle.pt_tags.specs.declared.message.Message.{Message}
+use Rattle.pt_tags.specs.declared.message.Message.TheVariants.{Event, End}
+use Rattle.pt_types.specs.declared.graph.Graph.{Graph}
+use Rattle.pt_types.specs.declared.graph.Link.{Link}
+use Rattle.pt_types.specs.declared.firing.OnLink.{OnLink}
+use Rattle.pt_semantics.specs.Closing.{on_link}
+use Rattle.pt_semantics.specs.Edges.{platform_of}
+use Rattle.pt_semantics.specs.Lists.{IsIn}
+use Rattle.pt_semantics.specs.Turn.{Turn}
+use Rattle.pt_turn.specs.Platforms.{messages_of}
+
+-- the end of link l
+abbrev pub is_end : Message → Bool
+is_end End = true
+is_end (Event t v) = false
+
+abbrev pub is_end_on : ℕ → OnLink → Bool
+is_end_on l m = is_end m.message && m.link == l
+
+-- whether a turn took it
+abbrev pub takes_end : ℕ → Turn → Bool
+takes_end l turn = list_any (is_end_on l) turn.taken
+
+-- End was taken on each link that leads to platform i
+abbrev pub HaveEnded : Graph → ℕ → List Turn → Type 0
+HaveEnded g i turns = (l : ℕ) (link : Link) → slice_get g.links l ≡ Some link → platform_of g link.to ≡ i → IsIn End (on_link l (messages_of turns))

@@ -1,0 +1,45 @@
+//! What goes out of a platform.
+
+ghost use Rattle.std.specs.Prelude.{◌≡◌, ◌==◌, ◌<◌, length, position, slice_get};
+ghost use Rattle.pt_types.specs.declared.firing.OnLink.{OnLink};
+ghost use Rattle.pt_semantics.specs.Closing.{on_link};
+ghost use Rattle.pt_turn.specs.Gone.{HasGone, last_sent};
+
+use crate::platform::Platform;
+use pt_tags::Message;
+use pt_types::OnLink;
+
+/// The place of the first message of a link; `None` exactly where there is none.
+fn place_of(outbox: &[OnLink], link: u32) -> Option<usize>
+    ensures { result ≡ position (λ (m : OnLink). m.link == link) outbox.now }
+{
+    outbox.iter().position(|m| m.link == link)
+}
+
+impl Platform {
+    /// The first message of a link's outbox; `None` exactly where the outbox is empty.
+    pub fn outgoing(&self, link: u32) -> Option<Message>
+        ensures { result ≡ slice_get (on_link link self.now.outbox) 0 }
+    {
+        let outbox = self.fields.outbox.as_slice();
+        match place_of(outbox, link) {
+            None => None,
+            Some(place) => Some(outbox[place].message),
+        }
+    }
+
+    /// Takes the first message of a link's outbox out of it, and adds it to those that were sent since the last turn,
+    /// which are at most 64 on each link. No memory is taken.
+    pub fn went(&mut self, link: u32)
+        requires begun { 0 < length self.old.turns }
+        requires waits { 0 < length (on_link link self.old.outbox) }
+        requires few { length (on_link link (last_sent self.old.turns)) < 64 }
+        ensures { HasGone self.old self.new link }
+    {
+        let Some(place) = place_of(self.fields.outbox.as_slice(), link) else {
+            unreachable!();
+        };
+        let message = self.fields.outbox.remove(place);
+        self.history.send([message].as_slice());
+    }
+}
