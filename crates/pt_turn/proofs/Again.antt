@@ -72,7 +72,7 @@ after p fields history lists fault = record { plan = p.plan; number = p.number; 
 shows_long : (g : Graph) (new : Fields) (taken : List OnLink) (r : ℕ) (ending : Ending) → new.reading ≡ Some r → ShowsEnd g r new ending → ending ≡ LongEnd → ShowsLong g (state_of new taken)
 shows_long g new taken r ending read full is =
     let shown : ShowsEnd g r new LongEnd = subst (ShowsEnd g r new) is full in
-    record { all = shown.0; reading = r; read = read; safe = shown.1; }
+    record { all = shown.0; reading = r; read = read; safe = shown.1 }
 
 taken_is : (p : Inside) (history : History) (turn : Turn) → history.turns ≡ kept_with p.history.turns turn → messages_of history.turns ≡ messages_of p.history.turns ++ turn.taken
 taken_is p history turn is = ap messages_of is ∙ messages_more p.history.turns turn
@@ -83,8 +83,8 @@ is_again p r most dones messages new history lists fault handed now is on d =
     let turn : Turn = turn_of r k.lists in
     let rows : rows_of new.sensors.items ≡ rows_of p.fields.sensors.items = λ i a. d.all_rows a i in
     let ran : Ran (graph_of p) (level_of (arc_value p.plan).ranks) p.number (rows_of p.fields.sensors.items) (kept_with p.history.turns turn) (state_of new (messages_of p.history.turns ++ k.lists.taken.items)) fault =
-        ran_on (graph_of p) (level_of (arc_value p.plan).ranks) p.number (rows_of p.fields.sensors.items) p.history.turns turn (state_of p.fields (messages_of p.history.turns)) (state_of new (messages_of p.history.turns ++ k.lists.taken.items)) k.ending fault (still_runs p is on)
-        (record { once = refl; one_reading = refl; fits = d.fits; }) k.made.turn k.made.last k.names (shows_long (graph_of p) new (messages_of p.history.turns ++ k.lists.taken.items) r k.ending d.reading k.full) d.reading in
+    ran_on (graph_of p) (level_of (arc_value p.plan).ranks) p.number (rows_of p.fields.sensors.items) p.history.turns turn (state_of p.fields (messages_of p.history.turns)) (state_of new (messages_of p.history.turns ++ k.lists.taken.items)) k.ending fault (still_runs p is on)
+    (record { once = refl; one_reading = refl; fits = d.fits }) k.made.turn k.made.last k.names (shows_long (graph_of p) new (messages_of p.history.turns ++ k.lists.taken.items) r k.ending d.reading k.full) d.reading in
     record {
       admitted = is.admitted;
       sound = d.sound;
@@ -117,21 +117,24 @@ is_turned p r reading most dones messages new history lists fault handed now rai
     let turn : Turn = turn_of r k.lists in
     let late : is_late fault ≡ ends_late k.ending = late_as g p.fields.reading k.lists.taken.items k.ending fault k.names in
     let first : TurnPart g level p.number s turn most fault (ends_late k.ending) (state_of new (messages_of p.history.turns ++ k.lists.taken.items)) = record {
-          is = k.made.turn;
-          all_or = k.made.all_or;
-          last = ends_as g p.fields.reading k.lists.taken.items k.ending fault (IsLast g s turn.last (ends_late k.ending) k.made.turn.ready) k.names k.made.last;
-        } in
+      is = k.made.turn;
+      all_or = k.made.all_or;
+      last = ends_as g p.fields.reading k.lists.taken.items k.ending fault (IsLast g s turn.last (ends_late k.ending) k.made.turn.ready) k.names k.made.last;
+    } in
     let part : TurnPart g level p.number s turn most fault (is_late fault) (state_of new (messages_of history.turns)) =
-        subst (λ ms. TurnPart g level p.number s turn most fault (is_late fault) (state_of new ms)) (sym (taken_is p history turn k.turns))
-        (subst (λ b. TurnPart g level p.number s turn most fault b (state_of new (messages_of p.history.turns ++ k.lists.taken.items))) (sym late) first) in
-    (record {
-      turn = turn;
-      at = (raised, raised, refl, refl);
-      is = part.is;
-      posted = k.made.posted;
-      taken = subst (IsFront messages turn.taken) (sym late) k.made.taken;
-      few = k.made.few;
-      all_or = part.all_or;
-      last = part.last;
-      turns = k.turns;
-    }, k.tasks, record { plan = refl; number = refl; rows = λ i a. d.all_rows a i; })
+    subst (λ ms. TurnPart g level p.number s turn most fault (is_late fault) (state_of new ms)) (sym (taken_is p history turn k.turns))
+    (subst (λ b. TurnPart g level p.number s turn most fault b (state_of new (messages_of p.history.turns ++ k.lists.taken.items))) (sym late) first) in (
+      record {
+        turn = turn;
+        at = (raised, raised, refl, refl);
+        is = part.is;
+        posted = k.made.posted;
+        taken = subst (IsFront messages turn.taken) (sym late) k.made.taken;
+        few = k.made.few;
+        all_or = part.all_or;
+        last = part.last;
+        turns = k.turns;
+      },
+      k.tasks,
+      record { plan = refl; number = refl; rows = λ i a. d.all_rows a i },
+    )

@@ -51,13 +51,13 @@ arrive g w s messages taken may k m at =
     let split : messages ≡ (take k messages ++ m ∷ []) ++ drop (k + 1) messages = around messages k m at in
     let on : (link : Link) × (slice_get g.links m.link ≡ Some link) × (platform_of g link.to ≡ w.platform) = may.links m (subst (IsIn m) (sym split) (in_middle (take k messages) (drop (k + 1) messages) m)) in
     let whole : s.taken m.link ++ on_link m.link messages ≡ (on_link m.link (w.taken ++ take k messages) ++ m.message ∷ []) ++ on_link m.link (drop (k + 1) messages) =
-        ap (λ z. z ++ on_link m.link messages) (taken m.link)
-        ∙ sym (on_append m.link w.taken messages)
-        ∙ ap (λ z. on_link m.link (w.taken ++ z)) split
-        ∙ ap (on_link m.link) (sym (append_assoc w.taken (take k messages ++ m ∷ []) (drop (k + 1) messages)))
-        ∙ on_append m.link (w.taken ++ (take k messages ++ m ∷ [])) (drop (k + 1) messages)
-        ∙ ap (λ z. on_link m.link z ++ on_link m.link (drop (k + 1) messages)) (sym (append_assoc w.taken (take k messages) (m ∷ [])))
-        ∙ ap (λ z. z ++ on_link m.link (drop (k + 1) messages)) (on_own (w.taken ++ take k messages) m) in
+    ap (λ z. z ++ on_link m.link messages) (taken m.link)
+    ∙ sym (on_append m.link w.taken messages)
+    ∙ ap (λ z. on_link m.link (w.taken ++ z)) split
+    ∙ ap (on_link m.link) (sym (append_assoc w.taken (take k messages ++ m ∷ []) (drop (k + 1) messages)))
+    ∙ on_append m.link (w.taken ++ (take k messages ++ m ∷ [])) (drop (k + 1) messages)
+    ∙ ap (λ z. on_link m.link z ++ on_link m.link (drop (k + 1) messages)) (sym (append_assoc w.taken (take k messages) (m ∷ [])))
+    ∙ ap (λ z. z ++ on_link m.link (drop (k + 1) messages)) (on_own (w.taken ++ take k messages) m) in
     record {
       link = on.0;
       at = on.1;

@@ -26,35 +26,45 @@ below p n not = ⊎_elim (λ (le : p ≤ n). absurd (not le)) (λ (lt : n < p). 
 late_one : (g : Graph) (last : Option ℕ) (l : ℕ) (message : Message) (link : Link) → slice_get g.links l ≡ Some link → (IsOnTime last (link_bound g link) message → ⊥) → SomeIsLate g last (record { link = l; message = message } ∷ [])
 late_one g None l message link at late = absurd (late tt)
 late_one g (Some p) l End link at late = absurd (late tt)
-late_one g (Some p) l (Event t v) link at late =
-    (link.to, t, p, t.time + link_bound g link, record {
-      number = l;
-      value = v;
-      before = [];
-      ends = refl;
-      link = link;
-      at = at;
-      receiver = refl;
-      read = refl;
-      limit_is = refl;
-      past = below p (t.time + link_bound g link) late;
-    })
+late_one g (Some p) l (Event t v) link at late = (
+  link.to,
+  t,
+  p,
+  t.time + link_bound g link,
+  record {
+    number = l;
+    value = v;
+    before = [];
+    ends = refl;
+    link = link;
+    at = at;
+    receiver = refl;
+    read = refl;
+    limit_is = refl;
+    past = below p (t.time + link_bound g link) late;
+  },
+)
 
 late_more : (g : Graph) (last : Option ℕ) (m : OnLink) (ms : List OnLink) → SomeIsLate g last ms → SomeIsLate g last (m ∷ ms)
 late_more g last m ms some =
-    let late = some.4 in
-    (some.0, some.1, some.2, some.3, record {
-      number = late.number;
-      value = late.value;
-      before = m ∷ late.before;
-      ends = ap (λ xs. m ∷ xs) late.ends;
-      link = late.link;
-      at = late.at;
-      receiver = late.receiver;
-      read = late.read;
-      limit_is = late.limit_is;
-      past = late.past;
-    })
+    let late = some.4 in (
+      some.0,
+      some.1,
+      some.2,
+      some.3,
+      record {
+        number = late.number;
+        value = late.value;
+        before = m ∷ late.before;
+        ends = ap (λ xs. m ∷ xs) late.ends;
+        link = late.link;
+        at = late.at;
+        receiver = late.receiver;
+        read = late.read;
+        limit_is = late.limit_is;
+        past = late.past;
+      },
+    )
 
 takes_late : (g : Graph) (level : ℕ → ℕ) (i : ℕ) (s new : State) (ms : List OnLink) → Takes g level i s ms true new → SomeIsLate g s.reading ms
 takes_late g level i s new [] h = absurd (false≢true (sym h.0))

@@ -55,7 +55,7 @@ due_on r s [] le = omega arith
 due_on r s (x ∷ xs) le =
     ⊎_elim
     (λ (e : nat_le x.seen r ≡ true). let f : nat_le x.seen s ≡ true = grind (arith, nat_tests) in let more : length (due r xs) ≤ length (due s xs) = due_on r s xs le in
-        subst (λ ys. length ys ≤ length (due s (x ∷ xs))) (sym (cond-true (nat_le x.seen r) (x ∷ due r xs) [] e)) (subst (λ ys. length (x ∷ due r xs) ≤ length ys) (sym (cond-true (nat_le x.seen s) (x ∷ due s xs) [] f)) (omega (arith, more))))
+    subst (λ ys. length ys ≤ length (due s (x ∷ xs))) (sym (cond-true (nat_le x.seen r) (x ∷ due r xs) [] e)) (subst (λ ys. length (x ∷ due r xs) ≤ length ys) (sym (cond-true (nat_le x.seen s) (x ∷ due s xs) [] f)) (omega (arith, more))))
     (λ (e : nat_le x.seen r ≡ false). subst (λ (ys : List Row). length ys ≤ length (due s (x ∷ xs))) (sym (cond-false (nat_le x.seen r) (x ∷ due r xs) [] e)) (omega arith))
     (cases_Bool (nat_le x.seen r))
 

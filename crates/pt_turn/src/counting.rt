@@ -28,11 +28,7 @@ pub fn count_due(graph: &Graph, sensors: &[Sensor], reading: u64) -> Option<usiz
 {
     let mut count: usize = 0;
     for sensor in sensors {
-        count = count.checked_add(count_seen(
-            sensor.rows.as_slice(),
-            sensor.entered,
-            reading,
-        ))?;
+        count = count.checked_add(count_seen(sensor.rows.as_slice(), sensor.entered, reading))?;
     }
     Some(count)
 }

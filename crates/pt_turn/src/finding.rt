@@ -13,7 +13,12 @@ use pt_tags::Message;
 use pt_types::OnLink;
 
 /// The fault that the end of a turn is, by the last reading before it, in microseconds, and the messages that it took.
-pub fn fault_of(plan: &Plan, ending: Ending, last: Option<u64>, taken: &[OnLink]) -> Option<TurnFault>
+pub fn fault_of(
+    plan: &Plan,
+    ending: Ending,
+    last: Option<u64>,
+    taken: &[OnLink],
+) -> Option<TurnFault>
     requires late { ending ≡ Late → SomeIsLate plan.now.graph last taken.now }
     ensures { IsFaultOf plan.now.graph last taken.now ending result }
 {

@@ -16,13 +16,7 @@ pub fn raised_to(last: Option<u64>, reading: u64) -> u64
 {
     match last {
         None => reading,
-        Some(last) => {
-            if last <= reading {
-                reading
-            } else {
-                last
-            }
-        }
+        Some(last) => { if last <= reading { reading } else { last } }
     }
 }
 

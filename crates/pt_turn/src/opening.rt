@@ -60,11 +60,6 @@ impl Platform {
         if self.fields.closed {
             return None;
         }
-        Some(next_reading(
-            &self.fields,
-            &self.plan,
-            self.number,
-            self.closing,
-        ))
+        Some(next_reading(&self.fields, &self.plan, self.number, self.closing))
     }
 }

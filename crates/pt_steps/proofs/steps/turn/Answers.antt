@@ -81,22 +81,22 @@ returns-clause-made g c =
     let posted : lists.posted.items ≡ c.posts.ensures.posted.posted = c.posts.ensures.posted.appended ∙ ap (λ xs. xs ++ c.posts.ensures.posted.posted) empty.posted in
     let taken : lists.taken.items ≡ took.taken = took.appended ∙ ap (λ xs. xs ++ took.taken) empty.taken in
     let steps : AreSteps gr g.basis c.args.reading c.args.most c.args.dones.now c.args.messages.now c.args.fields.now before after c.close.new.fields lists c.takes-late.result ending = record {
-          rises = rises;
-          posted = state_of c.posts.new.fields g.basis.taken;
-          posts = subst (λ ps. Posts gr (state_of c.args.fields.now g.basis.taken) ps (state_of c.posts.new.fields g.basis.taken)) (sym posted) (c.posts.ensures.posted.posts g.basis.taken);
-          are = subst (ArePosted gr (busy_in c.args.fields.now.open_claims.items) c.args.dones.now) (sym posted) c.posts.ensures.posted.are;
-          rows = c.enter.ensures.rows ∙ ap (λ xs. xs ++ all_due gr c.args.reading (left_in c.posts.new.fields.sensors.items)) empty.rows ∙ ap (λ v. all_due gr c.args.reading (left_in v.items)) c.posts.ensures.frame.0;
-          got = state_of c.takes-late.new.fields all;
-          takes = subst (λ ts. Takes gr g.basis.level g.basis.platform (after_rows (state_of c.posts.new.fields g.basis.taken) c.args.reading) ts c.takes-late.result (state_of c.takes-late.new.fields (g.basis.taken ++ ts))) (sym taken)
-              (subst (λ z. Takes gr g.basis.level g.basis.platform z took.taken c.takes-late.result (state_of c.takes-late.new.fields (g.basis.taken ++ took.taken))) (c.enter.ensures.entered g.basis.taken) took.takes);
-          front = subst (λ ts. IsFront c.args.messages.now ts c.takes-late.result) (sym taken) (record { rest = took.rest; front = took.front; all = took.all });
-          reading = refl;
-          count = same;
-          is_late = late_is gr c.args.reading before after c.takes-late.result ending claimed.ends;
-          ends = claimed.ends;
-          claims = claims_part gr before after c.args.reading c.args.most all c.args.lists.now.claimed.items lists.claimed.items c.takes-late.result ending empty.claimed most.0 (subst (λ n. n ≤ 200000) (sym same) few) claimed;
-          closes = subst (λ i. Closes gr i (state_of after all) c.args.reading c.takes-late.result (state_of c.close.new.fields all)) (sym number) (c.close.ensures.closes all);
-        } in
+      rises = rises;
+      posted = state_of c.posts.new.fields g.basis.taken;
+      posts = subst (λ ps. Posts gr (state_of c.args.fields.now g.basis.taken) ps (state_of c.posts.new.fields g.basis.taken)) (sym posted) (c.posts.ensures.posted.posts g.basis.taken);
+      are = subst (ArePosted gr (busy_in c.args.fields.now.open_claims.items) c.args.dones.now) (sym posted) c.posts.ensures.posted.are;
+      rows = c.enter.ensures.rows ∙ ap (λ xs. xs ++ all_due gr c.args.reading (left_in c.posts.new.fields.sensors.items)) empty.rows ∙ ap (λ v. all_due gr c.args.reading (left_in v.items)) c.posts.ensures.frame.0;
+      got = state_of c.takes-late.new.fields all;
+      takes = subst (λ ts. Takes gr g.basis.level g.basis.platform (after_rows (state_of c.posts.new.fields g.basis.taken) c.args.reading) ts c.takes-late.result (state_of c.takes-late.new.fields (g.basis.taken ++ ts))) (sym taken)
+          (subst (λ z. Takes gr g.basis.level g.basis.platform z took.taken c.takes-late.result (state_of c.takes-late.new.fields (g.basis.taken ++ took.taken))) (c.enter.ensures.entered g.basis.taken) took.takes);
+      front = subst (λ ts. IsFront c.args.messages.now ts c.takes-late.result) (sym taken) (record { rest = took.rest; front = took.front; all = took.all });
+      reading = refl;
+      count = same;
+      is_late = late_is gr c.args.reading before after c.takes-late.result ending claimed.ends;
+      ends = claimed.ends;
+      claims = claims_part gr before after c.args.reading c.args.most all c.args.lists.now.claimed.items lists.claimed.items c.takes-late.result ending empty.claimed most.0 (subst (λ n. n ≤ 200000) (sym same) few) claimed;
+      closes = subst (λ i. Closes gr i (state_of after all) c.args.reading c.takes-late.result (state_of c.close.new.fields all)) (sym number) (c.close.ensures.closes all);
+    } in
     subst (λ z. IsMade z g.basis c.args.reading c.args.most c.args.dones.now c.args.messages.now c.args.fields.now c.close.new.fields lists ending) value
     (is_made gr g.basis c.args.reading c.args.most c.args.dones.now c.args.messages.now c.args.fields.now before after c.close.new.fields lists c.takes-late.result ending most.1 steps)
 

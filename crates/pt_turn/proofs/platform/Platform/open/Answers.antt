@@ -35,7 +35,7 @@ invariant_of-result c =
         leads = start;
         read = e.reading;
       });
-      empty = record { posted = c.new-2.ensures.items; rows = c.new-3.ensures.items; taken = c.new-4.ensures.items; claimed = c.new-5.ensures.items; };
+      empty = record { posted = c.new-2.ensures.items; rows = c.new-3.ensures.items; taken = c.new-4.ensures.items; claimed = c.new-5.ensures.items };
       sent = omega (arith, none);
       room = tt;
     }

@@ -20,7 +20,7 @@ invariant_of-self-2 c =
     let p : Inside = c.self.inside in
     let m = c.make_room.ensures in
     let enough : AreEnough (graph_of p) p.fields (raised_to p.fields.reading c.args.room.reading) c.args.room c.in-Some.needs =
-        subst (λ r. AreEnough (graph_of p) p.fields r c.args.room c.in-Some.needs) c.raised_to-reading.ensures
-        (subst (λ (plan : Parts). AreEnough plan.graph p.fields c.raised_to-reading.result c.args.room c.in-Some.needs) c.deref.ensures c.in-Some.ensures) in
+    subst (λ r. AreEnough (graph_of p) p.fields r c.args.room c.in-Some.needs) c.raised_to-reading.ensures
+    (subst (λ (plan : Parts). AreEnough plan.graph p.fields c.raised_to-reading.result c.args.room c.in-Some.needs) c.deref.ensures c.in-Some.ensures) in
     is_wider p c.make_room.new.fields c.make_room.new.history c.make_room.new.lists (Some c.args.room) c.self.invariant m.fields m.history m.lists
     (is_roomy p c.make_room.new.fields c.make_room.new.history c.make_room.new.lists (Some c.args.room) c.args.room c.in-Some.needs m.fields enough c.in_ok-make_room.ensures.met.0 c.in_ok-make_room.ensures.met.1 c.in_ok-make_room.ensures.met.2)

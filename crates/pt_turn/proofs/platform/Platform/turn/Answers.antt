@@ -20,7 +20,7 @@ pub make-self-inside-requires : goal.make-self-inside-requires
 make-self-inside-requires c =
     let p : Inside = c.self.inside in
     let room : (r : Room) × IsRoomy p r × IsEnough c.args.reading (length c.args.done.now) (length c.args.taken.now) c.args.most r = both_rooms p p.room (IsEnough c.args.reading (length c.args.done.now) (length c.args.taken.now) c.args.most) c.self.invariant.room
-        (subst (λ (v : PlatformView). MatchOption v.room ⊥ (IsEnough c.args.reading (length c.args.done.now) (length c.args.taken.now) c.args.most)) (sym c.self.view_is) c.requires.room) in
+    (subst (λ (v : PlatformView). MatchOption v.room ⊥ (IsEnough c.args.reading (length c.args.done.now) (length c.args.taken.now) c.args.most)) (sym c.self.view_is) c.requires.room) in
     let done : AreDone (graph_of p) c.args.done.now = subst (λ (v : PlatformView). AreDone v.plan.graph c.args.done.now) (sym c.self.view_is) c.requires.done in
     let may : MayCome (graph_of p) (level_of (arc_value p.plan).ranks) p.number (state_at (view_of p)) c.args.taken.now = subst (λ (v : PlatformView). MayCome v.plan.graph (level_at v) v.number (state_at v) c.args.taken.now) (sym c.self.view_is) c.requires.taken in
     subst (λ (plan : Parts). IsReady plan (record { level = level_of plan.ranks; platform = p.number; taken = messages_of p.history.turns }) p.number p.closing c.raised_to-reading.result c.args.most c.args.done.now c.args.taken.now p.fields p.lists × (CanKeep plan c.raised_to-reading.result (length c.args.done.now) (length c.args.taken.now) c.args.most p.fields p.history.room × (c.args.most ≤ c.args.tasks.now.spare))) (sym c.deref.ensures)
@@ -32,10 +32,10 @@ invariant_of-self c =
     let p : Inside = c.self.inside in
     let m = c.make-self-inside.ensures in
     let room : (r : Room) × IsRoomy p r × IsEnough c.args.reading (length c.args.done.now) (length c.args.taken.now) c.args.most r = both_rooms p p.room (IsEnough c.args.reading (length c.args.done.now) (length c.args.taken.now) c.args.most) c.self.invariant.room
-        (subst (λ (v : PlatformView). MatchOption v.room ⊥ (IsEnough c.args.reading (length c.args.done.now) (length c.args.taken.now) c.args.most)) (sym c.self.view_is) c.requires.room) in
+    (subst (λ (v : PlatformView). MatchOption v.room ⊥ (IsEnough c.args.reading (length c.args.done.now) (length c.args.taken.now) c.args.most)) (sym c.self.view_is) c.requires.room) in
     let done : IsDone p c.raised_to-reading.result c.args.most c.args.done.now c.args.taken.now c.make-self-inside.new.fields c.make-self-inside.new.history c.make-self-inside.new.lists c.make-self-inside.result c.args.tasks.now.tasks c.make-self-inside.new.tasks.tasks =
-        is_done p c.deref.result.now room.0 c.raised_to-reading.result c.args.most c.args.done.now c.args.taken.now c.make-self-inside.new.fields c.make-self-inside.new.history c.make-self-inside.new.lists c.make-self-inside.result c.args.tasks.now.tasks c.make-self-inside.new.tasks.tasks c.deref.ensures room.1 room.2.done
-        m.kept m.sound m.sensors m.all_rows m.reading m.claims m.empty m.outbox m.sent c.raised_to-reading.type_inv in
+    is_done p c.deref.result.now room.0 c.raised_to-reading.result c.args.most c.args.done.now c.args.taken.now c.make-self-inside.new.fields c.make-self-inside.new.history c.make-self-inside.new.lists c.make-self-inside.result c.args.tasks.now.tasks c.make-self-inside.new.tasks.tasks c.deref.ensures room.1 room.2.done
+    m.kept m.sound m.sensors m.all_rows m.reading m.claims m.empty m.outbox m.sent c.raised_to-reading.type_inv in
     is_again p c.raised_to-reading.result c.args.most c.args.done.now c.args.taken.now c.make-self-inside.new.fields c.make-self-inside.new.history c.make-self-inside.new.lists c.make-self-inside.result c.args.tasks.now.tasks c.make-self-inside.new.tasks.tasks c.self.invariant c.in_default.is done
 
 pub returns-clause-turned : goal.returns-clause-turned
@@ -43,10 +43,10 @@ returns-clause-turned c =
     let p : Inside = c.self.inside in
     let m = c.make-self-inside.ensures in
     let room : (r : Room) × IsRoomy p r × IsEnough c.args.reading (length c.args.done.now) (length c.args.taken.now) c.args.most r = both_rooms p p.room (IsEnough c.args.reading (length c.args.done.now) (length c.args.taken.now) c.args.most) c.self.invariant.room
-        (subst (λ (v : PlatformView). MatchOption v.room ⊥ (IsEnough c.args.reading (length c.args.done.now) (length c.args.taken.now) c.args.most)) (sym c.self.view_is) c.requires.room) in
+    (subst (λ (v : PlatformView). MatchOption v.room ⊥ (IsEnough c.args.reading (length c.args.done.now) (length c.args.taken.now) c.args.most)) (sym c.self.view_is) c.requires.room) in
     let done : IsDone p c.raised_to-reading.result c.args.most c.args.done.now c.args.taken.now c.make-self-inside.new.fields c.make-self-inside.new.history c.make-self-inside.new.lists c.make-self-inside.result c.args.tasks.now.tasks c.make-self-inside.new.tasks.tasks =
-        is_done p c.deref.result.now room.0 c.raised_to-reading.result c.args.most c.args.done.now c.args.taken.now c.make-self-inside.new.fields c.make-self-inside.new.history c.make-self-inside.new.lists c.make-self-inside.result c.args.tasks.now.tasks c.make-self-inside.new.tasks.tasks c.deref.ensures room.1 room.2.done
-        m.kept m.sound m.sensors m.all_rows m.reading m.claims m.empty m.outbox m.sent c.raised_to-reading.type_inv in
+    is_done p c.deref.result.now room.0 c.raised_to-reading.result c.args.most c.args.done.now c.args.taken.now c.make-self-inside.new.fields c.make-self-inside.new.history c.make-self-inside.new.lists c.make-self-inside.result c.args.tasks.now.tasks c.make-self-inside.new.tasks.tasks c.deref.ensures room.1 room.2.done
+    m.kept m.sound m.sensors m.all_rows m.reading m.claims m.empty m.outbox m.sent c.raised_to-reading.type_inv in
     let new : PlatformView = view_of (after p c.make-self-inside.new.fields c.make-self-inside.new.history c.make-self-inside.new.lists c.make-self-inside.result) in
     λ none. subst (λ (v : PlatformView). (made : IsTurned v new c.args.reading c.args.most c.args.done.now c.args.taken.now) × (c.make-self-inside.new.tasks.tasks ≡ c.args.tasks.now.tasks ++ made.turn.claimed) × StaysThere v new) c.self.view_is
     (is_turned p c.raised_to-reading.result c.args.reading c.args.most c.args.done.now c.args.taken.now c.make-self-inside.new.fields c.make-self-inside.new.history c.make-self-inside.new.lists c.make-self-inside.result c.args.tasks.now.tasks c.make-self-inside.new.tasks.tasks c.raised_to-reading.ensures done)
