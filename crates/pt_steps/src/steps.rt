@@ -46,7 +46,7 @@ pub fn turn(
     ghost basis: { Basis }
     requires sound { IsSound plan.now.graph fields.old }
     requires sensors { AreSensors plan.now.graph fields.old.sensors.items }
-    requires ground { IsGround plan.now.graph basis fields.old }
+    requires goes_on { IsGround plan.now.graph basis fields.old }
     requires platform { basis.platform ≡ number }
     requires closing { IsClosing plan.now.graph number closing }
     requires rises { (p : ℕ) → fields.old.reading ≡ Some p → p ≤ reading }

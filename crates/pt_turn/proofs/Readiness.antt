@@ -44,7 +44,7 @@ is_ready p room reading n results messages is on roomy enough most done may =
     record {
       sound = is.sound;
       sensors = is.sensors;
-      ground = record {
+      goes_on = record {
         never = next.never;
         fit = open_claims_fit (graph_of p) (level_of (arc_value p.plan).ranks) (claims_of (graph_of p) ran.all) p.fields (messages_of p.history.turns) is.admitted.lawful is_wired is.admitted.levels is.sound next.bounded;
       };

@@ -24,7 +24,7 @@ use Rattle.pt_turn.specs.Platforms.{messages_of}
 pub record IsReady (plan : Parts) (w : Basis) (number close_at r n : ℕ) (results : List Done) (messages : List OnLink) (f : Fields) (lists : Lists) : Type 0 where
   pub sound : IsSound plan.graph f
   pub sensors : AreSensors plan.graph f.sensors.items
-  pub ground : IsGround plan.graph w f
+  pub goes_on : IsGround plan.graph w f
   pub platform : w.platform ≡ number
   pub closing : IsClosing plan.graph number close_at
   pub rises : (p : ℕ) → f.reading ≡ Some p → p ≤ r

@@ -27,13 +27,13 @@ posts-requires-clause-wired g c = subst IsWired (sym c.graph-graph.ensures.value
 
 pub posts-requires-clause-never : goal.posts-requires-clause-never
 posts-requires-clause-never g c =
-    let ground : IsGround c.graph-graph.result.now g.basis c.args.fields.now = subst (λ gr. IsGround gr g.basis c.args.fields.now) (sym c.graph-graph.ensures.value) c.requires.1.1.0 in
-    λ taken. never_posts c.graph-graph.result.now (state_of c.args.fields.now g.basis.taken) (λ l. on_link l taken) ground.never.posts
+    let goes_on : IsGround c.graph-graph.result.now g.basis c.args.fields.now = subst (λ gr. IsGround gr g.basis c.args.fields.now) (sym c.graph-graph.ensures.value) c.requires.1.1.0 in
+    λ taken. never_posts c.graph-graph.result.now (state_of c.args.fields.now g.basis.taken) (λ l. on_link l taken) goes_on.never.posts
 
 pub enter-requires-clause-never : goal.enter-requires-clause-never
 enter-requires-clause-never g c =
-    let ground : IsGround c.graph-graph.result.now g.basis c.args.fields.now = subst (λ gr. IsGround gr g.basis c.args.fields.now) (sym c.graph-graph.ensures.value) c.requires.1.1.0 in
-    λ taken. ground.never.rows c.posts.ensures.posted.posted (state_of c.posts.new.fields g.basis.taken) c.args.reading (c.posts.ensures.posted.posts g.basis.taken)
+    let goes_on : IsGround c.graph-graph.result.now g.basis c.args.fields.now = subst (λ gr. IsGround gr g.basis c.args.fields.now) (sym c.graph-graph.ensures.value) c.requires.1.1.0 in
+    λ taken. goes_on.never.rows c.posts.ensures.posted.posted (state_of c.posts.new.fields g.basis.taken) c.args.reading (c.posts.ensures.posted.posts g.basis.taken)
 
 pub enter-requires-clause-events : goal.enter-requires-clause-events
 enter-requires-clause-events g c =
@@ -45,11 +45,11 @@ pub takes-late-requires : goal.takes-late-requires
 takes-late-requires g c =
     let gr : Graph = c.graph-graph.result.now in
     let value : gr ≡ c.args.plan.now.graph = c.graph-graph.ensures.value in
-    let ground : IsGround gr g.basis c.args.fields.now = subst (λ z. IsGround z g.basis c.args.fields.now) (sym value) c.requires.1.1.0 in
+    let goes_on : IsGround gr g.basis c.args.fields.now = subst (λ z. IsGround z g.basis c.args.fields.now) (sym value) c.requires.1.1.0 in
     let rises : (p : ℕ) → c.args.fields.now.reading ≡ Some p → p ≤ c.args.reading = c.requires.1.1.1.1.1.0 in
     let room : HasRoom gr c.args.fields.now c.args.lists.now c.args.reading (length c.args.dones.now) (length c.args.messages.now) c.args.most = subst (λ z. HasRoom z c.args.fields.now c.args.lists.now c.args.reading (length c.args.dones.now) (length c.args.messages.now) c.args.most) (sym value) c.requires.1.1.1.1.1.1.1.1.1.1.0 in
     let never : NeverTakes gr g.basis (state_of c.enter.new.fields g.basis.taken) = subst (NeverTakes gr g.basis) (sym (c.enter.ensures.entered g.basis.taken))
-    (λ ms got l link m takes at orderly on. ground.never.messages c.posts.ensures.posted.posted (state_of c.posts.new.fields g.basis.taken) c.args.reading ms got l link m (c.posts.ensures.posted.posts g.basis.taken) rises takes at orderly on) in
+    (λ ms got l link m takes at orderly on. goes_on.never.messages c.posts.ensures.posted.posted (state_of c.posts.new.fields g.basis.taken) c.args.reading ms got l link m (c.posts.ensures.posted.posts g.basis.taken) rises takes at orderly on) in
     let due : length (all_due gr c.args.reading (left_in c.posts.new.fields.sensors.items)) ≡ length (all_due gr c.args.reading (left_in c.args.fields.now.sensors.items)) = ap (λ v. length (all_due gr c.args.reading (left_in v.items))) c.posts.ensures.frame.0 in
     let events : length c.args.messages.now ≤ c.enter.new.fields.queue.spare = omega (arith, due, c.posts.ensures.events, c.enter.ensures.events, room.events) in
     let kept : vec_len c.args.lists.now.taken + length c.args.messages.now ≤ vec_capacity c.args.lists.now.taken = room.taken in
