@@ -89,8 +89,7 @@ impl Platform {
         self.fields.open_claims.len()
     }
 
-    /// The open claim of a number, counted from 0 in the order in which they were made; `None` exactly where there are
-    /// not so many.
+    /// The open claim of a number, counted from 0; `None` exactly where there are not so many.
     pub fn open_claim(&self, number: usize) -> Option<&Task>
         ensures { option_map (λ task. task.now) result ≡ option_map (λ claim. claim.task) (slice_get self.now.open_claims number) }
     {
