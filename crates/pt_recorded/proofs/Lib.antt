@@ -1,3 +1,4 @@
 pub mod Lateness
 pub mod Asking
+pub mod Fitting
 pub mod Recording

@@ -1,6 +1,6 @@
 -- The rows of one actor more, and the causes of faults on the way.
-use Rattle.std.proofs.Common.{◌≡◌, ℕ, ◌+◌, ◌<◌, ◌≤◌, ◌==◌, ◌≢◌, Bool, true, false, nat_lt, List, [], ◌∷◌, ◌++◌, Option, Err, IfSome, refl, sym, ap, ap₂, subst, ◌∙◌, arith, length, ◌⊎◌, inl, inr, ⊎_elim, append_assoc, eq-eqb, ne_eqb, if◌then◌else◌}
-use Rattle.std.proofs.lemmas.List.{append-nil, get_or_past}
+use Rattle.std.proofs.Common.{◌≡◌, ℕ, ◌+◌, ◌<◌, ◌≤◌, ◌==◌, ◌≢◌, zero, suc, slice_get, Some, Bool, true, false, nat_lt, List, [], ◌∷◌, ◌++◌, Option, Err, IfSome, refl, sym, ap, ap₂, subst, ◌∙◌, arith, length, ◌⊎◌, inl, inr, ⊎_elim, append_assoc, eq-eqb, ne_eqb, if◌then◌else◌}
+use Rattle.std.proofs.lemmas.List.{append-nil, get_or_past, length-append}
 use Rattle.std.proofs.lemmas.Bool.Decides.{nat_tests}
 use Rattle.pt_types.specs.declared.graph.Graph.{Graph}
 use Rattle.pt_types.specs.declared.graph.Actor.{Actor}
@@ -10,7 +10,9 @@ use Rattle.pt_sensors.specs.declared.sensor_rows.SensorRows.{SensorRows}
 use Rattle.pt_sensors.specs.declared.fault.RowFault.{RowFault}
 use Rattle.pt_sensors.specs.declared.fault.RowFault.TheVariants as row
 use Rattle.pt_sensors.specs.RowsOf.{rows_of}
+use Rattle.pt_sensors.specs.Order.{AreInOrder}
 use Rattle.pt_semantics.specs.Lists.{Each}
+use Rattle.pt_semantics.specs.Rows.{FitRows}
 use Rattle.pt_semantics.specs.Edges.{kind_of, no_actor}
 use Rattle.pt_meaning.specs.Opening.{rows_for, IsOfActors}
 use Rattle.pt_recorded.specs.declared.fault.LateRows.{LateRows}
@@ -21,6 +23,8 @@ use Rattle.pt_recorded.specs.Asked.{Asks, Contents, ReadFails, Reading, files_be
 use Rattle.pt_recorded.specs.Recorded.{AllPass, AreRows, CauseOfRows, HaveRows, Passes, RowsOfKind, SensorFails, SensorLate, SensorUnread}
 use Rattle.pt_recorded.specs.Files.{CauseOfActor, CauseOfFile, IsSensorWith}
 use Rattle.pt_recorded.specs.Faults.{fault_of_rows}
+use Rattle.pt_recorded.specs.Places.{StandInPlace, of_run}
+use Rattle.pt_recorded.proofs.Fitting.{all_fit}
 use Rattle.pt_recorded.proofs.Asking.{append_none, read_after}
 
 -- the rows for an actor, with one entry more
@@ -44,12 +48,15 @@ rows_new xs s a is none = rows_push xs s a ∙ ap₂ (λ front ys. front ++ ys) 
 pub record HasRows (l : LateRows) (tells : Contents) (g : Graph) (a : ℕ) (rows : List Row) : Type 0 where
   pub kind : RowsOfKind tells (kind_of g a) rows
   pub passes : Passes l g.until (kind_of g a) rows
+  pub order : AreInOrder rows
 
 -- the entries of the first n actors
 pub record AreFirstRows (l : LateRows) (tells : Contents) (g : Graph) (xs : List SensorRows) (n : ℕ) : Type 0 where
   pub rows : (a : ℕ) → a < n → HasRows l tells g a (rows_for xs a)
   pub past : (a : ℕ) → n ≤ a → rows_for xs a ≡ []
   pub actors : Each (IsOfActors (length g.actors)) xs
+  pub count : length xs ≡ n
+  pub places : (k : ℕ) (s : SensorRows) → slice_get xs k ≡ Some s → s.actor ≡ k
 
 cases : (a n : ℕ) → a < n + 1 → (a < n) ⊎ (a ≡ n)
 cases a n h = by_test (nat_lt a n) refl
@@ -62,6 +69,16 @@ each_push : {X : Type 0} (P : X → Type 0) (xs : List X) (x : X) → Each P xs 
 each_push P [] x each p = (p, tt)
 each_push P (y ∷ xs) x each p = (each.0, each_push P xs x each.1 p)
 
+-- one entry more stands at the end
+pushed_at : (xs : List SensorRows) (s : SensorRows) (k : ℕ) (z : SensorRows) → slice_get (xs ++ s ∷ []) k ≡ Some z → (slice_get xs k ≡ Some z) ⊎ ((k ≡ length xs) × (z ≡ s))
+pushed_at [] s zero z at = inr (refl, cc)
+pushed_at [] s (suc k) z at = absurd cc
+pushed_at (x ∷ xs) s zero z at = inl at
+pushed_at (x ∷ xs) s (suc k) z at = ⊎_elim (λ (old : slice_get xs k ≡ Some z). inl old) (λ (new : (k ≡ length xs) × (z ≡ s)). inr (ap suc new.0, new.1)) (pushed_at xs s k z at)
+
+length_push : (xs : List SensorRows) (s : SensorRows) → length (xs ++ s ∷ []) ≡ length xs + 1
+length_push xs s = length-append xs (s ∷ [])
+
 pub first_rows_more : (l : LateRows) (tells : Contents) (g : Graph) (xs : List SensorRows) (n : ℕ) (s : SensorRows) → AreFirstRows l tells g xs n → s.actor ≡ n → n < length g.actors → HasRows l tells g n s.rows
     → AreFirstRows l tells g (xs ++ s ∷ []) (n + 1)
 first_rows_more l tells g xs n s are is within has = record {
@@ -71,6 +88,8 @@ first_rows_more l tells g xs n s are is within has = record {
       (cases a n lt);
   past = λ a le. rows_same xs s a (λ e. let both : n ≡ a = sym is ∙ e in absurd (omega (arith, both, le))) ∙ are.past a (omega (arith, le));
   actors = each_push (IsOfActors (length g.actors)) xs s are.actors (subst (λ z. z < length g.actors) (sym is) within);
+  count = length_push xs s ∙ ap (λ z. z + 1) are.count;
+  places = λ k z at. ⊎_elim (λ (old : slice_get xs k ≡ Some z). are.places k z old) (λ (new : (k ≡ length xs) × (z ≡ s)). ap (λ (e : SensorRows). e.actor) new.1 ∙ (is ∙ (sym are.count ∙ sym new.0))) (pushed_at xs s k z at);
 }
 
 -- past the last actor nobody has rows
@@ -90,6 +109,7 @@ all_rows l tells g xs n are whole a = by_test (nat_lt a n) refl
         record {
           kind = subst (λ (x : Actor). RowsOfKind tells x.kind (rows_for xs a)) (sym (get_or_past g.actors a no_actor past)) none;
           passes = subst (λ (x : Actor). Passes l g.until x.kind (rows_for xs a)) (sym (get_or_past g.actors a no_actor past)) (nobody l (rows_for xs a) none);
+          order = subst AreInOrder (sym none) (record { most = omega arith; order = tt });
         }
 
 pub are_rows : (l : LateRows) (tells : Contents) (g : Graph) (xs : List SensorRows) (n : ℕ) → AreFirstRows l tells g xs n → length g.actors ≤ n → AreRows tells g (rows_for xs)
@@ -97,6 +117,12 @@ are_rows l tells g xs n are whole a = (all_rows l tells g xs n are whole a).kind
 
 pub all_pass : (l : LateRows) (tells : Contents) (g : Graph) (xs : List SensorRows) (n : ℕ) → AreFirstRows l tells g xs n → length g.actors ≤ n → AllPass l g (rows_for xs)
 all_pass l tells g xs n are whole a = (all_rows l tells g xs n are whole a).passes
+
+pub stand_in_place : (l : LateRows) (tells : Contents) (g : Graph) (xs : List SensorRows) (n : ℕ) → AreFirstRows l tells g xs n → n ≡ length g.actors → StandInPlace g xs
+stand_in_place l tells g xs n are whole = record { count = are.count ∙ whole; places = are.places }
+
+pub fit_rows : (tells : Contents) (g : Graph) (xs : List SensorRows) (n : ℕ) → AreFirstRows late.Refused tells g xs n → length g.actors ≤ n → FitRows g (of_run g (rows_for xs))
+fit_rows tells g xs n are whole = all_fit tells g (rows_for xs) (λ a. (all_rows late.Refused tells g xs n are whole a).kind) (λ a. (all_rows late.Refused tells g xs n are whole a).passes) (λ a. (all_rows late.Refused tells g xs n are whole a).order)
 
 -- a fault of a sensor's file
 pub rows_fail : (tells : Contents) (actor : ℕ) (file : List ℕ) (f : RowFault) (r : Reading) → (f ≢ row.Memory → IfSome (tells file) (λ bytes. rows_of bytes ≡ Err f))

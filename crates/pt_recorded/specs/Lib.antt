@@ -1,4 +1,5 @@
 pub mod Faults
 pub mod Asked
 pub mod Recorded
+pub mod Places
 pub mod Files

@@ -2,6 +2,7 @@
 
 ghost use Rattle.std.specs.Prelude.{◌≡◌, ◌<◌, ◌≤◌, ◌+◌, [], ◌∷◌, Ok, None, IfOk, IfErr, IfNone, IfSome, OnOk, length};
 ghost use Rattle.pt_sensors.specs.Late.{late_row};
+ghost use Rattle.pt_sensors.specs.Order.{AreInOrder};
 ghost use Rattle.pt_sensors.specs.RowsOf.{rows_of};
 ghost use Rattle.pt_recorded.specs.declared.fault.LateRows.TheVariants.{Refused};
 ghost use Rattle.pt_recorded.specs.Asked.{Asks, AsksOrNot};
@@ -22,7 +23,7 @@ pub fn rows_of_file<S: Source>(
     name: &str,
 ) -> Result<List<Row>, RecordedFault>
     ensures rows { IfOk result (λ rows. IfSome (S.tells source.old name.now) (λ bytes. rows_of bytes ≡ Ok rows)) }
-    ensures few { IfOk result (λ rows. length rows ≤ 100000) }
+    ensures order { IfOk result AreInOrder }
     ensures fault { IfErr result (λ f. CauseOfFile actor f (S.tells source.old) name.now
         (record { asked_before = S.asked source.old; asked_now = S.asked source.new; before = S.faults source.old; now = S.faults source.new })) }
     ensures keeps { S.tells source.new ≡ S.tells source.old }

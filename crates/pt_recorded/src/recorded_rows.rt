@@ -3,10 +3,14 @@
 ghost use Rattle.std.specs.Prelude.{◌≡◌, ◌<◌, ◌≤◌, ◌^◌, [], IfOk, IfErr, length};
 ghost use Rattle.pt_semantics.specs.Lists.{Each};
 ghost use Rattle.pt_semantics.specs.Edges.{kind_of};
+ghost use Rattle.pt_semantics.specs.Rows.{FitRows};
+ghost use Rattle.pt_sensors.specs.Order.{AreInOrder};
 ghost use Rattle.pt_meaning.specs.Opening.{rows_for, IsOfActors};
 ghost use Rattle.pt_recorded.specs.Asked.{Asks, AsksFiles, AsksOrNot, file_of};
 ghost use Rattle.pt_recorded.specs.Recorded.{AllPass, AreRows, CauseOfRows, Passes, RowsOfKind};
+ghost use Rattle.pt_recorded.specs.declared.fault.LateRows.TheVariants.{Refused};
 ghost use Rattle.pt_recorded.specs.Files.{CauseOfActor};
+ghost use Rattle.pt_recorded.specs.Places.{StandInPlace, of_run};
 
 use crate::fault::{LateRows, RecordedFault};
 use crate::file::{judged, rows_of_file};
@@ -27,6 +31,7 @@ fn rows_of_actor<S: Source>(
     requires { actor < length graph.now.actors }
     ensures rows { IfOk result (λ rows. RowsOfKind (S.tells source.old) (kind_of graph.now actor) rows) }
     ensures passes { IfOk result (λ rows. Passes late graph.now.until (kind_of graph.now actor) rows) }
+    ensures order { IfOk result AreInOrder }
     ensures fault { IfErr result (λ f. CauseOfActor late f (S.tells source.old) graph.now actor
         (record { asked_before = S.asked source.old; asked_now = S.asked source.new; before = S.faults source.old; now = S.faults source.new })) }
     ensures keeps { S.tells source.new ≡ S.tells source.old }
@@ -60,6 +65,8 @@ pub fn recorded<S: Source>(
     ensures rows { IfOk result (λ all. AreRows (S.tells source.old) graph.now (rows_for all.items)) }
     ensures passes { IfOk result (λ all. AllPass late graph.now (rows_for all.items)) }
     ensures actors { IfOk result (λ all. Each (IsOfActors (length graph.now.actors)) all.items) }
+    ensures places { IfOk result (λ all. StandInPlace graph.now all.items) }
+    ensures fit { IfOk result (λ all. late ≡ Refused → FitRows graph.now (of_run graph.now (rows_for all.items))) }
     ensures fault { IfErr result (λ f. CauseOfRows late f (S.tells source.old) graph.now []
         (record { asked_before = S.asked source.old; asked_now = S.asked source.new; before = S.faults source.old; now = S.faults source.new })) }
     ensures asks { AsksFiles graph.now (S.asked source.old) (S.asked source.new) }

@@ -1,9 +1,9 @@
-use Rattle.std.proofs.Common.{◌≡◌, ◌<◌, ◌+◌, ◌∙◌, refl, subst, sym, arith, is_ok, true, length, rules}
+use Rattle.std.proofs.Common.{◌≡◌, ◌<◌, ◌≤◌, ◌+◌, ◌∙◌, refl, subst, sym, arith, is_ok, true, length, rules}
 use Rattle.pt_sensors.specs.declared.sensor_rows.SensorRows.{SensorRows}
 use Rattle.pt_recorded.specs.Recorded.{RowsOfKind}
 use Rattle.pt_semantics.specs.Edges.{kind_of}
 use Rattle.pt_recorded.proofs.Asking.{asks_files, asks_at_most}
-use Rattle.pt_recorded.proofs.Recording.{AreFirstRows, first_rows_more, later}
+use Rattle.pt_recorded.proofs.Recording.{AreFirstRows, first_rows_more, fit_rows, later}
 use Rattle.pt_recorded.proofs.recorded_rows.recorded.Goals as goal
 
 pub returns-in-Err-clause-fault : goal.returns-in-Err-clause-fault
@@ -30,7 +30,7 @@ loop-number-preserved g c =
     let kind = subst (λ t. RowsOfKind t (kind_of graph n) c.in-Ok.rows) c.loop-number.invariant.keeps c.in-Ok.ensures.rows in
     record {
       rows = subst (λ xs. AreFirstRows c.args.late tells graph xs (c.loop-number.number + 1)) (sym items)
-          (first_rows_more c.args.late tells graph c.loop-number.all.items n entry c.loop-number.invariant.rows refl within (record { kind = kind; passes = c.in-Ok.ensures.passes }));
+          (first_rows_more c.args.late tells graph c.loop-number.all.items n entry c.loop-number.invariant.rows refl within (record { kind = kind; passes = c.in-Ok.ensures.passes; order = c.in-Ok.ensures.order }));
       keeps = c.rows_of_actor.ensures.keeps ∙ c.loop-number.invariant.keeps;
       grows = omega (arith, c.loop-number.invariant.grows, c.rows_of_actor.ensures.grows);
       asks = asks_files graph n (g.S.Source.asked c.args.source.now) (g.S.Source.asked c.loop-number.source) (g.S.Source.asked c.rows_of_actor.new.source) within c.loop-number.invariant.asks c.in-Ok.ensures.asks;
@@ -42,3 +42,8 @@ returns-then-is_err-clause-asks g c =
       c.loop-number.number + 1,
       asks_files c.args.graph.now c.loop-number.number (g.S.Source.asked c.args.source.now) (g.S.Source.asked c.loop-number.source) (g.S.Source.asked c.rows_of_actor.new.source) within c.loop-number.invariant.asks c.in-Ok.ensures.asks,
     )
+
+pub returns-clause-fit : goal.returns-clause-fit
+returns-clause-fit g c =
+    let whole : length c.args.graph.now.actors ≤ c.loop-number.number = search rules in
+    λ refused. fit_rows (g.S.Source.tells c.args.source.now) c.args.graph.now c.loop-number.all.items c.loop-number.number (subst (λ l. AreFirstRows l (g.S.Source.tells c.args.source.now) c.args.graph.now c.loop-number.all.items c.loop-number.number) refused c.loop-number.invariant.rows) whole
