@@ -1,0 +1,4 @@
+//! All platforms of a plan.
+//!
+//! Read first: `specs/All.antt`.
+#![tactic(auto)]
