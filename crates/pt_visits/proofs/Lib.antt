@@ -1,0 +1,5 @@
+pub mod Sent
+pub mod Pushed
+pub mod Emptied
+pub mod Visits
+pub mod Lawful

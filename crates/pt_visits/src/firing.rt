@@ -1,0 +1,43 @@
+//! What was claimed is fired.
+
+ghost use Rattle.std.specs.Prelude.{◌≡◌, OnOk, map};
+ghost use Rattle.pt_types.specs.declared.firing.Done.{Done as Finished};
+ghost use Rattle.pt_types.specs.Lawful.{IsLawful};
+ghost use Rattle.pt_post.specs.Posted.{AreDone, IsDone};
+
+use pt_actors::{Done, Task, fire};
+use pt_blocks::Blocks;
+use pt_tags::Memory;
+use pt_types::{Graph, Kind};
+
+/// Fires a task. Where the graph has no such actor it is fired as a receiver's, as the definitions have it.
+fn fire_one(blocks: &Blocks, graph: &Graph, task: &Task) -> Done
+    requires lawful { IsLawful graph.now }
+    ensures task { result.task ≡ task.now }
+    ensures done { IsDone graph.now result }
+{
+    match graph.actors.as_slice().get(task.actor as usize) {
+        Some(actor) => fire(blocks, &actor.kind, task),
+        None => fire(blocks, &Kind::Receive, task),
+    }
+}
+
+/// Fires these tasks, one after another, and leaves their results alone in `results`.
+pub fn fire_all(
+    blocks: &Blocks,
+    graph: &Graph,
+    tasks: &[Task],
+    results: &mut Vec<Done>,
+) -> Result<(), Memory>
+    requires lawful { IsLawful graph.now }
+    ensures tasks { OnOk result (map (λ (d : Finished). d.task) results.new.items ≡ tasks.now) }
+    ensures done { OnOk result (AreDone graph.now results.new.items) }
+{
+    results.clear();
+    for task in tasks {
+        if results.push(fire_one(blocks, graph, task)).is_err() {
+            return Err(Memory);
+        }
+    }
+    Ok(())
+}

@@ -1,0 +1,36 @@
+//! What goes out of a platform.
+
+ghost use Rattle.std.specs.Prelude.{◌≡◌, ◌<◌, ◌≤◌, [], length};
+ghost use Rattle.pt_semantics.specs.Closing.{on_link};
+ghost use Rattle.pt_turn.specs.Gone.{last_sent};
+ghost use Rattle.pt_visits.specs.Pushing.{ArePushed, IsPushed};
+
+use pt_links::Pipe;
+use pt_turn::Platform;
+
+/// Pushes the messages of a link's outbox into its pipe, until the outbox is empty or the pipe is full.
+fn push_from(platform: &mut Platform, link: u32, pipe: &mut Pipe)
+    requires begun { 0 < length platform.old.turns }
+    requires nothing_sent { on_link link (last_sent platform.old.turns) ≡ [] }
+    ensures { IsPushed link platform.old platform.new pipe.old pipe.new }
+{
+    while let Some(message) = platform.outgoing(link) {
+        if pipe.push(message).is_err() {
+            return;
+        }
+        platform.went(link);
+    }
+}
+
+/// Pushes the messages of a platform's outboxes into the pipes, link by link in graph order: of each link until its outbox
+/// is empty or its pipe is full.
+pub fn push_all(platform: &mut Platform, pipes: &mut [Pipe])
+    requires begun { 0 < length platform.old.turns }
+    requires nothing_sent { last_sent platform.old.turns ≡ [] }
+    requires few { length pipes.old ≤ 64 }
+    ensures { ArePushed platform.old platform.new pipes.old pipes.new }
+{
+    for l in 0..pipes.len() {
+        push_from(platform, l as u32, &mut pipes[l]);
+    }
+}

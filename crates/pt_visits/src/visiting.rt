@@ -1,0 +1,69 @@
+//! A visit of a platform.
+
+ghost use Rattle.std.specs.Prelude.{◌≡◌, None, OnOk, length};
+ghost use Rattle.pt_post.specs.Posted.{AreDone};
+ghost use Rattle.pt_turn.specs.Platforms.{level_at, state_at};
+ghost use Rattle.pt_turn.specs.Turned.{MayCome};
+ghost use Rattle.pt_visits.specs.Pipes.{arriving};
+ghost use Rattle.pt_visits.specs.Visited.{IsVisited};
+
+use crate::desk::Desk;
+use crate::firing::fire_all;
+use crate::pushing::push_all;
+use crate::taking::take_all;
+use pt_actors::Done;
+use pt_blocks::Blocks;
+use pt_links::Pipe;
+use pt_tags::Memory;
+use pt_turn::{Platform, Room};
+
+/// How many units a platform claims at most in one turn.
+const MOST: usize = 64;
+
+/// Visits a platform at a reading, in microseconds, which is raised to the last one where it is smaller: takes all messages
+/// that have come to it, link by link, makes one turn with the results in hand, and pushes what goes out until each outbox
+/// is empty or its link is full. The tasks that it claimed are fired: their results are in hand for the next visit.
+///
+/// The platform tells by `fault` whether another visit may come. Where memory runs out none may: messages that were taken
+/// are lost.
+pub fn visit(
+    platform: &mut Platform,
+    pipes: &mut [Pipe],
+    results: &mut Vec<Done>,
+    desk: &mut Desk,
+    blocks: &Blocks,
+    reading: u64,
+) -> Result<(), Memory>
+    requires no_fault { platform.old.fault ≡ None }
+    requires links { length pipes.old ≡ length platform.old.plan.graph.links }
+    requires done { AreDone platform.old.plan.graph results.old.items }
+    requires taken { MayCome platform.old.plan.graph (level_at platform.old) platform.old.number (state_at platform.old)
+        (arriving platform.old.plan.graph platform.old.number 0 pipes.old) }
+    ensures visited { OnOk result (IsVisited reading results.old.items results.new.items platform.old platform.new pipes.old pipes.new) }
+{
+    desk.taken.clear();
+    desk.tasks.clear();
+    let graph = platform.plan().graph();
+    take_all(graph, platform.number(), pipes, &mut desk.taken)?;
+    desk.tasks.reserve(MOST)?;
+    platform.room(Room {
+        reading,
+        done: results.len(),
+        taken: desk.taken.len(),
+        most: MOST,
+    })?;
+    let _ = platform.turn(
+        reading,
+        results.as_slice(),
+        desk.taken.as_slice(),
+        MOST,
+        &mut desk.tasks,
+    );
+    push_all(platform, pipes);
+    fire_all(
+        blocks,
+        platform.plan().graph(),
+        desk.tasks.as_slice(),
+        results,
+    )
+}
