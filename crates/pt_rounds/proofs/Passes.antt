@@ -1,0 +1,221 @@
+-- A round passes one platform more.
+use Rattle.std.proofs.Common.{◌≡◌, ℕ, suc, ◌<◌, ◌≤◌, ◌^◌, ◌⊎◌, ◌≢◌, Bool, true, false, List, [], ◌∷◌, ◌++◌, Option, Some, None, length, set, slice_get, refl, sym, ap, subst, ◌∙◌, arith, inl, inr, ⊎_elim}
+use Rattle.std.proofs.lemmas.Bool.{cases_Bool, false≢true}
+use Rattle.std.proofs.lemmas.Option.{slice_get_within}
+use Rattle.pt_tags.specs.declared.message.Message.{Message}
+use Rattle.pt_types.specs.declared.firing.Done.{Done}
+use Rattle.pt_types.specs.declared.rows.Row.{Row}
+use Rattle.pt_semantics.specs.Linked.{IsFinished}
+use Rattle.pt_semantics.specs.Lists.{Each, IsIn}
+use Rattle.pt_semantics.specs.Platform.{State}
+use Rattle.pt_semantics.specs.Rounds.{IsQuietRound}
+use Rattle.pt_semantics.specs.Turn.{is_quiet}
+use Rattle.pt_semantics.specs.Visits.{Made}
+use Rattle.pt_semantics.proofs.Acyclic.{levels_are_small}
+use Rattle.pt_semantics.proofs.Lookups.{Each-append, IsIn-append_left, IsIn-append_right, same_some}
+use Rattle.pt_semantics.proofs.Onward.{Onward, cases_same, round_onward}
+use Rattle.pt_semantics.proofs.PacedRuns.{run_onward}
+use Rattle.pt_lawful.proofs.Edges.{wired}
+use Rattle.pt_ranks.specs.Ranked.{level_of}
+use Rattle.pt_offsets.specs.Plans.{Parts}
+use Rattle.pt_offsets.specs.Timings.{offset_of}
+use Rattle.pt_turn.specs.declared.fault.TurnFault.{TurnFault}
+use Rattle.pt_turn.specs.declared.fault.TurnFault.TheVariants.{Late, Long}
+use Rattle.pt_turn.specs.Platforms.{PlatformView, state_at}
+use Rattle.pt_turn.specs.Turned.{is_late}
+use Rattle.pt_rounds.specs.Asked.{HaveNoFault}
+use Rattle.pt_rounds.specs.Passing.{HavePassed, IsLong, Stands, WasVisited}
+use Rattle.pt_rounds.specs.Shown.{is_fault}
+use Rattle.pt_rounds.proofs.Listed.{set_other, set_same}
+use Rattle.pt_rounds.proofs.Showing.{Shows, visit_shows}
+use Rattle.pt_rounds.proofs.Steps.{make_one, pass_by}
+
+-- a fault that is no late message
+fault_is : (fault : Option TurnFault) → is_late fault ≡ false → (fault ≡ None) ⊎ ((fault ≡ Some Long) × (is_fault fault ≡ true))
+fault_is None e = inl refl
+fault_is (Some (Late actor tag reading limit)) e = absurd (false≢true (sym e))
+fault_is (Some Long) e = inr (refl, refl)
+
+module _ (plan : Parts) (rows : ℕ → List Row) (count c : ℕ) (olds : List PlatformView) (old_pipes : List (List Message)) (old_results : List (List Done)) (s : Stands plan rows count c olds old_pipes old_results) where
+  pub none_passed : HavePassed plan rows c s.together 0 olds old_pipes old_results true
+  none_passed = record {
+    made = [];
+    together = s.together;
+    round = (refl, refl);
+    shown = s.shown;
+    rest_stays = λ j le. refl;
+    is_quiet_round = λ e. record { quiet = tt; closed = λ i. refl };
+    no_quiet_round = λ e. absurd (false≢true (sym e));
+    faults = λ j v at. inl (s.no_fault j v at);
+    fine = λ none. tt;
+  }
+
+  module _ (n : ℕ) (platforms : List PlatformView) (pipes : List (List Message)) (results : List (List Done)) (quiet : Bool) (h : HavePassed plan rows c s.together n platforms pipes results quiet) where
+    pub passed_onward : n ≤ length platforms → Onward plan.graph (level_of plan.ranks) rows (offset_of plan.offsets) c h.together
+    passed_onward le =
+        let in_graph : n ≤ length plan.graph.platforms = subst (λ k. n ≤ k) h.shown.all.count le in
+        let is_wired = wired plan.graph s.admitted.lawful in
+        (round_onward plan.graph (level_of plan.ranks) rows (offset_of plan.offsets) s.admitted.offsets.units is_wired s.admitted.feasible c n 0 s.together h.together h.made (omega arith)
+        (run_onward plan.graph (level_of plan.ranks) rows (offset_of plan.offsets) is_wired s.admitted.levels (levels_are_small plan.graph (level_of plan.ranks) is_wired s.admitted.levels) s.fit s.admitted.feasible s.admitted.offsets.units s.rounds c s.together s.run)
+        h.round).1
+
+    module _ (v : PlatformView) (there : slice_get platforms n ≡ Some v) where
+      -- what a platform answers is so of all platforms together
+      finished_here : IsFinished v.plan.graph v.number (state_at v) → IsFinished plan.graph n (h.together.at n)
+      finished_here done =
+          subst (IsFinished plan.graph n) (sym (h.shown.states n v there))
+          (subst (λ k. IsFinished plan.graph k (state_at v)) (h.shown.all.numbers n v there)
+          (subst (λ (p : Parts). IsFinished p.graph v.number (state_at v)) (h.shown.all.plans n v there) done))
+
+      going_here : (IsFinished v.plan.graph v.number (state_at v) → ⊥) → IsFinished plan.graph n (h.together.at n) → ⊥
+      going_here going done = going
+          (subst (λ (p : Parts). IsFinished p.graph v.number (state_at v)) (sym (h.shown.all.plans n v there))
+          (subst (λ k. IsFinished plan.graph k (state_at v)) (sym (h.shown.all.numbers n v there))
+          (subst (IsFinished plan.graph n) (h.shown.states n v there) done)))
+
+      pub not_faulty : v.fault ≡ None
+      not_faulty = ⊎_elim (λ (e : v.fault ≡ None). e) (λ (long : (n < n) × IsLong h.made n v). absurd (apart n long.0)) (h.faults n v there)
+        where
+          apart : (k : ℕ) → k < k → ⊥
+          apart k lt = omega arith
+
+      pub one_by : IsFinished v.plan.graph v.number (state_at v) → HavePassed plan rows c s.together (suc n) platforms pipes results quiet
+      one_by done = record {
+        made = h.made;
+        together = h.together;
+        round = pass_by plan.graph (level_of plan.ranks) c n 0 n s.together h.together h.made (omega arith) h.round (finished_here done);
+        shown = h.shown;
+        rest_stays = λ j le. h.rest_stays j (omega (arith, le));
+        is_quiet_round = h.is_quiet_round;
+        no_quiet_round = λ e.
+            ⊎_elim
+            (λ (one : (m : Made) × IsIn m h.made × (is_quiet m.turn ≡ false)). inl one)
+            (λ (one : (j : ℕ) × (j < n) × ((h.together.at j).closed ≡ (s.together.at j).closed → ⊥)). inr (one.0, (let lt : one.0 < n = one.1 in omega arith), one.2))
+            (h.no_quiet_round e);
+        faults = λ j w at.
+            ⊎_elim
+            (λ (none : w.fault ≡ None). inl none)
+            (λ (long : (j < n) × IsLong h.made j w). inr ((let lt : j < n = long.0 in omega arith), long.1))
+            (h.faults j w at);
+        fine = h.fine;
+      }
+
+      module _ (w : PlatformView) (dones next : List Done) (piped : List (List Message)) (still after : Bool) (small : c < 2 ^ 64) (hand : slice_get results n ≡ Some dones) (going : IsFinished v.plan.graph v.number (state_at v) → ⊥)
+          (was : WasVisited c dones next v w pipes piped still) (if_quiet : after ≡ true → (quiet ≡ true) × (still ≡ true)) (if_not : after ≡ false → (quiet ≡ false) ⊎ (still ≡ false)) where
+        shows : Shows plan rows c n h.together w was.visited.turn (set platforms n w) piped (set results n next)
+        shows = visit_shows plan rows c h.together platforms pipes results s.admitted s.fit (passed_onward (let lt = slice_get_within platforms n v there in omega (arith, lt))) h.shown n v w dones next piped there hand small was.visited
+
+        stays : (j : ℕ) → j ≢ n → shows.together.at j ≡ h.together.at j
+        stays j ne = (shows.makes.others j (λ e. ne (e ∙ shows.platform))).0
+
+        changed : slice_get (set platforms n w) n ≡ Some w
+        changed = set_same platforms n w v there
+
+        -- whether the visited platform closed
+        closes_here : (shows.together.at n).closed ≡ w.closed
+        closes_here = ap (λ (z : State). z.closed) (shows.shown.states n w changed)
+
+        closed_before : (h.together.at n).closed ≡ v.closed
+        closed_before = ap (λ (z : State). z.closed) (h.shown.states n v there)
+
+        quiet_now : after ≡ true → IsQuietRound s.together (h.made ++ shows.made ∷ []) shows.together
+        quiet_now e =
+            let so = was.still_is.0 (if_quiet e).1 in
+            let before = h.is_quiet_round (if_quiet e).0 in
+            record {
+              quiet = Each-append (λ (m : Made). is_quiet m.turn ≡ true) h.made (shows.made ∷ []) before.quiet (ap is_quiet shows.turn_is ∙ so.0, tt);
+              closed = λ j.
+                  ⊎_elim
+                  (λ (here : j ≡ n). subst (λ k. (shows.together.at k).closed ≡ (s.together.at k).closed) (sym here) (closes_here ∙ so.1 ∙ sym closed_before ∙ before.closed n))
+                  (λ (other : j ≢ n). ap (λ (z : State). z.closed) (stays j other) ∙ before.closed j)
+                  (cases_same j n);
+            }
+
+        not_quiet : after ≡ false → ((m : Made) × IsIn m (h.made ++ shows.made ∷ []) × (is_quiet m.turn ≡ false)) ⊎ ((j : ℕ) × (j < suc n) × ((shows.together.at j).closed ≡ (s.together.at j).closed → ⊥))
+        not_quiet e =
+            ⊎_elim
+            (λ (noisy : quiet ≡ false).
+            ⊎_elim
+            (λ (one : (m : Made) × IsIn m h.made × (is_quiet m.turn ≡ false)). inl (one.0, IsIn-append_left one.0 h.made (shows.made ∷ []) one.1, one.2))
+            (λ (one : (j : ℕ) × (j < n) × ((h.together.at j).closed ≡ (s.together.at j).closed → ⊥)).
+            let lt : one.0 < n = one.1 in
+            inr (one.0, omega arith, λ same. one.2 (sym (ap (λ (z : State). z.closed) (stays one.0 (λ here. below one.0 n lt here))) ∙ same)))
+            (h.no_quiet_round noisy))
+            (λ (moved : still ≡ false).
+            ⊎_elim
+            (λ (calm : is_quiet was.visited.turn ≡ true).
+            inr (n, omega arith, λ same. false≢true (sym moved ∙ was.still_is.1 (calm, sym closes_here ∙ same ∙ ap (λ (z : State). z.closed) (sym (h.rest_stays n (omega arith))) ∙ closed_before))))
+            (λ (noisy : is_quiet was.visited.turn ≡ false). inl (shows.made, IsIn-append_right shows.made h.made (shows.made ∷ []) (inl refl), ap is_quiet shows.turn_is ∙ noisy))
+            (cases_Bool (is_quiet was.visited.turn)))
+            (if_not e)
+          where
+            below : (j k : ℕ) → j < k → j ≡ k → ⊥
+            below j k lt e = omega arith
+
+        long_here : (u : PlatformView) → u ≡ w → (u.fault ≡ None) ⊎ ((n < suc n) × IsLong (h.made ++ shows.made ∷ []) n u)
+        long_here u same =
+            ⊎_elim
+            (λ (none : w.fault ≡ None). inl (ap (λ (z : PlatformView). z.fault) same ∙ none))
+            (λ (long : (w.fault ≡ Some Long) × (is_fault w.fault ≡ true)).
+            inr (
+              omega arith,
+              record {
+                all_claims = ap (λ (z : PlatformView). z.fault) same ∙ long.0;
+                turn = shows.made;
+                there = IsIn-append_right shows.made h.made (shows.made ∷ []) (inl refl);
+                platform = shows.platform;
+                answers = shows.fault ∙ long.1;
+              },
+            ))
+            (fault_is w.fault shows.in_time)
+
+        faults_now : (j : ℕ) (u : PlatformView) → slice_get (set platforms n w) j ≡ Some u → (u.fault ≡ None) ⊎ ((j < suc n) × IsLong (h.made ++ shows.made ∷ []) j u)
+        faults_now j u at =
+            ⊎_elim
+            (λ (here : j ≡ n).
+            subst (λ k. (u.fault ≡ None) ⊎ ((k < suc n) × IsLong (h.made ++ shows.made ∷ []) k u)) (sym here)
+            (long_here u (same_some u w (sym (subst (λ k. slice_get (set platforms n w) k ≡ Some u) here at) ∙ changed))))
+            (λ (other : j ≢ n).
+            ⊎_elim
+            (λ (none : u.fault ≡ None). inl none)
+            (λ (long : (j < n) × IsLong h.made j u).
+            let lt : j < n = long.0 in
+            inr (
+              omega arith,
+              record {
+                all_claims = long.1.all_claims;
+                turn = long.1.turn;
+                there = IsIn-append_left long.1.turn h.made (shows.made ∷ []) long.1.there;
+                platform = long.1.platform;
+                answers = long.1.answers;
+              },
+            ))
+            (h.faults j u (sym (set_other platforms n j w other) ∙ at)))
+            (cases_same j n)
+
+        fine_now : HaveNoFault (set platforms n w) → Each (λ (m : Made). m.fault ≡ false) (h.made ++ shows.made ∷ [])
+        fine_now none =
+            Each-append (λ (m : Made). m.fault ≡ false) h.made (shows.made ∷ [])
+            (h.fine (λ j u at.
+            ⊎_elim
+            (λ (here : j ≡ n). ap (λ (z : PlatformView). z.fault) (same_some u v (sym (subst (λ k. slice_get platforms k ≡ Some u) here at) ∙ there)) ∙ not_faulty)
+            (λ (other : j ≢ n). none j u (set_other platforms n j w other ∙ at))
+            (cases_same j n)))
+            (shows.fault ∙ ap is_fault (none n w changed), tt)
+
+        pub one_visited : HavePassed plan rows c s.together (suc n) (set platforms n w) piped (set results n next) after
+        one_visited = record {
+          made = h.made ++ shows.made ∷ [];
+          together = shows.together;
+          round = make_one plan.graph (level_of plan.ranks) c n 0 s.together h.together shows.together h.made shows.made (let e = shows.platform in omega (arith, e)) h.round
+              (λ done. going_here going (subst (λ k. IsFinished plan.graph k (h.together.at k)) shows.platform done)) shows.makes;
+          shown = shows.shown;
+          rest_stays = λ j le. stays j (λ e. past j n le e) ∙ h.rest_stays j (omega (arith, le));
+          is_quiet_round = quiet_now;
+          no_quiet_round = not_quiet;
+          faults = faults_now;
+          fine = fine_now;
+        }
+          where
+            past : (j k : ℕ) → suc k ≤ j → j ≡ k → ⊥
+            past j k le e = omega arith

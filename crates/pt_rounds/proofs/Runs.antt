@@ -1,0 +1,225 @@
+-- What stands after a whole round.
+use Rattle.std.proofs.Common.{◌≡◌, ℕ, ◌+◌, ◌<◌, ◌⊎◌, Bool, true, false, List, [], ◌∷◌, ◌++◌, Option, Some, None, length, option_map, replicate, slice_get, unwrap_or, length-append, refl, sym, ap, subst, ◌∙◌, arith, inl, inr, ⊎_elim}
+use Rattle.std.proofs.lemmas.Bool.{cases_Bool, false≢true}
+use Rattle.std.proofs.lemmas.List.{length-replicate}
+use Rattle.std.proofs.lemmas.Option.{slice_get_within}
+use Rattle.pt_tags.specs.declared.message.Message.{Message}
+use Rattle.pt_types.specs.declared.firing.Done.{Done}
+use Rattle.pt_types.specs.declared.rows.Row.{Row}
+use Rattle.pt_semantics.specs.Edges.{platform_of}
+use Rattle.pt_semantics.specs.History.{IsLegal}
+use Rattle.pt_semantics.specs.Kept.{kept}
+use Rattle.pt_semantics.specs.Linked.{AreLinked, AreMatched, IsFinished, all_sent, all_taken}
+use Rattle.pt_semantics.specs.Lists.{Each, IsIn}
+use Rattle.pt_semantics.specs.Meaning.{ActorFiring, IsMeaning}
+use Rattle.pt_semantics.specs.Paced.{IsCandidate}
+use Rattle.pt_semantics.specs.Platform.{State}
+use Rattle.pt_semantics.specs.Ranks.{AreRanks}
+use Rattle.pt_semantics.specs.Rounds.{Follows, IsLeastNext, IsQuietRound, IsRunInRound, IsWholeRun, Round}
+use Rattle.pt_semantics.specs.Turn.{Turn, is_quiet}
+use Rattle.pt_semantics.specs.Visits.{AreFinished, Made, Together, together_at_start}
+use Rattle.pt_semantics.specs.Counts.{unit_firings}
+use Rattle.pt_semantics.specs.Parts.{parts}
+use Rattle.pt_semantics.specs.Wired.{IsWired}
+use Rattle.pt_semantics.proofs.Long.{long_exactly}
+use Rattle.pt_semantics.proofs.Lookups.{Each-in, none_some}
+use Rattle.pt_semantics.proofs.PacedKept.{paced_are_legal}
+use Rattle.pt_semantics.proofs.Quiet.{quiet_ends}
+use Rattle.pt_lawful.proofs.Edges.{wired}
+use Rattle.pt_ranks.specs.Ranked.{level_of}
+use Rattle.pt_offsets.specs.Plans.{IsAdmitted, Parts}
+use Rattle.pt_offsets.specs.Timings.{offset_of}
+use Rattle.pt_platforms.specs.All.{AreReady, histories_of}
+use Rattle.pt_turn.specs.Platforms.{PlatformView, state_at}
+use Rattle.pt_rounds.specs.Asked.{AreAllFinished, AreLegal, HaveNoFault, IsFirstFault, IsLeastOf, NoneIsOpen}
+use Rattle.pt_rounds.specs.HaveRun.{EndsWith, HaveRun, IsLongOn}
+use Rattle.pt_rounds.specs.Passing.{HavePassed, IsLong, Stands}
+use Rattle.pt_rounds.specs.Shown.{AreShown}
+use Rattle.pt_rounds.proofs.Listed.{member, none_in}
+use Rattle.pt_rounds.proofs.Showing.{start_shows}
+use Rattle.pt_rounds.proofs.Steps.{one_round}
+
+-- what is so of all platforms together is so of each as it shows itself
+module _ (plan : Parts) (rows : ℕ → List Row) (x : Together) (platforms : List PlatformView) (pipes : List (List Message)) (results : List (List Done)) (shown : AreShown plan rows x platforms pipes results) where
+  to_view : (P : Parts → ℕ → State → Type 0) (i : ℕ) (v : PlatformView) → slice_get platforms i ≡ Some v → P plan i (x.at i) → P v.plan v.number (state_at v)
+  to_view P i v there h =
+      subst (λ (p : Parts). P p v.number (state_at v)) (sym (shown.all.plans i v there))
+      (subst (λ k. P plan k (state_at v)) (sym (shown.all.numbers i v there))
+      (subst (P plan i) (shown.states i v there) h))
+
+  from_view : (P : Parts → ℕ → State → Type 0) (i : ℕ) (v : PlatformView) → slice_get platforms i ≡ Some v → P v.plan v.number (state_at v) → P plan i (x.at i)
+  from_view P i v there h =
+      subst (P plan i) (sym (shown.states i v there))
+      (subst (λ k. P plan k (state_at v)) (shown.all.numbers i v there)
+      (subst (λ (p : Parts). P p v.number (state_at v)) (shown.all.plans i v there) h))
+
+  view : (i : ℕ) → i < length plan.graph.platforms → (v : PlatformView) × (slice_get platforms i ≡ Some v)
+  view i lt = member platforms i (subst (λ n. i < n) (sym shown.all.count) lt)
+
+  pub all_finished : AreAllFinished platforms → AreFinished plan.graph x
+  all_finished done i lt = let one = view i lt in from_view (λ (p : Parts) k s. IsFinished p.graph k s) i one.0 one.1 (done i one.0 one.1)
+
+  pub each_finished : AreFinished plan.graph x → AreAllFinished platforms
+  each_finished done i v there =
+      to_view (λ (p : Parts) k s. IsFinished p.graph k s) i v there (done i (subst (λ n. i < n) shown.all.count (slice_get_within platforms i v there)))
+
+  pub all_closed : NoneIsOpen (length platforms) platforms → (i : ℕ) → i < length plan.graph.platforms → (x.at i).closed ≡ true
+  all_closed closed i lt =
+      let one = view i lt in
+      from_view (λ (p : Parts) k (s : State). s.closed ≡ true) i one.0 one.1 (closed i one.0 (slice_get_within platforms i one.0 one.1) one.1)
+
+  pub least_next_is : (b : ℕ) → IsLeastOf (length platforms) platforms b → IsLeastNext plan.graph x b
+  least_next_is b h = record {
+    one = (
+      h.number,
+      subst (λ n. h.number < n) shown.all.count h.below,
+      from_view (λ (p : Parts) k (s : State). s.closed ≡ false) h.number h.view h.at h.is_open,
+      from_view (λ (p : Parts) k s. IsCandidate p.graph k s b) h.number h.view h.at h.is,
+    );
+    least = λ i d lt e cand.
+        let one = view i lt in
+        h.least i d one.0 (slice_get_within platforms i one.0 one.1) one.1
+        (to_view (λ (p : Parts) k (s : State). s.closed ≡ false) i one.0 one.1 e)
+        (to_view (λ (p : Parts) k s. IsCandidate p.graph k s d) i one.0 one.1 cand);
+  }
+
+-- platforms that are newly opened, with nothing on the links and in hand
+pub record AreOpened (plan : Parts) (rows : ℕ → List Row) (platforms : List PlatformView) (pipes : List (List Message)) (results : List (List Done)) : Type 0 where
+  pub ready : AreReady plan rows platforms
+  pub some : 0 < length platforms
+  pub admitted : IsAdmitted plan
+  pub legal : AreLegal platforms
+  pub no_message : pipes ≡ replicate (length plan.graph.links) []
+  pub no_result : results ≡ replicate (length platforms) []
+
+-- they stand before the first round
+module _ (plan : Parts) (rows : ℕ → List Row) (platforms : List PlatformView) (pipes : List (List Message)) (results : List (List Done)) (new : AreOpened plan rows platforms pipes results) where
+  shown_first : AreShown plan rows (together_at_start plan.graph rows) platforms pipes results
+  shown_first = start_shows plan rows platforms pipes results new.ready new.legal
+      (ap length new.no_message ∙ length-replicate (length plan.graph.links) [])
+      (λ l pipe at. none_in (length plan.graph.links) l pipe (subst (λ ps. slice_get ps l ≡ Some pipe) new.no_message at))
+      (ap length new.no_result ∙ length-replicate (length platforms) [])
+      (λ i dones at. none_in (length platforms) i dones (subst (λ rs. slice_get rs i ≡ Some dones) new.no_result at))
+
+  pub some_open : NoneIsOpen (length platforms) platforms → ⊥
+  some_open closed = false≢true (all_closed plan rows (together_at_start plan.graph rows) platforms pipes results shown_first closed 0 (subst (λ n. 0 < n) new.ready.all.count new.some))
+
+  pub stands_first : (b : ℕ) → IsLeastOf (length platforms) platforms b → Stands plan rows 0 b platforms pipes results
+  stands_first b least = record {
+    admitted = new.admitted;
+    fit = new.ready.fit;
+    rounds = [];
+    rounds_made = refl;
+    together = together_at_start plan.graph rows;
+    run = record {
+      begins = b;
+      begins_at = least_next_is plan rows (together_at_start plan.graph rows) platforms pipes results shown_first b least;
+      goes = (refl, refl);
+    };
+    shown = shown_first;
+    no_fault = new.ready.fresh.faults;
+  }
+
+module _ (plan : Parts) (rows : ℕ → List Row) (count c : ℕ) (olds : List PlatformView) (old_pipes : List (List Message)) (old_results : List (List Done)) (s : Stands plan rows count c olds old_pipes old_results)
+    (platforms : List PlatformView) (pipes : List (List Message)) (results : List (List Done)) (quiet : Bool) (h : HavePassed plan rows c s.together (length olds) platforms pipes results quiet) where
+  is_wired : IsWired plan.graph
+  is_wired = wired plan.graph s.admitted.lawful
+
+  whole_round : Round plan.graph (level_of plan.ranks) c (length plan.graph.platforms) 0 s.together h.made h.together
+  whole_round = subst (λ n. Round plan.graph (level_of plan.ranks) c n 0 s.together h.made h.together) s.shown.all.count h.round
+
+  in_round : IsRunInRound plan.graph (level_of plan.ranks) rows s.rounds c (length plan.graph.platforms) h.made h.together
+  in_round = record { before = s.together; run = s.run; some = omega arith; round = whole_round }
+
+  history : (i : ℕ) → i < length plan.graph.platforms → histories_of platforms i ≡ kept (h.together.did i)
+  history i lt =
+      let one = view plan rows h.together platforms pipes results h.shown i lt in
+      ap (λ (o : Option PlatformView). unwrap_or (option_map (λ (v : PlatformView). v.turns) o) []) one.1 ∙ h.shown.kept_turns i one.0 one.1
+
+  -- the end of a run, in what the platforms show
+  ended : AreFinished plan.graph h.together ⊎ (Each (λ (m : Made). m.fault ≡ false) h.made → ⊥) → (fault : Option ℕ) → EndsWith plan.graph platforms fault → (fault ≡ None → AreFinished plan.graph h.together) →
+      ((rank : ℕ → ℕ) (xs : List ActorFiring) → AreRanks plan.graph rank → IsMeaning plan.graph rank rows xs → IsLongOn plan.graph xs fault) → HaveRun plan (level_of plan.ranks) rows platforms fault
+  ended ends fault so done long = record {
+    all = h.shown.all;
+    after = record { together = h.together; run = run; kept_turns = h.shown.kept_turns; states = h.shown.states };
+    ends = so;
+    matched = λ l link at.
+        let m = laws.1 l link at in (
+          m.0,
+          ap (all_sent l) (history (platform_of plan.graph link.from) (is_wired.homes link.from)) ∙ m.1
+              ∙ ap (λ (turns : List Turn). all_taken l turns ++ m.0) (sym (history (platform_of plan.graph link.to) (is_wired.homes link.to))),
+        );
+    linked = λ none l link at.
+        ap (all_sent l) (history (platform_of plan.graph link.from) (is_wired.homes link.from)) ∙ laws.2 (done none) l link at
+        ∙ ap (all_taken l) (sym (history (platform_of plan.graph link.to) (is_wired.homes link.to)));
+    long = long;
+  }
+    where
+      run : IsWholeRun plan.graph (level_of plan.ranks) rows h.together
+      run = record { rounds = s.rounds; reading = c; before = s.together; run = s.run; made = h.made; round = whole_round; ends = ends }
+
+      laws : ((i : ℕ) → i < length plan.graph.platforms → IsLegal plan.graph (level_of plan.ranks) i rows (kept (h.together.did i)) (h.together.at i))
+          × AreMatched plan.graph (λ i. kept (h.together.did i)) × (AreFinished plan.graph h.together → AreLinked plan.graph (λ i. kept (h.together.did i)))
+      laws = paced_are_legal plan.graph (level_of plan.ranks) rows (offset_of plan.offsets) h.together is_wired s.admitted.levels s.fit s.admitted.feasible s.admitted.offsets.units run
+
+  pub ended_finished : HaveNoFault platforms → AreAllFinished platforms → HaveRun plan (level_of plan.ranks) rows platforms None
+  ended_finished none done =
+      let all = all_finished plan rows h.together platforms pipes results h.shown done in
+      ended (inl all) None
+      (λ i v there. (none i v there, subst (λ k. IsFinished plan.graph k (state_at v)) (h.shown.all.numbers i v there) (subst (λ (p : Parts). IsFinished p.graph v.number (state_at v)) (h.shown.all.plans i v there) (done i v there))))
+      (λ e. all)
+      (λ rank xs ranks meaning.
+      (long_exactly plan.graph (level_of plan.ranks) rank rows (offset_of plan.offsets) s.rounds c (length plan.graph.platforms) h.made h.together xs is_wired s.admitted.levels ranks s.fit s.admitted.feasible s.admitted.offsets.units in_round meaning).1 all)
+
+  pub ended_long : (i number : ℕ) (v : PlatformView) → IsFirstFault platforms i → slice_get platforms i ≡ Some v → v.number ≡ number → HaveRun plan (level_of plan.ranks) rows platforms (Some number)
+  ended_long i number v first there is =
+      subst (λ n. HaveRun plan (level_of plan.ranks) rows platforms (Some n)) (sym (h.shown.all.numbers i v there) ∙ is)
+      (⊎_elim
+      (λ (none : first.view.fault ≡ None). absurd (first.fault none))
+      (λ (long : (i < length olds) × IsLong h.made i first.view).
+      ended (inr (λ fine. false≢true (sym (Each-in (λ (m : Made). m.fault ≡ false) h.made fine long.1.turn long.1.there) ∙ long.1.answers)))
+      (Some i) (first.view, first.at, long.1.all_claims, first.before)
+      (λ e. absurd (none_some i (sym e)))
+      (λ rank xs ranks meaning.
+      subst (λ k. 200000 < unit_firings plan.graph k (parts plan.graph xs)) long.1.platform
+      (Each-in (λ (m : Made). m.fault ≡ true → 200000 < unit_firings plan.graph m.platform (parts plan.graph xs)) h.made
+      (long_exactly plan.graph (level_of plan.ranks) rank rows (offset_of plan.offsets) s.rounds c (length plan.graph.platforms) h.made h.together xs is_wired s.admitted.levels ranks s.fit s.admitted.feasible s.admitted.offsets.units in_round meaning).0
+      long.1.turn long.1.there long.1.answers)))
+      (h.faults i first.view first.at))
+
+  pub open_after_quiet : quiet ≡ true → HaveNoFault platforms → (AreAllFinished platforms → ⊥) → NoneIsOpen (length platforms) platforms → ⊥
+  open_after_quiet calm none going closed = going (each_finished plan rows h.together platforms pipes results h.shown
+      (quiet_ends plan.graph (level_of plan.ranks) rows (offset_of plan.offsets) s.rounds c h.made s.together h.together is_wired s.admitted.levels s.fit s.admitted.feasible s.admitted.offsets.units s.run whole_round (h.fine none) (h.is_quiet_round calm)
+      (all_closed plan rows h.together platforms pipes results h.shown closed)))
+
+  -- a round in which something was done is not quiet
+  moved : quiet ≡ false → IsQuietRound s.together h.made h.together → ⊥
+  moved noisy calm =
+      ⊎_elim
+      (λ (one : (m : Made) × IsIn m h.made × (is_quiet m.turn ≡ false)). false≢true (sym one.2 ∙ Each-in (λ (m : Made). is_quiet m.turn ≡ true) h.made calm.quiet one.0 one.1))
+      (λ (one : (j : ℕ) × (j < length olds) × ((h.together.at j).closed ≡ (s.together.at j).closed → ⊥)). one.2 (calm.closed one.0))
+      (h.no_quiet_round noisy)
+
+  pub stands_next : (b : ℕ) → HaveNoFault platforms → (AreAllFinished platforms → ⊥) → (quiet ≡ true → IsLeastOf (length platforms) platforms b) → (quiet ≡ false → b ≡ c) → Stands plan rows (count + 1) b platforms pipes results
+  stands_next b none going rises stays = record {
+    admitted = s.admitted;
+    fit = s.fit;
+    rounds = s.rounds ++ h.made ∷ [];
+    rounds_made = length-append s.rounds (h.made ∷ []) ∙ ap (λ n. n + 1) s.rounds_made;
+    together = h.together;
+    run = record {
+      begins = s.run.begins;
+      begins_at = s.run.begins_at;
+      goes = one_round plan.graph (level_of plan.ranks) s.rounds s.run.begins c b (together_at_start plan.graph rows) s.together h.together h.made s.run.goes whole_round (h.fine none)
+          (λ done. going (each_finished plan rows h.together platforms pipes results h.shown done)) follows;
+    };
+    shown = h.shown;
+    no_fault = none;
+  }
+    where
+      follows : Follows plan.graph c s.together h.made h.together b
+      follows =
+          ⊎_elim
+          (λ (calm : quiet ≡ true). inl (h.is_quiet_round calm, least_next_is plan rows h.together platforms pipes results h.shown b (rises calm)))
+          (λ (noisy : quiet ≡ false). inr (moved noisy, stays noisy))
+          (cases_Bool quiet)

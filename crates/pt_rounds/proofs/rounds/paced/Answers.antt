@@ -1,0 +1,84 @@
+use Rattle.std.proofs.Common.{◌≡◌, ◌∙◌, ◌<◌, ◌++◌, [], ℕ, List, get_or, length, replicate, take, drop, arith, sym, ap, subst}
+use Rattle.std.proofs.Math.Seq.{take-append_seam}
+use Rattle.std.proofs.lemmas.Option.{slice_get-get_or}
+use Rattle.pt_tags.specs.declared.message.Message.{Message}
+use Rattle.pt_types.specs.declared.firing.Done.{Done}
+use Rattle.pt_types.specs.declared.graph.Graph.{Graph}
+use Rattle.pt_types.specs.declared.graph.Link.{Link}
+use Rattle.pt_types.specs.declared.rows.Row.{Row}
+use Rattle.pt_ranks.specs.Ranked.{level_of}
+use Rattle.pt_offsets.specs.Plans.{IsAdmitted, Parts}
+use Rattle.pt_platforms.specs.All.{AreReady}
+use Rattle.pt_turn.specs.Platforms.{PlatformView}
+use Rattle.pt_rounds.specs.Asked.{AreLegal, IsLeastOf, NoneIsOpen}
+use Rattle.pt_rounds.specs.HaveRun.{HaveRun}
+use Rattle.pt_rounds.specs.Passing.{Stands, lists_of}
+use Rattle.pt_rounds.proofs.Runs.{AreOpened, some_open, stands_first}
+use Rattle.pt_rounds.proofs.rounds.paced.Goals as goal
+
+-- the plan that the first platform answers is that of all
+module _ (plan : Parts) (rows : ℕ → List Row) (platforms sliced : List PlatformView) (d : PlatformView) (first : Parts) (g : Graph) (links : List Link) (pipes : List (List Message)) (results : List (List Done))
+    (some : 0 < length platforms) (plan_is : first ≡ (get_or platforms 0 d).plan) (graph_is : g ≡ first.graph) (admitted : IsAdmitted first) (links_are : links ≡ g.links) (same : sliced ≡ platforms)
+    (no_message : pipes ≡ replicate (length links) []) (no_result : results ≡ replicate (length sliced) []) (legal : AreLegal sliced) where
+  opened : AreReady plan rows platforms → AreOpened plan rows platforms pipes results
+  opened ready =
+      let whole : first ≡ plan = plan_is ∙ ready.all.plans 0 (get_or platforms 0 d) (slice_get-get_or platforms 0 d some) in
+      record {
+        ready = ready;
+        some = some;
+        admitted = subst IsAdmitted whole admitted;
+        legal = subst AreLegal same legal;
+        no_message = no_message ∙ ap (λ (ls : List Link). replicate (length ls) []) (links_are ∙ ap (λ (z : Graph). z.links) graph_is ∙ ap (λ (p : Parts). p.graph.links) whole);
+        no_result = no_result ∙ ap (λ (vs : List PlatformView). replicate (length vs) []) same;
+      }
+
+-- a list that was written as a whole
+written : {X : Type 0} (n : ℕ) (new old : List X) → n ≡ length new → take n (new ++ drop (length new) old) ≡ new
+written n new old e = ap (λ k. take k (new ++ drop (length new) old)) e ∙ take-append_seam new (drop (length new) old)
+
+pub next_reading-begins-requires : goal.next_reading-begins-requires
+next_reading-begins-requires g c = record {
+  some_open =
+      let (plan, rows, ready) = c.requires.ready in
+      subst (λ (vs : List PlatformView). NoneIsOpen (length vs) vs → ⊥) (sym c.as_slice-2.ensures.value)
+      (some_open plan rows c.args.platforms.items c.in_ok-pipes.pipes.items (lists_of c.in_ok-results.results.items)
+      (opened plan rows c.args.platforms.items c.as_slice.result.now c.index.result.now c.deref.result.now c.graph.result.now c.as_slice-links.result.now c.in_ok-pipes.pipes.items (lists_of c.in_ok-results.results.items)
+      c.requires.some (c.deref.ensures ∙ c.plan.ensures ∙ ap (λ (v : PlatformView). v.plan) c.index.ensures) c.graph.ensures.value c.graph.ensures.admitted c.as_slice-links.ensures c.as_slice.ensures.value
+      c.in_ok-pipes.ensures c.in_ok-results.ensures.none c.in_ok-results.ensures.legal ready));
+}
+
+-- the first reading is the least of all
+starts : (plan : Parts) (rows : ℕ → List Row) (b : ℕ) (platforms sliced lent : List PlatformView) (pipes lent_pipes : List (List Message)) (results lent_results : List (List Done)) →
+    AreOpened plan rows platforms pipes results → sliced ≡ platforms → IsLeastOf (length sliced) sliced b → lent ≡ platforms → lent_pipes ≡ pipes → lent_results ≡ results → Stands plan rows 0 b lent lent_pipes lent_results
+starts plan rows b platforms sliced lent pipes lent_pipes results lent_results new same least e e2 e3 =
+    subst (λ (vs : List PlatformView). Stands plan rows 0 b vs lent_pipes lent_results) (sym e)
+    (subst (λ (ps : List (List Message)). Stands plan rows 0 b platforms ps lent_results) (sym e2)
+    (subst (λ (rs : List (List Done)). Stands plan rows 0 b platforms pipes rs) (sym e3)
+    (stands_first plan rows platforms pipes results new b (subst (λ (vs : List PlatformView). IsLeastOf (length vs) vs b) same least))))
+
+pub go_on-requires : goal.go_on-requires
+go_on-requires g c = record {
+  begun =
+      let (plan, rows, ready) = c.requires.ready in (
+        plan,
+        rows,
+        starts plan rows c.next_reading-begins.result c.args.platforms.items c.as_slice-2.result.now c.as_mut_slice.result.now c.in_ok-pipes.pipes.items c.as_mut_slice-2.result.now (lists_of c.in_ok-results.results.items) (lists_of c.as_mut_slice-3.result.now)
+            (opened plan rows c.args.platforms.items c.as_slice.result.now c.index.result.now c.deref.result.now c.graph.result.now c.as_slice-links.result.now c.in_ok-pipes.pipes.items (lists_of c.in_ok-results.results.items)
+            c.requires.some (c.deref.ensures ∙ c.plan.ensures ∙ ap (λ (v : PlatformView). v.plan) c.index.ensures) c.graph.ensures.value c.graph.ensures.admitted c.as_slice-links.ensures c.as_slice.ensures.value
+            c.in_ok-pipes.ensures c.in_ok-results.ensures.none c.in_ok-results.ensures.legal ready)
+            c.as_slice-2.ensures.value c.next_reading-begins.ensures c.as_mut_slice.ensures.value c.as_mut_slice-2.ensures.value (ap lists_of c.as_mut_slice-3.ensures.value),
+      );
+}
+
+pub returns : goal.returns
+returns g c = record {
+  run = λ plan rows ready.
+      subst (λ (vs : List PlatformView). HaveRun plan (level_of plan.ranks) rows vs c.in_ok-fault.fault)
+      (sym (written c.args.platforms.len c.go_on.new.platforms c.args.platforms.items (omega (arith, c.go_on.auto.platforms, c.as_mut_slice.ensures.len))))
+      (c.in_ok-fault.ensures.run plan rows
+      (starts plan rows c.next_reading-begins.result c.args.platforms.items c.as_slice-2.result.now c.as_mut_slice.result.now c.in_ok-pipes.pipes.items c.as_mut_slice-2.result.now (lists_of c.in_ok-results.results.items) (lists_of c.as_mut_slice-3.result.now)
+      (opened plan rows c.args.platforms.items c.as_slice.result.now c.index.result.now c.deref.result.now c.graph.result.now c.as_slice-links.result.now c.in_ok-pipes.pipes.items (lists_of c.in_ok-results.results.items)
+      c.requires.some (c.deref.ensures ∙ c.plan.ensures ∙ ap (λ (v : PlatformView). v.plan) c.index.ensures) c.graph.ensures.value c.graph.ensures.admitted c.as_slice-links.ensures c.as_slice.ensures.value
+      c.in_ok-pipes.ensures c.in_ok-results.ensures.none c.in_ok-results.ensures.legal ready)
+      c.as_slice-2.ensures.value c.next_reading-begins.ensures c.as_mut_slice.ensures.value c.as_mut_slice-2.ensures.value (ap lists_of c.as_mut_slice-3.ensures.value)));
+}

@@ -1,0 +1,4 @@
+pub mod Asked
+pub mod HaveRun
+pub mod Passing
+pub mod Shown

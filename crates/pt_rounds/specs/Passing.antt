@@ -1,0 +1,58 @@
+-- What one visit and one round do to all that is in one hand.
+use Rattle.std.specs.Prelude.{◌≡◌, ◌<◌, ◌≤◌, ◌⊎◌, ◌↔◌, ℕ, Bool, List, None, Some, false, length, map, slice_get, true}
+use Rattle.std.specs.Global.{Vec}
+use Rattle.pt_tags.specs.declared.message.Message.{Message}
+use Rattle.pt_types.specs.declared.firing.Done.{Done}
+use Rattle.pt_types.specs.declared.rows.Row.{Row}
+use Rattle.pt_ranks.specs.Ranked.{level_of}
+use Rattle.pt_semantics.specs.Lists.{Each, IsIn}
+use Rattle.pt_semantics.specs.Rounds.{IsPacedRun, IsQuietRound, Round}
+use Rattle.pt_semantics.specs.Rows.{FitRows}
+use Rattle.pt_semantics.specs.Turn.{is_quiet}
+use Rattle.pt_semantics.specs.Visits.{Made, Together}
+use Rattle.pt_offsets.specs.Plans.{IsAdmitted, Parts}
+use Rattle.pt_turn.specs.declared.fault.TurnFault.TheVariants.{Long}
+use Rattle.pt_turn.specs.Platforms.{PlatformView}
+use Rattle.pt_visits.specs.Visited.{IsVisited}
+use Rattle.pt_rounds.specs.Asked.{HaveNoFault}
+use Rattle.pt_rounds.specs.Shown.{AreShown}
+
+-- the lists of vectors
+abbrev pub lists_of : List (Vec Done) → List (List Done)
+lists_of vectors = map (λ (v : Vec Done). v.items) vectors
+
+-- a platform was visited; whether it did nothing and did not close
+pub record WasVisited (r : ℕ) (dones results : List Done) (old new : PlatformView) (pipes piped : List (List Message)) (still : Bool) : Type 0 where
+  pub visited : IsVisited r dones results old new pipes piped
+  pub still_is : (still ≡ true) ↔ ((is_quiet visited.turn ≡ true) × (new.closed ≡ old.closed))
+
+-- all that is in one hand stands where a paced run stands before a round at reading c, with so many rounds behind it
+pub record Stands (plan : Parts) (rows : ℕ → List Row) (count c : ℕ) (platforms : List PlatformView) (pipes : List (List Message)) (results : List (List Done)) : Type 0 where
+  pub admitted : IsAdmitted plan
+  pub fit : FitRows plan.graph rows
+  pub rounds : List (List Made)
+  pub rounds_made : length rounds ≡ count
+  pub together : Together
+  pub run : IsPacedRun plan.graph (level_of plan.ranks) rows rounds c together
+  pub shown : AreShown plan rows together platforms pipes results
+  pub no_fault : HaveNoFault platforms
+
+-- a platform has the fault that it made all its claims, which its turn in the round answered
+pub record IsLong (made : List Made) (i : ℕ) (v : PlatformView) : Type 0 where
+  pub all_claims : v.fault ≡ Some Long
+  pub turn : Made
+  pub there : IsIn turn made
+  pub platform : turn.platform ≡ i
+  pub answers : turn.fault ≡ true
+
+-- the first n platforms were passed in a round that began at `before`
+pub record HavePassed (plan : Parts) (rows : ℕ → List Row) (c : ℕ) (before : Together) (n : ℕ) (platforms : List PlatformView) (pipes : List (List Message)) (results : List (List Done)) (quiet : Bool) : Type 0 where
+  pub made : List Made
+  pub together : Together
+  pub round : Round plan.graph (level_of plan.ranks) c n 0 before made together
+  pub shown : AreShown plan rows together platforms pipes results
+  pub rest_stays : (j : ℕ) → n ≤ j → together.at j ≡ before.at j
+  pub is_quiet_round : quiet ≡ true → IsQuietRound before made together
+  pub no_quiet_round : quiet ≡ false → ((m : Made) × IsIn m made × (is_quiet m.turn ≡ false)) ⊎ ((j : ℕ) × (j < n) × ((together.at j).closed ≡ (before.at j).closed → ⊥))
+  pub faults : (j : ℕ) (v : PlatformView) → slice_get platforms j ≡ Some v → (v.fault ≡ None) ⊎ ((j < n) × IsLong made j v)
+  pub fine : HaveNoFault platforms → Each (λ (m : Made). m.fault ≡ false) made

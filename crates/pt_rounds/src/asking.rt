@@ -1,0 +1,79 @@
+//! What is asked of the platforms between two rounds.
+
+ghost use Rattle.std.specs.Prelude.{◌≡◌, ◌<◌, ◌↔◌, ◌∷◌, ◌++◌, [], ℕ, List, MatchOption, None, length, slice_get, true};
+ghost use Rattle.pt_semantics.specs.Turn.{Turn, is_quiet};
+ghost use Rattle.pt_turn.specs.Platforms.{PlatformView};
+ghost use Rattle.pt_rounds.specs.Asked.{AreAllFinished, HaveNoFault, IsFirstFault, IsLeastOf, NoneIsOpen, lesser};
+
+use pt_turn::Platform;
+
+/// Whether nothing was posted, entered, taken, claimed or sent in the last turn.
+pub fn was_quiet(platform: &Platform) -> bool
+    requires begun { 0 < length platform.now.turns }
+    ensures { (before : List Turn) (turn : Turn) → platform.now.turns ≡ before ++ turn ∷ [] → result ≡ is_quiet turn }
+{
+    let history = platform.history();
+    let last = history.turns() - 1;
+    history.posted(last).is_empty()
+        && history.rows(last).is_empty()
+        && history.taken(last).is_empty()
+        && history.claimed(last).is_empty()
+        && history.sent(last).is_empty()
+}
+
+/// The first platform that has a fault.
+pub fn first_fault(platforms: &[Platform]) -> Option<usize>
+    ensures { MatchOption result (HaveNoFault platforms.now) (IsFirstFault platforms.now) }
+{
+    for i in 0..platforms.len() {
+        if platforms[i].fault().is_some() {
+            return Some(i);
+        }
+    }
+    None
+}
+
+/// Whether all platforms are finished.
+pub fn are_finished(platforms: &[Platform]) -> bool
+    ensures { (result ≡ true) ↔ AreAllFinished platforms.now }
+{
+    for i in 0..platforms.len() {
+        if !platforms[i].finished() {
+            return false;
+        }
+    }
+    true
+}
+
+/// The least next reading of all platforms that are not closed, in microseconds; `None` exactly where all are closed.
+pub fn least_next(platforms: &[Platform]) -> Option<u64>
+    ensures { MatchOption result (NoneIsOpen (length platforms.now) platforms.now) (IsLeastOf (length platforms.now) platforms.now) }
+{
+    let mut least = None;
+    for i in 0..platforms.len() {
+        least = lesser(least, platforms[i].next_reading());
+    }
+    least
+}
+
+/// The least next reading of all platforms that are not closed, of which there is one.
+pub fn next_reading(platforms: &[Platform]) -> u64
+    requires some_open { NoneIsOpen (length platforms.now) platforms.now → ⊥ }
+    ensures { IsLeastOf (length platforms.now) platforms.now result }
+{
+    match least_next(platforms) {
+        None => unreachable!(),
+        Some(next) => next,
+    }
+}
+
+/// The lesser of two numbers that may be absent.
+fn lesser(a: Option<u64>, b: Option<u64>) -> Option<u64>
+    ensures { result ≡ lesser a b }
+{
+    match (a, b) {
+        (None, b) => b,
+        (a, None) => a,
+        (Some(a), Some(b)) => Some(if a < b { a } else { b }),
+    }
+}

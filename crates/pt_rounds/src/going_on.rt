@@ -1,0 +1,51 @@
+//! Rounds, one after another.
+
+ghost use Rattle.std.specs.Prelude.{◌≡◌, IfOk, ℕ, List};
+ghost use Rattle.pt_types.specs.declared.rows.Row.{Row};
+ghost use Rattle.pt_ranks.specs.Ranked.{level_of};
+ghost use Rattle.pt_offsets.specs.Plans.{Parts};
+ghost use Rattle.pt_rounds.specs.HaveRun.{HaveRun};
+ghost use Rattle.pt_rounds.specs.Passing.{Stands, lists_of};
+
+use crate::asking::{are_finished, first_fault, next_reading};
+use crate::passing::pass;
+use pt_actors::Done;
+use pt_blocks::Blocks;
+use pt_links::Pipe;
+use pt_tags::Memory;
+use pt_turn::Platform;
+use pt_visits::Desk;
+
+/// No paced run has so many rounds: of three that follow one another at least one moves a platform, and 16 platforms, with
+/// at most one row for each microsecond up to 10 ^ 15 from each of 1,024 sensors, move fewer than 2 * 10 ^ 19 times.
+const MOST_ROUNDS: u128 = 1_000_000_000_000_000_000_000;
+
+/// Makes rounds from a common reading on, until all platforms are finished, or until after a round in which one has a
+/// fault, and gives the first of those.
+pub fn go_on(
+    platforms: &mut [Platform],
+    pipes: &mut [Pipe],
+    results: &mut [Vec<Done>],
+    desk: &mut Desk,
+    blocks: &Blocks,
+    begins: u64,
+) -> Result<Option<u32>, Memory>
+    requires begun { (plan : Parts) × (rows : ℕ → List Row) × Stands plan rows 0 begins platforms.old pipes.old (lists_of results.old) }
+    ensures run { IfOk result (λ fault. (plan : Parts) (rows : ℕ → List Row) → Stands plan rows 0 begins platforms.old pipes.old (lists_of results.old) →
+        HaveRun plan (level_of plan.ranks) rows platforms.new fault) }
+{
+    let mut reading = begins;
+    for _round in 0..MOST_ROUNDS {
+        let quiet = pass(platforms, pipes, results, desk, blocks, reading)?;
+        if let Some(fault) = first_fault(platforms) {
+            return Ok(Some(platforms[fault].number()));
+        }
+        if are_finished(platforms) {
+            return Ok(None);
+        }
+        if quiet {
+            reading = next_reading(platforms);
+        }
+    }
+    unreachable!()
+}

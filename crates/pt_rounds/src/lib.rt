@@ -1,0 +1,13 @@
+//! The paced engine: all platforms of a plan go on in rounds at one common reading, until all are finished or one has made
+//! all its claims.
+//!
+//! Read first: `paced`, then `specs/HaveRun.antt`.
+#![tactic(auto)]
+
+mod asking;
+mod going_on;
+mod hand;
+mod passing;
+mod rounds;
+
+pub use rounds::{Rounds, paced};

@@ -1,0 +1,71 @@
+//! One round.
+
+ghost use Rattle.std.specs.Prelude.{◌≡◌, IfOk, ℕ, List, None, length};
+ghost use Rattle.pt_types.specs.declared.rows.Row.{Row};
+ghost use Rattle.pt_offsets.specs.Plans.{Parts};
+ghost use Rattle.pt_post.specs.Posted.{AreDone};
+ghost use Rattle.pt_turn.specs.Platforms.{level_at, state_at};
+ghost use Rattle.pt_turn.specs.Turned.{MayCome};
+ghost use Rattle.pt_visits.specs.Pipes.{arriving};
+ghost use Rattle.pt_rounds.specs.Passing.{HavePassed, Stands, WasVisited, lists_of};
+
+use crate::asking::was_quiet;
+use pt_actors::Done;
+use pt_blocks::Blocks;
+use pt_links::Pipe;
+use pt_tags::Memory;
+use pt_turn::Platform;
+use pt_visits::{Desk, visit};
+
+/// Visits a platform, and tells whether that changed nothing but its reading.
+fn visit_one(
+    platform: &mut Platform,
+    pipes: &mut [Pipe],
+    results: &mut Vec<Done>,
+    desk: &mut Desk,
+    blocks: &Blocks,
+    reading: u64,
+) -> Result<bool, Memory>
+    requires no_fault { platform.old.fault ≡ None }
+    requires links { length pipes.old ≡ length platform.old.plan.graph.links }
+    requires done { AreDone platform.old.plan.graph results.old.items }
+    requires taken { MayCome platform.old.plan.graph (level_at platform.old) platform.old.number (state_at platform.old)
+        (arriving platform.old.plan.graph platform.old.number 0 pipes.old) }
+    ensures visited { IfOk result (λ still. WasVisited reading results.old.items results.new.items platform.old platform.new pipes.old pipes.new still) }
+{
+    let closed = platform.closed();
+    visit(platform, pipes, results, desk, blocks, reading)?;
+    Ok(platform.closed() == closed && was_quiet(platform))
+}
+
+/// A round at a common reading, in microseconds: each platform in order that is not finished is visited. Tells whether the
+/// round was quiet.
+pub fn pass(
+    platforms: &mut [Platform],
+    pipes: &mut [Pipe],
+    results: &mut [Vec<Done>],
+    desk: &mut Desk,
+    blocks: &Blocks,
+    reading: u64,
+) -> Result<bool, Memory>
+    requires begun { (plan : Parts) × (rows : ℕ → List Row) × (count : ℕ) × Stands plan rows count reading platforms.old pipes.old (lists_of results.old) }
+    ensures passed { IfOk result (λ quiet. (plan : Parts) (rows : ℕ → List Row) (count : ℕ) (s : Stands plan rows count reading platforms.old pipes.old (lists_of results.old)) →
+        HavePassed plan rows reading s.together (length platforms.old) platforms.new pipes.new (lists_of results.new) quiet) }
+{
+    let mut quiet = true;
+    for i in 0..platforms.len() {
+        if platforms[i].finished() {
+            continue;
+        }
+        let still = visit_one(
+            &mut platforms[i],
+            pipes,
+            &mut results[i],
+            desk,
+            blocks,
+            reading,
+        )?;
+        quiet = quiet && still;
+    }
+    Ok(quiet)
+}

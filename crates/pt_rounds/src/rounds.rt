@@ -1,0 +1,56 @@
+//! The rounds of all platforms.
+
+ghost use Rattle.std.specs.Prelude.{◌≡◌, ◌<◌, ℕ, IfOk, List, length};
+ghost use Rattle.pt_types.specs.declared.rows.Row.{Row};
+ghost use Rattle.pt_ranks.specs.Ranked.{level_of};
+ghost use Rattle.pt_offsets.specs.Plans.{Parts};
+ghost use Rattle.pt_platforms.specs.All.{AreReady, IsReady};
+ghost use Rattle.pt_rounds.specs.HaveRun.{HaveRun};
+
+use crate::asking::next_reading;
+use crate::going_on::go_on;
+use crate::hand::{no_results, pipes};
+use pt_blocks::Blocks;
+use pt_tags::Memory;
+use pt_turn::Platform;
+use pt_visits::Desk;
+use std::alloc::Global;
+
+/// The platforms after a run, in the order of the graph, and the first one that has a fault.
+#[derive(Drop)]
+pub struct Rounds {
+    pub platforms: Vec<Platform>,
+    pub fault: Option<u32>,
+}
+
+/// Runs all platforms of one plan, newly opened and in the order of its graph, under the paced clock: in rounds at one
+/// common reading, until all are finished, or until after a round in which one had to claim more than it may.
+///
+/// The number of workers changes nothing: a round has at most 1,024 firings of some 10 nanoseconds, which no other thread
+/// could take over in less time, so the caller fires them all.
+pub fn paced(
+    alloc: Global,
+    platforms: Vec<Platform>,
+    blocks: &Blocks,
+    workers: u32,
+) -> Result<Rounds, Memory>
+    requires some { 0 < length platforms.items }
+    requires ready { IsReady platforms.items }
+    ensures run { IfOk result (λ rounds. (plan : Parts) (rows : ℕ → List Row) → AreReady plan rows platforms.items → HaveRun plan (level_of plan.ranks) rows rounds.platforms.items rounds.fault) }
+{
+    let mut platforms = platforms;
+    let links = platforms[0].plan().graph().links.as_slice().len();
+    let mut pipes = pipes(alloc, links)?;
+    let mut results = no_results(alloc, platforms.as_slice())?;
+    let mut desk = Desk::new(alloc);
+    let begins = next_reading(platforms.as_slice());
+    let fault = go_on(
+        platforms.as_mut_slice(),
+        pipes.as_mut_slice(),
+        results.as_mut_slice(),
+        &mut desk,
+        blocks,
+        begins,
+    )?;
+    Ok(Rounds { platforms, fault })
+}
