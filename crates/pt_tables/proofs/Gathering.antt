@@ -1,8 +1,11 @@
 -- The tables after one firing more.
-use Rattle.std.proofs.Common.{◌≡◌, ◌≢◌, ℕ, zero, suc, ◌+◌, ◌<◌, ◌≤◌, ◌==◌, true, false, List, [], ◌∷◌, ◌++◌, refl, sym, ap, ap₂, ◌∙◌, arith, length, take, slice_index_or, slice_set, slice_get, Some, option_map}
+use Rattle.std.proofs.Common.{◌≡◌, ◌≢◌, ℕ, ℤ, pos, zero, suc, ◌+◌, ◌<◌, ◌≤◌, ◌==◌, true, false, ⊎_elim, List, [], ◌∷◌, ◌++◌, refl, sym, ap, ap₂, ◌∙◌, arith, length, take, slice_index_or, slice_set, slice_get, Some, option_map}
 use Rattle.std.specs.List.{concat}
+use Rattle.std.proofs.lemmas.Bool.{cases_lt}
 use Rattle.std.proofs.lemmas.Bool.Decides.{nat_tests}
-use Rattle.std.proofs.lemmas.List.{append_assoc, append-nil, take_more}
+use Rattle.std.proofs.lemmas.Option.{get_or_from_slice_get, slice_get_within}
+use Rattle.std.proofs.lemmas.List.{append_assoc, append-nil, get_or_default, take_more}
+use Rattle.pt_tags.specs.declared.tag.Tag.{Tag}
 use Rattle.pt_types.specs.declared.graph.Actor.{Actor}
 use Rattle.pt_types.specs.declared.kind.Kind.{Kind}
 use Rattle.pt_types.specs.declared.kind.Kind.TheVariants.{Actuator}
@@ -10,7 +13,17 @@ use Rattle.pt_types.specs.declared.firing.ActorFiring.{ActorFiring}
 use Rattle.pt_semantics.specs.Tables.{line, line_of, lines_of, table_of, tables_from}
 use Rattle.pt_types.specs.Ports.{at_port}
 use Rattle.pt_semantics.specs.Firing.{or_zero}
-use Rattle.pt_tables.specs.Gathered.{no_texts, texts_from}
+use Rattle.pt_semantics.specs.Edges.{no_actor}
+use Rattle.pt_tables.specs.Gathered.{HasLine, has_table, is_actuator, texts_from}
+
+-- for each actor a table without a line
+abbrev pub no_texts : List Actor → List (List ℕ)
+no_texts [] = []
+no_texts (actor ∷ actors) = [] ∷ no_texts actors
+
+-- what stands for a firing past a list's end
+abbrev pub no_firing : ActorFiring
+no_firing = record { actor = 0; tag = record { time = 0; step = 0 }; inputs = []; before = pos 0; after = pos 0; outputs = [] }
 
 lines_append : (a : ℕ) (name : List ℕ) (xs : List ActorFiring) (x : ActorFiring) → lines_of a name (xs ++ x ∷ []) ≡ lines_of a name xs ++ line_of a name x
 lines_append a name [] x = append-nil (line_of a name x)
@@ -80,38 +93,67 @@ actor_of [] i n d h is = absurd (omega arith)
 actor_of (x ∷ xs) zero n d h is = cc
 actor_of (x ∷ xs) (suc i) n d h is = actor_of xs i n d (omega arith) is
 
-pub own_line : (name : List ℕ) (x : ActorFiring) → line_of x.actor name x ≡ line name x.tag (or_zero (at_port x.inputs 0))
+own_line : (name : List ℕ) (x : ActorFiring) → line_of x.actor name x ≡ line name x.tag (or_zero (at_port x.inputs 0))
 own_line name x = let same : (x.actor == x.actor) ≡ true = grind (arith, nat_tests) in rw same refl
 
-no_table : (kind : Kind) → ((slack : ℕ) → kind ≡ Actuator slack → ⊥) → (a : ℕ) (name : List ℕ) (xs : List ActorFiring) → table_of a name kind xs ≡ []
-no_table (Actuator slack) h a name xs = absurd (h slack refl)
+no_table : (kind : Kind) → is_actuator kind ≡ false → (a : ℕ) (name : List ℕ) (xs : List ActorFiring) → table_of a name kind xs ≡ []
+no_table (Actuator slack) h a name xs = cc
 no_table _ h a name xs = refl
 
--- the firing at a place joins those before it
-pub gathers_past : (actors : List Actor) (firings : List ActorFiring) (place number : ℕ) (d : ActorFiring) → place < length firings → number ≡ (slice_index_or firings place d).actor → length actors ≤ number
-    → texts_from 0 actors (take place firings) ≡ texts_from 0 actors (take (place + 1) firings)
-gathers_past actors firings place number d within is past =
-    sym (same_past 0 actors (take place firings) (slice_index_or firings place d) (omega (arith, is, past)))
-    ∙ ap (texts_from 0 actors) (sym (take_more firings place d within))
+the_slack : (kind : Kind) → is_actuator kind ≡ true → (slack : ℕ) × (kind ≡ Actuator slack)
+the_slack (Actuator slack) h = (slack, refl)
+the_slack _ h = cc
 
-pub gathers_none : (actors : List Actor) (firings : List ActorFiring) (place number : ℕ) (d : ActorFiring) (a : Actor) → place < length firings → number ≡ (slice_index_or firings place d).actor → number < length actors
-    → a ≡ slice_index_or actors number a → ((slack : ℕ) → a.kind ≡ Actuator slack → ⊥)
-    → texts_from 0 actors (take place firings) ≡ texts_from 0 actors (take (place + 1) firings)
-gathers_none actors firings place number d a within is low named other =
-    sym (at_same 0 actors (take place firings) (slice_index_or firings place d) number a (omega (arith, is)) low
-    (λ b name. let none = no_table (slice_index_or actors number a).kind (λ slack e. other slack (ap (λ (y : Actor). y.kind) named ∙ e)) b name in
-    none (take place firings ++ slice_index_or firings place d ∷ []) ∙ sym (none (take place firings))))
-    ∙ ap (texts_from 0 actors) (sym (take_more firings place d within))
+-- the firing of an actor that is no actuator adds nothing
+pub adds_nothing : (actors : List Actor) (xs : List ActorFiring) (x : ActorFiring) → has_table actors x.actor ≡ false → texts_from 0 actors (xs ++ x ∷ []) ≡ texts_from 0 actors xs
+adds_nothing actors xs x none =
+    ⊎_elim
+    (λ (within : x.actor < length actors).
+    at_same 0 actors xs x x.actor no_actor (omega arith) within
+    (λ a name. let no = no_table (slice_index_or actors x.actor no_actor).kind none a name in no (xs ++ x ∷ []) ∙ sym (no xs)))
+    (λ (past : length actors ≤ x.actor). same_past 0 actors xs x (omega arith))
+    (cases_lt x.actor (length actors))
 
-pub gathers_one : (actors : List Actor) (firings : List ActorFiring) (place number slack : ℕ) (d : ActorFiring) (a : Actor) (name : List ℕ) (old now : List (List ℕ)) → place < length firings
-    → number ≡ (slice_index_or firings place d).actor → number < length actors → a ≡ slice_index_or actors number a → a.kind ≡ Actuator slack → name ≡ a.name
-    → old ≡ texts_from 0 actors (take place firings)
-    → now ≡ slice_set old number (slice_index_or old number [] ++ line name (slice_index_or firings place d).tag (or_zero (at_port (slice_index_or firings place d).inputs 0)))
-    → now ≡ texts_from 0 actors (take (place + 1) firings)
-gathers_one actors firings place number slack d a name old now within is low named kind called were put =
-    let x : ActorFiring = slice_index_or firings place d in
+-- the firing of an actuator adds its line to its table
+pub adds_line : (actors : List Actor) (xs : List ActorFiring) (x : ActorFiring) (name : List ℕ) → has_table actors x.actor ≡ true → x.actor < length actors → name ≡ (slice_index_or actors x.actor no_actor).name
+    → texts_from 0 actors (xs ++ x ∷ []) ≡ slice_set (texts_from 0 actors xs) x.actor (slice_index_or (texts_from 0 actors xs) x.actor [] ++ line name x.tag (or_zero (at_port x.inputs 0)))
+adds_line actors xs x name has within called =
+    let s = the_slack (slice_index_or actors x.actor no_actor).kind has in
+    at_more 0 actors xs x x.actor no_actor s.0 (omega arith) within s.1
+    ∙ ap (λ l. slice_set (texts_from 0 actors xs) x.actor (slice_index_or (texts_from 0 actors xs) x.actor [] ++ l))
+    (own_line (slice_index_or actors x.actor no_actor).name x ∙ ap (λ n. line n x.tag (or_zero (at_port x.inputs 0))) (sym called))
+
+-- an actor that has a table is one of these
+pub table_within : (actors : List Actor) (a : ℕ) → has_table actors a ≡ true → a < length actors
+table_within [] a h = cc
+table_within (x ∷ actors) zero h = omega arith
+table_within (x ∷ actors) (suc a) h = let below = table_within actors a h in omega (arith, below)
+
+-- the line of a firing is added
+pub line_added : (actors : List Actor) (xs : List ActorFiring) (x : ActorFiring) (actor : ℕ) (tag : Tag) (value : ℤ) (old now : List (List ℕ)) (a : Actor) (name : List ℕ) → old ≡ texts_from 0 actors xs → HasLine actor tag value x → has_table actors actor ≡ true
+    → a ≡ slice_index_or actors actor a → name ≡ (slice_index_or actors actor a).name → now ≡ slice_set old actor (slice_index_or old actor [] ++ line name tag value) → now ≡ texts_from 0 actors (xs ++ x ∷ [])
+line_added actors xs x actor tag value old now a name are is has at called put =
+    let has_x : has_table actors x.actor ≡ true = ap (has_table actors) is.by ∙ has in
+    let within : x.actor < length actors = table_within actors x.actor has_x in
+    let named : name ≡ (slice_index_or actors x.actor no_actor).name =
+    called ∙ ap (λ n. (slice_index_or actors n a).name) (sym is.by) ∙ ap (λ (y : Actor). y.name) (get_or_default actors x.actor a no_actor within) in
     put
-    ∙ ap₂ (λ ts n. slice_set ts number (slice_index_or ts number [] ++ line n x.tag (or_zero (at_port x.inputs 0)))) were (called ∙ ap (λ (y : Actor). y.name) named)
-    ∙ ap (λ l. slice_set (texts_from 0 actors (take place firings)) number (slice_index_or (texts_from 0 actors (take place firings)) number [] ++ l)) (sym (own_line (slice_index_or actors number a).name x))
-    ∙ sym (at_more 0 actors (take place firings) x number a slack (omega (arith, is)) low (ap (λ (y : Actor). y.kind) (sym named) ∙ kind))
-    ∙ ap (texts_from 0 actors) (sym (take_more firings place d within))
+    ∙ ap₂ (λ ts n. slice_set ts n (slice_index_or ts n [] ++ line name tag value)) are (sym is.by)
+    ∙ ap₂ (λ t v. slice_set (texts_from 0 actors xs) x.actor (slice_index_or (texts_from 0 actors xs) x.actor [] ++ line name t v)) (sym is.at) (sym is.with_value)
+    ∙ sym (adds_line actors xs x name has_x within named)
+
+-- and nothing, where it is no actuator's
+pub line_left_out : (actors : List Actor) (xs : List ActorFiring) (x : ActorFiring) (actor : ℕ) (tag : Tag) (value : ℤ) (old : List (List ℕ)) → old ≡ texts_from 0 actors xs → HasLine actor tag value x → has_table actors actor ≡ false → old ≡ texts_from 0 actors (xs ++ x ∷ [])
+line_left_out actors xs x actor tag value old are is none = are ∙ sym (adds_nothing actors xs x (ap (has_table actors) is.by ∙ none))
+
+-- there is a table for each actuator
+pub table_there : (actors : List Actor) (xs : List ActorFiring) (actor : ℕ) (old : List (List ℕ)) → old ≡ texts_from 0 actors xs → has_table actors actor ≡ true → actor < length old
+table_there actors xs actor old are has =
+    let within = table_within actors actor has in
+    let same : length old ≡ length actors = ap length are ∙ length_texts 0 actors xs in
+    omega (arith, within, same)
+
+-- the firing at a place, and the firings up to it
+pub firing_at : (firings : List ActorFiring) (place : ℕ) (x : ActorFiring) → slice_get firings place ≡ Some x → take (place + 1) firings ≡ take place firings ++ x ∷ []
+firing_at firings place x there =
+    take_more firings place x (slice_get_within firings place x there) ∙ ap (λ y. take place firings ++ y ∷ []) (get_or_from_slice_get firings place x x there)

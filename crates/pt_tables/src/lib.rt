@@ -3,10 +3,12 @@
 //! Each text is made by functions that append one line; loops call them. The texts are defined in
 //! `specs/Tables.antt` of pt_semantics.
 //!
-//! Read first: `tables`.
+//! Read first: `tables`, then `ActorTables`.
 #![tactic(auto)]
 
+mod actor_tables;
 mod table;
 mod text;
 
+pub use actor_tables::ActorTables;
 pub use text::tables;

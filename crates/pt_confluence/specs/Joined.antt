@@ -1,0 +1,45 @@
+-- Tasks in the order of the meaning, and whole firings made of them.
+use Rattle.std.specs.Prelude.{◌==◌, ◌&&◌, ◌∷◌, [], if◌then◌else◌, ℕ, Bool, List}
+use Rattle.pt_tags.specs.Tags.{same_tag}
+use Rattle.pt_types.specs.Ports.{at_port, eight}
+use Rattle.pt_types.specs.declared.firing.ActorFiring.{ActorFiring}
+use Rattle.pt_types.specs.declared.firing.Task.{Task}
+use Rattle.pt_types.specs.declared.graph.Graph.{Graph}
+use Rattle.pt_semantics.specs.Edges.{kind_of}
+use Rattle.pt_semantics.specs.Firing.{fired}
+use Rattle.pt_semantics.specs.Lists.{Each, or_else}
+use Rattle.pt_semantics.specs.Meaning.{NotAfter}
+
+-- tasks in the order of tag, rank and actor
+abbrev pub InOrder : (ℕ → ℕ) → List Task → Type 0
+InOrder rank [] = Unit {0}
+InOrder rank (x ∷ xs) = Each (λ (y : Task). NotAfter rank x.tag x.actor y.tag y.actor) xs × InOrder rank xs
+
+-- two tasks are of one actor and tag
+abbrev pub is_same_firing : Task → Task → Bool
+is_same_firing x y = x.actor == y.actor && same_tag x.tag y.tag
+
+-- a task with the inputs of another as well
+abbrev pub both : Task → Task → Task
+both x y = record x { inputs = eight (λ p. or_else (at_port x.inputs p) (at_port y.inputs p)) }
+
+-- a task before others, joined to the first where they are of one actor and tag
+abbrev pub before : Task → List Task → List Task
+before x [] = x ∷ []
+before x (y ∷ ys) = if is_same_firing x y then both x y ∷ ys else x ∷ y ∷ ys
+
+-- tasks, of which neighbours of one actor and tag are joined
+abbrev pub joined : List Task → List Task
+joined [] = []
+joined (x ∷ xs) = before x (joined xs)
+
+-- a task as the whole firing of its actor
+abbrev pub whole : Graph → Task → ActorFiring
+whole g task = record {
+  actor = task.actor;
+  tag = task.tag;
+  inputs = task.inputs;
+  before = task.state;
+  after = (fired (kind_of g task.actor) task.state task.inputs).state;
+  outputs = (fired (kind_of g task.actor) task.state task.inputs).outputs;
+}

@@ -1,0 +1,4 @@
+pub mod Gathered
+pub mod Joined
+pub mod Moments
+pub mod Making

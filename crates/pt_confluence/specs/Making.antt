@@ -1,0 +1,16 @@
+-- Firings that are being made.
+use Rattle.std.specs.Prelude.{◌++◌, List, None, Option, Some, map}
+use Rattle.pt_types.specs.declared.firing.ActorFiring.{ActorFiring}
+use Rattle.pt_types.specs.declared.firing.Task.{Task}
+use Rattle.pt_types.specs.declared.graph.Graph.{Graph}
+use Rattle.pt_confluence.specs.Joined.{before, joined, whole}
+use Rattle.pt_confluence.specs.declared.joining.Joining.{Joining}
+
+-- tasks after one that they may join
+abbrev pub after_last : Option Task → List Task → List Task
+after_last None rest = joined rest
+after_last (Some last) rest = before last (joined rest)
+
+-- the firings that are made once these tasks have followed
+abbrev pub made : Graph → Joining → List Task → List ActorFiring
+made g joining rest = joining.firings ++ map (whole g) (after_last joining.last rest)

@@ -1,0 +1,62 @@
+//! The tables of the actuators, straight from the kept turns.
+
+ghost use Rattle.std.specs.Prelude.{◌≡◌, ◌++◌, ℕ, IfOk, List, OnOk, flat_map, map, string_bytes};
+ghost use Rattle.pt_types.specs.declared.firing.ActorFiring.{ActorFiring};
+ghost use Rattle.pt_types.specs.declared.rows.Row.{Row};
+ghost use Rattle.pt_types.specs.Ports.{at_port};
+ghost use Rattle.pt_semantics.specs.Firing.{or_zero};
+ghost use Rattle.pt_tables.specs.Gathered.{texts_from};
+ghost use Rattle.pt_confluence.specs.Gathered.{AreTables, HaveFinished, by_task};
+
+use pt_history::History;
+use pt_offsets::Plan;
+use pt_tables::ActorTables;
+use pt_turn::Platform;
+use pt_types::{Actor, Ports, Task};
+use std::alloc::{AllocError, Global};
+
+/// The tables of a plan's actuators as text, from what its finished platforms claimed: those of the meaning.
+///
+/// An actuator's claims are all on its platform, in the order of their tags, so nothing is sorted: each becomes a line of
+/// its table as the kept turns are read.
+pub fn tables_of(alloc: Global, plan: &Plan, platforms: &[Platform]) -> Result<String, AllocError>
+    ensures { IfOk result (λ text. (rows : ℕ → List Row) → HaveFinished plan.now rows platforms.now → AreTables plan.now rows (string_bytes text)) }
+{
+    let actors = plan.graph().actors.as_slice();
+    let mut tables = ActorTables::new(alloc, actors)?;
+    for platform in platforms {
+        push_history(&mut tables, actors, platform.history())?;
+    }
+    tables.text(alloc)
+}
+
+/// Appends the lines of what kept turns claimed.
+fn push_history(
+    tables: &mut ActorTables,
+    actors: &[Actor],
+    history: &History,
+) -> Result<(), AllocError>
+    ensures { (xs : List ActorFiring) → tables.old ≡ texts_from 0 actors.now xs → OnOk result (tables.new ≡ texts_from 0 actors.now (xs ++ map by_task (flat_map (λ turn. turn.claimed) history.now.turns))) }
+{
+    for turn in 0..history.turns() {
+        push_tasks(tables, actors, history.claimed(turn))?;
+    }
+    Ok(())
+}
+
+/// Appends the lines of tasks.
+fn push_tasks(tables: &mut ActorTables, actors: &[Actor], tasks: &[Task]) -> Result<(), AllocError>
+    ensures { (xs : List ActorFiring) → tables.old ≡ texts_from 0 actors.now xs → OnOk result (tables.new ≡ texts_from 0 actors.now (xs ++ map by_task tasks.now)) }
+{
+    for task in tasks {
+        tables.push(actors, task.actor, task.tag, first_value(&task.inputs))?;
+    }
+    Ok(())
+}
+
+/// The value at input 0.
+fn first_value(inputs: &Ports) -> i64
+    ensures { result ≡ or_zero (at_port inputs.now 0) }
+{
+    inputs.get(0).unwrap_or(0)
+}
