@@ -1,3 +1,4 @@
 pub mod Log
 pub mod Misses
 pub mod Names
+pub mod Platforms

@@ -1,6 +1,6 @@
-//! The line of what was missed.
+//! The lines of what was missed.
 
-ghost use Rattle.std.specs.Prelude.{◌≡◌, ◌++◌, OnOk, string_bytes};
+ghost use Rattle.std.specs.Prelude.{◌≡◌, ◌++◌, OnOk, flat_map, string_bytes};
 ghost use Rattle.pt_logs.specs.Misses.{miss_line, missed_part, reading_part};
 
 use crate::names::actor_name;
@@ -8,6 +8,16 @@ use pt_history::Miss;
 use pt_tags::Tag;
 use pt_types::Graph;
 use std::alloc::AllocError;
+
+/// Appends the lines of missed entries, one after another.
+pub fn miss_lines(text: &mut String, graph: &Graph, misses: &[Miss]) -> Result<(), AllocError>
+    ensures { OnOk result (string_bytes text.new ≡ string_bytes text.old ++ flat_map (miss_line graph.now) misses.now) }
+{
+    for miss in misses {
+        miss_line(text, graph, *miss)?;
+    }
+    Ok(())
+}
 
 /// Appends the line of a missed entry: `missed ACTOR at TIME.STEP, reading N past L`.
 pub fn miss_line(text: &mut String, graph: &Graph, miss: Miss) -> Result<(), AllocError>

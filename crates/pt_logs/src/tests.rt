@@ -1,6 +1,6 @@
 //! Logs and lines of worked histories.
 
-use crate::{miss_line, push_head, push_history};
+use crate::{miss_line, miss_lines, push_head, push_history, push_log};
 use pt_history::{History, Miss, Room};
 use pt_tags::{List, Memory, Message, Name, Tag};
 use pt_types::{Actor, Done, Fired, Graph, Kind, Link, OnLink, Ports, Row, RowAt, Task};
@@ -276,21 +276,47 @@ fn writes_runs_and_messages(rt: HostRuntime) -> Result<(), Fail> {
     Ok(())
 }
 
+/// What an actor missed at a reading past 155.
+fn miss(actor: u32, reading: u64) -> Miss {
+    Miss {
+        actor,
+        tag: Tag { time: 150, step: 2 },
+        reading,
+        limit: 155,
+    }
+}
+
 #[test]
 fn writes_the_line_of_a_miss(rt: HostRuntime) -> Result<(), Fail> {
     let alloc = rt.alloc();
     let graph = graph(alloc, &["s", "out"])?;
-    let miss = Miss {
-        actor: 1,
-        tag: Tag { time: 150, step: 2 },
-        reading: 301,
-        limit: 155,
-    };
     let mut text = String::new(alloc);
-    miss_line(&mut text, &graph, miss)?;
+    miss_line(&mut text, &graph, miss(1, 301))?;
     assert_eq!(rt;
         text.as_str(),
         "missed out at 150.2, reading 301 past 155\n"
     );
+    Ok(())
+}
+
+#[test]
+fn writes_the_lines_of_misses(rt: HostRuntime) -> Result<(), Fail> {
+    let alloc = rt.alloc();
+    let graph = graph(alloc, &["s", "out"])?;
+    let misses = [miss(1, 301), miss(0, 156)];
+    let mut text = String::new(alloc);
+    miss_lines(&mut text, &graph, misses.as_slice())?;
+    assert_eq!(rt;
+        text.as_str(),
+        "missed out at 150.2, reading 301 past 155\nmissed s at 150.2, reading 156 past 155\n"
+    );
+    Ok(())
+}
+
+#[test]
+fn with_no_platforms_the_log_is_its_first_line(rt: HostRuntime) -> Result<(), Fail> {
+    let mut text = String::from_str(rt.alloc(), "-\n")?;
+    push_log(&mut text, &[])?;
+    assert_eq!(rt; text.as_str(), "-\nlog\n");
     Ok(())
 }

@@ -2,12 +2,14 @@
 //!
 //! A kept history tells it: the reading of the turn that posted the result, or after which the message was sent.
 //!
-//! Read first: `missed_in`, then `specs/Misses.antt`.
+//! Read first: `missed`, `missed_in`, then `specs/Misses.antt`.
 #![tactic(auto)]
 
-mod missed;
+mod platforms;
+mod turns;
 
-pub use missed::missed_in;
+pub use platforms::missed;
+pub use turns::missed_in;
 
 #[cfg(test)]
 mod tests;

@@ -1,7 +1,7 @@
 use Rattle.std.proofs.Common.{ap, ◌∙◌}
 use Rattle.pt_monitors.specs.Misses.{miss_of_result}
 use Rattle.pt_monitors.proofs.Members.{filter_map_grows}
-use Rattle.pt_monitors.proofs.missed.missed_results.Goals as goal
+use Rattle.pt_monitors.proofs.turns.missed_results.Goals as goal
 
 pub loop-done-preserved : goal.loop-done-preserved
 loop-done-preserved c =

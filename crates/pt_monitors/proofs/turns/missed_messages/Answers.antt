@@ -1,6 +1,6 @@
 use Rattle.pt_monitors.specs.Misses.{miss_of_message}
 use Rattle.pt_monitors.proofs.Members.{filter_map_grows}
-use Rattle.pt_monitors.proofs.missed.missed_messages.Goals as goal
+use Rattle.pt_monitors.proofs.turns.missed_messages.Goals as goal
 
 pub loop-message-preserved : goal.loop-message-preserved
 loop-message-preserved c =

@@ -1,6 +1,6 @@
 use Rattle.std.proofs.Common.{◌≡◌, ◌++◌, filter_map, take}
 use Rattle.pt_monitors.specs.Misses.{miss_of_result}
-use Rattle.pt_monitors.proofs.missed.missed_results.Given as goal
+use Rattle.pt_monitors.proofs.turns.missed_results.Given as goal
 
 abbrev pub invariant-loop-done : goal.invariant-loop-done
 invariant-loop-done l = l.misses.items ≡ l.fn.misses.items ++ filter_map (miss_of_result l.graph l.reading) (take l.done-index l.posted)

@@ -1,7 +1,7 @@
 use Rattle.pt_history.proofs.Along.{grows}
 use Rattle.pt_monitors.specs.Misses.{missed_at}
 use Rattle.pt_monitors.proofs.Missing.{lists_missed}
-use Rattle.pt_monitors.proofs.missed.missed_in.Goals as goal
+use Rattle.pt_monitors.proofs.turns.missed_in.Goals as goal
 
 pub loop-number-preserved : goal.loop-number-preserved
 loop-number-preserved c =

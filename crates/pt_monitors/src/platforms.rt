@@ -1,0 +1,22 @@
+//! The missed entries of platforms.
+
+ghost use Rattle.std.specs.Prelude.{◌≡◌, IfOk, flat_map};
+ghost use Rattle.pt_monitors.specs.Platforms.{missed_by};
+
+use crate::turns::missed_in;
+use pt_history::Miss;
+use pt_tags::Memory;
+use pt_turn::Platform;
+use std::alloc::Global;
+
+/// All missed entries of some platforms, each by the graph of its plan: platform after platform, turn after turn, and in
+/// a turn the results before the messages.
+pub fn missed(alloc: Global, platforms: &[Platform]) -> Result<Vec<Miss>, Memory>
+    ensures { IfOk result (λ misses. misses.items ≡ flat_map missed_by platforms.now) }
+{
+    let mut misses = Vec::new(alloc);
+    for platform in platforms {
+        missed_in(platform.plan().graph(), platform.history(), &mut misses)?;
+    }
+    Ok(misses)
+}
