@@ -44,3 +44,16 @@ below_more family b c e n = least_both (Below n family) (family n) (Below (n + 1
     (λ d h. let l : h.0 < n = h.1 in (h.0, omega (arith, l), h.2))
     (λ d h. (n, omega arith, h))
     (λ d h. ⊎_elim (λ (l : h.0 < n). inl (h.0, l, h.2)) (λ (s : h.0 ≡ n). inr (subst (λ k. family k d) s h.2)) (last_or_before n h.0 h.1))
+
+-- the families between have no numbers
+pub below_jump : (family : ℕ → ℕ → Type 0) (b c n m : ℕ) → n ≤ m → ((k d : ℕ) → n ≤ k → k < m → family k d → ⊥) → IsLeastOf (AtOrIn b (Below n family)) c → IsLeastOf (AtOrIn b (Below m family)) c
+below_jump family b c n m le none first = (
+  ⊎_elim (λ (e : c ≡ b). inl e) (λ (p : Below n family c). let l : p.0 < n = p.1 in inr (p.0, omega (arith, l, le), p.2)) first.0,
+  λ d h. ⊎_elim
+      (λ (e : d ≡ b). first.1 d (inl e))
+      (λ (p : Below m family d). ⊎_elim (λ (l : p.0 < n). first.1 d (inr (p.0, l, p.2))) (λ (o : n ≤ p.0). absurd (none p.0 d o p.1 p.2)) (either p.0 n))
+      h,
+)
+  where
+    either : (k n : ℕ) → (k < n) ⊎ (n ≤ k)
+    either k n = grind arith

@@ -56,14 +56,22 @@ fn sooner_of_actor(fields: &Fields, plan: &Plan, actor: u32, so_far: u64) -> u64
     least
 }
 
-/// The least of a reading and the paced readings of all units of the graph.
+/// The least of a reading and the paced readings of all units of the graph. The search goes over the actors that have events:
+/// the units of the others have no paced reading.
 pub fn paced_next(fields: &Fields, plan: &Plan, so_far: u64) -> u64
     requires sound { IsSound plan.now.graph fields.now }
     ensures { IsLeastOf (AtOrIn so_far (Below (length plan.now.graph.actors) (IsPacedOfActor plan.now.graph (waiting_in fields.now.queue.events) (busy_in fields.now.open_claims.items)))) result }
 {
     let mut least = so_far;
-    for actor in 0..plan.graph().actors.as_slice().len() {
-        least = sooner_of_actor(fields, plan, actor as u32, least);
+    let mut from = 0;
+    for _ in 0..plan.graph().actors.as_slice().len() {
+        match fields.queue.next_active(from) {
+            None => return least,
+            Some(actor) => {
+                least = sooner_of_actor(fields, plan, actor, least);
+                from = actor + 1;
+            }
+        }
     }
     least
 }
