@@ -1,2 +1,5 @@
+pub mod App
 pub mod Grammar
+pub mod Said
+pub mod Short
 pub mod Views

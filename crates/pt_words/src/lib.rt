@@ -1,13 +1,14 @@
 //! The words of a command line: reads them as an order, or refuses them.
 //!
-//! The words are walked once, from left to right, with what they have said so far; the grammar in
-//! `specs/Grammar.antt` is that walk over the bytes of the words.
+//! The first word is the command, and clap reads the others. What clap would read as a bundle of short options is refused
+//! before. The grammar is `specs/Grammar.antt`, over what the words say (`specs/Said.antt`).
 //!
 //! Read first: `Order`, then `order_of`.
 #![tactic(auto)]
 
 mod orders;
-mod seen;
+mod reading;
+mod short;
 #[cfg(test)]
 mod tests;
 mod values;

@@ -1,5 +1,13 @@
 //! What a command line may ask for.
 
+/// A command.
+#[derive(Clone, Copy, Debug, PartialEq, Eq)]
+pub(crate) enum Command {
+    Run,
+    Check,
+    Meaning,
+}
+
 /// The clock that the platforms of a run read.
 #[derive(Clone, Copy, Debug, PartialEq, Eq)]
 pub enum ClockChoice {

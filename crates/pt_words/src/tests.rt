@@ -17,7 +17,7 @@ const RUNS: [&str; 8] = [
 ];
 
 /// Lines outside the grammar; two spaces enclose an empty word.
-const REFUSED: [&str; 34] = [
+const REFUSED: [&str; 41] = [
     "",
     "run",
     "Run g.json",
@@ -44,13 +44,20 @@ const REFUSED: [&str; 34] = [
     "run g.json --workers 2 --workers=2",
     "run g.json --worker 2",
     "run g.json --log --log",
-    "run g.json --log",
+    "run g.json --log=",
+    "run g.json --log=x",
+    "run --log --log=1 g.json",
+    "run --log",
+    "run g.json --Log",
+    "run g.json --lo",
     "run g.json --clock=Paced",
     "run g.json --clock machine",
     "run g.json --clock=step:0:1000",
     "run g.json --clock paced --clock paced",
     "check g.json --workers 2",
     "check g.json --help",
+    "check g.json --log",
+    "meaning --log g.json",
     "meaning -- --clock=paced g.json",
 ];
 
@@ -60,7 +67,7 @@ fn gives(alloc: Global, line: &str, expected: Option<Order>) -> Result<bool, All
     for word in line.split(' ') {
         words.push(String::from_str(alloc, word)?)?;
     }
-    Ok(order_of(words.as_slice()) == expected)
+    Ok(order_of(alloc, words.as_slice())? == expected)
 }
 
 fn run(graph: &str, workers: u32) -> Option<Order<'_>> {
@@ -69,6 +76,16 @@ fn run(graph: &str, workers: u32) -> Option<Order<'_>> {
         workers,
         clock: ClockChoice::Paced,
         log: false,
+    })
+}
+
+/// The run of `g.json` that writes the log too.
+fn logged(workers: u32) -> Option<Order<'static>> {
+    Some(Order::Run {
+        graph: "g.json",
+        workers,
+        clock: ClockChoice::Paced,
+        log: true,
     })
 }
 
@@ -93,6 +110,7 @@ fn values_and_names_are_read(rt: HostRuntime) -> Result<(), Fail> {
             run("--workers=3", 9)
         )?
     );
+    assert!(rt; gives(alloc, "run -- --log", run("--log", 4))?);
     assert!(rt; gives(alloc, "run -- -- --clock", None)?);
     assert!(rt; gives(alloc, "check -- --", Some(Order::Check { graph: "--" }))?);
     assert!(rt; gives(alloc, "check a=b", Some(Order::Check { graph: "a=b" }))?);
@@ -107,8 +125,18 @@ fn values_and_names_are_read(rt: HostRuntime) -> Result<(), Fail> {
 }
 
 #[test]
+fn a_log_is_asked_for_before_or_after_the_graph(rt: HostRuntime) -> Result<(), Fail> {
+    let alloc = rt.alloc();
+    assert!(rt; gives(alloc, "run --log g.json", logged(4))?);
+    assert!(rt; gives(alloc, "run g.json --log", logged(4))?);
+    assert!(rt; gives(alloc, "run g.json --log --workers 3", logged(3))?);
+    assert!(rt; gives(alloc, "run --workers 3 --log -- g.json", logged(3))?);
+    Ok(())
+}
+
+#[test]
 fn other_words_are_refused(rt: HostRuntime) -> Result<(), Fail> {
-    assert!(rt; order_of(&[]) == None);
+    assert!(rt; order_of(rt.alloc(), &[])? == None);
     for line in REFUSED {
         let found = gives(rt.alloc(), line, None)?;
         assert!(rt; found, "{line}");

@@ -1,75 +1,175 @@
-//! The walk over the words.
+//! The order that the words give.
 
-ghost use Rattle.std.specs.Prelude.{◌≡◌, option_map};
-ghost use Rattle.pt_words.specs.Grammar.{first_seen, order_of, order_with, request_of, request_over, seen_after};
-ghost use Rattle.pt_words.specs.Views.{asked, told};
+ghost use Rattle.std.specs.Prelude.{◌≡◌, ◌==◌, IfOk, codes, length, map, option_map, string_bytes};
+ghost use Rattle.pt_words.specs.Grammar.{clock_in, command_of, graph_in, is_bare, log_in, order_of, order_with, request_of, request_over, run_of, workers_in};
+ghost use Rattle.pt_words.specs.Views.{asked, texts_in, told, values_of};
 
-use crate::orders::{ClockChoice, Order};
-use crate::seen::{Command, Seen, after_word, command_of, first_seen};
+use crate::orders::{ClockChoice, Command, Order};
+use crate::reading::words_command;
+use crate::short::has_short;
+use crate::values::{clock_of, workers_of};
+use clap::ArgMatches;
+use clap::error::ErrorKind;
+use std::alloc::{AllocError, Global};
 
-/// What the words after a command say, where they are within the grammar up to their end.
-fn seen_after<'a>(command: Command, words: &'a [String]) -> Option<Seen<'a>>
-    ensures { option_map told result ≡ seen_after command first_seen words.now }
-{
-    let mut seen: Seen<'a> = first_seen();
-    for index in 0..words.len() {
-        match after_word(command, seen, words[index].as_str()) {
-            Some(next) => seen = next,
-            None => return None,
-        }
-    }
-    Some(seen)
-}
-
-/// The order that a command gives once all its words are read: an option waits for no value, and a graph was named.
-#[tactic(auto, unfolding(crate::specs::Grammar::request_of))]
-fn request_of<'a>(command: Command, seen: Seen<'a>) -> Option<Order<'a>>
-    ensures { option_map asked result ≡ request_of command (told seen.entry) }
-{
-    if seen.awaits.is_some() {
-        return None;
-    }
-    let graph = seen.graph?;
-    Some(order_over(command, seen, graph))
-}
-
-/// The order of a command over a graph file.
-#[tactic(auto, unfolding(crate::specs::Grammar::request_over))]
-fn order_over<'a>(command: Command, seen: Seen<'a>, graph: &'a str) -> Order<'a>
-    ensures { asked result ≡ request_over command (told seen.entry) graph.now }
-{
-    match command {
-        Command::Run => Order::Run {
-            graph,
-            workers: seen.workers.unwrap_or(4),
-            clock: seen.clock.unwrap_or(ClockChoice::Paced),
-            log: false,
-        },
-        Command::Check => Order::Check { graph },
-        Command::Meaning => Order::Meaning { graph },
-    }
+/// What clap read of the words after the command.
+#[derive(Clone, Copy)]
+struct Values<'m, 'a> {
+    graphs: Option<&'m [&'a str]>,
+    workers: Option<&'m [&'a str]>,
+    clocks: Option<&'m [&'a str]>,
+    logs: Option<&'m [&'a str]>,
 }
 
 /// The order that these words give, those after the program's name, or nothing where they are outside the grammar.
 ///
 /// The first word is the command. Options stand before or after the one positional word, the graph file, in any
-/// order, each at most once. An option's value is the next word, or follows `=` in the same word. A word `--` ends
-/// the options. Any other word that begins with `-` and is longer is refused, also as a value.
-pub fn order_of(words: &[String]) -> Option<Order<'_>>
-    ensures { option_map asked result ≡ order_of words.now }
+/// order, each at most once. A value is the next word, or follows `=` in the same word; `--log` takes none. A word
+/// `--` ends the options. Any other word that begins with `-` and is longer is refused, also as a value.
+pub fn order_of<'a>(alloc: Global, words: &'a [String]) -> Result<Option<Order<'a>>, AllocError>
+    ensures { IfOk result (λ order. option_map asked order ≡ order_of words.entry.now) }
 {
     let [first, rest @ ..] = words else {
-        return None;
+        return Ok(None);
     };
-    let command = command_of(first.as_str())?;
-    order_with(command, rest)
+    match command_of(first.as_str()) {
+        None => Ok(None),
+        Some(command) => order_with(alloc, command, rest),
+    }
+}
+
+/// The command of that name.
+fn command_of(word: &str) -> Option<Command>
+    ensures { result ≡ command_of word.now }
+{
+    match word {
+        "run" => Some(Command::Run),
+        "check" => Some(Command::Check),
+        "meaning" => Some(Command::Meaning),
+        _ => None,
+    }
 }
 
 /// The order that a command gives with these words.
-#[tactic(auto, unfolding(crate::specs::Grammar::order_with))]
-fn order_with(command: Command, words: &[String]) -> Option<Order<'_>>
-    ensures { option_map asked result ≡ order_with command words.now }
+fn order_with<'a>(
+    alloc: Global,
+    command: Command,
+    words: &'a [String],
+) -> Result<Option<Order<'a>>, AllocError>
+    ensures { IfOk result (λ order. option_map asked order ≡ order_with command (map string_bytes words.entry.now)) }
 {
-    let seen = seen_after(command, words)?;
-    request_of(command, seen)
+    if has_short(words) {
+        return Ok(None);
+    }
+    let reader = words_command(alloc)?;
+    match reader.try_get_matches_from(words) {
+        Ok(matches) => Ok(request_of(command, values_in(&matches))),
+        Err(error) => match error.kind() {
+            ErrorKind::OutOfMemory => Err(AllocError),
+            _ => Ok(None),
+        },
+    }
+}
+
+/// What clap read.
+fn values_in<'m, 'a>(matches: &'m ArgMatches<'a>) -> Values<'m, 'a>
+    ensures graphs { texts_in result.graphs ≡ values_of matches.entry.now (codes "graph") }
+    ensures workers { texts_in result.workers ≡ values_of matches.entry.now (codes "workers") }
+    ensures clocks { texts_in result.clocks ≡ values_of matches.entry.now (codes "clock") }
+    ensures logs { texts_in result.logs ≡ values_of matches.entry.now (codes "log") }
+{
+    Values {
+        graphs: matches.get_strs("graph"),
+        workers: matches.get_strs("workers"),
+        clocks: matches.get_strs("clock"),
+        logs: matches.get_strs("log"),
+    }
+}
+
+/// The order of a command with what clap read.
+fn request_of<'m, 'a>(command: Command, values: Values<'m, 'a>) -> Option<Order<'a>>
+    ensures { option_map asked result ≡ request_of command (told values.entry) }
+{
+    let graph = graph_in(values.graphs)?;
+    match command {
+        Command::Run => run_of(values, graph),
+        Command::Check if is_bare(values) => Some(Order::Check { graph }),
+        Command::Meaning if is_bare(values) => Some(Order::Meaning { graph }),
+        _ => None,
+    }
+}
+
+/// The run of a graph file.
+fn run_of<'m, 'a>(values: Values<'m, 'a>, graph: &'a str) -> Option<Order<'a>>
+    ensures { option_map asked result ≡ run_of (told values.entry) graph.entry.now }
+{
+    let workers = workers_in(values.workers)?;
+    let clock = clock_in(values.clocks)?;
+    let log = log_in(values.logs)?;
+    Some(Order::Run {
+        graph,
+        workers,
+        clock,
+        log,
+    })
+}
+
+/// Whether there is no option.
+fn is_bare<'m, 'a>(values: Values<'m, 'a>) -> bool
+    ensures { result ≡ is_bare (told values.entry) }
+{
+    is_absent(values.workers) && is_absent(values.clocks) && is_absent(values.logs)
+}
+
+/// Whether an option is absent.
+fn is_absent<'m, 'a>(words: Option<&'m [&'a str]>) -> bool
+    ensures { result ≡ (length (texts_in words.entry) == 0) }
+{
+    match words {
+        None | Some([]) => true,
+        _ => false,
+    }
+}
+
+/// The graph file.
+fn graph_in<'m, 'a>(words: Option<&'m [&'a str]>) -> Option<&'a str>
+    ensures { option_map (λ word. word.now) result ≡ graph_in (texts_in words.entry) }
+{
+    match words {
+        Some([word]) if !word.is_empty() => Some(*word),
+        _ => None,
+    }
+}
+
+/// The number of workers.
+fn workers_in<'m, 'a>(words: Option<&'m [&'a str]>) -> Option<u32>
+    ensures { result ≡ workers_in (texts_in words.entry) }
+{
+    match words {
+        None | Some([]) => Some(4),
+        Some([value]) => workers_of(value),
+        _ => None,
+    }
+}
+
+/// The clock.
+fn clock_in<'m, 'a>(words: Option<&'m [&'a str]>) -> Option<ClockChoice>
+    ensures { result ≡ clock_in (texts_in words.entry) }
+{
+    match words {
+        None | Some([]) => Some(ClockChoice::Paced),
+        Some([value]) => clock_of(value),
+        _ => None,
+    }
+}
+
+/// Whether the log is written too.
+fn log_in<'m, 'a>(words: Option<&'m [&'a str]>) -> Option<bool>
+    ensures { result ≡ log_in (texts_in words.entry) }
+{
+    match words {
+        None | Some([]) => Some(false),
+        Some([_]) => Some(true),
+        _ => None,
+    }
 }

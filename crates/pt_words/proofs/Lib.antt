@@ -1,0 +1,5 @@
+pub mod Agreeing
+pub mod Parsing
+pub mod Rows
+pub mod Shapes
+pub mod Steps
