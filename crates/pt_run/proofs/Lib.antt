@@ -1,4 +1,4 @@
 pub mod Puts
 pub mod Telling
 pub mod Ending
-pub mod Commands
+pub mod Planned

@@ -1,5 +1,5 @@
 -- What a command must write.
-use Rattle.std.specs.Prelude.{◌≡◌, ◌≤◌, ◌*◌, ℕ, ℤ, List, length, Option, Ok, IfSome}
+use Rattle.std.specs.Prelude.{◌≡◌, ◌≤◌, ◌*◌, [], ℕ, ℤ, Bool, List, length, Option, Ok, IfSome}
 use Rattle.pt_io.specs.Causes.{Appends, AppendsPart}
 use Rattle.pt_types.specs.declared.graph.Graph.{Graph}
 use Rattle.pt_types.specs.declared.rows.Row.{Row}
@@ -7,16 +7,18 @@ use Rattle.pt_blocks.specs.declared.blocks.Named.{Named}
 use Rattle.pt_graph.specs.GraphOf.{graph_of}
 use Rattle.pt_semantics.specs.Cycles.{NoFreeCycle}
 use Rattle.pt_semantics.specs.Ranks.{AreRanks}
-use Rattle.pt_semantics.specs.Meaning.{ActorFiring, IsMeaning, IsLonger, rows_until}
-use Rattle.pt_semantics.specs.Counts.{unit_firings}
-use Rattle.pt_semantics.specs.Parts.{parts}
+use Rattle.pt_semantics.specs.Meaning.{ActorFiring, IsMeaning, IsLonger}
 use Rattle.pt_semantics.specs.Tables.{tables_text}
 use Rattle.pt_semantics.specs.Offsets.{IsFeasible}
+use Rattle.pt_history.specs.declared.miss.Miss.{Miss}
+use Rattle.pt_turn.specs.Platforms.{PlatformView}
+use Rattle.pt_offsets.specs.Plans.{Parts}
 use Rattle.pt_offsets.specs.Margins.{HasActorOffset, HasMargin}
 use Rattle.pt_margins.specs.Text.{margins_text}
-use Rattle.pt_recorded.specs.declared.fault.LateRows.TheVariants.{Refused}
 use Rattle.pt_recorded.specs.Asked.{Contents}
-use Rattle.pt_recorded.specs.Recorded.{AllPass, AreRows}
+use Rattle.pt_recorded.specs.Places.{of_run}
+use Rattle.pt_recorded.specs.Recorded.{AreRows}
+use Rattle.pt_runs.specs.Runs.{IsFinishedRun}
 use Rattle.pt_run.specs.declared.words.Command.{Command}
 use Rattle.pt_run.specs.declared.words.Command.TheVariants.{Run, Check, Meaning}
 
@@ -24,9 +26,13 @@ use Rattle.pt_run.specs.declared.words.Command.TheVariants.{Run, Check, Meaning}
 abbrev pub GraphWith : Contents → List Named → List ℕ → (Graph → Type 0) → Type 0
 GraphWith tells blocks name Fact = (g : Graph) × IfSome (tells name) (λ bytes. graph_of blocks bytes ≡ Ok g) × Fact g
 
--- the rows of a run: those of each actor up to the horizon
-abbrev pub of_run : Graph → (ℕ → List Row) → ℕ → List Row
-of_run g rows a = rows_until g.until (rows a)
+-- what a call leaves besides what it wrote: the missed entries and the platforms of a run
+pub record Leaves : Type 0 where
+  pub misses : List Miss
+  pub platforms : List PlatformView
+
+abbrev pub nothing : Leaves
+nothing = record { misses = []; platforms = [] }
 
 -- the firings are the meaning of a graph and these rows
 pub record Means (g : Graph) (rows : ℕ → List Row) (firings : List ActorFiring) : Type 0 where
@@ -47,21 +53,15 @@ pub record IsTables (g : Graph) (rows : ℕ → List Row) (Fact : List ActorFiri
   pub fact : Fact firings
   pub tables : text ≡ tables_text g firings
 
--- no more units fire than one platform may claim
-abbrev pub FitOnOne : Graph → List ActorFiring → Type 0
-FitOnOne g firings = unit_firings g 0 (parts g firings) ≤ 200000
-
 -- no more actors fire than that for each platform
 abbrev pub FitOnAll : Graph → List ActorFiring → Type 0
 FitOnAll g firings = length firings ≤ 200000 * length g.platforms
 
--- what a run of this graph must write: the tables of the meaning of the graph and of its sensors' rows, none of which is late
-pub record IsRun (tells : Contents) (g : Graph) (text : List ℕ) : Type 0 where
-  pub platform : length g.platforms ≡ 1
-  pub rows : ℕ → List Row
-  pub sensors : AreRows tells g rows
-  pub in_time : AllPass Refused g rows
-  pub tables : IsTables g rows (FitOnOne g) text
+-- what a run of this graph must write and leave
+pub record IsRun (tells : Contents) (g : Graph) (log : Bool) (left : Leaves) (text : List ℕ) : Type 0 where
+  pub plan : Parts
+  pub graph : plan.graph ≡ g
+  pub finished : IsFinishedRun tells plan log left.platforms left.misses text
 
 -- what `meaning` must write for this graph: the same tables, whatever the bounds of its sensors
 pub record IsMeant (tells : Contents) (g : Graph) (text : List ℕ) : Type 0 where
@@ -78,24 +78,25 @@ pub record IsChecked (g : Graph) (text : List ℕ) : Type 0 where
   pub margins : (a : ℕ) → HasMargin g a (margin a)
   pub lines : text ≡ margins_text g offset margin
 
--- what a command must write for a graph without a free cycle
-abbrev pub WritesText : Command → Contents → Graph → List ℕ → Type 0
-WritesText Run tells g text = IsRun tells g text
-WritesText Check tells g text = IsChecked g text
-WritesText Meaning tells g text = IsMeant tells g text
+-- what a command must write for a graph without a free cycle, and what it leaves
+abbrev pub WritesText : Command → Contents → Graph → Leaves → List ℕ → Type 0
+WritesText (Run workers log) tells g left text = IsRun tells g log left text
+WritesText Check tells g left text = (left ≡ nothing) × IsChecked g text
+WritesText Meaning tells g left text = (left ≡ nothing) × IsMeant tells g text
 
 -- what a command must write for a graph, which has no free cycle
-abbrev pub Writes : Command → Contents → Graph → List ℕ → Type 0
-Writes command tells g text = NoFreeCycle g × WritesText command tells g text
+abbrev pub Writes : Command → Contents → Graph → Leaves → List ℕ → Type 0
+Writes command tells g left text = NoFreeCycle g × WritesText command tells g left text
 
 -- what it must write for the graph file of that name
-abbrev pub Ran : Command → Contents → List Named → List ℕ → List ℕ → Type 0
-Ran command tells blocks name text = GraphWith tells blocks name (λ g. Writes command tells g text)
+abbrev pub Ran : Command → Contents → List Named → List ℕ → Leaves → List ℕ → Type 0
+Ran command tells blocks name left text = GraphWith tells blocks name (λ g. Writes command tells g left text)
 
 -- the bytes that were told grew by that text
-abbrev pub Wrote : Command → Contents → List Named → List ℕ → Option (List ℕ) → Option (List ℕ) → Type 0
-Wrote command tells blocks name before now = (text : List ℕ) × Ran command tells blocks name text × Appends before now text
+abbrev pub Wrote : Command → Contents → List Named → List ℕ → Leaves → Option (List ℕ) → Option (List ℕ) → Type 0
+Wrote command tells blocks name left before now = (text : List ℕ) × Ran command tells blocks name left text × Appends before now text
 
--- they grew by a prefix of it
-abbrev pub WrotePart : Command → Contents → List Named → List ℕ → Option (List ℕ) → Option (List ℕ) → Type 0
-WrotePart command tells blocks name before now = (text : List ℕ) × Ran command tells blocks name text × AppendsPart before now text
+-- they grew by a prefix of it, and no missed entry is told
+abbrev pub WrotePart : Command → Contents → List Named → List ℕ → Leaves → Option (List ℕ) → Option (List ℕ) → Type 0
+WrotePart command tells blocks name left before now =
+    (left.misses ≡ []) × (misses : List Miss) × (text : List ℕ) × Ran command tells blocks name (record left { misses = misses }) text × AppendsPart before now text

@@ -1,16 +1,30 @@
 -- How a call ends, and what it asks for.
-use Rattle.std.specs.Prelude.{◌≡◌, ◌⊎◌, ℕ, List, [], ◌∷◌, Option, Some, None}
+use Rattle.std.specs.Prelude.{◌≡◌, ◌⊎◌, ℕ, Bool, List, [], ◌∷◌, Option, Some, None, Result, Ok, Err, String, string_bytes}
+use Rattle.std.specs.declared.alloc.Global.{Global}
 use Rattle.pt_io.specs.Causes.{Rose, Appends, AppendsPart}
 use Rattle.pt_types.specs.declared.graph.Graph.{Graph}
 use Rattle.pt_types.specs.declared.rows.Row.{Row}
 use Rattle.pt_blocks.specs.declared.blocks.Named.{Named}
+use Rattle.pt_history.specs.declared.miss.Miss.{Miss}
+use Rattle.pt_semantics.specs.Cycles.{NoFreeCycle}
+use Rattle.pt_ranks.specs.Ranked.{IsFreeCycle}
+use Rattle.pt_offsets.specs.Margins.{IsFirstInfeasible}
+use Rattle.pt_offsets.specs.Plans.{Parts}
+use Rattle.pt_recorded.specs.declared.fault.LateRows.TheVariants.{Refused}
 use Rattle.pt_recorded.specs.Asked.{Asks, Contents, Reading, files_before}
+use Rattle.pt_recorded.specs.Recorded.{SensorFails, SensorLate, SensorUnread}
+use Rattle.pt_runs.specs.declared.running.RunFault.{RunFault}
+use Rattle.pt_runs.specs.declared.running.RunFault.TheVariants as stop
+use Rattle.pt_runs.specs.declared.texts.Ran.{Ran}
+use Rattle.pt_runs.specs.Runs.{HasRun, IsFinishedRun}
 use Rattle.pt_run.specs.declared.fault.Fault.{Fault}
 use Rattle.pt_run.specs.declared.fault.Fault.TheVariants as fault
+use Rattle.pt_run.specs.declared.fault.Outcome.{Outcome}
+use Rattle.pt_run.specs.Faults.{fault_of_rows}
 use Rattle.pt_run.specs.declared.words.Command.{Command}
 use Rattle.pt_run.specs.declared.words.Command.TheVariants.{Check}
-use Rattle.pt_run.specs.Headline.{GraphWith, Writes, Wrote}
-use Rattle.pt_run.specs.Causes.{CauseOf, CauseOfCheck, IsCause, IsTooLongForAll, IsTooLongForOne, Writing}
+use Rattle.pt_run.specs.Headline.{GraphWith, Leaves, Writes, Wrote, nothing}
+use Rattle.pt_run.specs.Causes.{CauseOf, CauseOfCheck, CauseOfMeaning, IsCause, IsTooLongForAll, Writing}
 
 -- of the files of a graph a command asks for those of the sensors, and `check` for none
 abbrev pub files_for : Command → Graph → ℕ → List (List ℕ)
@@ -32,35 +46,78 @@ abbrev pub AsksBy : Option (Command × List ℕ) → Contents → List Named →
 AsksBy None tells blocks r = Asks r.asked_before r.asked_now []
 AsksBy (Some order) tells blocks r = AsksInOrder order.0 tells blocks order.1 r.asked_before r.asked_now
 
--- how a call ends: where the words are no command, with the usage; else with what the command must write, or with a fault
--- that has its cause
-abbrev pub EndsBy : Option Fault → Option (Command × List ℕ) → Contents → List Named → Reading → Writing → Type 0
-EndsBy outcome None tells blocks r w = (outcome ≡ Some fault.Usage) × (w.written_now ≡ w.written_before)
-EndsBy None (Some order) tells blocks r w = Wrote order.0 tells blocks order.1 w.written_before w.written_now
-EndsBy (Some f) (Some order) tells blocks r w = IsCause f order.0 tells blocks order.1 r w
+-- how a call ends: memory may run out; where the words are no command, with the usage; else with what the command must
+-- write, or with a fault that has its cause
+abbrev pub EndsBy : Option Fault → Leaves → Option (Command × List ℕ) → Contents → List Named → Reading → Writing → Type 0
+EndsBy (Some fault.Memory) left order tells blocks r w = (left ≡ nothing) × (w.written_now ≡ w.written_before)
+EndsBy outcome left None tells blocks r w = (outcome ≡ Some fault.Usage) × (left ≡ nothing) × (w.written_now ≡ w.written_before)
+EndsBy None left (Some order) tells blocks r w = Wrote order.0 tells blocks order.1 left w.written_before w.written_now
+EndsBy (Some f) left (Some order) tells blocks r w = IsCause f left order.0 tells blocks order.1 r w
 
--- the bytes that were told grew by what the command must write for this graph
-abbrev pub WroteText : Command → Contents → Graph → Option (List ℕ) → Option (List ℕ) → Type 0
-WroteText command tells g before now = (text : List ℕ) × Writes command tells g text × Appends before now text
+-- what an outcome leaves
+abbrev pub left_by : Outcome → Leaves
+left_by o = record { misses = o.misses; platforms = o.platforms.items }
 
--- why a command did not write its whole text for a graph, and what was written
-abbrev pub TextFails : Fault → Command → Contents → Graph → Reading → Writing → Type 0
-TextFails fault.Write command tells g r w = Rose w.before w.now × (text : List ℕ) × Writes command tells g text × AppendsPart w.written_before w.written_now text
-TextFails f command tells g r w = CauseOf command f tells g [] r × (w.written_now ≡ w.written_before)
+-- how a command over a graph ends
+abbrev pub EndsOver : Option Fault → Leaves → Command → Contents → Graph → Reading → Writing → Type 0
+EndsOver None left command tells g r w = (text : List ℕ) × Writes command tells g left text × Appends w.written_before w.written_now text
+EndsOver (Some fault.Write) left command tells g r w =
+    Rose w.before w.now × (left.misses ≡ []) × (misses : List Miss) × (text : List ℕ) × Writes command tells g (record left { misses = misses }) text × AppendsPart w.written_before w.written_now text
+EndsOver (Some f) left command tells g r w = CauseOf command f left tells g [] r × (w.written_now ≡ w.written_before)
+
+-- a text was put on a sink, all of it or a prefix
+abbrev pub PutBy : Option Fault → List ℕ → Writing → Type 0
+PutBy None text w = Appends w.written_before w.written_now text
+PutBy (Some f) text w = (f ≡ fault.Write) × Rose w.before w.now × AppendsPart w.written_before w.written_now text
+
+-- how the answer to a question ends: its text is put, or its fault is told
+abbrev pub Answers : Result (String Global) Fault → Outcome → Writing → Type 0
+Answers (Ok text) o w = (left_by o ≡ nothing) × PutBy o.fault (string_bytes text) w
+Answers (Err f) o w = (left_by o ≡ nothing) × (o.fault ≡ Some f) × (w.written_now ≡ w.written_before)
+
+-- how a run over a plan ends
+abbrev pub EndsPlan : Option Fault → Leaves → Bool → Contents → Parts → Reading → Writing → Type 0
+EndsPlan None left log tells plan r w = (text : List ℕ) × IsFinishedRun tells plan log left.platforms left.misses text × Appends w.written_before w.written_now text
+EndsPlan (Some fault.Write) left log tells plan r w =
+    Rose w.before w.now × (left.misses ≡ []) × (misses : List Miss) × (text : List ℕ) × IsFinishedRun tells plan log left.platforms misses text × AppendsPart w.written_before w.written_now text
+EndsPlan (Some fault.Memory) left log tells plan r w = (left ≡ nothing) × (w.written_now ≡ w.written_before)
+EndsPlan (Some (fault.Long (Some platform))) left log tells plan r w = HasRun tells plan left.platforms (Some platform) × (left.misses ≡ []) × (w.written_now ≡ w.written_before)
+EndsPlan (Some (fault.Read (Some actor))) left log tells plan r w = SensorUnread Refused tells plan.graph actor [] r × (left ≡ nothing) × (w.written_now ≡ w.written_before)
+EndsPlan (Some (fault.Sensor actor f)) left log tells plan r w = SensorFails Refused tells plan.graph actor f × (left ≡ nothing) × (w.written_now ≡ w.written_before)
+EndsPlan (Some (fault.LateRow actor row seen limit)) left log tells plan r w = SensorLate tells plan.graph actor row seen limit × (left ≡ nothing) × (w.written_now ≡ w.written_before)
+EndsPlan (Some f) left log tells plan r w = ⊥
+
+-- a run that finished was written, all of it or a prefix; where all is, its missed entries are told
+abbrev pub WroteRun : Ran → Outcome → Writing → Type 0
+WroteRun ran o w =
+    ((o.fault ≡ None) × (left_by o ≡ record { misses = ran.misses.items; platforms = ran.platforms.items }) × Appends w.written_before w.written_now (string_bytes ran.text))
+    ⊎ ((o.fault ≡ Some fault.Write) × (left_by o ≡ record { misses = []; platforms = ran.platforms.items }) × Rose w.before w.now × AppendsPart w.written_before w.written_now (string_bytes ran.text))
+
+-- a run that did not finish is told as a fault of the call
+abbrev pub IsStopped : RunFault → Outcome → Type 0
+IsStopped (stop.Rows f) o = (o.fault ≡ Some (fault_of_rows f)) × (left_by o ≡ nothing)
+IsStopped (stop.Long platform platforms) o = (o.fault ≡ Some (fault.Long (Some platform))) × (left_by o ≡ record { misses = []; platforms = platforms.items })
+IsStopped stop.Memory o = (o.fault ≡ Some fault.Memory) × (left_by o ≡ nothing)
+
+-- why a graph has no plan
+abbrev pub CauseOfPlan : Fault → Graph → Type 0
+CauseOfPlan (fault.Cycle actors) g = IsFreeCycle g actors
+CauseOfPlan (fault.Infeasible send offset slack) g = NoFreeCycle g × IsFirstInfeasible g send offset slack
+CauseOfPlan fault.Memory g = Unit {0}
+CauseOfPlan _ g = ⊥
 
 -- why there is no text of the margins
 abbrev pub CheckFails : Fault → Graph → Type 0
 CheckFails fault.Memory g = Unit {0}
 CheckFails f g = CauseOfCheck f g
 
--- why a run gave no tables of these rows
-abbrev pub RunTablesFail : Fault → Graph → (ℕ → List Row) → Type 0
-RunTablesFail fault.Memory g rows = Unit {0}
-RunTablesFail (fault.Long (Some platform)) g rows = (platform ≡ 0) × IsTooLongForOne g rows
-RunTablesFail _ g rows = ⊥
-
 -- why there are no tables of the meaning with these rows
 abbrev pub MeaningTablesFail : Fault → Graph → (ℕ → List Row) → Type 0
 MeaningTablesFail fault.Memory g rows = Unit {0}
 MeaningTablesFail (fault.Long None) g rows = IsTooLongForAll g rows
 MeaningTablesFail _ g rows = ⊥
+
+-- a cause of a fault of `meaning`, or memory ran out
+abbrev pub MeaningFails : Fault → Contents → Graph → Reading → Type 0
+MeaningFails fault.Memory tells g r = Unit {0}
+MeaningFails f tells g r = CauseOfMeaning f tells g [] r

@@ -6,9 +6,9 @@ use Rattle.pt_words.specs.Grammar.{Request, run, check, meaning}
 use Rattle.pt_run.specs.declared.words.Command.{Command}
 use Rattle.pt_run.specs.declared.words.Command.TheVariants.{Run, Check, Meaning}
 
--- the command of a request, and its graph file; the number of workers and the clock change nothing of what is written
+-- the command of a request, and its graph file; the clock changes nothing, since all runs are paced
 abbrev pub command_of : Request → Command × List ℕ
-command_of (run graph workers clock log) = (Run, graph)
+command_of (run graph workers clock log) = (Run workers log, graph)
 command_of (check graph) = (Check, graph)
 command_of (meaning graph) = (Meaning, graph)
 

@@ -1,15 +1,20 @@
 //! How a call ends.
 
-ghost use Rattle.std.specs.Prelude.{◌≡◌, Some};
-ghost use Rattle.pt_run.specs.Statuses.{status_of};
+ghost use Rattle.std.specs.Prelude.{◌≡◌, [], None, Some};
+ghost use Rattle.pt_run.specs.Headline.{nothing};
+ghost use Rattle.pt_run.specs.Statuses.{status_of, status_of_fault};
+ghost use Rattle.pt_run.specs.Texts.{left_by};
 ghost use Rattle.pt_run.specs.Faults.{fault_of_cycle, fault_of_graph, fault_of_offset, fault_of_rows};
 
 use pt_graph::GraphFault;
+use pt_history::Miss;
 use pt_offsets::OffsetFault;
 use pt_ranks::CycleFault;
 use pt_recorded::RecordedFault;
 use pt_sensors::RowFault;
 use pt_tags::List;
+use pt_turn::Platform;
+use std::alloc::Global;
 
 /// Why a call wrote no whole answer. Actors are named by their numbers in the graph, from 0; times are microseconds.
 #[derive(Drop)]
@@ -26,8 +31,6 @@ pub enum Fault {
         offset: i64,
         slack: u64,
     },
-    /// The graph has several platforms: no run takes these yet.
-    Form,
     /// The sensor's file has this fault.
     Sensor {
         actor: u32,
@@ -54,23 +57,71 @@ pub enum Fault {
     Memory,
 }
 
-/// How a call ended: 0 where all was written, else the status of its fault.
+/// How a call ended, and what a run left.
 #[derive(Drop)]
 pub struct Outcome {
+    /// 0 where all was written, 5 where something was missed besides, else that of the fault.
     pub status: u8,
     pub fault: Option<Fault>,
+    /// All missed entries: platform after platform, turn after turn, results before messages. None but at 0 and 5.
+    pub misses: List<Miss>,
+    /// The platforms of the run as it left them, in the order of the graph. None where no run was begun.
+    pub platforms: Vec<Platform>,
+}
+
+impl Outcome {
+    /// A call that ended with a fault before a run was begun.
+    pub(crate) fn refused(alloc: Global, fault: Fault) -> Outcome
+        ensures status { result.status ≡ status_of result.fault result.misses }
+        ensures fault { result.fault ≡ Some fault }
+        ensures left { left_by result ≡ nothing }
+    {
+        Outcome {
+            status: status_of(&fault),
+            fault: Some(fault),
+            misses: List::new(Vec::new(alloc)),
+            platforms: Vec::new(alloc),
+        }
+    }
+
+    /// A call that ended with a fault and left these platforms.
+    pub(crate) fn stopped(alloc: Global, fault: Fault, platforms: Vec<Platform>) -> Outcome
+        ensures status { result.status ≡ status_of result.fault result.misses }
+        ensures fault { result.fault ≡ Some fault }
+        ensures left { left_by result ≡ record { misses = []; platforms = platforms.items } }
+    {
+        Outcome {
+            status: status_of(&fault),
+            fault: Some(fault),
+            misses: List::new(Vec::new(alloc)),
+            platforms,
+        }
+    }
+
+    /// A call that wrote all, with what a run missed and left.
+    pub(crate) fn done(misses: Vec<Miss>, platforms: Vec<Platform>) -> Outcome
+        ensures status { result.status ≡ status_of result.fault result.misses }
+        ensures fault { result.fault ≡ None }
+        ensures left { left_by result ≡ record { misses = misses.items; platforms = platforms.items } }
+    {
+        Outcome {
+            status: if misses.is_empty() { 0 } else { 5 },
+            fault: None,
+            misses: List::new(misses),
+            platforms,
+        }
+    }
 }
 
 /// The status of a fault.
 pub fn status_of(fault: &Fault) -> u8
-    ensures { result ≡ status_of (Some fault.now) }
+    ensures { result ≡ status_of_fault fault.now }
 {
     match fault {
         Fault::Usage => 1,
         Fault::Graph(_) => 2,
         Fault::Cycle(_) => 2,
         Fault::Infeasible { .. } => 2,
-        Fault::Form => 2,
         Fault::Sensor { .. } => 3,
         Fault::LateRow { .. } => 4,
         Fault::Long { .. } => 6,

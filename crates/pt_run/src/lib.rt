@@ -1,7 +1,7 @@
 //! The top call: runs the command of some words over a source of files and sinks of bytes.
 //!
-//! `run GRAPH` reads the graph file and the rows of its sensors, takes the meaning of the two, and writes the table
-//! of every actuator. What a command must write stands in `specs/Headline.antt`, and why it may end otherwise in
+//! `run GRAPH` reads the graph file and the rows of its sensors, lets all platforms go on in paced rounds, and writes the
+//! table of every actuator. What a command must write stands in `specs/Headline.antt`, and why it may end otherwise in
 //! `specs/Causes.antt`.
 //!
 //! Read first: `ptides`, then `specs/Headline.antt`.
@@ -11,6 +11,8 @@ mod admission;
 mod fault;
 mod notes;
 mod output;
+mod plans;
+mod runs;
 mod texts;
 mod top;
 mod words;

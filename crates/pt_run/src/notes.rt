@@ -11,7 +11,7 @@ use pt_types::Graph;
 use std::alloc::{AllocError, Global};
 
 const USAGE: &str =
-    "usage: ptides run GRAPH [--workers N] [--clock paced] | check GRAPH | meaning GRAPH\n";
+    "usage: ptides run GRAPH [--workers N] [--clock paced] [--log] | check GRAPH | meaning GRAPH\n";
 
 /// Puts the line of a fault on notes. Where memory runs out or the put fails, the line is missing and nothing else changes.
 pub fn tell<E: Sink>(alloc: Global, notes: &mut E, fault: &Fault, graph: Option<&Graph>) {
@@ -34,7 +34,6 @@ fn push_line(line: &mut String, fault: &Fault, graph: Option<&Graph>) -> Result<
             offset,
             slack,
         } => push_infeasible(line, actor_name(graph, *send), offset, *slack),
-        Fault::Form => line.push_str("graph: form\n"),
         Fault::Sensor { actor, fault } => sensor_line(line, actor_name(graph, *actor), fault),
         Fault::LateRow {
             actor,

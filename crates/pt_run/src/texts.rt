@@ -1,19 +1,18 @@
-//! The text that a command must write.
+//! The answers of the commands that run nothing.
 
-ghost use Rattle.std.specs.Prelude.{◌≡◌, ◌≤◌, ◌*◌, IfOk, IfErr, [], length, string_bytes};
+ghost use Rattle.std.specs.Prelude.{[], IfOk, IfErr, length, string_bytes};
 ghost use Rattle.pt_types.specs.Lawful.{IsLawful};
-ghost use Rattle.pt_semantics.specs.Cycles.{NoFreeCycle};
 ghost use Rattle.pt_semantics.specs.Lists.{Each};
 ghost use Rattle.pt_semantics.specs.Ranks.{AreRanks};
 ghost use Rattle.pt_meaning.specs.Opening.{rows_for, IsOfActors};
 ghost use Rattle.pt_ranks.specs.Ranked.{rank_of};
-ghost use Rattle.pt_recorded.specs.Asked.{AsksFiles};
-ghost use Rattle.pt_run.specs.Causes.{CauseOf, CauseOfMeaning, CauseOfRun, CauseOfText, CauseOrMemory};
-ghost use Rattle.pt_run.specs.Headline.{FitOnAll, FitOnOne, IsChecked, IsMeant, IsRun, IsTables, Writes, WritesText};
-ghost use Rattle.pt_run.specs.Texts.{AsksFor, CheckFails, MeaningTablesFail, RunTablesFail};
+ghost use Rattle.pt_recorded.specs.Asked.{AsksFiles, Contents, Reading};
+ghost use Rattle.pt_run.specs.declared.words.Command.TheVariants.{Check, Meaning};
+ghost use Rattle.pt_run.specs.Causes.{CauseOf};
+ghost use Rattle.pt_run.specs.Headline.{FitOnAll, IsChecked, IsMeant, IsTables, Writes, nothing};
+ghost use Rattle.pt_run.specs.Texts.{CheckFails, MeaningFails, MeaningTablesFail};
 
 use crate::fault::{Fault, fault_of_cycle, fault_of_offset, fault_of_rows};
-use crate::words::Command;
 use pt_delays::least_delays;
 use pt_io::Source;
 use pt_margins::margins;
@@ -24,75 +23,21 @@ use pt_recorded::{LateRows, recorded};
 use pt_sensors::SensorRows;
 use pt_tables::tables;
 use pt_types::Graph;
-use pt_units::fires_more_than;
 use std::alloc::Global;
 
 /// The most firings of a platform.
 const MOST_FIRINGS: usize = 200_000;
 
-/// The text that a command must write for this graph, over the sensors' files that the source has.
-pub fn text_of<S: Source>(
-    alloc: Global,
-    command: Command,
-    source: &mut S,
-    graph: &Graph,
-) -> Result<String, Fault>
+/// The answer of `check`: the offset and the margin of each actor of a graph.
+pub fn check_answer(alloc: Global, graph: &Graph) -> Result<String, Fault>
     requires { IsLawful graph.now }
-    ensures text { IfOk result (λ text. Writes command (S.tells source.old) graph.now (string_bytes text)) }
-    ensures fault { IfErr result (λ f. CauseOf command f (S.tells source.old) graph.now []
-        (record { asked_before = S.asked source.old; asked_now = S.asked source.new; before = S.faults source.old; now = S.faults source.new })) }
-    ensures asks { AsksFor command graph.now (S.asked source.old) (S.asked source.new) }
+    ensures text { IfOk result (λ text. (tells : Contents) → Writes Check tells graph.now nothing (string_bytes text)) }
+    ensures fault { IfErr result (λ f. (tells : Contents) (r : Reading) → CauseOf Check f nothing tells graph.now [] r) }
 {
     match ranks_of(alloc, graph) {
-        Ok(ranks) => text_with(alloc, command, source, graph, &ranks),
+        Ok(_ranks) => check_text(alloc, graph),
         Err(fault) => Err(fault_of_cycle(fault)),
     }
-}
-
-/// The text that a command must write for a graph with these ranks.
-fn text_with<S: Source>(
-    alloc: Global,
-    command: Command,
-    source: &mut S,
-    graph: &Graph,
-    ranks: &Ranks,
-) -> Result<String, Fault>
-    requires lawful { IsLawful graph.now }
-    requires ranks { AreRanks graph.now (rank_of ranks.now) }
-    ensures text { IfOk result (λ text. WritesText command (S.tells source.old) graph.now (string_bytes text)) }
-    ensures fault { IfErr result (λ f. CauseOrMemory (CauseOfText command) f (S.tells source.old) graph.now []
-        (record { asked_before = S.asked source.old; asked_now = S.asked source.new; before = S.faults source.old; now = S.faults source.new })) }
-    ensures asks { AsksFor command graph.now (S.asked source.old) (S.asked source.new) }
-{
-    match command {
-        Command::Run => run_text(alloc, source, graph, ranks),
-        Command::Check => check_text(alloc, graph),
-        Command::Meaning => meaning_text(alloc, source, graph, ranks),
-    }
-}
-
-/// The tables of a run.
-fn run_text<S: Source>(
-    alloc: Global,
-    source: &mut S,
-    graph: &Graph,
-    ranks: &Ranks,
-) -> Result<String, Fault>
-    requires lawful { IsLawful graph.now }
-    requires ranks { AreRanks graph.now (rank_of ranks.now) }
-    ensures text { IfOk result (λ text. IsRun (S.tells source.old) graph.now (string_bytes text)) }
-    ensures fault { IfErr result (λ f. CauseOrMemory CauseOfRun f (S.tells source.old) graph.now []
-        (record { asked_before = S.asked source.old; asked_now = S.asked source.new; before = S.faults source.old; now = S.faults source.new })) }
-    ensures asks { AsksFiles graph.now (S.asked source.old) (S.asked source.new) }
-{
-    if graph.platforms.as_slice().len() != 1 {
-        return Err(Fault::Form);
-    }
-    let sensors = match recorded(alloc, source, graph, LateRows::Refused) {
-        Ok(sensors) => sensors,
-        Err(fault) => return Err(fault_of_rows(fault)),
-    };
-    run_tables(alloc, graph, ranks, sensors.as_slice())
 }
 
 /// The offset and the margin of each actor.
@@ -114,6 +59,24 @@ fn check_text(alloc: Global, graph: &Graph) -> Result<String, Fault>
     }
 }
 
+/// The answer of `meaning`: the tables of the meaning of a graph and of the rows of its sensors' files.
+pub fn meaning_answer<S: Source>(
+    alloc: Global,
+    source: &mut S,
+    graph: &Graph,
+) -> Result<String, Fault>
+    requires { IsLawful graph.now }
+    ensures text { IfOk result (λ text. Writes Meaning (S.tells source.old) graph.now nothing (string_bytes text)) }
+    ensures fault { IfErr result (λ f. CauseOf Meaning f nothing (S.tells source.old) graph.now []
+        (record { asked_before = S.asked source.old; asked_now = S.asked source.new; before = S.faults source.old; now = S.faults source.new })) }
+    ensures asks { AsksFiles graph.now (S.asked source.old) (S.asked source.new) }
+{
+    match ranks_of(alloc, graph) {
+        Ok(ranks) => meaning_text(alloc, source, graph, &ranks),
+        Err(fault) => Err(fault_of_cycle(fault)),
+    }
+}
+
 /// The tables of the meaning.
 fn meaning_text<S: Source>(
     alloc: Global,
@@ -124,7 +87,7 @@ fn meaning_text<S: Source>(
     requires lawful { IsLawful graph.now }
     requires ranks { AreRanks graph.now (rank_of ranks.now) }
     ensures text { IfOk result (λ text. IsMeant (S.tells source.old) graph.now (string_bytes text)) }
-    ensures fault { IfErr result (λ f. CauseOrMemory CauseOfMeaning f (S.tells source.old) graph.now []
+    ensures fault { IfErr result (λ f. MeaningFails f (S.tells source.old) graph.now
         (record { asked_before = S.asked source.old; asked_now = S.asked source.new; before = S.faults source.old; now = S.faults source.new })) }
     ensures asks { AsksFiles graph.now (S.asked source.old) (S.asked source.new) }
 {
@@ -133,33 +96,6 @@ fn meaning_text<S: Source>(
         Err(fault) => return Err(fault_of_rows(fault)),
     };
     meaning_tables(alloc, graph, ranks, sensors.as_slice())
-}
-
-/// The tables of the meaning of a graph and these rows, where a run of it is not too long.
-fn run_tables(
-    alloc: Global,
-    graph: &Graph,
-    ranks: &Ranks,
-    sensors: &[SensorRows],
-) -> Result<String, Fault>
-    requires lawful { IsLawful graph.now }
-    requires ranks { AreRanks graph.now (rank_of ranks.now) }
-    requires sensors { Each (IsOfActors (length graph.now.actors)) sensors.now }
-    ensures text { IfOk result (λ text. IsTables graph.now (rows_for sensors.now) (FitOnOne graph.now) (string_bytes text)) }
-    ensures fault { IfErr result (λ f. RunTablesFail f graph.now (rows_for sensors.now)) }
-{
-    let firings = match reference(alloc, graph, ranks.ranks(), sensors, MOST_FIRINGS) {
-        Ok(firings) => firings,
-        Err(MeaningFault::Long) => return Err(Fault::Long { platform: Some(0) }),
-        Err(MeaningFault::Memory) => return Err(Fault::Memory),
-    };
-    if fires_more_than(graph, 0, &firings, MOST_FIRINGS) {
-        return Err(Fault::Long { platform: Some(0) });
-    }
-    match tables(alloc, graph, &firings) {
-        Ok(text) => Ok(text),
-        Err(_) => Err(Fault::Memory),
-    }
 }
 
 /// The tables of the meaning of a graph and these rows, where it is not too long for all platforms.

@@ -1,0 +1,144 @@
+-- How a run over a graph ends, by how it ends over its plan.
+use Rattle.std.proofs.Common.{◌≡◌, ℕ, Bool, List, [], Option, Some, None, Result, Ok, Err, IfOk, IfErr, refl, sym, ap, subst, ◌∙◌, inl, inr, ⊎_elim}
+use Rattle.std.specs.Prelude.{String, string_bytes}
+use Rattle.std.specs.declared.alloc.Global.{Global}
+use Rattle.pt_types.specs.declared.graph.Graph.{Graph}
+use Rattle.pt_semantics.specs.Cycles.{NoFreeCycle}
+use Rattle.pt_semantics.specs.Offsets.{IsFeasible}
+use Rattle.pt_semantics.specs.Ranks.{AreLevels}
+use Rattle.pt_semantics.proofs.Acyclic.{levels_forbid_cycles}
+use Rattle.pt_offsets.specs.declared.fault.OffsetFault.{OffsetFault}
+use Rattle.pt_offsets.specs.declared.fault.OffsetFault.TheVariants as offset
+use Rattle.pt_offsets.specs.Faults.{CauseOfOffset}
+use Rattle.pt_offsets.specs.Plans.{IsAdmitted, Parts}
+use Rattle.pt_recorded.specs.declared.fault.RecordedFault.{RecordedFault}
+use Rattle.pt_recorded.specs.declared.fault.RecordedFault.TheVariants as rows
+use Rattle.pt_recorded.specs.declared.fault.LateRows.TheVariants.{Refused}
+use Rattle.pt_recorded.specs.Asked.{Contents, Reading}
+use Rattle.pt_recorded.specs.Recorded.{CauseOfRows, SensorFails, SensorLate, SensorUnread}
+use Rattle.pt_runs.specs.declared.running.RunFault.{RunFault}
+use Rattle.pt_runs.specs.declared.running.RunFault.TheVariants as stop
+use Rattle.pt_runs.specs.declared.texts.Ran.{Ran}
+use Rattle.pt_runs.specs.Runs.{CauseOfRun as CauseOfStop, HasRun, IsFinishedRun, IsRun}
+use Rattle.pt_run.specs.declared.fault.Fault.{Fault}
+use Rattle.pt_run.specs.declared.fault.Fault.TheVariants as fault
+use Rattle.pt_run.specs.declared.fault.Outcome.{Outcome}
+use Rattle.pt_run.specs.declared.words.Command.TheVariants.{Check, Meaning, Run}
+use Rattle.pt_run.specs.Faults.{fault_of_offset, fault_of_rows}
+use Rattle.pt_run.specs.Headline.{IsChecked, IsMeant, IsRun as IsRunOf, Leaves, Writes, nothing}
+use Rattle.pt_run.specs.Causes.{CauseOf, CauseOfMeaning, RunsLong, Writing}
+use Rattle.pt_run.specs.Texts.{CauseOfPlan, CheckFails, EndsOver, EndsPlan, IsStopped, MeaningFails, WroteRun, left_by}
+
+-- a run that finished was written
+pub wrote_plan : (ran : Ran) (o : Outcome) (log : Bool) (tells : Contents) (plan : Parts) (r : Reading) (w : Writing) → IsRun tells plan log ran → WroteRun ran o w → EndsPlan o.fault (left_by o) log tells plan r w
+wrote_plan ran o log tells plan r w run h =
+    ⊎_elim
+    (λ all. subst (λ left. EndsPlan o.fault left log tells plan r w) (sym all.1) (subst (λ f. EndsPlan f (record { misses = ran.misses.items; platforms = ran.platforms.items }) log tells plan r w) (sym all.0) (string_bytes ran.text, run.0, all.2)))
+    (λ part. subst (λ left. EndsPlan o.fault left log tells plan r w) (sym part.1) (subst (λ f. EndsPlan f (record { misses = []; platforms = ran.platforms.items }) log tells plan r w) (sym part.0) (part.2, refl, ran.misses.items, string_bytes ran.text, run.0, part.3)))
+    h
+
+-- a run that did not finish is told
+pub stopped_plan : (stopped : RunFault) (o : Outcome) (log : Bool) (tells : Contents) (plan : Parts) (r : Reading) (w : Writing) → CauseOfStop stopped tells plan r → IsStopped stopped o → w.written_now ≡ w.written_before → EndsPlan o.fault (left_by o) log tells plan r w
+stopped_plan (stop.Rows f) o log tells plan r w cause h still = subst (λ left. EndsPlan o.fault left log tells plan r w) (sym h.1) (subst (λ e. EndsPlan e nothing log tells plan r w) (sym h.0) (by_rows f cause))
+  where
+    by_rows : (e : RecordedFault) → CauseOfRows Refused e tells plan.graph [] r → EndsPlan (Some (fault_of_rows e)) nothing log tells plan r w
+    by_rows rows.Memory k = (refl, still)
+    by_rows (rows.Read sensor) k = (k, refl, still)
+    by_rows (rows.Sensor actor e) k = (k, refl, still)
+    by_rows (rows.Late actor row seen limit) k = (k.1, refl, still)
+stopped_plan (stop.Long platform platforms) o log tells plan r w cause h still = subst (λ left. EndsPlan o.fault left log tells plan r w) (sym h.1) (subst (λ e. EndsPlan e (record { misses = []; platforms = platforms.items }) log tells plan r w) (sym h.0) (cause, refl, still))
+stopped_plan stop.Memory o log tells plan r w cause h still = subst (λ left. EndsPlan o.fault left log tells plan r w) (sym h.1) (subst (λ e. EndsPlan e nothing log tells plan r w) (sym h.0) (refl, still))
+
+-- over a plan, so over its graph
+pub ends_plan : (o : Option Fault) (left : Leaves) (workers : ℕ) (log : Bool) (tells : Contents) (g : Graph) (plan : Parts) (r : Reading) (w : Writing) → IsAdmitted plan → plan.graph ≡ g → EndsPlan o left log tells plan r w → EndsOver o left (Run workers log) tells g r w
+ends_plan o left workers log tells g plan r w admitted is ends = by_outcome o ends
+  where
+    free : NoFreeCycle g
+    free = subst NoFreeCycle is admitted.no_free_cycle
+
+    feasible : IsFeasible g
+    feasible = subst IsFeasible is admitted.feasible
+
+    by_outcome : (e : Option Fault) → EndsPlan e left log tells plan r w → EndsOver e left (Run workers log) tells g r w
+    by_outcome None h = (h.0, (free, record { plan = plan; graph = is; finished = h.1 }), h.2)
+    by_outcome (Some fault.Write) h = (h.0, h.1, h.2, h.3, (free, record { plan = plan; graph = is; finished = h.4 }), h.5)
+    by_outcome (Some fault.Memory) h = h
+    by_outcome (Some (fault.Long (Some platform))) h = ((free, record { plan = plan; graph = is; run = h.0; none_told = h.1 }), h.2)
+    by_outcome (Some (fault.Long None)) h = absurd h
+    by_outcome (Some (fault.Read (Some actor))) h = ((free, (feasible, subst (λ z. SensorUnread Refused tells z actor [] r) is h.0, h.1)), h.2)
+    by_outcome (Some (fault.Read None)) h = absurd h
+    by_outcome (Some (fault.Sensor actor f)) h = ((free, (feasible, subst (λ z. SensorFails Refused tells z actor f) is h.0, h.1)), h.2)
+    by_outcome (Some (fault.LateRow actor row seen limit)) h = ((free, (feasible, subst (λ z. SensorLate tells z actor row seen limit) is h.0, h.1)), h.2)
+    by_outcome (Some fault.Usage) h = absurd h
+    by_outcome (Some (fault.Graph f)) h = absurd h
+    by_outcome (Some (fault.Cycle actors)) h = absurd h
+    by_outcome (Some (fault.Infeasible send offset slack)) h = absurd h
+
+-- a graph without a plan was told
+pub unplanned : (f : Fault) (o : Outcome) (workers : ℕ) (log : Bool) (tells : Contents) (g : Graph) (r : Reading) (w : Writing) → CauseOfPlan f g → o.fault ≡ Some f → left_by o ≡ nothing → w.written_now ≡ w.written_before → EndsOver o.fault (left_by o) (Run workers log) tells g r w
+unplanned f o workers log tells g r w cause is none still = subst (λ left. EndsOver o.fault left (Run workers log) tells g r w) (sym none) (subst (λ e. EndsOver e nothing (Run workers log) tells g r w) (sym is) (by_fault f cause))
+  where
+    by_fault : (e : Fault) → CauseOfPlan e g → EndsOver (Some e) nothing (Run workers log) tells g r w
+    by_fault (fault.Cycle actors) k = ((k, refl), still)
+    by_fault (fault.Infeasible send offset slack) k = ((k.0, (k.1, refl)), still)
+    by_fault fault.Memory k = (refl, still)
+    by_fault fault.Usage k = absurd k
+    by_fault (fault.Graph e) k = absurd k
+    by_fault (fault.Sensor actor e) k = absurd k
+    by_fault (fault.LateRow actor row seen limit) k = absurd k
+    by_fault (fault.Long platform) k = absurd k
+    by_fault (fault.Read sensor) k = absurd k
+    by_fault fault.Write k = absurd k
+
+-- the offsets of a graph that has levels show no plan
+pub offsets_fail : (g : Graph) (level : ℕ → ℕ) (f : OffsetFault) → AreLevels g level → CauseOfOffset f g → CauseOfPlan (fault_of_offset f) g
+offsets_fail g level offset.Memory levels h = tt
+offsets_fail g level (offset.Infeasible send o slack) levels h = (levels_forbid_cycles g level levels, h)
+
+-- `check` over a graph that has levels
+pub checked : (g : Graph) (level : ℕ → ℕ) (made : Result (String Global) Fault) → AreLevels g level → IfOk made (λ text. IsChecked g (string_bytes text)) → IfOk made (λ text. (tells : Contents) → Writes Check tells g nothing (string_bytes text))
+checked g level (Ok text) levels h = λ tells. (levels_forbid_cycles g level levels, (refl, h))
+checked g level (Err f) levels h = tt
+
+pub check_fails : (g : Graph) (level : ℕ → ℕ) (made : Result (String Global) Fault) → AreLevels g level → IfErr made (λ f. CheckFails f g) → IfErr made (λ f. (tells : Contents) (r : Reading) → CauseOf Check f nothing tells g [] r)
+check_fails g level (Ok text) levels h = tt
+check_fails g level (Err f) levels h = λ tells r. by_fault f h tells r
+  where
+    free : NoFreeCycle g
+    free = levels_forbid_cycles g level levels
+
+    by_fault : (e : Fault) → CheckFails e g → (tells : Contents) (r : Reading) → CauseOf Check e nothing tells g [] r
+    by_fault (fault.Infeasible send offset slack) k tells r = (free, (k, refl))
+    by_fault fault.Memory k tells r = refl
+    by_fault (fault.Cycle actors) k tells r = absurd k
+    by_fault fault.Usage k tells r = absurd k
+    by_fault (fault.Graph e) k tells r = absurd k
+    by_fault (fault.Sensor actor e) k tells r = absurd k
+    by_fault (fault.LateRow actor row seen limit) k tells r = absurd k
+    by_fault (fault.Long platform) k tells r = absurd k
+    by_fault (fault.Read sensor) k tells r = absurd k
+    by_fault fault.Write k tells r = absurd k
+
+-- `meaning` over such a graph
+pub meant : (tells : Contents) (g : Graph) (level : ℕ → ℕ) (made : Result (String Global) Fault) → AreLevels g level → IfOk made (λ text. IsMeant tells g (string_bytes text)) → IfOk made (λ text. Writes Meaning tells g nothing (string_bytes text))
+meant tells g level (Ok text) levels h = (levels_forbid_cycles g level levels, (refl, h))
+meant tells g level (Err f) levels h = tt
+
+pub meaning_fails : (tells : Contents) (g : Graph) (r : Reading) (level : ℕ → ℕ) (made : Result (String Global) Fault) → AreLevels g level → IfErr made (λ f. MeaningFails f tells g r) → IfErr made (λ f. CauseOf Meaning f nothing tells g [] r)
+meaning_fails tells g r level (Ok text) levels h = tt
+meaning_fails tells g r level (Err f) levels h = by_fault f h
+  where
+    free : NoFreeCycle g
+    free = levels_forbid_cycles g level levels
+
+    by_fault : (e : Fault) → MeaningFails e tells g r → CauseOf Meaning e nothing tells g [] r
+    by_fault fault.Memory k = refl
+    by_fault (fault.Cycle actors) k = absurd k
+    by_fault (fault.Infeasible send offset slack) k = (free, (k, refl))
+    by_fault fault.Usage k = (free, (k, refl))
+    by_fault (fault.Graph e) k = (free, (k, refl))
+    by_fault (fault.Sensor actor e) k = (free, (k, refl))
+    by_fault (fault.LateRow actor row seen limit) k = (free, (k, refl))
+    by_fault (fault.Long platform) k = (free, (k, refl))
+    by_fault (fault.Read sensor) k = (free, (k, refl))
+    by_fault fault.Write k = (free, (k, refl))

@@ -1,0 +1,25 @@
+use Rattle.std.specs.Prelude.{string_bytes}
+use Rattle.pt_recorded.specs.Asked.{Reading}
+use Rattle.pt_run.specs.declared.words.Command.TheVariants.{Check, Meaning}
+use Rattle.pt_run.specs.Causes.{CauseOf, Writing}
+use Rattle.pt_run.specs.Headline.{Writes, nothing}
+use Rattle.std.proofs.Common.{[]}
+use Rattle.pt_run.proofs.Ending.{ends_answer, err_at, ok_at}
+use Rattle.pt_run.proofs.top.run_command.Goals as goal
+
+pub returns-in-Check-clause-ends : goal.returns-in-Check-clause-ends
+returns-in-Check-clause-ends g c =
+    let tells = g.S.Source.tells c.args.source.now in
+    let r : Reading = record { asked_before = g.S.Source.asked c.args.source.now; asked_now = g.S.Source.asked c.args.source.now; before = g.S.Source.faults c.args.source.now; now = g.S.Source.faults c.args.source.now } in
+    let w : Writing = record { before = g.K.Sink.faults c.args.out.now; now = g.K.Sink.faults c.give.new.out; written_before = g.K.Sink.written c.args.out.now; written_now = g.K.Sink.written c.give.new.out } in
+    rw c.in-Check.is (ends_answer Check c.check_answer-answer.result c.give.result tells c.args.graph r w
+    (ok_at tells (λ t text. Writes Check t c.args.graph nothing (string_bytes text)) c.check_answer-answer.result c.check_answer-answer.ensures.text)
+    (err_at tells r (λ t q f. CauseOf Check f nothing t c.args.graph [] q) c.check_answer-answer.result c.check_answer-answer.ensures.fault)
+    c.give.ensures.gives)
+
+pub returns-in-Meaning-clause-ends : goal.returns-in-Meaning-clause-ends
+returns-in-Meaning-clause-ends g c =
+    let tells = g.S.Source.tells c.args.source.now in
+    let r : Reading = record { asked_before = g.S.Source.asked c.args.source.now; asked_now = g.S.Source.asked c.meaning_answer-answer.new.source; before = g.S.Source.faults c.args.source.now; now = g.S.Source.faults c.meaning_answer-answer.new.source } in
+    let w : Writing = record { before = g.K.Sink.faults c.args.out.now; now = g.K.Sink.faults c.give-in-Meaning.new.out; written_before = g.K.Sink.written c.args.out.now; written_now = g.K.Sink.written c.give-in-Meaning.new.out } in
+    rw c.in-Meaning.is (ends_answer Meaning c.meaning_answer-answer.result c.give-in-Meaning.result tells c.args.graph r w c.meaning_answer-answer.ensures.text c.meaning_answer-answer.ensures.fault c.give-in-Meaning.ensures.gives)
