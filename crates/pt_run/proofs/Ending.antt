@@ -183,7 +183,11 @@ ends_answer c (Ok text) o tells g r w good bad h = subst (λ left. EndsOver o.fa
     by_outcome : (e : Option Fault) → PutBy e (string_bytes text) w → EndsOver e nothing c tells g r w
     by_outcome None put = (string_bytes text, good, put)
     by_outcome (Some e) put = subst (λ f. EndsOver (Some f) nothing c tells g r w) (sym put.0) (put.1, refl, [], string_bytes text, good, put.2)
-ends_answer c (Err f) o tells g r w good bad h = subst (λ left. EndsOver o.fault left c tells g r w) (sym h.0) (subst (λ e. EndsOver e nothing c tells g r w) (sym h.1) (by_fault f bad))
+ends_answer c (Err f) o tells g r w good bad h = subst (λ left. EndsOver o.fault left c tells g r w) (sym h.0)
+    (⊎_elim
+    (λ (is : o.fault ≡ Some f). subst (λ e. EndsOver e nothing c tells g r w) (sym is) (by_fault f bad))
+    (λ (is : o.fault ≡ Some fault.Memory). subst (λ e. EndsOver e nothing c tells g r w) (sym is) (refl, h.2))
+    h.1)
   where
     by_fault : (e : Fault) → CauseOf c e nothing tells g [] r → EndsOver (Some e) nothing c tells g r w
     by_fault fault.Usage k = (k, h.2)

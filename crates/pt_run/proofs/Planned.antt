@@ -1,8 +1,11 @@
 -- How a run over a graph ends, by how it ends over its plan.
 use Rattle.std.proofs.Common.{◌≡◌, ℕ, Bool, List, [], Option, Some, None, Result, Ok, Err, IfOk, IfErr, refl, sym, ap, subst, ◌∙◌, inl, inr, ⊎_elim}
-use Rattle.std.specs.Prelude.{String, string_bytes}
+use Rattle.std.specs.Prelude.{IfSome, String, string_bytes}
 use Rattle.std.specs.declared.alloc.Global.{Global}
 use Rattle.pt_types.specs.declared.graph.Graph.{Graph}
+use Rattle.pt_blocks.specs.declared.blocks.Named.{Named}
+use Rattle.pt_graph.specs.GraphOf.{graph_of}
+use Rattle.pt_history.specs.declared.miss.Miss.{Miss}
 use Rattle.pt_semantics.specs.Cycles.{NoFreeCycle}
 use Rattle.pt_semantics.specs.Offsets.{IsFeasible}
 use Rattle.pt_semantics.specs.Ranks.{AreLevels}
@@ -23,11 +26,13 @@ use Rattle.pt_runs.specs.Runs.{CauseOfRun as CauseOfStop, HasRun, IsFinishedRun,
 use Rattle.pt_run.specs.declared.fault.Fault.{Fault}
 use Rattle.pt_run.specs.declared.fault.Fault.TheVariants as fault
 use Rattle.pt_run.specs.declared.fault.Outcome.{Outcome}
+use Rattle.pt_run.specs.declared.words.Command.{Command}
+use Rattle.pt_run.specs.Telling.{Tells, TellsBy}
 use Rattle.pt_run.specs.declared.words.Command.TheVariants.{Check, Meaning, Run}
 use Rattle.pt_run.specs.Faults.{fault_of_offset, fault_of_rows}
 use Rattle.pt_run.specs.Headline.{IsChecked, IsMeant, IsRun as IsRunOf, Leaves, Writes, nothing}
 use Rattle.pt_run.specs.Causes.{CauseOf, CauseOfMeaning, RunsLong, Writing}
-use Rattle.pt_run.specs.Texts.{CauseOfPlan, CheckFails, EndsOver, EndsPlan, IsStopped, MeaningFails, WroteRun, left_by}
+use Rattle.pt_run.specs.Texts.{CauseOfPlan, CheckFails, EndsOver, EndsPlan, IsStopped, MeaningFails, OrMemory, WroteRun, left_by}
 
 -- a run that finished was written
 pub wrote_plan : (ran : Ran) (o : Outcome) (log : Bool) (tells : Contents) (plan : Parts) (r : Reading) (w : Writing) → IsRun tells plan log ran → WroteRun ran o w → EndsPlan o.fault (left_by o) log tells plan r w
@@ -39,14 +44,22 @@ wrote_plan ran o log tells plan r w run h =
 
 -- a run that did not finish is told
 pub stopped_plan : (stopped : RunFault) (o : Outcome) (log : Bool) (tells : Contents) (plan : Parts) (r : Reading) (w : Writing) → CauseOfStop stopped tells plan r → IsStopped stopped o → w.written_now ≡ w.written_before → EndsPlan o.fault (left_by o) log tells plan r w
-stopped_plan (stop.Rows f) o log tells plan r w cause h still = subst (λ left. EndsPlan o.fault left log tells plan r w) (sym h.1) (subst (λ e. EndsPlan e nothing log tells plan r w) (sym h.0) (by_rows f cause))
+stopped_plan (stop.Rows f) o log tells plan r w cause h still = subst (λ left. EndsPlan o.fault left log tells plan r w) (sym h.1)
+    (⊎_elim
+    (λ (is : o.fault ≡ Some (fault_of_rows f)). subst (λ e. EndsPlan e nothing log tells plan r w) (sym is) (by_rows f cause))
+    (λ (is : o.fault ≡ Some fault.Memory). subst (λ e. EndsPlan e nothing log tells plan r w) (sym is) (refl, still))
+    h.0)
   where
     by_rows : (e : RecordedFault) → CauseOfRows Refused e tells plan.graph [] r → EndsPlan (Some (fault_of_rows e)) nothing log tells plan r w
     by_rows rows.Memory k = (refl, still)
     by_rows (rows.Read sensor) k = (k, refl, still)
     by_rows (rows.Sensor actor e) k = (k, refl, still)
     by_rows (rows.Late actor row seen limit) k = (k.1, refl, still)
-stopped_plan (stop.Long platform platforms) o log tells plan r w cause h still = subst (λ left. EndsPlan o.fault left log tells plan r w) (sym h.1) (subst (λ e. EndsPlan e (record { misses = []; platforms = platforms.items }) log tells plan r w) (sym h.0) (cause, refl, still))
+stopped_plan (stop.Long platform platforms) o log tells plan r w cause h still =
+    ⊎_elim
+    (λ long. subst (λ left. EndsPlan o.fault left log tells plan r w) (sym long.1) (subst (λ e. EndsPlan e (record { misses = []; platforms = platforms.items }) log tells plan r w) (sym long.0) (cause, refl, still)))
+    (λ memory. subst (λ left. EndsPlan o.fault left log tells plan r w) (sym memory.1) (subst (λ e. EndsPlan e nothing log tells plan r w) (sym memory.0) (refl, still)))
+    h
 stopped_plan stop.Memory o log tells plan r w cause h still = subst (λ left. EndsPlan o.fault left log tells plan r w) (sym h.1) (subst (λ e. EndsPlan e nothing log tells plan r w) (sym h.0) (refl, still))
 
 -- over a plan, so over its graph
@@ -75,8 +88,11 @@ ends_plan o left workers log tells g plan r w admitted is ends = by_outcome o en
     by_outcome (Some (fault.Infeasible send offset slack)) h = absurd h
 
 -- a graph without a plan was told
-pub unplanned : (f : Fault) (o : Outcome) (workers : ℕ) (log : Bool) (tells : Contents) (g : Graph) (r : Reading) (w : Writing) → CauseOfPlan f g → o.fault ≡ Some f → left_by o ≡ nothing → w.written_now ≡ w.written_before → EndsOver o.fault (left_by o) (Run workers log) tells g r w
-unplanned f o workers log tells g r w cause is none still = subst (λ left. EndsOver o.fault left (Run workers log) tells g r w) (sym none) (subst (λ e. EndsOver e nothing (Run workers log) tells g r w) (sym is) (by_fault f cause))
+pub unplanned : (f : Fault) (o : Outcome) (workers : ℕ) (log : Bool) (tells : Contents) (g : Graph) (r : Reading) (w : Writing) → CauseOfPlan f g → OrMemory o.fault f → left_by o ≡ nothing → w.written_now ≡ w.written_before → EndsOver o.fault (left_by o) (Run workers log) tells g r w
+unplanned f o workers log tells g r w cause is none still = subst (λ left. EndsOver o.fault left (Run workers log) tells g r w) (sym none) (⊎_elim
+    (λ (it : o.fault ≡ Some f). subst (λ e. EndsOver e nothing (Run workers log) tells g r w) (sym it) (by_fault f cause))
+    (λ (it : o.fault ≡ Some fault.Memory). subst (λ e. EndsOver e nothing (Run workers log) tells g r w) (sym it) (refl, still))
+    is)
   where
     by_fault : (e : Fault) → CauseOfPlan e g → EndsOver (Some e) nothing (Run workers log) tells g r w
     by_fault (fault.Cycle actors) k = ((k, refl), still)
@@ -142,3 +158,18 @@ meaning_fails tells g r level (Err f) levels h = by_fault f h
     by_fault (fault.Long platform) k = (free, (k, refl))
     by_fault (fault.Read sensor) k = (free, (k, refl))
     by_fault fault.Write k = (free, (k, refl))
+
+-- what is told over a graph that was read from the file of that name
+pub told_file : (c : Command) (outcome : Option Fault) (misses : List Miss) (tells : Contents) (blocks : List Named) (name : List ℕ) (g : Graph) (w : Writing) → IfSome (tells name) (λ bytes. graph_of blocks bytes ≡ Ok g) → Tells outcome misses (Some g) w → TellsBy outcome misses (Some (c, name)) tells blocks w
+told_file c None misses tells blocks name g w read h = (g, read, h)
+told_file c (Some fault.Memory) misses tells blocks name g w read h = tt
+told_file c (Some fault.Usage) misses tells blocks name g w read h = h
+told_file c (Some (fault.Graph f)) misses tells blocks name g w read h = h
+told_file c (Some (fault.Read None)) misses tells blocks name g w read h = h
+told_file c (Some (fault.Read (Some actor))) misses tells blocks name g w read h = (g, read, h)
+told_file c (Some (fault.Cycle actors)) misses tells blocks name g w read h = (g, read, h)
+told_file c (Some (fault.Infeasible send offset slack)) misses tells blocks name g w read h = (g, read, h)
+told_file c (Some (fault.Sensor actor f)) misses tells blocks name g w read h = (g, read, h)
+told_file c (Some (fault.LateRow actor row seen limit)) misses tells blocks name g w read h = (g, read, h)
+told_file c (Some (fault.Long platform)) misses tells blocks name g w read h = (g, read, h)
+told_file c (Some fault.Write) misses tells blocks name g w read h = (g, read, h)

@@ -5,3 +5,4 @@ pub mod Headline
 pub mod Causes
 pub mod Texts
 pub mod Notes
+pub mod Telling

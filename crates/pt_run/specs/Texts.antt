@@ -70,10 +70,14 @@ abbrev pub PutBy : Option Fault → List ℕ → Writing → Type 0
 PutBy None text w = Appends w.written_before w.written_now text
 PutBy (Some f) text w = (f ≡ fault.Write) × Rose w.before w.now × AppendsPart w.written_before w.written_now text
 
+-- an outcome is a fault, or memory for its line ran out
+abbrev pub OrMemory : Option Fault → Fault → Type 0
+OrMemory outcome f = (outcome ≡ Some f) ⊎ (outcome ≡ Some fault.Memory)
+
 -- how the answer to a question ends: its text is put, or its fault is told
 abbrev pub Answers : Result (String Global) Fault → Outcome → Writing → Type 0
 Answers (Ok text) o w = (left_by o ≡ nothing) × PutBy o.fault (string_bytes text) w
-Answers (Err f) o w = (left_by o ≡ nothing) × (o.fault ≡ Some f) × (w.written_now ≡ w.written_before)
+Answers (Err f) o w = (left_by o ≡ nothing) × OrMemory o.fault f × (w.written_now ≡ w.written_before)
 
 -- how a run over a plan ends
 abbrev pub EndsPlan : Option Fault → Leaves → Bool → Contents → Parts → Reading → Writing → Type 0
@@ -95,8 +99,9 @@ WroteRun ran o w =
 
 -- a run that did not finish is told as a fault of the call
 abbrev pub IsStopped : RunFault → Outcome → Type 0
-IsStopped (stop.Rows f) o = (o.fault ≡ Some (fault_of_rows f)) × (left_by o ≡ nothing)
-IsStopped (stop.Long platform platforms) o = (o.fault ≡ Some (fault.Long (Some platform))) × (left_by o ≡ record { misses = []; platforms = platforms.items })
+IsStopped (stop.Rows f) o = OrMemory o.fault (fault_of_rows f) × (left_by o ≡ nothing)
+IsStopped (stop.Long platform platforms) o =
+    ((o.fault ≡ Some (fault.Long (Some platform))) × (left_by o ≡ record { misses = []; platforms = platforms.items })) ⊎ ((o.fault ≡ Some fault.Memory) × (left_by o ≡ nothing))
 IsStopped stop.Memory o = (o.fault ≡ Some fault.Memory) × (left_by o ≡ nothing)
 
 -- why a graph has no plan

@@ -1,6 +1,8 @@
 //! The line that tells of a fault.
 
-ghost use Rattle.std.specs.Prelude.{◌≡◌, ◌++◌, [], ◌∷◌, OnOk, option_map, string_bytes};
+ghost use Rattle.std.specs.Prelude.{◌≡◌, ◌⊎◌, ◌++◌, [], ◌∷◌, IfOk, None, OnOk, Some, option_map, string_bytes};
+ghost use Rattle.pt_run.specs.declared.fault.Fault.TheVariants.{Memory, Write};
+ghost use Rattle.pt_run.specs.Telling.{Tells};
 ghost use Rattle.pt_run.specs.Notes.{actor_name, cycle_line, infeasible_line, late_line, long_line, names_of, note_line, offset_part, platform_name, read_line};
 
 use crate::fault::Fault;
@@ -13,12 +15,40 @@ use std::alloc::{AllocError, Global};
 const USAGE: &str =
     "usage: ptides run GRAPH [--workers N] [--clock paced] [--log] | check GRAPH | meaning GRAPH\n";
 
-/// Puts the line of a fault on notes. Where memory runs out or the put fails, the line is missing and nothing else changes.
-pub fn tell<E: Sink>(alloc: Global, notes: &mut E, fault: &Fault, graph: Option<&Graph>) {
-    let mut line = String::new(alloc);
-    if push_line(&mut line, fault, graph).is_ok() {
-        let _ = notes.put(line.as_str().as_bytes());
+/// Puts the line of a fault on notes, and gives the fault; where there is no memory for the line, it is want of memory.
+/// A put that fails changes nothing else.
+pub fn tell<E: Sink>(alloc: Global, notes: &mut E, fault: Fault, graph: Option<&Graph>) -> Fault
+    ensures fault { (result ≡ fault) ⊎ (result ≡ Memory) }
+    ensures told { Tells (Some result) [] (option_map (λ g. g.now) graph.entry)
+        (record { before = E.faults notes.old; now = E.faults notes.new; written_before = E.written notes.old; written_now = E.written notes.new }) }
+{
+    match line_of(alloc, &fault, graph) {
+        Ok(line) => {
+            let _ = notes.put(line.as_str().as_bytes());
+            fault
+        }
+        Err(_) => {
+            let _ = notes.put(b"memory\n");
+            Fault::Memory
+        }
     }
+}
+
+/// Puts the line of an output that couldn't be written. It needs no memory.
+pub fn tell_write<E: Sink>(notes: &mut E)
+    ensures { Tells (Some Write) [] None
+        (record { before = E.faults notes.old; now = E.faults notes.new; written_before = E.written notes.old; written_now = E.written notes.new }) }
+{
+    let _ = notes.put(b"write fault\n");
+}
+
+/// The line of a fault.
+fn line_of(alloc: Global, fault: &Fault, graph: Option<&Graph>) -> Result<String, AllocError>
+    ensures { IfOk result (λ line. string_bytes line ≡ note_line fault.now (option_map (λ g. g.now) graph.entry)) }
+{
+    let mut line = String::new(alloc);
+    push_line(&mut line, fault, graph)?;
+    Ok(line)
 }
 
 /// Appends the line of a fault. The names of actors and platforms are those of the graph, where there is one.

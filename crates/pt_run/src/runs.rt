@@ -1,16 +1,18 @@
 //! The command `run`.
 
-ghost use Rattle.std.specs.Prelude.{◌≡◌};
+ghost use Rattle.std.specs.Prelude.{◌≡◌, Some, flat_map, string_bytes};
 ghost use Rattle.std.specs.Arc.{arc_value};
 ghost use Rattle.pt_types.specs.Lawful.{IsLawful};
 ghost use Rattle.pt_offsets.specs.Plans.{IsAdmitted};
 ghost use Rattle.pt_recorded.specs.Asked.{AsksFiles};
 ghost use Rattle.pt_run.specs.declared.words.Command.TheVariants.{Run};
 ghost use Rattle.pt_run.specs.Statuses.{status_of};
+ghost use Rattle.pt_logs.specs.Misses.{miss_line};
+ghost use Rattle.pt_run.specs.Telling.{Tells};
 ghost use Rattle.pt_run.specs.Texts.{EndsOver, EndsPlan, IsStopped, WroteRun, left_by};
 
 use crate::fault::{Fault, Outcome, fault_of_rows};
-use crate::notes::tell;
+use crate::notes::{tell, tell_write};
 use crate::output::put_lines;
 use crate::plans::{Unplanned, plan_of};
 use pt_blocks::Blocks;
@@ -38,17 +40,19 @@ pub fn run_graph<S: Source, K: Sink, E: Sink>(
     ensures ends { EndsOver result.fault (left_by result) (Run workers log) (S.tells source.old) graph
         (record { asked_before = S.asked source.old; asked_now = S.asked source.new; before = S.faults source.old; now = S.faults source.new })
         (record { before = K.faults out.old; now = K.faults out.new; written_before = K.written out.old; written_now = K.written out.new }) }
+    ensures notes { Tells result.fault result.misses (Some graph)
+        (record { before = E.faults notes.old; now = E.faults notes.new; written_before = E.written notes.old; written_now = E.written notes.new }) }
 {
     let plan = match plan_of(alloc, graph) {
         Ok(plan) => plan,
         Err(Unplanned { graph, fault }) => {
-            tell(alloc, notes, &fault, Some(&graph));
+            let fault = tell(alloc, notes, fault, Some(&graph));
             return Outcome::refused(alloc, fault);
         }
     };
     let Ok(plan) = Arc::new(alloc, plan) else {
-        tell(alloc, notes, &Fault::Memory, None);
-        return Outcome::refused(alloc, Fault::Memory);
+        let fault = tell(alloc, notes, Fault::Memory, None);
+        return Outcome::refused(alloc, fault);
     };
     run_plan(alloc, workers, log, &plan, source, out, notes, blocks)
 }
@@ -70,6 +74,8 @@ fn run_plan<S: Source, K: Sink, E: Sink>(
     ensures ends { EndsPlan result.fault (left_by result) log (S.tells source.old) (arc_value plan.now)
         (record { asked_before = S.asked source.old; asked_now = S.asked source.new; before = S.faults source.old; now = S.faults source.new })
         (record { before = K.faults out.old; now = K.faults out.new; written_before = K.written out.old; written_now = K.written out.new }) }
+    ensures notes { Tells result.fault result.misses (Some (arc_value plan.now).graph)
+        (record { before = E.faults notes.old; now = E.faults notes.new; written_before = E.written notes.old; written_now = E.written notes.new }) }
 {
     match run_of(alloc, plan, log, workers, source, blocks) {
         Ok(ran) => write_run(alloc, plan.graph(), ran, out, notes),
@@ -87,6 +93,8 @@ fn write_run<K: Sink, E: Sink>(
 ) -> Outcome
     ensures status { result.status ≡ status_of result.fault result.misses }
     ensures wrote { WroteRun ran result (record { before = K.faults out.old; now = K.faults out.new; written_before = K.written out.old; written_now = K.written out.new }) }
+    ensures notes { string_bytes ran.lines ≡ flat_map (miss_line graph.now) ran.misses.items → Tells result.fault result.misses (Some graph.now)
+        (record { before = E.faults notes.old; now = E.faults notes.new; written_before = E.written notes.old; written_now = E.written notes.new }) }
 {
     let Ran {
         text,
@@ -95,7 +103,7 @@ fn write_run<K: Sink, E: Sink>(
         platforms,
     } = ran;
     if put_lines(out, text.as_str().as_bytes()).is_err() {
-        tell(alloc, notes, &Fault::Write, Some(graph));
+        tell_write(notes);
         return Outcome::stopped(alloc, Fault::Write, platforms);
     }
     let _ = put_lines(notes, lines.as_str().as_bytes());
@@ -106,6 +114,8 @@ fn write_run<K: Sink, E: Sink>(
 fn stop_run<E: Sink>(alloc: Global, graph: &Graph, fault: RunFault, notes: &mut E) -> Outcome
     ensures status { result.status ≡ status_of result.fault result.misses }
     ensures stopped { IsStopped fault result }
+    ensures notes { Tells result.fault result.misses (Some graph.now)
+        (record { before = E.faults notes.old; now = E.faults notes.new; written_before = E.written notes.old; written_now = E.written notes.new }) }
 {
     let (fault, platforms) = match fault {
         RunFault::Rows(fault) => (fault_of_rows(fault), Vec::new(alloc)),
@@ -120,6 +130,8 @@ fn stop_run<E: Sink>(alloc: Global, graph: &Graph, fault: RunFault, notes: &mut 
             platforms,
         ),
     };
-    tell(alloc, notes, &fault, Some(graph));
-    Outcome::stopped(alloc, fault, platforms)
+    match tell(alloc, notes, fault, Some(graph)) {
+        Fault::Memory => Outcome::refused(alloc, Fault::Memory),
+        fault => Outcome::stopped(alloc, fault, platforms),
+    }
 }

@@ -4,11 +4,12 @@ ghost use Rattle.std.specs.Prelude.{◌≡◌, Some};
 ghost use Rattle.pt_types.specs.Lawful.{IsLawful};
 ghost use Rattle.pt_run.specs.Statuses.{status_of};
 ghost use Rattle.pt_run.specs.Words.{order_of};
+ghost use Rattle.pt_run.specs.Telling.{Tells, TellsBy};
 ghost use Rattle.pt_run.specs.Texts.{Answers, AsksBy, AsksFor, EndsBy, EndsOver, left_by};
 
 use crate::admission::graph_at;
 use crate::fault::{Fault, Outcome};
-use crate::notes::tell;
+use crate::notes::{tell, tell_write};
 use crate::output::put_lines;
 use crate::runs::run_graph;
 use crate::texts::{check_answer, meaning_answer};
@@ -39,6 +40,9 @@ pub fn ptides<S: Source, K: Sink, E: Sink>(
     ensures ends { EndsBy result.fault (left_by result) (order_of words.now) (S.tells source.old) blocks.now.listed.items
         (record { asked_before = S.asked source.old; asked_now = S.asked source.new; before = S.faults source.old; now = S.faults source.new })
         (record { before = K.faults out.old; now = K.faults out.new; written_before = K.written out.old; written_now = K.written out.new }) }
+    // What was put on notes.
+    ensures notes { TellsBy result.fault result.misses (order_of words.now) (S.tells source.old) blocks.now.listed.items
+        (record { before = E.faults notes.old; now = E.faults notes.new; written_before = E.written notes.old; written_now = E.written notes.new }) }
 {
     let fault = match order_of(alloc, words) {
         Ok(Some((command, name))) => {
@@ -47,7 +51,7 @@ pub fn ptides<S: Source, K: Sink, E: Sink>(
         Ok(None) => Fault::Usage,
         Err(_) => Fault::Memory,
     };
-    tell(alloc, notes, &fault, None);
+    let fault = tell(alloc, notes, fault, None);
     Outcome::refused(alloc, fault)
 }
 
@@ -67,11 +71,13 @@ fn run_file<S: Source, K: Sink, E: Sink>(
     ensures ends { EndsBy result.fault (left_by result) (Some (command, name.now)) (S.tells source.old) blocks.now.listed.items
         (record { asked_before = S.asked source.old; asked_now = S.asked source.new; before = S.faults source.old; now = S.faults source.new })
         (record { before = K.faults out.old; now = K.faults out.new; written_before = K.written out.old; written_now = K.written out.new }) }
+    ensures notes { TellsBy result.fault result.misses (Some (command, name.now)) (S.tells source.old) blocks.now.listed.items
+        (record { before = E.faults notes.old; now = E.faults notes.new; written_before = E.written notes.old; written_now = E.written notes.new }) }
 {
     match graph_at(alloc, source, name, blocks) {
         Ok(graph) => run_command(alloc, command, graph, source, out, notes, blocks),
         Err(fault) => {
-            tell(alloc, notes, &fault, None);
+            let fault = tell(alloc, notes, fault, None);
             Outcome::refused(alloc, fault)
         }
     }
@@ -93,6 +99,8 @@ fn run_command<S: Source, K: Sink, E: Sink>(
     ensures ends { EndsOver result.fault (left_by result) command (S.tells source.old) graph
         (record { asked_before = S.asked source.old; asked_now = S.asked source.new; before = S.faults source.old; now = S.faults source.new })
         (record { before = K.faults out.old; now = K.faults out.new; written_before = K.written out.old; written_now = K.written out.new }) }
+    ensures notes { Tells result.fault result.misses (Some graph)
+        (record { before = E.faults notes.old; now = E.faults notes.new; written_before = E.written notes.old; written_now = E.written notes.new }) }
 {
     match command {
         Command::Run { workers, log } => {
@@ -120,14 +128,21 @@ fn give<K: Sink, E: Sink>(
     ensures status { result.status ≡ status_of result.fault result.misses }
     ensures gives { Answers answer result
         (record { before = K.faults out.old; now = K.faults out.new; written_before = K.written out.old; written_now = K.written out.new }) }
+    ensures notes { Tells result.fault result.misses (Some graph.now)
+        (record { before = E.faults notes.old; now = E.faults notes.new; written_before = E.written notes.old; written_now = E.written notes.new }) }
 {
-    let fault = match answer {
-        Err(fault) => fault,
-        Ok(text) => match put_lines(out, text.as_str().as_bytes()) {
-            Ok(()) => return Outcome::done(Vec::new(alloc), Vec::new(alloc)),
-            Err(_) => Fault::Write,
-        },
+    let text = match answer {
+        Ok(text) => text,
+        Err(fault) => {
+            let fault = tell(alloc, notes, fault, Some(graph));
+            return Outcome::refused(alloc, fault);
+        }
     };
-    tell(alloc, notes, &fault, Some(graph));
-    Outcome::refused(alloc, fault)
+    match put_lines(out, text.as_str().as_bytes()) {
+        Ok(()) => Outcome::done(Vec::new(alloc), Vec::new(alloc)),
+        Err(_) => {
+            tell_write(notes);
+            Outcome::refused(alloc, Fault::Write)
+        }
+    }
 }

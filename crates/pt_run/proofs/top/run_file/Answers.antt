@@ -1,5 +1,6 @@
 use Rattle.pt_run.specs.Causes.{Writing}
 use Rattle.pt_run.specs.Texts.{left_by}
+use Rattle.pt_run.proofs.Planned.{told_file}
 use Rattle.pt_run.proofs.Ending.{asked_in_order, ends_file}
 use Rattle.pt_run.proofs.top.run_file.Goals as goal
 
@@ -15,3 +16,8 @@ pub returns-in-Ok-clause-asks : goal.returns-in-Ok-clause-asks
 returns-in-Ok-clause-asks g c =
     asked_in_order c.args.command (g.S.Source.tells c.args.source.now) c.args.blocks.now.listed.items c.args.name.now c.in-Ok.graph (g.S.Source.asked c.args.source.now) (g.S.Source.asked c.graph_at.new.source) (g.S.Source.asked c.run_command.new.source)
     c.in-Ok.ensures.graph c.in-Ok.ensures.asks c.run_command.ensures.asks
+
+pub returns-in-Ok-clause-notes : goal.returns-in-Ok-clause-notes
+returns-in-Ok-clause-notes g c =
+    let w : Writing = record { before = g.E.Sink.faults c.args.notes.now; now = g.E.Sink.faults c.run_command.new.notes; written_before = g.E.Sink.written c.args.notes.now; written_now = g.E.Sink.written c.run_command.new.notes } in
+    told_file c.args.command c.run_command.result.fault c.run_command.result.misses (g.S.Source.tells c.args.source.now) c.args.blocks.now.listed.items c.args.name.now c.in-Ok.graph w c.in-Ok.ensures.graph c.run_command.ensures.notes
