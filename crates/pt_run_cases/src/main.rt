@@ -9,26 +9,23 @@ mod script;
 use pt_blocks::{Block, Blocks, dead5};
 use pt_types::Law;
 use script::Script;
-use std::alloc::{AllocError, Global};
+use std::alloc::AllocError;
 use std::io;
 
 fn main(rt: HostRuntime) -> io::Result<()> {
     let alloc = rt.alloc();
-    let blocks = blocks(alloc)?;
+    // One block: the difference of both, where they are more than 5 apart.
+    let name = String::from_str(alloc, "dead5")?;
+    let mut blocks = Blocks::new(alloc);
+    let added = match blocks.add(Block::new(name, dead5, Law::Deadband { width: 5 })) {
+        Ok(()) => Ok(()),
+        Err(_) => Err(AllocError),
+    };
+    added?;
     let mut script = Script::new(alloc);
     for line in rt.lines(alloc) {
         let text = script.follow(alloc, line?.as_str(), &blocks)?;
         print!(rt; "{text}")?;
     }
     Ok(())
-}
-
-/// One block: the difference of both, where they are more than 5 apart.
-fn blocks(alloc: Global) -> Result<Blocks, AllocError> {
-    let name = String::from_str(alloc, "dead5")?;
-    let mut blocks = Blocks::new(alloc);
-    match blocks.add(Block::new(name, dead5, Law::Deadband { width: 5 })) {
-        Ok(()) => Ok(blocks),
-        Err(_) => Err(AllocError),
-    }
 }
