@@ -21,7 +21,7 @@ repository() {
 #!/usr/bin/env bash
 if [ "$1" = version ]; then
     echo asked >>"$COUNTS.version"
-    echo "${KIT:-kit 1}"
+    echo "${KIT:-rattle-kit-1 logic 0}"
     exit
 fi
 echo built >>"$COUNTS"
@@ -246,8 +246,13 @@ expect 'no record' 70 "$status"
 shipped_repository
 start run x
 touch "$place/bin/rt"
-KIT='kit 2' start run x
+KIT='rattle-kit-2 logic 0' start run x
 expect 'another toolchain builds' 'words:2 run x' "$(head -n 1 "$place/output")"
+
+shipped_repository
+printf '#!/bin/sh\necho "usage: rt COMMAND"\n' >"$place/bin/rt"
+start run x
+expect 'another program of the name rt is no toolchain' 'shipped:2 run x' "$(cat "$place/output")"
 
 shipped_repository
 mv "$place/repo/dist" "$place/dist"
