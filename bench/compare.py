@@ -74,6 +74,7 @@ def main():
     loop, engine = os.path.join(folder, "event_loop"), os.path.join(folder, "paced_engine")
     programs = {"loop": [loop, "graph.json"], "meaning": [ptides, "meaning", "graph.json"], "engine": [engine, "graph.json"],
                 "records": [engine, "graph.json", "--records"], "run": [ptides, "run", "graph.json"]}
+    print(f"{ptides}, {rounds} rounds")
     found = []
     for name in workloads:
         place = os.path.join(folder, name)
