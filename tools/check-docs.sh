@@ -1,6 +1,6 @@
 #!/usr/bin/env bash
-# Checks that what the documents cite is there: each file, each crate, each `crate::name`, each link to a file, each
-# definition and each clause.
+# Checks that what the documents cite is there: each file, each crate, each `crate::name`, each link to a file or a heading,
+# each definition and each clause.
 #
 # Of the text it reads what stands in backticks and the targets of links. A file is looked up from the top, from the
 # document's folder, in crates/ and in each crate; `crate::path::name` has to be declared in that crate's src/; in "`NAME` in
@@ -25,6 +25,14 @@ judge() { # document, what it cites, whether that is there
 
 is_file() { # document, path
     [ -e "$2" ] || [ -e "${1%/*}/$2" ] || [ -e "crates/$2" ] || compgen -G "crates/*/$2" >/dev/null
+}
+
+# Whether a document has a heading with this anchor.
+is_heading() { # document, path of the link, anchor
+    local file=${2:-$1}
+    [ -e "$file" ] || file=${1%/*}/$2
+    grep '^#' "$file" 2>/dev/null | sed 's/^#* *//' | tr '[:upper:]' '[:lower:]' | sed 's/[^a-z0-9 _-]//g; s/ /-/g' |
+        grep -qxF -- "$3"
 }
 
 is_crate() {
@@ -137,6 +145,10 @@ for document in ./*.md docs/*.md bench/*.md examples/*/README.md; do
         is_file "$document" "$target"
         judge "$document" "$target" $?
     done < <(grep -oE '\]\([^)#]+' <<<"$prose" | sed 's/^](//' | grep -v '^http' | sort -u)
+    while IFS='#' read -r target anchor; do
+        is_heading "$document" "$target" "$anchor"
+        judge "$document" "$target#$anchor" $?
+    done < <(grep -oE '\]\([^)]*#[^)]+' <<<"$prose" | sed 's/^](//' | grep -v '^http' | sort -u)
     line=$(tr -s '\n ' ' ' <<<"$prose")
     check_definitions "$document" "$line"
     check_clauses "$document" "$line"

@@ -148,17 +148,17 @@ check_documents() {
     if is_there python3; then
         count python3 tools/check-transcripts.py "$program" README.md examples/*/README.md
     else
-        skip 'the commands in the READMEs, since python3 is not there'
+        skip "the commands in the READMEs, since python3 isn't there"
     fi
     if ! is_there python3; then
-        skip 'schemas/graph.schema.json, since python3 is not there'
+        skip "schemas/graph.schema.json, since python3 isn't there"
     elif ! python3 -c 'import jsonschema' 2>/dev/null; then
-        skip 'schemas/graph.schema.json, since python3-jsonschema is not there'
+        skip "schemas/graph.schema.json, since python3-jsonschema isn't there"
     else
         count python3 tools/check-schema.py
     fi
     if ! is_there mandoc; then
-        skip 'docs/ptides.1, since mandoc is not there'
+        skip "docs/ptides.1, since mandoc isn't there"
     elif mandoc -T lint docs/ptides.1; then
         pass
     else
