@@ -215,6 +215,16 @@ for change in 'mv src/main.rt src/first.rt' 'touch src/more.rt' 'mkdir specs && 
     start_alone run x
     expect "stale after $change" 70 "$status"
 done
+repository
+mkdir "$place/repo/crates/ptides/proofs"
+touch "$place/repo/crates/ptides/proofs/Lib.antt"
+ship
+rm -r "$place/repo/out" 2>/dev/null
+start_alone run x
+expect 'with a folder of proofs' 0 "$status"
+rm -r "$place/repo/crates/ptides/proofs"
+start_alone run x
+expect 'stale after a folder is gone' 70 "$status"
 shipped_repository
 echo 'more:' >>"$place/repo/crates.txt"
 start_alone run x
