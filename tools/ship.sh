@@ -61,11 +61,13 @@ check() {
     fi
     [ -x "$shipped" ] && [ -r "$record" ] || fail 'dist/ lacks the program or its record: tools/ship.sh makes both'
     [ "$(recorded program)" = "$(sha256_of "$shipped")" ] || fail "$shipped is not the program that $record tells of"
-    local toolchain
+    local toolchain here
     toolchain=$(recorded toolchain)
-    ! command -v rt >/dev/null || toolchain=$(rt version)
+    ! here=$(rt version 2>/dev/null) || [ "$here" = "$toolchain" ] ||
+        fail "$record tells of the toolchain $toolchain, and this is $here: tools/ship.sh ships what this one builds"
     [ "$(recorded sources)" = "$(tools/sources-digest.sh "$toolchain")" ] ||
-        fail "$record tells of other sources, or of another toolchain: tools/ship.sh ships what these build"
+        fail "$record tells of other sources: tools/ship.sh ships what these build"
+    grep -qF "$toolchain" README.md || fail "README.md doesn't name the toolchain of $record, $toolchain"
     if [ ! -x "$built" ]; then
         fail "$built isn't there to compare with: rt ci builds it"
     elif ! cmp -s "$built" "$shipped"; then

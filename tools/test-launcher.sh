@@ -17,6 +17,7 @@ repository() {
     cp "$top/tools/ship.sh" "$top/tools/sources-digest.sh" "$place/repo/tools"
     echo 'ptides:' >"$place/repo/crates.txt"
     echo 'fn main() {}' >"$place/repo/crates/ptides/src/main.rt"
+    echo 'proved with rattle-kit-1 logic 0' >"$place/repo/README.md"
     cat >"$place/bin/rt" <<'RT'
 #!/usr/bin/env bash
 if [ "$1" = version ]; then
@@ -298,6 +299,13 @@ expect 'check: with the shipped program' dist/ptides "$(cat "$place/repo/examine
 printf '#!/bin/sh\nexit 1\n' >"$place/repo/tools/check-examples.sh"
 ship --check
 expect 'check: another build that answers otherwise' 1 $?
+KIT='rattle-kit-2 logic 0' ship --check
+expect 'check: another toolchain' 1 $?
+expect 'check: another toolchain is named' 1 "$(grep -c 'this is rattle-kit-2 logic 0' "$place/shipping")"
+echo 'proved with rattle-kit-2 logic 0' >"$place/repo/README.md"
+ship --check
+expect 'check: a README that names another toolchain' 1 $?
+echo 'proved with rattle-kit-1 logic 0' >"$place/repo/README.md"
 touch "$place/repo/crates/ptides/src/more.rt"
 ship --check
 expect 'check: a stale record' 1 $?
