@@ -134,7 +134,7 @@ check_word() { # document, word
     esac
 }
 
-for document in ./*.md docs/*.md bench/*.md examples/*/README.md; do
+for document in ./*.md docs/*.md bench/*.md examples/README.md examples/*/README.md; do
     [ -e "$document" ] || continue
     # Blocks of code show what is typed and printed, and cite nothing.
     prose=$(awk '/^```/ { code = !code; next } !code' "$document")
