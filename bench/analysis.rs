@@ -1,91 +1,11 @@
 //! What `ptides check` computes, as a plain program would: it reads a graph on one platform that has no fault, and writes the
 //! margins. Ranks by counting incoming edges, least delays by Dijkstra's search from each unit, all over plain vectors.
+mod json;
+
+use json::Json;
 use std::cmp::Reverse;
 use std::collections::{BinaryHeap, HashMap};
 use std::fmt::Write;
-
-/// The JSON values that a graph file has.
-enum Json {
-    Number(i64),
-    Text(String),
-    List(Vec<Json>),
-    Members(HashMap<String, Json>),
-}
-
-struct Reader<'a> {
-    bytes: &'a [u8],
-    at: usize,
-}
-
-impl Reader<'_> {
-    fn skip(&mut self) -> u8 {
-        while self.bytes[self.at].is_ascii_whitespace() || matches!(self.bytes[self.at], b',' | b':') {
-            self.at += 1;
-        }
-        self.bytes[self.at]
-    }
-
-    fn text(&mut self) -> String {
-        self.at += 1;
-        let start = self.at;
-        while self.bytes[self.at] != b'"' {
-            self.at += 1;
-        }
-        self.at += 1;
-        String::from_utf8_lossy(&self.bytes[start..self.at - 1]).into_owned()
-    }
-
-    fn value(&mut self) -> Json {
-        match self.skip() {
-            b'"' => Json::Text(self.text()),
-            b'[' => {
-                self.at += 1;
-                let mut list = Vec::new();
-                while self.skip() != b']' {
-                    list.push(self.value());
-                }
-                self.at += 1;
-                Json::List(list)
-            }
-            b'{' => {
-                self.at += 1;
-                let mut members = HashMap::new();
-                while self.skip() != b'}' {
-                    let name = self.text();
-                    members.insert(name, self.value());
-                }
-                self.at += 1;
-                Json::Members(members)
-            }
-            _ => {
-                let start = self.at;
-                while matches!(self.bytes[self.at], b'-' | b'0'..=b'9') {
-                    self.at += 1;
-                }
-                Json::Number(std::str::from_utf8(&self.bytes[start..self.at]).unwrap().parse().unwrap())
-            }
-        }
-    }
-}
-
-impl Json {
-    fn get(&self, name: &str) -> &Json {
-        let Json::Members(members) = self else { panic!() };
-        &members[name]
-    }
-    fn list(&self) -> &[Json] {
-        let Json::List(list) = self else { panic!() };
-        list
-    }
-    fn number(&self) -> i64 {
-        let Json::Number(number) = self else { panic!() };
-        *number
-    }
-    fn text(&self) -> &str {
-        let Json::Text(text) = self else { panic!() };
-        text
-    }
-}
 
 /// An actor: its first unit, the ends of its cells, what its output adds, its bound and its slack.
 struct Actor {
@@ -163,8 +83,7 @@ fn row(units: usize, leaving: &[Vec<(usize, (u64, u64))>], from: usize) -> Vec<(
 }
 
 fn main() {
-    let bytes = std::fs::read(std::env::args().nth(1).unwrap()).unwrap();
-    let value = Reader { bytes: &bytes, at: 0 }.value();
+    let value = Json::read(&std::env::args().nth(1).unwrap());
     let mut actors: Vec<Actor> = Vec::new();
     let mut numbers = HashMap::new();
     let mut units = 0;

@@ -8,7 +8,10 @@ cd "$(dirname "$0")/.."
 times=${1:-9}
 work=$(mktemp -d)
 trap 'rm -rf "$work"' EXIT
-program=${PTIDES:-$PWD/ptides}
+# Not the launcher, which takes some milliseconds of its own.
+for program in "$PTIDES" "$PWD/out/ptides" "$PWD/dist/ptides"; do
+    [ ! -x "$program" ] || break
+done
 rustc -O --edition 2021 -A warnings -o "$work/plain" bench/analysis.rs
 python3 bench/graphs.py "$work/graphs" 2>/dev/null
 printf '%-10s %10s %10s %6s %10s %10s\n' graph 'proved ms' 'plain ms' ratio 'proved MB' 'plain MB'

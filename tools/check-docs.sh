@@ -1,9 +1,11 @@
 #!/usr/bin/env bash
-# Checks that what the documents cite is there: each file, each crate, each `crate::name`, each link to a file.
+# Checks that what the documents cite is there: each file, each crate, each `crate::name`, each link to a file or a heading,
+# each definition and each clause.
 #
 # Of the text it reads what stands in backticks and the targets of links. A file is looked up from the top, from the
-# document's folder, in crates/ and in each crate; `crate::path::name` has to be declared in that crate's src/. The last
-# line is `N passed, M failed`.
+# document's folder, in crates/ and in each crate; `crate::path::name` has to be declared in that crate's src/; in "`NAME` in
+# `FILE.antt`" the file has to have the name; in "clauses `A` and `B` of `crate::name`", and in a table with the head
+# `Crate | Function | Clause`, the crate has to have a clause of each name. The last line is `N passed, M failed`.
 set -u
 top=$(cd "$(dirname "$0")/.." && pwd)
 cd "$top" || exit 1
@@ -25,6 +27,14 @@ is_file() { # document, path
     [ -e "$2" ] || [ -e "${1%/*}/$2" ] || [ -e "crates/$2" ] || compgen -G "crates/*/$2" >/dev/null
 }
 
+# Whether a document has a heading with this anchor.
+is_heading() { # document, path of the link, anchor
+    local file=${2:-$1}
+    [ -e "$file" ] || file=${1%/*}/$2
+    grep '^#' "$file" 2>/dev/null | sed 's/^#* *//' | tr '[:upper:]' '[:lower:]' | sed 's/[^a-z0-9 _-]//g; s/ /-/g' |
+        grep -qxF -- "$3"
+}
+
 is_crate() {
     grep -qx "$1" <<<"$crates"
 }
@@ -32,6 +42,70 @@ is_crate() {
 # Whether a name is declared in src/ of a crate: a function, a type, a member of an enum or a module.
 is_declared() { # crate, name
     grep -rqE "\b(fn|struct|enum|trait|mod|type|const) $2\b|^ +$2\b( \{|,|\()" "crates/$1/src" 2>/dev/null
+}
+
+# Whether one of the crates has a clause of the name.
+is_clause() { # crates, name
+    local crate
+    for crate in $1; do
+        ! grep -rqE "ensures $2 " "crates/$crate/src" 2>/dev/null || return 0
+    done
+    return 1
+}
+
+# Whether a file of definitions, whose path may be cut short, has the name.
+has_definition() { # file, name
+    local files
+    mapfile -t files < <(compgen -G "$1"; compgen -G "crates/$1"; compgen -G "crates/*/$1"; compgen -G "crates/*/specs/$1")
+    [ ${#files[@]} -gt 0 ] && grep -qw -- "$2" "${files[@]}"
+}
+
+# The names in backticks of a text, one a line.
+quoted() {
+    grep -oE '`[^`]+`' | tr -d '`'
+}
+
+check_definitions() { # document, its prose in one line
+    local found name file
+    while IFS= read -r found; do
+        { read -r name; read -r file; } < <(quoted <<<"$found")
+        has_definition "$file" "$name"
+        judge "$1" "$name in $file" $?
+    done < <(grep -oE '`[A-Za-z_]+` in `[A-Za-z_/]+\.antt`' <<<"$2" | sort -u)
+}
+
+check_clauses() { # document, its prose in one line
+    local found crate clause
+    while IFS= read -r found; do
+        crate=$(grep -oE '`[a-z_]+::' <<<"$found" | tr -d '`:')
+        while IFS= read -r clause; do
+            is_clause "$crate" "$clause"
+            judge "$1" "clause $clause of $crate" $?
+        done < <(quoted <<<"${found%of \`*}")
+    done < <(grep -oE 'clauses? (`[a-z_]+`(, | and )?)+ of `[a-z_]+::' <<<"$2" | sort -u)
+}
+
+# The rows of tables of clauses: the crates, which stand for the rows below too, and the clauses.
+clause_rows() { # document
+    awk -F'|' '
+        !/^\|/ { inside = 0 }
+        /^\| *Crate *\| *Function *\| *Clause/ { inside = 1; next }
+        inside && /`/ {
+            if ($2 ~ /`/) crates = $2
+            gsub(/[`,]/, " ", crates)
+            if ($4 ~ /`/) print crates "|" $4
+        }
+    ' "$1"
+}
+
+check_tables_of_clauses() { # document
+    local crates clauses clause
+    while IFS='|' read -r crates clauses; do
+        while IFS= read -r clause; do
+            is_clause "$crates" "$clause"
+            judge "$1" "clause $clause of $crates" $?
+        done < <(quoted <<<"$clauses")
+    done < <(clause_rows "$1")
 }
 
 check_word() { # document, word
@@ -60,7 +134,7 @@ check_word() { # document, word
     esac
 }
 
-for document in ./*.md docs/*.md examples/*/README.md; do
+for document in ./*.md docs/*.md bench/*.md examples/README.md examples/*/README.md; do
     [ -e "$document" ] || continue
     # Blocks of code show what is typed and printed, and cite nothing.
     prose=$(awk '/^```/ { code = !code; next } !code' "$document")
@@ -71,6 +145,14 @@ for document in ./*.md docs/*.md examples/*/README.md; do
         is_file "$document" "$target"
         judge "$document" "$target" $?
     done < <(grep -oE '\]\([^)#]+' <<<"$prose" | sed 's/^](//' | grep -v '^http' | sort -u)
+    while IFS='#' read -r target anchor; do
+        is_heading "$document" "$target" "$anchor"
+        judge "$document" "$target#$anchor" $?
+    done < <(grep -oE '\]\([^)]*#[^)]+' <<<"$prose" | sed 's/^](//' | grep -v '^http' | sort -u)
+    line=$(tr -s '\n ' ' ' <<<"$prose")
+    check_definitions "$document" "$line"
+    check_clauses "$document" "$line"
+    check_tables_of_clauses "$document"
 done
 echo "$passed passed, $failed failed"
 [ "$failed" -eq 0 ]

@@ -1,0 +1,379 @@
+//! What the plain programs share: a graph of version 1 without faults, its rows, what its actors do, and its tables.
+use crate::json::Json;
+use std::collections::HashMap;
+
+/// A time in microseconds and a step.
+#[derive(Clone, Copy, PartialEq, Eq, PartialOrd, Ord)]
+pub struct Tag {
+    pub time: u64,
+    pub step: u64,
+}
+
+impl Tag {
+    pub fn at(time: u64) -> Tag {
+        Tag { time, step: 0 }
+    }
+
+    pub fn plus(self, delay: Tag) -> Tag {
+        Tag { time: self.time + delay.time, step: self.step + delay.step }
+    }
+}
+
+pub struct MachineRow {
+    state: i64,
+    low: i64,
+    high: i64,
+    next: i64,
+    emit: Option<(usize, i64)>,
+}
+
+pub enum Kind {
+    Sensor { file: String, bound: u64 },
+    Receive,
+    Send { slack: u64 },
+    Actuator { slack: u64 },
+    Scale { num: i64, den: i64 },
+    Shift { by: i64 },
+    Add,
+    Sub,
+    Above { limit: i64 },
+    Merge,
+    Delay { d: u64 },
+    Count,
+    Sum,
+    Latch,
+    Machine { start: i64, rows: Vec<MachineRow> },
+    Every { start: u64, period: u64 },
+    Block(fn(i64, i64) -> i64),
+}
+
+pub struct Actor {
+    pub name: String,
+    pub platform: usize,
+    pub kind: Kind,
+    pub inputs: usize,
+    pub outputs: usize,
+}
+
+/// A wire or a link: from an actor's output to an actor's input.
+#[derive(Clone, Copy)]
+pub struct Edge {
+    pub from: usize,
+    pub output: usize,
+    pub to: usize,
+    pub input: usize,
+}
+
+pub struct Link {
+    pub edge: Edge,
+    pub delay: u64,
+}
+
+/// A graph. The hidden wire of an `every`, from its output 1 to its input 0, is among the wires.
+pub struct Program {
+    pub until: u64,
+    pub clock_error: u64,
+    pub platforms: Vec<String>,
+    pub actors: Vec<Actor>,
+    pub wires: Vec<Edge>,
+    pub links: Vec<Link>,
+}
+
+#[derive(Clone, Copy)]
+pub struct Row {
+    pub time: u64,
+    pub seen: u64,
+    pub value: i64,
+}
+
+/// The values at the inputs of a firing, and which of them are there.
+#[derive(Clone, Copy, Default)]
+pub struct Inputs {
+    values: [i64; 8],
+    present: u8,
+}
+
+impl Inputs {
+    pub fn set(&mut self, input: usize, value: i64) {
+        self.values[input] = value;
+        self.present |= 1 << input;
+    }
+
+    pub fn first(&self) -> i64 {
+        self.values[0]
+    }
+
+    pub fn get(&self, input: usize) -> Option<i64> {
+        (self.present >> input & 1 == 1).then_some(self.values[input])
+    }
+
+    fn or_zero(&self, input: usize) -> i64 {
+        self.get(input).unwrap_or(0)
+    }
+
+    fn lowest(&self) -> i64 {
+        self.values[self.present.trailing_zeros() as usize]
+    }
+}
+
+fn nearest(value: i128) -> i64 {
+    value.clamp(i128::from(i64::MIN), i128::from(i64::MAX)) as i64
+}
+
+/// a * num / den. The product nearly always fits 64 bits, and then no division of 128 bits is needed.
+fn scaled(a: i64, num: i64, den: i64) -> i64 {
+    match a.checked_mul(num) {
+        Some(product) => product / den,
+        None => nearest(i128::from(a) * i128::from(num) / i128::from(den)),
+    }
+}
+
+fn block(name: &str) -> fn(i64, i64) -> i64 {
+    match name {
+        "least" => |a, b| a.min(b),
+        "greatest" => |a, b| a.max(b),
+        "clip100" => |a, _| a.clamp(-100, 100),
+        "dead5" => |a, b| if a.abs_diff(b) <= 5 { 0 } else { a.saturating_sub(b) },
+        "mean" => |a, b| nearest((i128::from(a) + i128::from(b)) / 2),
+        _ => panic!("no block {name}"),
+    }
+}
+
+impl Kind {
+    /// Fires with a state and inputs; each output goes to `gives` with its number.
+    #[inline]
+    pub fn fire(&self, state: &mut i64, inputs: &Inputs, mut gives: impl FnMut(usize, i64)) {
+        let a = inputs.first();
+        match self {
+            Kind::Sensor { .. } | Kind::Receive | Kind::Send { .. } | Kind::Delay { .. } => gives(0, a),
+            Kind::Actuator { .. } => {}
+            Kind::Scale { num, den } => gives(0, scaled(a, *num, *den)),
+            Kind::Shift { by } => gives(0, a.saturating_add(*by)),
+            Kind::Add => gives(0, inputs.or_zero(0).saturating_add(inputs.or_zero(1))),
+            Kind::Sub => gives(0, inputs.or_zero(0).saturating_sub(inputs.or_zero(1))),
+            Kind::Above { limit } => {
+                if a > *limit {
+                    gives(0, a);
+                }
+            }
+            Kind::Merge => gives(0, inputs.lowest()),
+            Kind::Count => {
+                *state = state.saturating_add(1);
+                gives(0, *state);
+            }
+            Kind::Sum => {
+                *state = state.saturating_add(a);
+                gives(0, *state);
+            }
+            Kind::Latch => {
+                *state = inputs.get(0).unwrap_or(*state);
+                if inputs.get(1).is_some() {
+                    gives(0, *state);
+                }
+            }
+            Kind::Machine { rows, .. } => {
+                if let Some(row) = rows.iter().find(|row| row.state == *state && row.low <= a && a <= row.high) {
+                    *state = row.next;
+                    if let Some((output, value)) = row.emit {
+                        gives(output, value);
+                    }
+                }
+            }
+            Kind::Every { .. } => {
+                gives(0, *state);
+                gives(1, 0);
+                *state = state.saturating_add(1);
+            }
+            Kind::Block(value) => gives(0, value(inputs.or_zero(0), inputs.or_zero(1))),
+        }
+    }
+
+    pub fn is_actuator(&self) -> bool {
+        matches!(self, Kind::Actuator { .. })
+    }
+
+    /// How long after its time a sender or an actuator may act, in microseconds.
+    pub fn slack(&self) -> u64 {
+        match self {
+            Kind::Send { slack } | Kind::Actuator { slack } => *slack,
+            _ => 0,
+        }
+    }
+
+    fn start(&self) -> i64 {
+        match self {
+            Kind::Machine { start, .. } => *start,
+            _ => 0,
+        }
+    }
+}
+
+fn machine_row(row: &Json) -> MachineRow {
+    let emit = match row.get("emit") {
+        Json::List(emit) => Some((emit[0].number() as usize, emit[1].number())),
+        _ => None,
+    };
+    let number = |member| row.get(member).number();
+    MachineRow { state: number("state"), low: number("low"), high: number("high"), next: number("next"), emit }
+}
+
+/// The kind of an actor with its numbers of inputs and outputs.
+fn kind(actor: &Json) -> (Kind, usize, usize) {
+    let number = |member| actor.get(member).number();
+    let time = |member| actor.get(member).time();
+    match actor.get("kind").text() {
+        "sensor" => (Kind::Sensor { file: actor.get("file").text().to_owned(), bound: time("bound") }, 1, 1),
+        "receive" => (Kind::Receive, 1, 1),
+        "send" => (Kind::Send { slack: time("slack") }, 1, 1),
+        "actuator" => (Kind::Actuator { slack: time("slack") }, 1, 0),
+        "scale" => (Kind::Scale { num: number("num"), den: number("den") }, 1, 1),
+        "shift" => (Kind::Shift { by: number("by") }, 1, 1),
+        "add" => (Kind::Add, 2, 1),
+        "sub" => (Kind::Sub, 2, 1),
+        "above" => (Kind::Above { limit: number("limit") }, 1, 1),
+        "merge" => (Kind::Merge, number("n") as usize, 1),
+        "delay" => (Kind::Delay { d: time("d") }, 1, 1),
+        "count" => (Kind::Count, 1, 1),
+        "sum" => (Kind::Sum, 1, 1),
+        "latch" => (Kind::Latch, 2, 1),
+        "machine" => {
+            let rows = actor.get("rows").list().iter().map(machine_row).collect();
+            (Kind::Machine { start: number("start"), rows }, 1, number("outputs") as usize)
+        }
+        "every" => (Kind::Every { start: time("start"), period: time("period") }, 1, 2),
+        "block" => (Kind::Block(block(actor.get("block").text())), 2, 1),
+        other => panic!("no kind {other}"),
+    }
+}
+
+impl Program {
+    pub fn read(path: &str) -> Program {
+        let graph = Json::read(path);
+        let names = |list: &[Json]| -> HashMap<String, usize> {
+            list.iter().enumerate().map(|(number, name)| (name.text().to_owned(), number)).collect()
+        };
+        let platforms = names(graph.get("platforms").list());
+        let mut actors = Vec::new();
+        let mut numbers = HashMap::new();
+        let mut wires = Vec::new();
+        for actor in graph.get("actors").list() {
+            let name = actor.get("name").text().to_owned();
+            let (kind, inputs, outputs) = kind(actor);
+            let number = actors.len();
+            if matches!(kind, Kind::Every { .. }) {
+                wires.push(Edge { from: number, output: 1, to: number, input: 0 });
+            }
+            numbers.insert(name.clone(), number);
+            actors.push(Actor { name, platform: platforms[actor.get("platform").text()], kind, inputs, outputs });
+        }
+        let number = |name: &Json| numbers[name.text()];
+        for wire in graph.get("wires").list() {
+            let wire = wire.list();
+            let (output, input) = (wire[1].number() as usize, wire[3].number() as usize);
+            wires.push(Edge { from: number(&wire[0]), output, to: number(&wire[2]), input });
+        }
+        let links = graph.get("links").list().iter().map(|link| {
+            let edge = Edge { from: number(link.get("from")), output: 0, to: number(link.get("to")), input: 0 };
+            Link { edge, delay: link.get("delay").time() }
+        });
+        Program {
+            until: graph.get("until").time(),
+            clock_error: graph.get("clock_error").time(),
+            platforms: graph.get("platforms").list().iter().map(|name| name.text().to_owned()).collect(),
+            links: links.collect(),
+            actors,
+            wires,
+        }
+    }
+
+    /// What an output adds to a tag.
+    pub fn delay(&self, actor: usize, output: usize) -> Tag {
+        match self.actors[actor].kind {
+            Kind::Delay { d: 0 } => Tag { time: 0, step: 1 },
+            Kind::Delay { d } => Tag::at(d),
+            Kind::Every { period, .. } if output == 1 => Tag::at(period),
+            _ => Tag::at(0),
+        }
+    }
+
+    pub fn start_states(&self) -> Vec<i64> {
+        self.actors.iter().map(|actor| actor.kind.start()).collect()
+    }
+
+    /// The time of an actor's starting event.
+    pub fn starts_at(&self, actor: usize) -> Option<u64> {
+        match self.actors[actor].kind {
+            Kind::Every { start, .. } if start <= self.until => Some(start),
+            _ => None,
+        }
+    }
+
+    /// The number of edges on the longest path without delay that ends at each actor.
+    pub fn ranks(&self) -> Vec<u32> {
+        let free = |edge: &&Edge| self.delay(edge.from, edge.output) == Tag::at(0);
+        let edges: Vec<Edge> = self.wires.iter().chain(self.links.iter().map(|link| &link.edge)).filter(free).copied().collect();
+        let mut ranks = vec![0; self.actors.len()];
+        let mut waiting = vec![0; self.actors.len()];
+        let mut leaving = vec![Vec::new(); self.actors.len()];
+        for edge in &edges {
+            waiting[edge.to] += 1;
+            leaving[edge.from].push(edge.to);
+        }
+        let mut ready: Vec<usize> = (0..self.actors.len()).filter(|actor| waiting[*actor] == 0).collect();
+        while let Some(actor) = ready.pop() {
+            for &to in &leaving[actor] {
+                ranks[to] = ranks[to].max(ranks[actor] + 1);
+                waiting[to] -= 1;
+                if waiting[to] == 0 {
+                    ready.push(to);
+                }
+            }
+        }
+        ranks
+    }
+
+    /// The rows of an actor up to the horizon; of one that is no sensor, none.
+    pub fn rows(&self, actor: usize) -> Vec<Row> {
+        let Kind::Sensor { file, .. } = &self.actors[actor].kind else { return Vec::new() };
+        let text = std::fs::read(file).unwrap();
+        let number = |field: &[u8]| {
+            let (digits, sign) = field.strip_prefix(b"-").map_or((field, 1), |digits| (digits, -1));
+            sign * digits.iter().fold(0, |number, digit| number * 10 + i64::from(digit - b'0'))
+        };
+        let mut rows = Vec::new();
+        for line in text.split(|byte| *byte == b'\n').skip(1).filter(|line| !line.is_empty()) {
+            let mut fields = line.split(|byte| *byte == b',').map(number);
+            let (Some(time), Some(seen), Some(value)) = (fields.next(), fields.next(), fields.next()) else { panic!() };
+            if time as u64 <= self.until {
+                rows.push(Row { time: time as u64, seen: seen as u64, value });
+            }
+        }
+        rows
+    }
+}
+
+/// The events of each actor that acts.
+pub struct Tables {
+    lines: Vec<Vec<(Tag, i64)>>,
+}
+
+impl Tables {
+    pub fn new(program: &Program) -> Tables {
+        Tables { lines: program.actors.iter().map(|_| Vec::new()).collect() }
+    }
+
+    pub fn add(&mut self, actor: usize, tag: Tag, value: i64) {
+        self.lines[actor].push((tag, value));
+    }
+
+    pub fn text(&self, program: &Program) -> String {
+        use std::fmt::Write;
+        let mut text = String::from("actuator,time,step,value\n");
+        for (actor, lines) in program.actors.iter().zip(&self.lines) {
+            for (tag, value) in lines {
+                writeln!(text, "{},{},{},{value}", actor.name, tag.time, tag.step).unwrap();
+            }
+        }
+        text
+    }
+}

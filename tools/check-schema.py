@@ -1,0 +1,86 @@
+#!/usr/bin/env python3
+"""Checks schemas/graph.schema.json on the examples: it takes each graph that `ptides` takes, refuses those refused ones whose fault it
+can see, and describes each member. Needs jsonschema. The last line is `N passed, M failed`.
+"""
+import json
+import os
+import shutil
+import subprocess
+import sys
+import tempfile
+
+from jsonschema import Draft202012Validator
+
+EXAMPLES = "examples"
+# The refusals that a schema sees. Of a range it doesn't see that `low` is above `high`.
+SEEN = {"member", "too", "range", "name", "block"}
+UNSEEN = {"graph_too_long", "range_of_a_row"}
+
+
+def graph_of(folder):
+    """The graph of a folder, made by its script where it is too large to be stored; None where there is none."""
+    with tempfile.TemporaryDirectory() as place:
+        copy = shutil.copytree(folder, os.path.join(place, "copy"))
+        if os.path.exists(os.path.join(copy, "make.py")):
+            subprocess.run([sys.executable, "make.py"], cwd=copy, check=True)
+        try:
+            with open(os.path.join(copy, "graph.json"), encoding="utf-8") as file:
+                return json.load(file)
+        except (FileNotFoundError, json.JSONDecodeError):
+            return None
+
+
+def sees(name, folder):
+    """Whether the fault that the folder's line tells is one that a schema sees."""
+    with open(os.path.join(folder, "expected.notes"), encoding="utf-8") as file:
+        words = file.read().split()
+    return words[0] == "graph:" and words[1] in SEEN and name not in UNSEEN
+
+
+def members(schema):
+    """The members that a schema describes, in all its parts, by name."""
+    if isinstance(schema, dict):
+        for name, part in schema.items():
+            if name == "properties":
+                yield from part.items()
+            yield from members(part)
+    elif isinstance(schema, list):
+        for part in schema:
+            yield from members(part)
+
+
+def checks():
+    """What is checked, and whether it is so."""
+    with open("schemas/graph.schema.json", encoding="utf-8") as file:
+        schema = json.load(file)
+    Draft202012Validator.check_schema(schema)
+    validator = Draft202012Validator(schema)
+    # The parts that only narrow what is described elsewhere have no description of their own.
+    described = {name for name, part in members(schema) if isinstance(part, dict) and "description" in part}
+    for name in sorted({name for name, _ in members(schema)}):
+        yield f"the schema describes {name}", name in described
+    for name in sorted(os.listdir(EXAMPLES)):
+        graph = graph_of(os.path.join(EXAMPLES, name))
+        if graph is not None:
+            yield f"the schema takes {name}", validator.is_valid(graph)
+    refused = os.path.join(EXAMPLES, "refused")
+    for name in sorted(os.listdir(refused)):
+        folder = os.path.join(refused, name)
+        graph = graph_of(folder) if os.path.isdir(folder) else None
+        if graph is not None:
+            wanted = not sees(name, folder)
+            yield f"the schema {'takes' if wanted else 'refuses'} refused/{name}", validator.is_valid(graph) == wanted
+
+
+def main():
+    passed = failed = 0
+    for what, holds in checks():
+        if holds:
+            passed += 1
+        else:
+            failed += 1
+            print(f"failed: {what}")
+    print(f"{passed} passed, {failed} failed")
+
+
+main()

@@ -1,0 +1,39 @@
+#!/usr/bin/env bash
+# Tests completions/ptides.bash: what it offers for words, in a folder with a graph. The last line is `N passed, M failed`.
+set -u
+top=$(cd "$(dirname "$0")/.." && pwd)
+passed=0
+failed=0
+. "$top/completions/ptides.bash"
+cd "$top/examples/governor" || exit 1
+
+# offers WORDS WANTED: what is offered for the last of the words, in order, parted by spaces. `=` is a word of its own.
+offers() {
+    local found
+    read -ra COMP_WORDS <<<"$1"
+    [[ $1 != *' ' ]] || COMP_WORDS+=('')
+    COMP_CWORD=$((${#COMP_WORDS[@]} - 1))
+    _ptides
+    found=$(printf '%s\n' "${COMPREPLY[@]}" | sort -V | tr '\n' ' ')
+    if [ "$found" = "$2 " ]; then
+        passed=$((passed + 1))
+    else
+        failed=$((failed + 1))
+        printf 'failed: for "%s": wanted %s, found %s\n' "$1" "$2" "$found"
+    fi
+}
+
+offers 'ptides ' 'check meaning run'
+offers 'ptides m' 'meaning'
+offers 'ptides run ' 'graph.json'
+offers 'ptides check g' 'graph.json'
+offers 'ptides check ../gov' '../governor'
+offers 'ptides run --' '--clock --log --workers'
+offers 'ptides run graph.json --log -' '--clock --workers'
+offers 'ptides check -' ''
+offers 'ptides run --workers 6' '6 60 61 62 63 64'
+offers 'ptides run --workers = 6' '6 60 61 62 63 64'
+offers 'ptides run --clock ' 'paced'
+offers 'ptides run --clock =' 'paced'
+echo "$passed passed, $failed failed"
+[ "$failed" -eq 0 ]
