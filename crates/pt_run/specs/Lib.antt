@@ -3,6 +3,7 @@ pub mod Words
 pub mod Faults
 pub mod Headline
 pub mod Causes
+pub mod Complete
 pub mod Texts
 pub mod Notes
 pub mod Telling
