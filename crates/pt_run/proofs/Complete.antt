@@ -1,12 +1,12 @@
 -- A run of a program that can run ends as its meaning says.
-use Rattle.std.proofs.Common.{◌≡◌, ℕ, ◌+◌, ◌<◌, ◌≤◌, ◌⊎◌, Bool, List, [], ◌∷◌, Option, Some, None, Result, Ok, Err, IfSome, ℤ, pos, ◌+ℤ◌, ◌-ℤ◌, ◌<ℤ◌, length, slice_get, refl, sym, ap, subst, ◌∙◌, arith, inl, inr, ⊎_elim}
+use Rattle.std.proofs.Common.{◌≡◌, ℕ, ◌+◌, ◌<◌, ◌≤◌, Bool, List, [], ◌∷◌, Option, Some, None, Result, Ok, Err, IfSome, ℤ, pos, ◌+ℤ◌, ◌-ℤ◌, ◌<ℤ◌, length, refl, sym, ap, subst, ◌∙◌, arith, inl, inr}
 use Rattle.std.specs.Prelude.{◌↔◌}
 use Rattle.std.proofs.lemmas.Int.{ints}
 use Rattle.std.proofs.lemmas.Option.{slice_get_within}
 use Rattle.pt_io.specs.Causes.{Rose}
 use Rattle.pt_types.specs.declared.graph.Graph.{Graph}
 use Rattle.pt_types.specs.declared.kind.Kind.{Kind}
-use Rattle.pt_types.specs.declared.kind.Kind.TheVariants.{Send, Sensor}
+use Rattle.pt_types.specs.declared.kind.Kind.TheVariants.{Sensor}
 use Rattle.pt_types.specs.declared.firing.ActorFiring.{ActorFiring}
 use Rattle.pt_types.specs.declared.rows.Row.{Row}
 use Rattle.pt_blocks.specs.declared.blocks.Named.{Named}
@@ -16,7 +16,6 @@ use Rattle.pt_history.specs.declared.miss.Miss.{Miss}
 use Rattle.pt_sensors.specs.declared.fault.RowFault.{RowFault}
 use Rattle.pt_sensors.specs.Late.{late_row}
 use Rattle.pt_sensors.specs.RowsOf.{rows_of}
-use Rattle.pt_semantics.specs.Cycles.{NoFreeCycle}
 use Rattle.pt_semantics.specs.Edges.{kind_of}
 use Rattle.pt_semantics.specs.Lists.{IsIn}
 use Rattle.pt_semantics.specs.Meaning.{IsMeaning}
@@ -28,7 +27,7 @@ use Rattle.pt_semantics.proofs.Acyclic.{ranks_are_one}
 use Rattle.pt_semantics.proofs.Lookups.{none_some}
 use Rattle.pt_semantics.proofs.Unique.{meaning_is_one}
 use Rattle.pt_ends.specs.Schedule.{IsMissedByMeaning}
-use Rattle.pt_ranks.specs.Ranked.{IsFreeCycle, rank_of}
+use Rattle.pt_ranks.specs.Ranked.{rank_of}
 use Rattle.pt_offsets.specs.Margins.{IsFirstInfeasible}
 use Rattle.pt_offsets.specs.Plans.{Parts}
 use Rattle.pt_turn.specs.Platforms.{PlatformView}
@@ -36,7 +35,7 @@ use Rattle.pt_rounds.specs.HaveRun.{IsLongOn}
 use Rattle.pt_recorded.specs.declared.fault.LateRows.TheVariants.{Refused}
 use Rattle.pt_recorded.specs.Asked.{Contents, Reading}
 use Rattle.pt_recorded.specs.Places.{of_run}
-use Rattle.pt_recorded.specs.Recorded.{AllPass, AreRows, InTime, RowsOfKind, SensorFails, SensorLate}
+use Rattle.pt_recorded.specs.Recorded.{AreRows, InTime, RowsOfKind, SensorFails, SensorLate}
 use Rattle.pt_runs.proofs.Agreeing.{rows_are_one}
 use Rattle.pt_runs.specs.Runs.{HasRun, IsFinishedRun}
 use Rattle.pt_run.specs.declared.fault.Fault.{Fault}
@@ -44,8 +43,8 @@ use Rattle.pt_run.specs.declared.fault.Fault.TheVariants as fault
 use Rattle.pt_run.specs.declared.words.Command.{Command}
 use Rattle.pt_run.specs.declared.words.Command.TheVariants.{Run}
 use Rattle.pt_run.specs.Causes.{CauseOf, RunsLong, Writing}
-use Rattle.pt_run.specs.Complete.{CanRun, FitsClaims, MissesSome, IsComplete, StatusIsMeant}
-use Rattle.pt_run.specs.Headline.{GraphWith, IsRun, Leaves, Means}
+use Rattle.pt_run.specs.Complete.{CanRun, FitsClaims, IsComplete, StatusIsMeant}
+use Rattle.pt_run.specs.Headline.{GraphWith, Leaves}
 use Rattle.pt_run.specs.Statuses.{status_of}
 use Rattle.pt_run.specs.Texts.{EndsBy}
 

@@ -3,3 +3,4 @@ pub mod Telling
 pub mod Ending
 pub mod Planned
 pub mod Complete
+pub mod Agreeing

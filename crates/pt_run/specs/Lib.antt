@@ -2,6 +2,7 @@ pub mod Statuses
 pub mod Words
 pub mod Faults
 pub mod Headline
+pub mod Agreeing
 pub mod Causes
 pub mod Complete
 pub mod Texts
