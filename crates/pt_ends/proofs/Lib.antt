@@ -1,6 +1,10 @@
-pub mod Turns
-pub mod Moves
-pub mod Few
-pub mod Visits
-pub mod Rounds
 pub mod Ending
+pub mod Few
+pub mod Kept
+pub mod Members
+pub mod Moves
+pub mod OneRun
+pub mod Rounds
+pub mod Singles
+pub mod Turns
+pub mod Visits

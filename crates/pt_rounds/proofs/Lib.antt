@@ -1,3 +1,4 @@
+pub mod Agreeing
 pub mod Few
 pub mod Leasts
 pub mod Listed

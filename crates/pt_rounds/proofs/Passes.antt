@@ -12,7 +12,7 @@ use Rattle.pt_semantics.specs.Rounds.{IsQuietRound}
 use Rattle.pt_semantics.specs.Turn.{is_quiet}
 use Rattle.pt_semantics.specs.Visits.{Made}
 use Rattle.pt_semantics.proofs.Acyclic.{levels_are_small}
-use Rattle.pt_semantics.proofs.Lookups.{Each-append, IsIn-append_left, IsIn-append_right, same_some}
+use Rattle.pt_semantics.proofs.Lookups.{Each-append, IsIn-append, IsIn-append_left, IsIn-append_right, same_some}
 use Rattle.pt_semantics.proofs.Onward.{Onward, cases_same, round_onward}
 use Rattle.pt_semantics.proofs.PacedRuns.{run_onward}
 use Rattle.pt_lawful.proofs.Edges.{wired}
@@ -48,6 +48,7 @@ module _ (plan : Parts) (rows : ℕ → List Row) (count c : ℕ) (olds : List P
     no_quiet_round = λ e. absurd (false≢true (sym e));
     faults = λ j v at. inl (s.no_fault j v at);
     fine = λ none. tt;
+    answered = λ j v at none m mem home. absurd mem;
   }
 
   module _ (n : ℕ) (platforms : List PlatformView) (pipes : List (List Message)) (results : List (List Done)) (quiet : Bool) (h : HavePassed plan rows c s.together n platforms pipes results quiet) where
@@ -98,6 +99,7 @@ module _ (plan : Parts) (rows : ℕ → List Row) (count c : ℕ) (olds : List P
             (λ (long : (j < n) × IsLong h.made j w). inr ((let lt : j < n = long.0 in omega arith), long.1))
             (h.faults j w at);
         fine = h.fine;
+        answered = h.answered;
       }
 
       module _ (w : PlatformView) (dones next : List Done) (piped : List (List Message)) (still after : Bool) (small : c < 2 ^ 64) (hand : slice_get results n ≡ Some dones) (going : IsFinished v.plan.graph v.number (state_at v) → ⊥)
@@ -203,6 +205,24 @@ module _ (plan : Parts) (rows : ℕ → List Row) (count c : ℕ) (olds : List P
             (cases_same j n)))
             (shows.fault ∙ ap is_fault (none n w changed), tt)
 
+        answered_now : (j : ℕ) (u : PlatformView) → slice_get (set platforms n w) j ≡ Some u → u.fault ≡ None → (m : Made) → IsIn m (h.made ++ shows.made ∷ []) → m.platform ≡ j → m.fault ≡ false
+        answered_now j u at none m mem home =
+            ⊎_elim
+            (λ (old : IsIn m h.made).
+            ⊎_elim
+            (λ (here : j ≡ n). h.answered n v there not_faulty m old (home ∙ here))
+            (λ (other : j ≢ n). h.answered j u (sym (set_other platforms n j w other) ∙ at) none m old home)
+            (cases_same j n))
+            (λ (new : IsIn m (shows.made ∷ [])).
+            ⊎_elim
+            (λ (e : m ≡ shows.made).
+            let here : j ≡ n = sym home ∙ ap (λ (z : Made). z.platform) e ∙ shows.platform in
+            let same : u ≡ w = same_some u w (sym (subst (λ k. slice_get (set platforms n w) k ≡ Some u) here at) ∙ changed) in
+            ap (λ (z : Made). z.fault) e ∙ shows.fault ∙ ap is_fault (ap (λ (z : PlatformView). z.fault) (sym same) ∙ none))
+            (λ (never : ⊥). absurd never)
+            new)
+            (IsIn-append m h.made (shows.made ∷ []) mem)
+
         pub one_visited : HavePassed plan rows c s.together (suc n) (set platforms n w) piped (set results n next) after
         one_visited = record {
           made = h.made ++ shows.made ∷ [];
@@ -215,6 +235,7 @@ module _ (plan : Parts) (rows : ℕ → List Row) (count c : ℕ) (olds : List P
           no_quiet_round = not_quiet;
           faults = faults_now;
           fine = fine_now;
+          answered = answered_now;
         }
           where
             past : (j k : ℕ) → suc k ≤ j → j ≡ k → ⊥

@@ -5,15 +5,16 @@ use Rattle.std.proofs.lemmas.List.{length-replicate}
 use Rattle.std.proofs.lemmas.Option.{slice_get_within}
 use Rattle.pt_tags.specs.declared.message.Message.{Message}
 use Rattle.pt_types.specs.declared.firing.Done.{Done}
+use Rattle.pt_types.specs.declared.graph.Unit.{Unit as Part}
 use Rattle.pt_types.specs.declared.rows.Row.{Row}
 use Rattle.pt_semantics.specs.Edges.{platform_of}
-use Rattle.pt_semantics.specs.History.{IsLegal}
+use Rattle.pt_semantics.specs.History.{IsLegal, LegalOnTime, claims_of}
 use Rattle.pt_semantics.specs.Kept.{kept}
-use Rattle.pt_semantics.specs.Linked.{AreLinked, AreMatched, IsFinished, all_sent, all_taken}
+use Rattle.pt_semantics.specs.Linked.{AreLinked, AreMatched, IsFinished, all_claims, all_sent, all_taken}
 use Rattle.pt_semantics.specs.Lists.{Each, IsIn}
 use Rattle.pt_semantics.specs.Meaning.{ActorFiring, IsMeaning}
 use Rattle.pt_semantics.specs.Paced.{IsCandidate}
-use Rattle.pt_semantics.specs.Platform.{State}
+use Rattle.pt_semantics.specs.Platform.{State, opened}
 use Rattle.pt_semantics.specs.Ranks.{AreRanks}
 use Rattle.pt_semantics.specs.Rounds.{Follows, IsLeastNext, IsQuietRound, IsRunInRound, IsWholeRun, Round}
 use Rattle.pt_semantics.specs.Turn.{Turn, is_quiet}
@@ -25,6 +26,9 @@ use Rattle.pt_semantics.proofs.Long.{long_exactly}
 use Rattle.pt_semantics.proofs.Lookups.{Each-in, none_some}
 use Rattle.pt_semantics.proofs.PacedKept.{paced_are_legal}
 use Rattle.pt_semantics.proofs.Quiet.{quiet_ends}
+use Rattle.pt_ends.specs.Schedule.{IsOnSchedule, SendsWithinSlack}
+use Rattle.pt_ends.specs.WholeRuns.{IsEnd, kept_by}
+use Rattle.pt_ends.proofs.Kept.{all_on_schedule, all_within_slack, claimed_as_meant, missed_as_meant, none_is_late}
 use Rattle.pt_lawful.proofs.Edges.{wired}
 use Rattle.pt_ranks.specs.Ranked.{level_of}
 use Rattle.pt_offsets.specs.Plans.{IsAdmitted, Parts}
@@ -140,8 +144,10 @@ module _ (plan : Parts) (rows : ℕ → List Row) (count c : ℕ) (olds : List P
   ended : AreFinished plan.graph h.together ⊎ (Each (λ (m : Made). m.fault ≡ false) h.made → ⊥) → (fault : Option ℕ) → EndsWith plan.graph platforms fault → (fault ≡ None → AreFinished plan.graph h.together) →
       ((rank : ℕ → ℕ) (xs : List ActorFiring) → AreRanks plan.graph rank → IsMeaning plan.graph rank rows xs → IsLongOn plan.graph xs fault) → HaveRun plan (level_of plan.ranks) rows platforms fault
   ended ends fault so done long = record {
+    admitted = s.admitted;
+    fit = s.fit;
     all = h.shown.all;
-    after = record { together = h.together; run = run; kept_turns = h.shown.kept_turns; states = h.shown.states };
+    after = record { together = h.together; run = run; kept_turns = h.shown.kept_turns; states = h.shown.states; faults = λ i v there. (h.answered i v there, none_answered i v there) };
     ends = so;
     matched = λ l link at.
         let m = laws.1 l link at in (
@@ -152,15 +158,47 @@ module _ (plan : Parts) (rows : ℕ → List Row) (count c : ℕ) (olds : List P
     linked = λ none l link at.
         ap (all_sent l) (history (platform_of plan.graph link.from) (is_wired.homes link.from)) ∙ laws.2 (done none) l link at
         ∙ ap (all_taken l) (sym (history (platform_of plan.graph link.to) (is_wired.homes link.to)));
+    none_late = λ i v there.
+        subst (λ turns. LegalOnTime plan.graph (level_of plan.ranks) i (opened plan.graph i rows) turns (state_at v)) (sym (h.shown.kept_turns i v there))
+        (subst (LegalOnTime plan.graph (level_of plan.ranks) i (opened plan.graph i rows) (kept (h.together.did i))) (h.shown.states i v there)
+        (none_is_late plan.graph (level_of plan.ranks) rows h.together end i (below i v there)));
+    on_schedule = λ i v there. subst (Each (IsOnSchedule plan.graph)) (sym (h.shown.kept_turns i v there)) (all_on_schedule plan.graph (level_of plan.ranks) rows h.together end i (below i v there));
+    within_slack = λ i v there. subst (Each (SendsWithinSlack plan.graph)) (sym (h.shown.kept_turns i v there)) (all_within_slack plan.graph (level_of plan.ranks) rows h.together end i (below i v there));
+    claimed_as_meant = λ rank xs ranks meaning u.
+        let front = (claimed_as_meant plan.graph (level_of plan.ranks) rank rows h.together xs end ranks meaning).0 u in
+        (front.0, front.1 ∙ ap (λ z. z ++ front.0) (sym (claims u)));
+    all_claimed = λ none rank xs ranks meaning u. claims u ∙ (claimed_as_meant plan.graph (level_of plan.ranks) rank rows h.together xs end ranks meaning).1 (done none) u;
+    missed_as_meant = λ none rank xs ranks meaning a t reading limit.
+        let both = missed_as_meant plan.graph (level_of plan.ranks) rank rows h.together xs end (done none) ranks meaning a t reading limit in (
+          (λ missed. both.0 (missed.0, missed.1, missed.2, subst (IsIn missed.2) (history missed.0 missed.1) missed.3, missed.4, missed.5)),
+          (λ meant. let missed = both.1 meant in (missed.0, missed.1, missed.2, subst (IsIn missed.2) (sym (history missed.0 missed.1)) missed.3, missed.4, missed.5)),
+        );
     long = long;
   }
     where
       run : IsWholeRun plan.graph (level_of plan.ranks) rows h.together
       run = record { rounds = s.rounds; reading = c; before = s.together; run = s.run; made = h.made; round = whole_round; ends = ends }
 
+      end : IsEnd plan.graph (level_of plan.ranks) rows h.together
+      end = record { wired = is_wired; levels = s.admitted.levels; fit = s.fit; feasible = s.admitted.feasible; offset = offset_of plan.offsets; offsets = s.admitted.offsets.units; run = run }
+
       laws : ((i : ℕ) → i < length plan.graph.platforms → IsLegal plan.graph (level_of plan.ranks) i rows (kept (h.together.did i)) (h.together.at i))
           × AreMatched plan.graph (λ i. kept (h.together.did i)) × (AreFinished plan.graph h.together → AreLinked plan.graph (λ i. kept (h.together.did i)))
       laws = paced_are_legal plan.graph (level_of plan.ranks) rows (offset_of plan.offsets) h.together is_wired s.admitted.levels s.fit s.admitted.feasible s.admitted.offsets.units run
+
+      below : (i : ℕ) (v : PlatformView) → slice_get platforms i ≡ Some v → i < length plan.graph.platforms
+      below i v there = subst (λ n. i < n) h.shown.all.count (slice_get_within platforms i v there)
+
+      claims : (u : Part) → all_claims plan.graph (histories_of platforms) u ≡ all_claims plan.graph (kept_by h.together) u
+      claims u = ap (λ (turns : List Turn). claims_of plan.graph turns u) (history (platform_of plan.graph u.actor) (is_wired.homes u.actor))
+
+      -- where its turn answered no fault a platform has none
+      none_answered : (i : ℕ) (v : PlatformView) → slice_get platforms i ≡ Some v → ((m : Made) → IsIn m h.made → m.platform ≡ i → m.fault ≡ false) → v.fault ≡ None
+      none_answered i v there fine =
+          ⊎_elim
+          (λ (none : v.fault ≡ None). none)
+          (λ (long : (i < length olds) × IsLong h.made i v). absurd (false≢true (sym (fine long.1.turn long.1.there long.1.platform) ∙ long.1.answers)))
+          (h.faults i v there)
 
   pub ended_finished : HaveNoFault platforms → AreAllFinished platforms → HaveRun plan (level_of plan.ranks) rows platforms None
   ended_finished none done =

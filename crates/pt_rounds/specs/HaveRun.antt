@@ -1,26 +1,33 @@
 -- Platforms after a paced run.
-use Rattle.std.specs.Prelude.{◌≡◌, ◌<◌, ◌≤◌, ℕ, List, Option, None, Some, length, slice_get}
+use Rattle.std.specs.Prelude.{◌≡◌, ◌<◌, ◌≤◌, ◌↔◌, ℕ, List, Option, None, Some, false, length, slice_get}
 use Rattle.pt_types.specs.declared.graph.Graph.{Graph}
 use Rattle.pt_types.specs.declared.rows.Row.{Row}
 use Rattle.pt_semantics.specs.Counts.{unit_firings}
+use Rattle.pt_semantics.specs.History.{LegalOnTime}
 use Rattle.pt_semantics.specs.Kept.{kept}
 use Rattle.pt_semantics.specs.Linked.{AreLinked, AreMatched, IsFinished}
+use Rattle.pt_semantics.specs.Lists.{Each, IsIn}
 use Rattle.pt_semantics.specs.Meaning.{ActorFiring, IsMeaning}
 use Rattle.pt_semantics.specs.Parts.{parts}
+use Rattle.pt_semantics.specs.Platform.{opened}
 use Rattle.pt_semantics.specs.Ranks.{AreRanks}
 use Rattle.pt_semantics.specs.Rounds.{IsWholeRun}
-use Rattle.pt_semantics.specs.Visits.{Together}
-use Rattle.pt_offsets.specs.Plans.{Parts}
+use Rattle.pt_semantics.specs.Rows.{FitRows}
+use Rattle.pt_semantics.specs.Visits.{Made, Together}
+use Rattle.pt_ends.specs.Schedule.{AreAllClaimed, AreClaimedAsMeant, AreMissedAsMeant, IsOnSchedule, SendsWithinSlack}
+use Rattle.pt_offsets.specs.Plans.{IsAdmitted, Parts}
 use Rattle.pt_turn.specs.declared.fault.TurnFault.TheVariants.{Long}
 use Rattle.pt_turn.specs.Platforms.{PlatformView, state_at}
 use Rattle.pt_platforms.specs.All.{AreAll, histories_of}
 
--- the platforms stand as a whole paced run leaves them: their kept turns are the rounds' and lead to their states
+-- the platforms stand as a whole paced run leaves them: their kept turns are the rounds' and lead to their states, and one has
+-- a fault exactly where its turn in the last round answered it
 pub record IsAfter (plan : Parts) (rows : ℕ → List Row) (level : ℕ → ℕ) (platforms : List PlatformView) : Type 0 where
   pub together : Together
   pub run : IsWholeRun plan.graph level rows together
   pub kept_turns : (i : ℕ) (v : PlatformView) → slice_get platforms i ≡ Some v → v.turns ≡ kept (together.did i)
   pub states : (i : ℕ) (v : PlatformView) → slice_get platforms i ≡ Some v → together.at i ≡ state_at v
+  pub faults : (i : ℕ) (v : PlatformView) → slice_get platforms i ≡ Some v → (v.fault ≡ None) ↔ ((m : Made) → IsIn m run.made → m.platform ≡ i → m.fault ≡ false)
 
 -- where no platform has a fault, all are finished; else this is the first that has one, and it made all its claims
 abbrev pub EndsWith : Graph → List PlatformView → Option ℕ → Type 0
@@ -32,12 +39,28 @@ abbrev pub IsLongOn : Graph → List ActorFiring → Option ℕ → Type 0
 IsLongOn g xs None = (i : ℕ) → i < length g.platforms → unit_firings g i (parts g xs) ≤ 200000
 IsLongOn g xs (Some i) = 200000 < unit_firings g i (parts g xs)
 
+-- a fact of the meaning of a graph and its rows
+abbrev pub InMeaning : Graph → (ℕ → List Row) → (List ActorFiring → Type 0) → Type 0
+InMeaning g rows Fact = (rank : ℕ → ℕ) (xs : List ActorFiring) → AreRanks g rank → IsMeaning g rank rows xs → Fact xs
+
 -- all platforms of a plan after a paced run over these rows
 pub record HaveRun (plan : Parts) (level : ℕ → ℕ) (rows : ℕ → List Row) (platforms : List PlatformView) (fault : Option ℕ) : Type 0 where
+  pub admitted : IsAdmitted plan
+  pub fit : FitRows plan.graph rows
   pub all : AreAll plan rows platforms
   pub after : IsAfter plan rows level platforms
   pub ends : EndsWith plan.graph platforms fault
   -- what was taken was sent, and all that was sent was taken where they are finished
   pub matched : AreMatched plan.graph (histories_of platforms)
   pub linked : fault ≡ None → AreLinked plan.graph (histories_of platforms)
-  pub long : (rank : ℕ → ℕ) (xs : List ActorFiring) → AreRanks plan.graph rank → IsMeaning plan.graph rank rows xs → IsLongOn plan.graph xs fault
+  -- no message is late: the kept turns lead from the opening to the state, and none took one
+  pub none_late : (i : ℕ) (v : PlatformView) → slice_get platforms i ≡ Some v → LegalOnTime plan.graph level i (opened plan.graph i rows) v.turns (state_at v)
+  -- each claim is made at exactly the paced reading of its unit and tag, and no message is sent past its sender's slack
+  pub on_schedule : (i : ℕ) (v : PlatformView) → slice_get platforms i ≡ Some v → Each (IsOnSchedule plan.graph) v.turns
+  pub within_slack : (i : ℕ) (v : PlatformView) → slice_get platforms i ≡ Some v → Each (SendsWithinSlack plan.graph) v.turns
+  -- each unit's claims are the first of its parts of the meaning, and all of them where the platforms are finished
+  pub claimed_as_meant : InMeaning plan.graph rows (λ xs. AreClaimedAsMeant plan.graph xs (histories_of platforms))
+  pub all_claimed : fault ≡ None → InMeaning plan.graph rows (λ xs. AreAllClaimed plan.graph xs (histories_of platforms))
+  -- and what they missed then is told by the meaning and the paced readings
+  pub missed_as_meant : fault ≡ None → InMeaning plan.graph rows (λ xs. AreMissedAsMeant plan.graph xs (histories_of platforms))
+  pub long : InMeaning plan.graph rows (λ xs. IsLongOn plan.graph xs fault)

@@ -56,3 +56,4 @@ pub record HavePassed (plan : Parts) (rows : ℕ → List Row) (c : ℕ) (before
   pub no_quiet_round : quiet ≡ false → ((m : Made) × IsIn m made × (is_quiet m.turn ≡ false)) ⊎ ((j : ℕ) × (j < n) × ((together.at j).closed ≡ (before.at j).closed → ⊥))
   pub faults : (j : ℕ) (v : PlatformView) → slice_get platforms j ≡ Some v → (v.fault ≡ None) ⊎ ((j < n) × IsLong made j v)
   pub fine : HaveNoFault platforms → Each (λ (m : Made). m.fault ≡ false) made
+  pub answered : (j : ℕ) (v : PlatformView) → slice_get platforms j ≡ Some v → v.fault ≡ None → (m : Made) → IsIn m made → m.platform ≡ j → m.fault ≡ false

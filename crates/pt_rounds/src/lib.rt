@@ -7,7 +7,9 @@
 mod asking;
 mod going_on;
 mod hand;
+mod laws;
 mod passing;
 mod rounds;
 
+pub use laws::paced_runs_agree;
 pub use rounds::{Rounds, paced};

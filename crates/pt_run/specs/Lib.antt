@@ -2,7 +2,9 @@ pub mod Statuses
 pub mod Words
 pub mod Faults
 pub mod Headline
+pub mod Agreeing
 pub mod Causes
+pub mod Complete
 pub mod Texts
 pub mod Notes
 pub mod Telling

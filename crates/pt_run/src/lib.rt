@@ -9,6 +9,7 @@
 
 mod admission;
 mod fault;
+mod laws;
 mod notes;
 mod output;
 mod plans;
@@ -18,5 +19,6 @@ mod top;
 mod words;
 
 pub use fault::{Fault, Outcome};
+pub use laws::runs_agree;
 pub use top::ptides;
 pub use words::Command;

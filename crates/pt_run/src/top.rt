@@ -2,6 +2,7 @@
 
 ghost use Rattle.std.specs.Prelude.{◌≡◌, Some};
 ghost use Rattle.pt_types.specs.Lawful.{IsLawful};
+ghost use Rattle.pt_run.specs.Complete.{IsComplete};
 ghost use Rattle.pt_run.specs.Statuses.{status_of};
 ghost use Rattle.pt_run.specs.Words.{order_of};
 ghost use Rattle.pt_run.specs.Telling.{Tells, TellsBy};
@@ -38,6 +39,10 @@ pub fn ptides<S: Source, K: Sink, E: Sink>(
         (record { asked_before = S.asked source.old; asked_now = S.asked source.new; before = S.faults source.old; now = S.faults source.new }) }
     // What was written and what is left, and why the call ended otherwise: by cases in `EndsBy`.
     ensures ends { EndsBy result.fault (left_by result) (order_of words.now) (S.tells source.old) blocks.now.listed.items
+        (record { asked_before = S.asked source.old; asked_now = S.asked source.new; before = S.faults source.old; now = S.faults source.new })
+        (record { before = K.faults out.old; now = K.faults out.new; written_before = K.written out.old; written_now = K.written out.new }) }
+    // A run of a program that can run ends as its meaning says: by cases in `IsComplete`.
+    ensures complete { IsComplete result.status (order_of words.now) (S.tells source.old) blocks.now.listed.items
         (record { asked_before = S.asked source.old; asked_now = S.asked source.new; before = S.faults source.old; now = S.faults source.new })
         (record { before = K.faults out.old; now = K.faults out.new; written_before = K.written out.old; written_now = K.written out.new }) }
     // What was put on notes.

@@ -1,14 +1,14 @@
 -- Platforms that have finished a run.
-use Rattle.std.proofs.Common.{◌≡◌, ◌<◌, ◌≤◌, ◌++◌, ℕ, Bool, true, false, List, [], Option, None, Some, length, slice_get, refl, sym, ap, subst, ◌∙◌, append-nil}
-use Rattle.std.specs.Prelude.{string_bytes, flat_map}
+use Rattle.std.proofs.Common.{◌≡◌, ◌++◌, ℕ, Bool, true, false, List, None, refl, sym, ap, subst, ◌∙◌, append-nil}
+use Rattle.std.specs.Prelude.{flat_map}
 use Rattle.pt_types.specs.declared.rows.Row.{Row}
 use Rattle.pt_types.specs.declared.graph.Graph.{Graph}
 use Rattle.pt_semantics.specs.Rows.{FitRows}
 use Rattle.pt_semantics.specs.Tables.{tables_text}
-use Rattle.pt_ranks.specs.Ranked.{level_of}
-use Rattle.pt_offsets.specs.Plans.{IsAdmitted, Parts}
+use Rattle.pt_ranks.specs.Ranked.{level_of, rank_of}
+use Rattle.pt_offsets.specs.Plans.{Parts}
 use Rattle.pt_turn.specs.Platforms.{PlatformView}
-use Rattle.pt_platforms.specs.All.{AreAll, AreReady}
+use Rattle.pt_platforms.specs.All.{AreAll}
 use Rattle.pt_logs.specs.Log.{log_text}
 use Rattle.pt_logs.specs.Platforms.{AreInOrder, histories}
 use Rattle.pt_monitors.specs.Platforms.{missed_by}
@@ -18,6 +18,7 @@ use Rattle.pt_recorded.specs.Asked.{Contents}
 use Rattle.pt_recorded.specs.Places.{of_run}
 use Rattle.pt_runs.specs.declared.texts.Ran.{Ran}
 use Rattle.pt_runs.specs.Runs.{HasRun, IsRun, IsText, IsTold, log_if}
+use Rattle.pt_runs.proofs.Missed.{missed_in}
 
 pub in_order : (plan : Parts) (rows : ℕ → List Row) (platforms : List PlatformView) → AreAll plan rows platforms → AreInOrder plan.graph platforms
 in_order plan rows platforms h = record { graphs = λ i v at. ap (λ (p : Parts). p.graph) (h.plans i v at); numbers = h.numbers }
@@ -45,6 +46,10 @@ is_run tells plan log platforms ran run fit told =
         meaning = text.1;
         written = text.2 ∙ ap (λ ps. tables_text plan.graph text.0 ++ log_if log plan.graph ps) (sym told.platforms_are);
         missed = told.misses ∙ ap (flat_map missed_by) (sym told.platforms_are);
+        missed_as_meant = λ m.
+            let kept = missed_in plan (of_run plan.graph run.rows) platforms run.kept.all ran.misses.items told.misses m in
+            let meant = run.kept.missed_as_meant refl (rank_of plan.ranks) text.0 run.admitted.ranks text.1 m.actor m.tag m.reading m.limit in
+            ((λ mem. meant.0 (kept.0 mem)), (λ missed. kept.1 (meant.1 missed)));
       },
       told.lines,
     )

@@ -1,1 +1,3 @@
+pub mod Agreeing
 pub mod Finished
+pub mod Missed

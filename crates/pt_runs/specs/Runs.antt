@@ -1,11 +1,13 @@
 -- A run over the files of a plan's sensors, and why there is none.
-use Rattle.std.specs.Prelude.{◌≡◌, ◌++◌, [], ℕ, Bool, List, Option, None, Some, flat_map, if◌then◌else◌, string_bytes}
+use Rattle.std.specs.Prelude.{◌≡◌, ◌↔◌, ◌++◌, [], ℕ, Bool, List, Option, None, Some, flat_map, if◌then◌else◌, string_bytes}
 use Rattle.pt_types.specs.declared.firing.ActorFiring.{ActorFiring}
 use Rattle.pt_types.specs.declared.rows.Row.{Row}
 use Rattle.pt_types.specs.declared.graph.Graph.{Graph}
 use Rattle.pt_history.specs.declared.miss.Miss.{Miss}
+use Rattle.pt_semantics.specs.Lists.{IsIn}
 use Rattle.pt_semantics.specs.Meaning.{IsMeaning}
 use Rattle.pt_semantics.specs.Tables.{tables_text}
+use Rattle.pt_ends.specs.Schedule.{IsMissedByMeaning}
 use Rattle.pt_ranks.specs.Ranked.{level_of, rank_of}
 use Rattle.pt_offsets.specs.Plans.{IsAdmitted, Parts}
 use Rattle.pt_turn.specs.Platforms.{PlatformView}
@@ -16,7 +18,6 @@ use Rattle.pt_logs.specs.Platforms.{histories}
 use Rattle.pt_confluence.specs.Gathered.{HaveFinished}
 use Rattle.pt_rounds.specs.HaveRun.{HaveRun}
 use Rattle.pt_recorded.specs.declared.fault.LateRows.TheVariants.{Refused}
-use Rattle.pt_recorded.specs.declared.fault.RecordedFault.{RecordedFault}
 use Rattle.pt_recorded.specs.Asked.{Contents, Reading}
 use Rattle.pt_recorded.specs.Places.{of_run}
 use Rattle.pt_recorded.specs.Recorded.{AllPass, AreRows, CauseOfRows}
@@ -44,6 +45,8 @@ pub record IsFinishedRun (tells : Contents) (plan : Parts) (log : Bool) (platfor
   pub meaning : IsMeaning plan.graph (rank_of plan.ranks) (of_run plan.graph run.rows) firings
   pub written : text ≡ tables_text plan.graph firings ++ log_if log plan.graph platforms
   pub missed : misses ≡ flat_map missed_by platforms
+  -- they are the firings of actuators whose paced reading is past their tag's time and slack, and nothing else
+  pub missed_as_meant : (m : Miss) → IsIn m misses ↔ IsMissedByMeaning plan.graph firings m.actor m.tag m.reading m.limit
 
 -- the text of platforms that have finished
 abbrev pub IsText : Parts → Bool → List PlatformView → List ℕ → Type 0

@@ -3,8 +3,10 @@
 //! Read first: `run_of`, then `specs/Runs.antt`.
 #![tactic(auto)]
 
+mod laws;
 mod running;
 mod texts;
 
+pub use laws::{finished_runs_agree, runs_agree};
 pub use running::{RunFault, run_of};
 pub use texts::Ran;

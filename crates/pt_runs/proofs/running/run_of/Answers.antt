@@ -1,11 +1,10 @@
-use Rattle.std.proofs.Common.{rules, ◌≡◌, ◌∙◌, ℕ, List, None, Option, refl, sym, ap, subst}
+use Rattle.std.proofs.Common.{rules, ◌≡◌, ◌∙◌, ℕ, List, None, refl, ap, subst}
 use Rattle.std.specs.Arc.{arc_value}
 use Rattle.pt_types.specs.declared.graph.Graph.{Graph}
 use Rattle.pt_types.specs.declared.rows.Row.{Row}
 use Rattle.pt_semantics.specs.Rows.{FitRows}
 use Rattle.pt_ranks.specs.Ranked.{level_of}
 use Rattle.pt_offsets.specs.Plans.{IsAdmitted, Parts}
-use Rattle.pt_turn.specs.Platforms.{PlatformView}
 use Rattle.pt_meaning.specs.Opening.{rows_for}
 use Rattle.pt_rounds.specs.HaveRun.{HaveRun}
 use Rattle.pt_recorded.specs.declared.fault.LateRows.TheVariants.{Refused}

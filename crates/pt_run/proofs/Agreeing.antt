@@ -1,0 +1,35 @@
+-- Two runs of one program.
+use Rattle.std.proofs.Common.{◌≡◌, ℕ, Bool, List, Option, None, Some, Result, Ok, IfSome, sym, subst, ◌∙◌}
+use Rattle.pt_types.specs.declared.graph.Graph.{Graph}
+use Rattle.pt_blocks.specs.declared.blocks.Named.{Named}
+use Rattle.pt_graph_text.specs.declared.fault.GraphFault.{GraphFault}
+use Rattle.pt_graph.specs.GraphOf.{graph_of}
+use Rattle.pt_semantics.proofs.Lookups.{none_some, same_some}
+use Rattle.pt_platforms.specs.All.{histories_of}
+use Rattle.pt_recorded.specs.Asked.{Contents}
+use Rattle.pt_runs.specs.Agreeing.{TellsSensors}
+use Rattle.pt_runs.proofs.Agreeing.{finished_agree, runs_agree as left_agree}
+use Rattle.pt_run.specs.Agreeing.{RunsAgree}
+use Rattle.pt_run.specs.Headline.{IsRun, Leaves}
+
+-- a file that is told defines one graph
+same_ok : (g h : Graph) → ◌≡◌ {A = Result Graph GraphFault} (Ok g) (Ok h) → g ≡ h
+same_ok g h e = cc
+
+defined : (blocks : List Named) (told : Option (List ℕ)) (bytes : List ℕ) (g : Graph) → told ≡ Some bytes → IfSome told (λ bytes. graph_of blocks bytes ≡ Ok g) → graph_of blocks bytes ≡ Ok g
+defined blocks None bytes g e h = absurd (none_some bytes e)
+defined blocks (Some told) bytes g e h = subst (λ b. graph_of blocks b ≡ Ok g) (same_some told bytes e) h
+
+over_graph : (tells : Contents) (g h : Graph) (log : Bool) (left other : Leaves) (text written : List ℕ) → g ≡ h → TellsSensors tells g → IsRun tells g log left text → IsRun tells h log other written →
+    (text ≡ written) × (left.misses ≡ other.misses) × ((i : ℕ) → histories_of left.platforms i ≡ histories_of other.platforms i)
+over_graph tells g h log left other text written same files a b =
+    let graphs : a.plan.graph ≡ b.plan.graph = a.graph ∙ same ∙ sym b.graph in
+    let told : TellsSensors tells a.plan.graph = subst (TellsSensors tells) (sym a.graph) files in
+    let texts = finished_agree tells a.plan b.plan log left.platforms other.platforms left.misses other.misses text written graphs told a.finished b.finished in
+    (texts.0, texts.1, (left_agree tells a.plan b.plan left.platforms other.platforms None None graphs told a.finished.run b.finished.run).0)
+
+pub runs_agree : RunsAgree
+runs_agree workers others log tells blocks name left other text written all (g, read, (free, run)) (h, read2, (free2, run2)) =
+    let one = defined blocks (tells name) all.bytes g all.told read in
+    let two = defined blocks (tells name) all.bytes h all.told read2 in
+    over_graph tells g h log left other text written (same_ok g h (sym one ∙ two)) (all.files g one) run run2

@@ -1,0 +1,178 @@
+-- A run of a program that can run ends as its meaning says.
+use Rattle.std.proofs.Common.{◌≡◌, ℕ, ◌+◌, ◌<◌, ◌≤◌, Bool, List, [], ◌∷◌, Option, Some, None, Result, Ok, Err, IfSome, ℤ, pos, ◌+ℤ◌, ◌-ℤ◌, ◌<ℤ◌, length, refl, sym, ap, subst, ◌∙◌, arith, inl, inr}
+use Rattle.std.specs.Prelude.{◌↔◌}
+use Rattle.std.proofs.lemmas.Int.{ints}
+use Rattle.std.proofs.lemmas.Option.{slice_get_within}
+use Rattle.pt_io.specs.Causes.{Rose}
+use Rattle.pt_types.specs.declared.graph.Graph.{Graph}
+use Rattle.pt_types.specs.declared.kind.Kind.{Kind}
+use Rattle.pt_types.specs.declared.kind.Kind.TheVariants.{Sensor}
+use Rattle.pt_types.specs.declared.firing.ActorFiring.{ActorFiring}
+use Rattle.pt_types.specs.declared.rows.Row.{Row}
+use Rattle.pt_blocks.specs.declared.blocks.Named.{Named}
+use Rattle.pt_graph_text.specs.declared.fault.GraphFault.{GraphFault}
+use Rattle.pt_graph.specs.GraphOf.{graph_of}
+use Rattle.pt_history.specs.declared.miss.Miss.{Miss}
+use Rattle.pt_sensors.specs.declared.fault.RowFault.{RowFault}
+use Rattle.pt_sensors.specs.Late.{late_row}
+use Rattle.pt_sensors.specs.RowsOf.{rows_of}
+use Rattle.pt_semantics.specs.Edges.{kind_of}
+use Rattle.pt_semantics.specs.Lists.{IsIn}
+use Rattle.pt_semantics.specs.Meaning.{IsMeaning}
+use Rattle.pt_semantics.specs.Offsets.{IsFeasible}
+use Rattle.pt_semantics.specs.Counts.{unit_firings}
+use Rattle.pt_semantics.specs.Parts.{parts}
+use Rattle.pt_semantics.specs.Ranks.{AreRanks, sum_along}
+use Rattle.pt_semantics.proofs.Acyclic.{ranks_are_one}
+use Rattle.pt_semantics.proofs.Lookups.{none_some}
+use Rattle.pt_semantics.proofs.Unique.{meaning_is_one}
+use Rattle.pt_ends.specs.Schedule.{IsMissedByMeaning}
+use Rattle.pt_ranks.specs.Ranked.{rank_of}
+use Rattle.pt_offsets.specs.Margins.{IsFirstInfeasible}
+use Rattle.pt_offsets.specs.Plans.{Parts}
+use Rattle.pt_turn.specs.Platforms.{PlatformView}
+use Rattle.pt_rounds.specs.HaveRun.{IsLongOn}
+use Rattle.pt_recorded.specs.declared.fault.LateRows.TheVariants.{Refused}
+use Rattle.pt_recorded.specs.Asked.{Contents, Reading}
+use Rattle.pt_recorded.specs.Places.{of_run}
+use Rattle.pt_recorded.specs.Recorded.{AreRows, InTime, RowsOfKind, SensorFails, SensorLate}
+use Rattle.pt_runs.proofs.Agreeing.{rows_are_one}
+use Rattle.pt_runs.specs.Runs.{HasRun, IsFinishedRun}
+use Rattle.pt_run.specs.declared.fault.Fault.{Fault}
+use Rattle.pt_run.specs.declared.fault.Fault.TheVariants as fault
+use Rattle.pt_run.specs.declared.words.Command.{Command}
+use Rattle.pt_run.specs.declared.words.Command.TheVariants.{Run}
+use Rattle.pt_run.specs.Causes.{CauseOf, RunsLong, Writing}
+use Rattle.pt_run.specs.Complete.{CanRun, FitsClaims, IsComplete, StatusIsMeant}
+use Rattle.pt_run.specs.Headline.{GraphWith, Leaves}
+use Rattle.pt_run.specs.Statuses.{status_of}
+use Rattle.pt_run.specs.Texts.{EndsBy}
+
+-- what a file defines that is told is one
+agrees : {R : Type 0} (read : List ℕ → R) (told : Option (List ℕ)) (bytes : List ℕ) (o p : R) → told ≡ Some bytes → IfSome told (λ bytes. read bytes ≡ o) → IfSome told (λ bytes. read bytes ≡ p) → o ≡ p
+agrees read None bytes o p e h k = absurd (none_some bytes e)
+agrees read (Some b) bytes o p e h k = sym h ∙ k
+
+same_ok : {X E : Type 0} (x y : X) → ◌≡◌ {A = Result X E} (Ok x) (Ok y) → x ≡ y
+same_ok x y e = cc
+
+ok_err : {X E : Type 0} (x : X) (f : E) → ◌≡◌ {A = Result X E} (Ok x) (Err f) → ⊥
+ok_err x f e = cc
+
+-- a sender that can't send in time is in no graph in which all can
+too_late : (g : Graph) (send slack : ℕ) (offset : ℤ) → IsFeasible g → IsFirstInfeasible g send offset slack → ⊥
+too_late g send slack offset feasible h =
+    let o = h.infeasible.offset_is.some in
+    late o.1 (sum_along o.2).time slack offset o.4 (feasible send slack o.0 o.1 o.2 h.infeasible.sends o.3) h.infeasible.late
+  where
+    late : (b d slack : ℕ) (offset : ℤ) → (pos b -ℤ pos d) ≡ offset → b + 1 ≤ slack + d → pos slack <ℤ (offset +ℤ pos 1) → ⊥
+    late b d slack offset e le lt = omega (arith, ints)
+
+module _ (tells : Contents) (blocks : List Named) (name : List ℕ) (g : Graph) (xs : List ActorFiring) (can : CanRun tells blocks name g xs) where
+  read : IfSome (tells name) (λ bytes. graph_of blocks bytes ≡ Ok g)
+  read = subst (λ told. IfSome told (λ bytes. graph_of blocks bytes ≡ Ok g)) (sym can.told) can.graph
+
+  -- a graph that the file defines is this one, and it has no fault
+  this_graph : (h : Graph) → IfSome (tells name) (λ bytes. graph_of blocks bytes ≡ Ok h) → h ≡ g
+  this_graph h other = sym (same_ok {E = GraphFault} g h (agrees (graph_of blocks) (tells name) can.bytes (Ok g) (Ok h) can.told read other))
+
+  no_fault : (f : GraphFault) → IfSome (tells name) (λ bytes. graph_of blocks bytes ≡ Err f) → ⊥
+  no_fault f other = ok_err g f (agrees (graph_of blocks) (tells name) can.bytes (Ok g) (Err f) can.told read other)
+
+  -- no sensor's file has a fault, and no row is late
+  of_sensor : (a : ℕ) (file : List ℕ) (bound : ℕ) → kind_of g a ≡ Sensor file bound → IfSome (tells file) (λ bytes. rows_of bytes ≡ Ok (can.rows a))
+  of_sensor a file bound kind = subst (λ (k : Kind). RowsOfKind tells k (can.rows a)) kind (can.sensors a)
+
+  sensor_fails : (actor : ℕ) (f : RowFault) → SensorFails Refused tells g actor f → ⊥
+  sensor_fails actor f h =
+      let told = can.files actor h.file h.bound h.sensor in
+      ok_err (can.rows actor) f (agrees rows_of (tells h.file) told.0 (Ok (can.rows actor)) (Err f) told.1 (of_sensor actor h.file h.bound h.sensor) h.fails)
+
+  sensor_late : (actor row seen limit : ℕ) → SensorLate tells g actor row seen limit → ⊥
+  sensor_late actor row seen limit h =
+      let told = can.files actor h.file h.bound h.sensor in
+      let rows : can.rows actor ≡ h.rows = same_ok {E = RowFault} (can.rows actor) h.rows (agrees rows_of (tells h.file) told.0 (Ok (can.rows actor)) (Ok h.rows) told.1 (of_sensor actor h.file h.bound h.sensor) h.read) in
+      let passes : late_row h.bound g.until (can.rows actor) ≡ None = subst (λ (k : Kind). InTime g.until k (can.rows actor)) h.sensor (can.in_time actor) in
+      none_some row (sym passes ∙ ap (late_row h.bound g.until) rows ∙ h.is_late.first)
+
+  -- the meaning of a plan of this graph with the rows of the run
+  meaning : (plan : Parts) (rows : ℕ → List Row) → plan.graph ≡ g → AreRows tells plan.graph rows → IsMeaning plan.graph can.means.rank (of_run plan.graph rows) xs
+  meaning plan rows same are =
+      subst (λ h. IsMeaning h can.means.rank (of_run h rows) xs) (sym same)
+      (subst (λ r. IsMeaning g can.means.rank (of_run g r) xs) (rows_are_one tells g can.rows rows can.files can.sensors (subst (λ h. AreRows tells h rows) same are)) can.means.meaning)
+
+  is_long : (plan : Parts) (platforms : List PlatformView) (fault : Option ℕ) → plan.graph ≡ g → (run : HasRun tells plan platforms fault) → IsLongOn plan.graph xs fault
+  is_long plan platforms fault same run = run.kept.long can.means.rank xs (subst (λ h. AreRanks h can.means.rank) (sym same) can.means.ranks) (meaning plan run.rows same run.sensors)
+
+  -- a run that finished
+  finished : (status : ℕ) (plan : Parts) (log : Bool) (platforms : List PlatformView) (misses : List Miss) (text : List ℕ) → status ≡ status_of None misses → plan.graph ≡ g → IsFinishedRun tells plan log platforms misses text → StatusIsMeant status g xs
+  finished status plan log platforms misses text is same done = by_misses misses is meant
+    where
+      firings : done.firings ≡ xs
+      firings =
+          meaning_is_one plan.graph (rank_of plan.ranks) (of_run plan.graph done.run.rows) done.firings xs done.meaning
+          (subst (λ rank. IsMeaning plan.graph rank (of_run plan.graph done.run.rows) xs)
+          (ranks_are_one plan.graph can.means.rank (rank_of plan.ranks) (subst (λ h. AreRanks h can.means.rank) (sym same) can.means.ranks) done.run.admitted.ranks)
+          (meaning plan done.run.rows same done.run.sensors))
+
+      few : FitsClaims g xs
+      few = subst (λ h. FitsClaims h xs) same (is_long plan platforms None same done.run)
+
+      meant : (m : Miss) → IsIn m misses ↔ IsMissedByMeaning g xs m.actor m.tag m.reading m.limit
+      meant m = subst (λ h. IsIn m misses ↔ IsMissedByMeaning h xs m.actor m.tag m.reading m.limit) same (subst (λ zs. IsIn m misses ↔ IsMissedByMeaning plan.graph zs m.actor m.tag m.reading m.limit) firings (done.missed_as_meant m))
+
+      by_misses : (ms : List Miss) → status ≡ status_of None ms → ((m : Miss) → IsIn m ms ↔ IsMissedByMeaning g xs m.actor m.tag m.reading m.limit) → StatusIsMeant status g xs
+      by_misses [] e all = inl (e, few, (λ missed. (all (record { actor = missed.0; tag = missed.1; reading = missed.2; limit = missed.3 })).1 missed.4))
+      by_misses (m ∷ ms) e all = inr (inl (e, few, (m.actor, m.tag, m.reading, m.limit, (all m).0 (inl refl))))
+
+  -- a run that stopped
+  stopped : (status : ℕ) (left : Leaves) (platform : ℕ) → status ≡ 6 → RunsLong tells g left platform → StatusIsMeant status g xs
+  stopped status left platform is h = inr (inr (inl (
+    is,
+    λ few.
+        let over : 200000 < unit_firings g platform (parts g xs) = subst (λ z. 200000 < unit_firings z platform (parts z xs)) h.graph (is_long h.plan left.platforms (Some platform) h.graph h.run) in
+        let view = h.run.kept.ends in
+        let within : platform < length g.platforms = subst (λ z. platform < length z) (ap (λ (z : Graph). z.platforms) h.graph) (subst (λ n. platform < n) h.run.kept.all.count (slice_get_within left.platforms platform view.0 view.1)) in
+        clash (unit_firings g platform (parts g xs)) over (few platform within),
+  )))
+    where
+      clash : (n : ℕ) → 200000 < n → n ≤ 200000 → ⊥
+      clash n over le = omega arith
+
+  module _ (status : ℕ) (left : Leaves) (workers : ℕ) (log : Bool) (r : Reading) (w : Writing) (reads : Rose r.before r.now → ⊥) (writes : Rose w.before w.now → ⊥) where
+    -- by the fault over the graph
+    by_cause : (f : Fault) → status ≡ status_of (Some f) left.misses → GraphWith tells blocks name (λ h. CauseOf (Run workers log) f left tells h (name ∷ []) r) → StatusIsMeant status g xs
+    by_cause f is (h, file, cause) = on_graph f is (subst (λ z. CauseOf (Run workers log) f left tells z (name ∷ []) r) (this_graph h file) cause)
+      where
+        on_graph : (e : Fault) → status ≡ status_of (Some e) left.misses → CauseOf (Run workers log) e left tells g (name ∷ []) r → StatusIsMeant status g xs
+        on_graph (fault.Cycle actors) is k = absurd (can.no_free_cycle k.0.first k.0.edge k.0.path k.0.cycle k.0.free)
+        on_graph fault.Memory is k = inr (inr (inr is))
+        on_graph (fault.Infeasible send offset slack) is k = absurd (too_late g send slack offset can.feasible k.1.0)
+        on_graph (fault.Read (Some actor)) is k = absurd (reads k.1.1.failed.rose)
+        on_graph (fault.Sensor actor e) is k = absurd (sensor_fails actor e k.1.1)
+        on_graph (fault.LateRow actor row seen limit) is k = absurd (sensor_late actor row seen limit k.1.1)
+        on_graph (fault.Long (Some platform)) is k = stopped status left platform is k.1
+        on_graph (fault.Long None) is k = absurd k.1
+        on_graph (fault.Read None) is k = absurd k.1
+        on_graph fault.Usage is k = absurd k.1
+        on_graph (fault.Graph e) is k = absurd k.1
+        on_graph fault.Write is k = absurd k.1
+
+    by_outcome : (o : Option Fault) → status ≡ status_of o left.misses → EndsBy o left (Some (Run workers log, name)) tells blocks r w → StatusIsMeant status g xs
+    by_outcome None is (text, (h, file, (free, run)), appends) = finished status run.plan log left.platforms left.misses text is (run.graph ∙ this_graph h file) run.finished
+    by_outcome (Some fault.Usage) is k = absurd k
+    by_outcome (Some (fault.Graph f)) is k = absurd (no_fault f k.0)
+    by_outcome (Some (fault.Read None)) is k = absurd (reads k.0.rose)
+    by_outcome (Some fault.Write) is k = absurd (writes k.0)
+    by_outcome (Some fault.Memory) is k = inr (inr (inr is))
+    by_outcome (Some (fault.Cycle actors)) is k = by_cause (fault.Cycle actors) is k.0
+    by_outcome (Some (fault.Infeasible send offset slack)) is k = by_cause (fault.Infeasible send offset slack) is k.0
+    by_outcome (Some (fault.Read (Some actor))) is k = by_cause (fault.Read (Some actor)) is k.0
+    by_outcome (Some (fault.Sensor actor e)) is k = by_cause (fault.Sensor actor e) is k.0
+    by_outcome (Some (fault.LateRow actor row seen limit)) is k = by_cause (fault.LateRow actor row seen limit) is k.0
+    by_outcome (Some (fault.Long platform)) is k = by_cause (fault.Long platform) is k.0
+
+-- a call that ends by its words
+pub complete : (status : ℕ) (o : Option Fault) (left : Leaves) (order : Option (Command × List ℕ)) (tells : Contents) (blocks : List Named) (r : Reading) (w : Writing) → status ≡ status_of o left.misses → EndsBy o left order tells blocks r w → IsComplete status order tells blocks r w
+complete status o left order tells blocks r w is ends workers log name g xs words can reads writes =
+    by_outcome tells blocks name g xs can status left workers log r w reads writes o is (subst (λ z. EndsBy o left z tells blocks r w) words ends)

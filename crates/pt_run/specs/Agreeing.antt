@@ -1,0 +1,23 @@
+-- Two runs of one program.
+use Rattle.std.specs.Prelude.{◌≡◌, ℕ, Bool, List, Ok, Some}
+use Rattle.pt_types.specs.declared.graph.Graph.{Graph}
+use Rattle.pt_blocks.specs.declared.blocks.Named.{Named}
+use Rattle.pt_graph.specs.GraphOf.{graph_of}
+use Rattle.pt_platforms.specs.All.{histories_of}
+use Rattle.pt_recorded.specs.Asked.{Contents}
+use Rattle.pt_runs.specs.Agreeing.{TellsSensors}
+use Rattle.pt_run.specs.declared.words.Command.TheVariants.{Run}
+use Rattle.pt_run.specs.Headline.{Leaves, Ran}
+
+-- the source tells the graph file of that name and, where it defines a graph, the file of each sensor
+pub record TellsAll (tells : Contents) (blocks : List Named) (name : List ℕ) : Type 0 where
+  pub bytes : List ℕ
+  pub told : tells name ≡ Some bytes
+  pub files : (g : Graph) → graph_of blocks bytes ≡ Ok g → TellsSensors tells g
+
+-- what a run must write, the log included, what it misses and the histories that it leaves are one, whatever the number of
+-- workers
+abbrev pub RunsAgree : Type 0
+RunsAgree = (workers others : ℕ) (log : Bool) (tells : Contents) (blocks : List Named) (name : List ℕ) (left other : Leaves) (text written : List ℕ) → TellsAll tells blocks name →
+    Ran (Run workers log) tells blocks name left text → Ran (Run others log) tells blocks name other written →
+    (text ≡ written) × (left.misses ≡ other.misses) × ((i : ℕ) → histories_of left.platforms i ≡ histories_of other.platforms i)
