@@ -1,26 +1,151 @@
-//! The standard output and the standard error as sinks.
+//! Writers as sinks, as the standard output and the standard error.
 
-ghost use Rattle.std.specs.Prelude.{◌≡◌, ◌≤◌, None, OnErr, is_err};
-ghost use Rattle.pt_io.specs.Causes.{Rose, counted_if};
+ghost use Rattle.std.specs.Prelude.{◌≡◌, ◌-◌, ◌≤◌, [], None, IfOk, OnOk, OnErr, drop, is_err, IsOk, length, take, vec_capacity, vec_len};
+ghost use Rattle.std.specs.Io.KnownBytes.{Appends, Keeps, append_known};
+ghost use Rattle.pt_io.specs.Causes.{Rose, counted, counted_if};
+ghost use Rattle.pt_io.specs.Held.{AddsPart};
 
 use crate::sink::{PutFault, Sink};
+use pt_tags::Memory;
+use std::alloc::Global;
+use std::io::Write;
 
-/// The standard output, or what else the runtime prints to.
+/// How many bytes are held back at least before any is written.
+const ROOM: usize = 65536;
+
+/// A writer behind a buffer, as the standard output.
 ///
-/// It tells no bytes: no clause can say what reaches the system. A write that takes nothing of a piece that
-/// isn't empty is a fault.
+/// It tells no bytes: no clause can say what reaches the system. Where a writer tells what it took, that and then what is
+/// held back is all that was put. A write that takes nothing of a piece that isn't empty is a fault. What a failed
+/// write leaves is held back still; what is held back when the sink is dropped is lost.
 #[derive(Drop)]
-pub struct OutSink<R: Print + Drop> {
-    out: R,
+pub struct OutSink<W: Write + Drop> {
+    out: W,
+    /// What was put and isn't written yet.
+    held: Vec<u8>,
     faults: u64,
 }
 
-impl<R: Print + Drop> OutSink<R> {
-    /// A sink that prints to `out`. It takes no memory.
-    pub fn new(out: R) -> OutSink<R>
+impl<W: Write + Drop> OutSink<W> {
+    /// A sink that writes to `out`. All its memory is taken here.
+    pub fn new(alloc: Global, out: W) -> Result<OutSink<W>, Memory>
+        ensures out { IfOk result (λ s. s.out ≡ out) }
+        ensures held { IfOk result (λ s. s.held.items ≡ []) }
+        ensures faults { IfOk result (λ s. s.faults ≡ 0) }
+    {
+        match Vec::with_capacity(alloc, ROOM) {
+            Ok(held) => Ok(OutSink {
+                out,
+                held,
+                faults: 0,
+            }),
+            Err(_) => Err(Memory),
+        }
+    }
+
+    /// How many calls have failed.
+    pub fn faults(&self) -> u64
+        ensures { result ≡ self.now.faults }
+    {
+        self.faults
+    }
+
+    /// Writes what is held back.
+    fn write_held(&mut self) -> Result<(), PutFault>
+        ensures empty { OnOk result (self.new.held.items ≡ []) }
+        ensures none { OnOk result (vec_len self.new.held ≡ 0) }
+        ensures capacity { vec_capacity self.new.held ≡ vec_capacity self.old.held }
+        ensures bytes { Keeps (append_known (W.contents self.old.out) self.old.held.items) (append_known (W.contents self.new.out) self.new.held.items) }
+        ensures counted { self.new.faults ≡ counted_if (is_err result) self.old.faults }
+        ensures grows { self.old.faults ≤ self.new.faults }
+    {
+        let count = write_out(self.held.as_slice(), &mut self.out);
+        remove_front(&mut self.held, count);
+        if !self.held.is_empty() {
+            return Err(self.failed());
+        }
+        Ok(())
+    }
+
+    /// Writes a piece past the buffer, which is empty.
+    fn write_past(&mut self, bytes: &[u8]) -> Result<(), PutFault>
+        requires { self.old.held.items ≡ [] }
+        ensures held { self.new.held ≡ self.old.held }
+        ensures all { OnOk result (Appends (W.contents self.old.out) (W.contents self.new.out) bytes.now) }
+        ensures part { OnErr result (AddsPart (W.contents self.old.out) (W.contents self.new.out) bytes.now) }
+        ensures counted { self.new.faults ≡ counted_if (is_err result) self.old.faults }
+        ensures grows { self.old.faults ≤ self.new.faults }
+    {
+        let count = write_out(bytes, &mut self.out);
+        if count < bytes.len() {
+            return Err(self.failed());
+        }
+        Ok(())
+    }
+
+    /// Counts a fault.
+    fn failed(&mut self) -> PutFault
+        ensures counted { self.new.faults ≡ counted self.old.faults }
+        ensures grows { self.old.faults ≤ self.new.faults }
+        ensures out { self.new.out ≡ self.old.out }
+        ensures held { self.new.held ≡ self.old.held }
+    {
+        self.faults = self.faults.saturating_add(1);
+        PutFault::Failed
+    }
+}
+
+impl<W: Write + Drop> Sink for OutSink<W> {
+    ghost written = { λ s. None };
+
+    ghost faults = { λ s. s.faults };
+
+    ghost flushed = { λ s. s.held.items ≡ [] };
+
+    fn put(&mut self, bytes: &[u8]) -> Result<(), PutFault>
+        ensures bytes { OnOk result (Appends (append_known (W.contents self.old.out) self.old.held.items) (append_known (W.contents self.new.out) self.new.held.items) bytes.now) }
+        ensures bytes_failed { OnErr result (AddsPart (append_known (W.contents self.old.out) self.old.held.items) (append_known (W.contents self.new.out) self.new.held.items) bytes.now) }
+        ensures counted { self.new.faults ≡ counted_if (is_err result) self.old.faults }
+        ensures grows { self.old.faults ≤ self.new.faults }
+        ensures failed { OnErr result (Rose self.old.faults self.new.faults) }
+    {
+        if self.held.capacity() - self.held.len() < bytes.len() {
+            self.write_held()?;
+        }
+        if self.held.capacity() - self.held.len() < bytes.len() {
+            return self.write_past(bytes);
+        }
+        self.held.extend_from_slice(bytes).unwrap();
+        Ok(())
+    }
+
+    fn flush(&mut self) -> Result<(), PutFault>
+        ensures all { OnOk result (self.new.held.items ≡ []) }
+        ensures bytes { Keeps (append_known (W.contents self.old.out) self.old.held.items) (append_known (W.contents self.new.out) self.new.held.items) }
+        ensures counted { self.new.faults ≡ counted_if (is_err result) self.old.faults }
+        ensures grows { self.old.faults ≤ self.new.faults }
+        ensures failed { OnErr result (Rose self.old.faults self.new.faults) }
+    {
+        self.write_held()
+    }
+}
+
+/// The standard error, where notes for the user go. It holds nothing back.
+///
+/// It is a sink under its own name, so that it can't be taken for the output.
+#[derive(Drop)]
+pub struct NotesSink<W: Write + Drop> {
+    out: W,
+    faults: u64,
+}
+
+impl<W: Write + Drop> NotesSink<W> {
+    /// A sink that writes to `out`. It takes no memory.
+    pub fn new(out: W) -> NotesSink<W>
+        ensures out { result.out ≡ out }
         ensures faults { result.faults ≡ 0 }
     {
-        OutSink { out, faults: 0 }
+        NotesSink { out, faults: 0 }
     }
 
     /// How many calls have failed.
@@ -31,65 +156,60 @@ impl<R: Print + Drop> OutSink<R> {
     }
 }
 
-impl<R: Print + Drop> Sink for OutSink<R> {
+impl<W: Write + Drop> Sink for NotesSink<W> {
     ghost written = { λ s. None };
 
     ghost faults = { λ s. s.faults };
 
+    ghost flushed = { λ s. Unit {0} };
+
     fn put(&mut self, bytes: &[u8]) -> Result<(), PutFault>
+        ensures bytes { OnOk result (Appends (W.contents self.old.out) (W.contents self.new.out) bytes.now) }
+        ensures bytes_failed { OnErr result (AddsPart (W.contents self.old.out) (W.contents self.new.out) bytes.now) }
         ensures counted { self.new.faults ≡ counted_if (is_err result) self.old.faults }
         ensures grows { self.old.faults ≤ self.new.faults }
         ensures failed { OnErr result (Rose self.old.faults self.new.faults) }
     {
-        let mut left = bytes;
-        while !left.is_empty() {
-            match self.out.write_some(left) {
-                Ok(count) if count > 0 => left = &left[count..],
-                _ => {
-                    self.faults = self.faults.saturating_add(1);
-                    return Err(PutFault::Failed);
-                }
-            }
+        if write_out(bytes, &mut self.out) < bytes.len() {
+            self.faults = self.faults.saturating_add(1);
+            return Err(PutFault::Failed);
         }
+        Ok(())
+    }
+
+    fn flush(&mut self) -> Result<(), PutFault>
+        ensures ok { IsOk result }
+        ensures unchanged { self.new ≡ self.old }
+        ensures grows { self.old.faults ≤ self.new.faults }
+        ensures failed { OnErr result (Rose self.old.faults self.new.faults) }
+    {
         Ok(())
     }
 }
 
-/// The standard error, where notes for the user go. It is as `OutSink`, under its own name, so that the two
-/// can't be taken for each other.
-#[derive(Drop)]
-pub struct NotesSink<R: Print + Drop> {
-    sink: OutSink<R>,
-}
-
-impl<R: Print + Drop> NotesSink<R> {
-    /// A sink that prints to `out`. It takes no memory.
-    pub fn new(out: R) -> NotesSink<R>
-        ensures faults { result.sink.faults ≡ 0 }
-    {
-        NotesSink {
-            sink: OutSink::new(out),
+/// Writes bytes, and gives how many were written: all, or fewer where a write failed or took nothing.
+fn write_out<W: Write>(bytes: &[u8], out: &mut W) -> usize
+    ensures within { result ≤ length bytes.now }
+    ensures bytes { Appends (W.contents out.old) (W.contents out.new) (take result bytes.now) }
+{
+    let mut count = 0;
+    while count < bytes.len() {
+        match out.write(&bytes[count..]) {
+            Ok(more) if more > 0 => count += more,
+            _ => return count,
         }
     }
-
-    /// How many calls have failed.
-    pub fn faults(&self) -> u64
-        ensures { result ≡ self.now.sink.faults }
-    {
-        self.sink.faults()
-    }
+    count
 }
 
-impl<R: Print + Drop> Sink for NotesSink<R> {
-    ghost written = { λ s. None };
-
-    ghost faults = { λ s. s.sink.faults };
-
-    fn put(&mut self, bytes: &[u8]) -> Result<(), PutFault>
-        ensures counted { self.new.sink.faults ≡ counted_if (is_err result) self.old.sink.faults }
-        ensures grows { self.old.sink.faults ≤ self.new.sink.faults }
-        ensures failed { OnErr result (Rose self.old.sink.faults self.new.sink.faults) }
-    {
-        self.sink.put(bytes)
-    }
+/// Removes the first `count` bytes.
+fn remove_front(held: &mut Vec<u8>, count: usize)
+    requires { count ≤ vec_len held.old }
+    ensures items { held.new.items ≡ drop count held.old.items }
+    ensures len { vec_len held.new ≡ vec_len held.old - count }
+    ensures capacity { vec_capacity held.new ≡ vec_capacity held.old }
+{
+    let len = held.len();
+    held.as_mut_slice().copy_within(count..len, 0);
+    held.truncate(len - count);
 }

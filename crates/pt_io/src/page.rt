@@ -1,6 +1,6 @@
 //! A sink in memory.
 
-ghost use Rattle.std.specs.Prelude.{◌≡◌, ◌+◌, ◌-◌, ◌≤◌, ◌++◌, length, Some, [], take, IfOk, OnOk, OnErr, IsErr, ◌↔◌, IsTrue, vec_len, vec_capacity};
+ghost use Rattle.std.specs.Prelude.{◌≡◌, ◌+◌, ◌-◌, ◌≤◌, ◌++◌, length, Some, [], take, IfOk, OnOk, OnErr, IsErr, IsOk, ◌↔◌, IsTrue, vec_len, vec_capacity};
 ghost use Rattle.pt_io.specs.Causes.{Rose, Appends, AppendsPart, counted, counted_if};
 ghost use Rattle.pt_io.specs.Rooms.{limit, refuses, taken};
 
@@ -70,6 +70,8 @@ impl Sink for Page {
 
     ghost faults = { λ p. p.faults };
 
+    ghost flushed = { λ p. Unit {0} };
+
     fn put(&mut self, bytes: &[u8]) -> Result<(), PutFault>
         ensures refused { IsErr result ↔ IsTrue (refuses self.old.failing.items self.old.calls self.old.room (length bytes.now)) }
         ensures taken { self.new.bytes.items ≡ self.old.bytes.items ++ take (taken self.old.failing.items self.old.calls self.old.room (length bytes.now)) bytes.now }
@@ -92,6 +94,17 @@ impl Sink for Page {
             self.faults = self.faults.saturating_add(1);
             return Err(PutFault::Failed);
         }
+        Ok(())
+    }
+    /// A page holds nothing back.
+    fn flush(&mut self) -> Result<(), PutFault>
+        ensures ok { IsOk result }
+        ensures unchanged { self.new ≡ self.old }
+        ensures all { Unit {0} }
+        ensures keeps { Some self.new.bytes.items ≡ Some self.old.bytes.items }
+        ensures grows { self.old.faults ≤ self.new.faults }
+        ensures failed { OnErr result (Rose self.old.faults self.new.faults) }
+    {
         Ok(())
     }
 }

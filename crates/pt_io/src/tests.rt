@@ -3,9 +3,8 @@
 use crate::{FetchFault, FileSource, NotesSink, OutSink, Page, PutFault, Shelf, Sink, Source};
 use pt_tags::{List, Name};
 use std::alloc::{AllocError, Global};
-use std::cell::Cell;
-use std::fmt::Display;
 use std::io;
+use std::io::Write;
 use std::test::Fail;
 
 fn named(alloc: Global, name: &str, text: &str) -> Result<(Name, List<u8>), AllocError> {
@@ -47,47 +46,105 @@ fn a_page_takes_what_fits_and_fails_where_it_is_told_to(rt: HostRuntime) -> Resu
     assert_eq!(rt; page.put(b"ghijkl"), Err(PutFault::Failed));
     assert_eq!(rt; page.bytes(), b"abcdeghijk".as_slice());
     assert_eq!(rt; page.put(b""), Ok(()));
+    assert_eq!(rt; page.flush(), Ok(()));
     assert_eq!(rt; page.faults(), 2);
     Ok(())
 }
 
-/// Prints one byte a call, so many in all, and then takes nothing.
+/// Takes at most `most` bytes a call and so many in all, and then nothing.
 #[derive(Drop)]
 struct Narrow {
-    left: Cell<usize>,
+    taken: Vec<u8>,
+    most: usize,
+    left: usize,
 }
 
-impl Print for Narrow {
-    fn print<D: Display + Drop>(&self, _value: D) -> io::Result<()> {
-        Ok(())
+impl Narrow {
+    fn new(alloc: Global, most: usize, left: usize) -> Narrow {
+        Narrow {
+            taken: Vec::new(alloc),
+            most,
+            left,
+        }
     }
+}
 
-    fn println<D: Display + Drop>(&self, _value: D) -> io::Result<()> {
-        Ok(())
-    }
-
-    fn write_all(&self, _bytes: &[u8]) -> io::Result<()> {
-        Ok(())
-    }
-
-    fn write_some(&self, bytes: &[u8]) -> io::Result<usize> {
-        let left = self.left.get();
-        let count = left.min(bytes.len()).min(1);
-        self.left.set(left - count);
+impl Write for Narrow {
+    fn write(&mut self, bytes: &[u8]) -> io::Result<usize> {
+        let count = self.left.min(bytes.len()).min(self.most);
+        self.taken.extend_from_slice(&bytes[..count])?;
+        self.left -= count;
         Ok(count)
+    }
+
+    fn flush(&mut self) -> io::Result<()> {
+        Ok(())
     }
 }
 
 #[test]
-fn an_output_goes_on_after_a_part_and_fails_where_nothing_is_taken(rt: HostRuntime) {
-    let mut out = OutSink::new(Narrow { left: Cell::new(5) });
+fn an_output_holds_back_what_is_put_until_it_is_flushed(rt: HostRuntime) -> Result<(), Fail> {
+    let alloc = rt.alloc();
+    let mut writer = Narrow::new(alloc, 1, 5);
+    let mut out = OutSink::new(alloc, &mut writer).ok().ok_or("no memory")?;
     assert_eq!(rt; out.put(b"abc"), Ok(()));
     assert_eq!(rt; out.put(b""), Ok(()));
-    assert_eq!(rt; out.put(b"def"), Err(PutFault::Failed));
+    assert_eq!(rt; out.flush(), Ok(()));
+    assert_eq!(rt; out.put(b"def"), Ok(()));
+    assert_eq!(rt; out.flush(), Err(PutFault::Failed));
     assert_eq!(rt; out.faults(), 1);
-    let mut notes = NotesSink::new(Narrow { left: Cell::new(1) });
-    assert_eq!(rt; notes.put(b"ab"), Err(PutFault::Failed));
+    drop(out);
+    assert_eq!(rt; writer.taken.as_slice(), b"abcde".as_slice());
+    Ok(())
+}
+
+#[test]
+fn an_output_writes_each_byte_once_and_in_order(rt: HostRuntime) -> Result<(), Fail> {
+    let alloc = rt.alloc();
+    let mut writer = Narrow::new(alloc, 1000, 400_000);
+    let mut out = OutSink::new(alloc, &mut writer).ok().ok_or("no memory")?;
+    let long = vec![in alloc; 7u8; 100_000]?;
+    let mut wanted = Vec::new(alloc);
+    for number in 0..30_000u32 {
+        let piece = number.to_be_bytes();
+        assert_eq!(rt; out.put(&piece), Ok(()));
+        wanted.extend_from_slice(&piece)?;
+    }
+    assert_eq!(rt; out.put(long.as_slice()), Ok(()));
+    assert_eq!(rt; out.put(b"end"), Ok(()));
+    assert_eq!(rt; out.flush(), Ok(()));
+    drop(out);
+    wanted.extend_from_slice(long.as_slice())?;
+    wanted.extend_from_slice(b"end")?;
+    assert_eq!(rt; writer.taken.as_slice(), wanted.as_slice());
+    Ok(())
+}
+
+#[test]
+fn a_put_fails_where_earlier_bytes_cannot_be_written(rt: HostRuntime) -> Result<(), Fail> {
+    let alloc = rt.alloc();
+    let mut writer = Narrow::new(alloc, 1000, 10);
+    let mut out = OutSink::new(alloc, &mut writer).ok().ok_or("no memory")?;
+    let piece = vec![in alloc; 1u8; 40_000]?;
+    assert_eq!(rt; out.put(piece.as_slice()), Ok(()));
+    assert_eq!(rt; out.put(piece.as_slice()), Err(PutFault::Failed));
+    assert_eq!(rt; out.faults(), 1);
+    drop(out);
+    assert_eq!(rt; writer.taken.len(), 10);
+    Ok(())
+}
+
+#[test]
+fn notes_go_on_after_a_part_and_fail_where_nothing_is_taken(rt: HostRuntime) {
+    let alloc = rt.alloc();
+    let mut writer = Narrow::new(alloc, 1, 5);
+    let mut notes = NotesSink::new(&mut writer);
+    assert_eq!(rt; notes.put(b"abc"), Ok(()));
+    assert_eq!(rt; notes.put(b""), Ok(()));
+    assert_eq!(rt; notes.put(b"def"), Err(PutFault::Failed));
+    assert_eq!(rt; notes.flush(), Ok(()));
     assert_eq!(rt; notes.faults(), 1);
+    assert_eq!(rt; writer.taken.as_slice(), b"abcde".as_slice());
 }
 
 #[test]

@@ -5,6 +5,17 @@ ghost use Rattle.pt_io.specs.Causes.{Appends, AppendsPart, Rose};
 
 use pt_io::{PutFault, Sink};
 
+/// Puts a text line by line and flushes the sink.
+pub fn put_text<K: Sink>(out: &mut K, text: &[u8]) -> Result<(), PutFault>
+    ensures all { OnOk result (Appends (K.written out.old) (K.written out.new) text.now) }
+    ensures flushed { OnOk result (K.flushed out.new) }
+    ensures part { OnErr result (AppendsPart (K.written out.old) (K.written out.new) text.now) }
+    ensures failed { OnErr result (Rose (K.faults out.old) (K.faults out.new)) }
+{
+    put_lines(out, text)?;
+    out.flush()
+}
+
 /// Puts a text line by line, each line with its line feed in one put.
 pub fn put_lines<K: Sink>(out: &mut K, text: &[u8]) -> Result<(), PutFault>
     ensures all { OnOk result (Appends (K.written out.old) (K.written out.new) text.now) }

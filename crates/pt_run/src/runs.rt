@@ -1,6 +1,6 @@
 //! The command `run`.
 
-ghost use Rattle.std.specs.Prelude.{◌≡◌, Some, flat_map, string_bytes};
+ghost use Rattle.std.specs.Prelude.{◌≡◌, ◌≢◌, None, Some, flat_map, string_bytes};
 ghost use Rattle.std.specs.Arc.{arc_value};
 ghost use Rattle.pt_types.specs.Lawful.{IsLawful};
 ghost use Rattle.pt_offsets.specs.Plans.{IsAdmitted};
@@ -13,7 +13,7 @@ ghost use Rattle.pt_run.specs.Texts.{EndsOver, EndsPlan, IsStopped, WroteRun, le
 
 use crate::fault::{Fault, Outcome, fault_of_rows};
 use crate::notes::{tell, tell_write};
-use crate::output::put_lines;
+use crate::output::{put_lines, put_text};
 use crate::plans::{Unplanned, plan_of};
 use pt_blocks::Blocks;
 use pt_io::{Sink, Source};
@@ -40,6 +40,7 @@ pub fn run_graph<S: Source, K: Sink, E: Sink>(
     ensures ends { EndsOver result.fault (left_by result) (Run workers log) (S.tells source.old) graph
         (record { asked_before = S.asked source.old; asked_now = S.asked source.new; before = S.faults source.old; now = S.faults source.new })
         (record { before = K.faults out.old; now = K.faults out.new; written_before = K.written out.old; written_now = K.written out.new }) }
+    ensures flushed { result.fault ≡ None → K.flushed out.new }
     ensures notes { Tells result.fault result.misses (Some graph)
         (record { before = E.faults notes.old; now = E.faults notes.new; written_before = E.written notes.old; written_now = E.written notes.new }) }
 {
@@ -74,6 +75,7 @@ fn run_plan<S: Source, K: Sink, E: Sink>(
     ensures ends { EndsPlan result.fault (left_by result) log (S.tells source.old) (arc_value plan.now)
         (record { asked_before = S.asked source.old; asked_now = S.asked source.new; before = S.faults source.old; now = S.faults source.new })
         (record { before = K.faults out.old; now = K.faults out.new; written_before = K.written out.old; written_now = K.written out.new }) }
+    ensures flushed { result.fault ≡ None → K.flushed out.new }
     ensures notes { Tells result.fault result.misses (Some (arc_value plan.now).graph)
         (record { before = E.faults notes.old; now = E.faults notes.new; written_before = E.written notes.old; written_now = E.written notes.new }) }
 {
@@ -93,6 +95,7 @@ fn write_run<K: Sink, E: Sink>(
 ) -> Outcome
     ensures status { result.status ≡ status_of result.fault result.misses }
     ensures wrote { WroteRun ran result (record { before = K.faults out.old; now = K.faults out.new; written_before = K.written out.old; written_now = K.written out.new }) }
+    ensures flushed { result.fault ≡ None → K.flushed out.new }
     ensures notes { string_bytes ran.lines ≡ flat_map (miss_line graph.now) ran.misses.items → Tells result.fault result.misses (Some graph.now)
         (record { before = E.faults notes.old; now = E.faults notes.new; written_before = E.written notes.old; written_now = E.written notes.new }) }
 {
@@ -102,7 +105,7 @@ fn write_run<K: Sink, E: Sink>(
         lines,
         platforms,
     } = ran;
-    if put_lines(out, text.as_str().as_bytes()).is_err() {
+    if put_text(out, text.as_str().as_bytes()).is_err() {
         tell_write(notes);
         return Outcome::stopped(alloc, Fault::Write, platforms);
     }
@@ -114,6 +117,7 @@ fn write_run<K: Sink, E: Sink>(
 fn stop_run<E: Sink>(alloc: Global, graph: &Graph, fault: RunFault, notes: &mut E) -> Outcome
     ensures status { result.status ≡ status_of result.fault result.misses }
     ensures stopped { IsStopped fault result }
+    ensures fault { result.fault ≢ None }
     ensures notes { Tells result.fault result.misses (Some graph.now)
         (record { before = E.faults notes.old; now = E.faults notes.new; written_before = E.written notes.old; written_now = E.written notes.new }) }
 {

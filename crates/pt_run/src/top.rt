@@ -1,6 +1,6 @@
 //! The top call.
 
-ghost use Rattle.std.specs.Prelude.{◌≡◌, Some};
+ghost use Rattle.std.specs.Prelude.{◌≡◌, None, Some};
 ghost use Rattle.pt_types.specs.Lawful.{IsLawful};
 ghost use Rattle.pt_run.specs.Complete.{IsComplete};
 ghost use Rattle.pt_run.specs.Statuses.{status_of};
@@ -11,7 +11,7 @@ ghost use Rattle.pt_run.specs.Texts.{Answers, AsksBy, AsksFor, EndsBy, EndsOver,
 use crate::admission::graph_at;
 use crate::fault::{Fault, Outcome};
 use crate::notes::{tell, tell_write};
-use crate::output::put_lines;
+use crate::output::put_text;
 use crate::runs::run_graph;
 use crate::texts::{check_answer, meaning_answer};
 use crate::words::{Command, order_of};
@@ -45,6 +45,8 @@ pub fn ptides<S: Source, K: Sink, E: Sink>(
     ensures complete { IsComplete result.status (order_of words.now) (S.tells source.old) blocks.now.listed.items
         (record { asked_before = S.asked source.old; asked_now = S.asked source.new; before = S.faults source.old; now = S.faults source.new })
         (record { before = K.faults out.old; now = K.faults out.new; written_before = K.written out.old; written_now = K.written out.new }) }
+    // Where all was put, nothing is held back.
+    ensures flushed { result.fault ≡ None → K.flushed out.new }
     // What was put on notes.
     ensures notes { TellsBy result.fault result.misses (order_of words.now) (S.tells source.old) blocks.now.listed.items
         (record { before = E.faults notes.old; now = E.faults notes.new; written_before = E.written notes.old; written_now = E.written notes.new }) }
@@ -76,6 +78,7 @@ fn run_file<S: Source, K: Sink, E: Sink>(
     ensures ends { EndsBy result.fault (left_by result) (Some (command, name.now)) (S.tells source.old) blocks.now.listed.items
         (record { asked_before = S.asked source.old; asked_now = S.asked source.new; before = S.faults source.old; now = S.faults source.new })
         (record { before = K.faults out.old; now = K.faults out.new; written_before = K.written out.old; written_now = K.written out.new }) }
+    ensures flushed { result.fault ≡ None → K.flushed out.new }
     ensures notes { TellsBy result.fault result.misses (Some (command, name.now)) (S.tells source.old) blocks.now.listed.items
         (record { before = E.faults notes.old; now = E.faults notes.new; written_before = E.written notes.old; written_now = E.written notes.new }) }
 {
@@ -104,6 +107,7 @@ fn run_command<S: Source, K: Sink, E: Sink>(
     ensures ends { EndsOver result.fault (left_by result) command (S.tells source.old) graph
         (record { asked_before = S.asked source.old; asked_now = S.asked source.new; before = S.faults source.old; now = S.faults source.new })
         (record { before = K.faults out.old; now = K.faults out.new; written_before = K.written out.old; written_now = K.written out.new }) }
+    ensures flushed { result.fault ≡ None → K.flushed out.new }
     ensures notes { Tells result.fault result.misses (Some graph)
         (record { before = E.faults notes.old; now = E.faults notes.new; written_before = E.written notes.old; written_now = E.written notes.new }) }
 {
@@ -133,6 +137,7 @@ fn give<K: Sink, E: Sink>(
     ensures status { result.status ≡ status_of result.fault result.misses }
     ensures gives { Answers answer result
         (record { before = K.faults out.old; now = K.faults out.new; written_before = K.written out.old; written_now = K.written out.new }) }
+    ensures flushed { result.fault ≡ None → K.flushed out.new }
     ensures notes { Tells result.fault result.misses (Some graph.now)
         (record { before = E.faults notes.old; now = E.faults notes.new; written_before = E.written notes.old; written_now = E.written notes.new }) }
 {
@@ -143,7 +148,7 @@ fn give<K: Sink, E: Sink>(
             return Outcome::refused(alloc, fault);
         }
     };
-    match put_lines(out, text.as_str().as_bytes()) {
+    match put_text(out, text.as_str().as_bytes()) {
         Ok(()) => Outcome::done(Vec::new(alloc), Vec::new(alloc)),
         Err(_) => {
             tell_write(notes);

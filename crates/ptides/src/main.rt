@@ -13,9 +13,9 @@ use pt_io::{FileSource, NotesSink, OutSink};
 use pt_run::ptides;
 use pt_tags::Memory;
 use pt_types::Law;
-use std::env;
 use std::io::ErrorKind;
 use std::process::ExitCode;
+use std::{env, io};
 
 /// The status where there is no memory to begin with.
 const NO_MEMORY: u8 = 9;
@@ -76,8 +76,11 @@ fn main(rt: HostRuntime) -> ExitCode {
     {
         return ExitCode::from(NO_MEMORY);
     }
-    let mut out = OutSink::new(rt.stdout());
-    let mut notes = NotesSink::new(rt.stderr());
+    let (stdout, stderr) = (rt.stdout(), rt.stderr());
+    let Ok(mut out) = OutSink::new(alloc, io::writer(&stdout)) else {
+        return ExitCode::from(NO_MEMORY);
+    };
+    let mut notes = NotesSink::new(io::writer(&stderr));
     let mut source = FileSource::new(rt);
     let outcome = ptides(
         alloc,
