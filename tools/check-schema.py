@@ -19,6 +19,8 @@ UNSEEN = {"graph_too_long", "range_of_a_row"}
 
 def graph_of(folder):
     """The graph of a folder, made by its script where it is too large to be stored; None where there is none."""
+    if not os.path.isdir(folder):
+        return None
     with tempfile.TemporaryDirectory() as place:
         copy = shutil.copytree(folder, os.path.join(place, "copy"))
         if os.path.exists(os.path.join(copy, "make.py")):
@@ -66,7 +68,7 @@ def checks():
     refused = os.path.join(EXAMPLES, "refused")
     for name in sorted(os.listdir(refused)):
         folder = os.path.join(refused, name)
-        graph = graph_of(folder) if os.path.isdir(folder) else None
+        graph = graph_of(folder)
         if graph is not None:
             wanted = not sees(name, folder)
             yield f"the schema {'takes' if wanted else 'refuses'} refused/{name}", validator.is_valid(graph) == wanted
