@@ -2,3 +2,4 @@ pub mod Puts
 pub mod Telling
 pub mod Ending
 pub mod Planned
+pub mod Made

@@ -6,3 +6,5 @@ pub mod Causes
 pub mod Texts
 pub mod Notes
 pub mod Telling
+pub mod Making
+pub mod Asking
