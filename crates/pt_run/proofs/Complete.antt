@@ -40,13 +40,14 @@ use Rattle.pt_runs.proofs.Agreeing.{rows_are_one}
 use Rattle.pt_runs.specs.Runs.{HasRun, IsFinishedRun}
 use Rattle.pt_run.specs.declared.fault.Fault.{Fault}
 use Rattle.pt_run.specs.declared.fault.Fault.TheVariants as fault
-use Rattle.pt_run.specs.declared.words.Command.{Command}
 use Rattle.pt_run.specs.declared.words.Command.TheVariants.{Run}
 use Rattle.pt_run.specs.Causes.{CauseOf, RunsLong, Writing}
 use Rattle.pt_run.specs.Complete.{CanRun, FitsClaims, IsComplete, StatusIsMeant}
 use Rattle.pt_run.specs.Headline.{GraphWith, Leaves}
 use Rattle.pt_run.specs.Statuses.{status_of}
 use Rattle.pt_run.specs.Texts.{EndsBy}
+use Rattle.pt_run.specs.Making.{Ends}
+use Rattle.pt_run.specs.Words.{Order}
 
 -- what a file defines that is told is one
 agrees : {R : Type 0} (read : List ℕ → R) (told : Option (List ℕ)) (bytes : List ℕ) (o p : R) → told ≡ Some bytes → IfSome told (λ bytes. read bytes ≡ o) → IfSome told (λ bytes. read bytes ≡ p) → o ≡ p
@@ -173,6 +174,6 @@ module _ (tells : Contents) (blocks : List Named) (name : List ℕ) (g : Graph) 
     by_outcome (Some (fault.Long platform)) is k = by_cause (fault.Long platform) is k.0
 
 -- a call that ends by its words
-pub complete : (status : ℕ) (o : Option Fault) (left : Leaves) (order : Option (Command × List ℕ)) (tells : Contents) (blocks : List Named) (r : Reading) (w : Writing) → status ≡ status_of o left.misses → EndsBy o left order tells blocks r w → IsComplete status order tells blocks r w
+pub complete : (status : ℕ) (o : Option Fault) (left : Leaves) (order : Option Order) (tells : Contents) (blocks : List Named) (r : Reading) (w : Writing) → status ≡ status_of o left.misses → Ends o left order tells blocks r w → IsComplete status order tells blocks r w
 complete status o left order tells blocks r w is ends workers log name g xs words can reads writes =
-    by_outcome tells blocks name g xs can status left workers log r w reads writes o is (subst (λ z. EndsBy o left z tells blocks r w) words ends)
+    by_outcome tells blocks name g xs can status left workers log r w reads writes o is (subst (λ z. Ends o left z tells blocks r w) words ends)

@@ -4,3 +4,4 @@ pub mod Ending
 pub mod Planned
 pub mod Complete
 pub mod Agreeing
+pub mod Made

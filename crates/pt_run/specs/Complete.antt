@@ -16,10 +16,10 @@ use Rattle.pt_recorded.specs.declared.fault.LateRows.TheVariants.{Refused}
 use Rattle.pt_recorded.specs.Asked.{Contents, Reading}
 use Rattle.pt_recorded.specs.Recorded.{AllPass, AreRows}
 use Rattle.pt_runs.specs.Agreeing.{TellsSensors}
-use Rattle.pt_run.specs.declared.words.Command.{Command}
 use Rattle.pt_run.specs.declared.words.Command.TheVariants.{Run}
 use Rattle.pt_run.specs.Causes.{Writing}
 use Rattle.pt_run.specs.Headline.{Means}
+use Rattle.pt_run.specs.Words.{Order, over}
 
 -- the source tells a program that can run: the graph file of that name defines this graph, which is admitted, each sensor's
 -- file has rows, of which none is late, and these firings are the meaning
@@ -53,6 +53,6 @@ StatusIsMeant status g firings =
     ⊎ (status ≡ 9)))
 
 -- where the words are a run of such a program, and neither the source's nor the sink's count of faults rose
-abbrev pub IsComplete : ℕ → Option (Command × List ℕ) → Contents → List Named → Reading → Writing → Type 0
+abbrev pub IsComplete : ℕ → Option Order → Contents → List Named → Reading → Writing → Type 0
 IsComplete status order tells blocks r w = (workers : ℕ) (log : Bool) (name : List ℕ) (g : Graph) (firings : List ActorFiring) →
-    order ≡ Some (Run workers log, name) → CanRun tells blocks name g firings → (Rose r.before r.now → ⊥) → (Rose w.before w.now → ⊥) → StatusIsMeant status g firings
+    order ≡ Some (over (Run workers log) name) → CanRun tells blocks name g firings → (Rose r.before r.now → ⊥) → (Rose w.before w.now → ⊥) → StatusIsMeant status g firings

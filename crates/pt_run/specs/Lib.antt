@@ -8,3 +8,5 @@ pub mod Complete
 pub mod Texts
 pub mod Notes
 pub mod Telling
+pub mod Making
+pub mod Asking

@@ -2,16 +2,22 @@
 use Rattle.std.specs.Prelude.{ℕ, List, Option, option_map, String}
 use Rattle.std.specs.declared.alloc.Global.{Global}
 use Rattle.pt_words.specs.Grammar as grammar
-use Rattle.pt_words.specs.Grammar.{Request, run, check, meaning}
+use Rattle.pt_words.specs.Grammar.{Request}
 use Rattle.pt_run.specs.declared.words.Command.{Command}
 use Rattle.pt_run.specs.declared.words.Command.TheVariants.{Run, Check, Meaning}
 
--- the command of a request, and its graph file; the clock changes nothing, since all runs are paced
-abbrev pub command_of : Request → Command × List ℕ
-command_of (run graph workers clock log) = (Run workers log, graph)
-command_of (check graph) = (Check, graph)
-command_of (meaning graph) = (Meaning, graph)
+-- what words can ask for: a command over the graph file of that name, or a run of the input that a number makes
+pub data Order : Type 0 where
+  over : (command : Command) (graph : List ℕ) → Order
+  make : (number workers : ℕ) → Order
 
--- a command and the name of its graph file, where the words ask for one by the grammar
-abbrev pub order_of : List (String Global) → Option (Command × List ℕ)
-order_of words = option_map command_of (grammar.order_of words)
+-- the order of a request; the clock changes nothing, since all runs are paced
+abbrev pub order_by : Request → Order
+order_by (grammar.run graph workers clock log) = over (Run workers log) graph
+order_by (grammar.check graph) = over Check graph
+order_by (grammar.meaning graph) = over Meaning graph
+order_by (grammar.make number workers) = make number workers
+
+-- what the words ask for by the grammar
+abbrev pub order_of : List (String Global) → Option Order
+order_of words = option_map order_by (grammar.order_of words)

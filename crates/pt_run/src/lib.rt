@@ -1,8 +1,8 @@
 //! The top call: runs the command of some words over a source of files and sinks of bytes.
 //!
 //! `run GRAPH` reads the graph file and the rows of its sensors, lets all platforms go on in paced rounds, and writes the
-//! table of every actuator. What a command must write stands in `specs/Headline.antt`, and why it may end otherwise in
-//! `specs/Causes.antt`.
+//! table of every actuator. `make NUMBER` makes a graph and rows from a number and writes a summary. What a command must write stands in `specs/Headline.antt` and `specs/Making.antt`,
+//! and why it may end otherwise in `specs/Causes.antt`.
 //!
 //! Read first: `ptides`, then `specs/Headline.antt`.
 #![tactic(auto)]
@@ -10,6 +10,7 @@
 mod admission;
 mod fault;
 mod laws;
+mod making;
 mod notes;
 mod output;
 mod plans;
@@ -21,4 +22,4 @@ mod words;
 pub use fault::{Fault, Outcome};
 pub use laws::runs_agree;
 pub use top::ptides;
-pub use words::Command;
+pub use words::{Asked, Command};

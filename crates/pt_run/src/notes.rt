@@ -13,7 +13,7 @@ use pt_types::Graph;
 use std::alloc::{AllocError, Global};
 
 const USAGE: &str =
-    "usage: ptides run GRAPH [--workers N] [--clock paced] [--log] | check GRAPH | meaning GRAPH\n";
+    "usage: ptides run GRAPH [--workers N] [--clock paced] [--log] | check GRAPH | meaning GRAPH | make NUMBER [--workers N]\n";
 
 /// Puts the line of a fault on notes, and gives the fault; where there is no memory for the line, it is want of memory.
 /// A put that fails changes nothing else.

@@ -2,6 +2,7 @@
 
 ghost use Rattle.std.specs.Prelude.{◌≡◌, IfOk, IfErr};
 ghost use Rattle.pt_types.specs.Lawful.{IsLawful};
+ghost use Rattle.pt_offsets.specs.Plans.{IsAdmitted};
 ghost use Rattle.pt_run.specs.Texts.{CauseOfPlan};
 
 use crate::fault::{Fault, fault_of_cycle, fault_of_offset};
@@ -23,6 +24,7 @@ pub struct Unplanned {
 pub fn plan_of(alloc: Global, graph: Graph) -> Result<Plan, Unplanned>
     requires { IsLawful graph }
     ensures plan { IfOk result (λ plan. plan.graph ≡ graph) }
+    ensures admitted { IfOk result IsAdmitted }
     ensures graph { IfErr result (λ unplanned. unplanned.graph ≡ graph) }
     ensures fault { IfErr result (λ unplanned. CauseOfPlan unplanned.fault graph) }
 {

@@ -5,24 +5,27 @@ ghost use Rattle.pt_types.specs.Lawful.{IsLawful};
 ghost use Rattle.pt_run.specs.Complete.{IsComplete};
 ghost use Rattle.pt_run.specs.Statuses.{status_of};
 ghost use Rattle.pt_run.specs.Words.{order_of};
+ghost use Rattle.pt_run.specs.Making.{AsksOf, Ends, TellsOf};
 ghost use Rattle.pt_run.specs.Telling.{Tells, TellsBy};
 ghost use Rattle.pt_run.specs.Texts.{Answers, AsksBy, AsksFor, EndsBy, EndsOver, left_by};
 
 use crate::admission::graph_at;
 use crate::fault::{Fault, Outcome};
+use crate::making::make;
 use crate::notes::{tell, tell_write};
 use crate::output::put_text;
 use crate::runs::run_graph;
 use crate::texts::{check_answer, meaning_answer};
-use crate::words::{Command, order_of};
+use crate::words::{Asked, Command, order_of};
 use pt_blocks::Blocks;
 use pt_io::{Sink, Source};
 use pt_types::Graph;
 use std::alloc::Global;
 
-/// Runs the command of these words, those after the program's name: `run GRAPH`, `check GRAPH` or `meaning GRAPH`.
+/// Runs the command of these words, those after the program's name: `run GRAPH`, `check GRAPH`, `meaning GRAPH` or
+/// `make NUMBER`.
 ///
-/// Files are asked of the source by name. The text goes to `out`, line by line; where the call ends otherwise, one
+/// Files are asked of the source by name; `make` asks for none. The text goes to `out`, line by line; where the call ends otherwise, one
 /// line on `notes` says why, and where a run missed something, one line for each missed entry says what. Actors may name
 /// these blocks.
 pub fn ptides<S: Source, K: Sink, E: Sink>(
@@ -35,10 +38,10 @@ pub fn ptides<S: Source, K: Sink, E: Sink>(
 ) -> Outcome
     ensures status { result.status ≡ status_of result.fault result.misses }
     // The source was asked for the graph file, then for the files of its sensors in order, and for nothing else.
-    ensures asks { AsksBy (order_of words.now) (S.tells source.old) blocks.now.listed.items
+    ensures asks { AsksOf (order_of words.now) (S.tells source.old) blocks.now.listed.items
         (record { asked_before = S.asked source.old; asked_now = S.asked source.new; before = S.faults source.old; now = S.faults source.new }) }
-    // What was written and what is left, and why the call ended otherwise: by cases in `EndsBy`.
-    ensures ends { EndsBy result.fault (left_by result) (order_of words.now) (S.tells source.old) blocks.now.listed.items
+    // What was written and what is left, and why the call ended otherwise: by cases in `EndsBy` and `EndsMade`.
+    ensures ends { Ends result.fault (left_by result) (order_of words.now) (S.tells source.old) blocks.now.listed.items
         (record { asked_before = S.asked source.old; asked_now = S.asked source.new; before = S.faults source.old; now = S.faults source.new })
         (record { before = K.faults out.old; now = K.faults out.new; written_before = K.written out.old; written_now = K.written out.new }) }
     // A run of a program that can run ends as its meaning says: by cases in `IsComplete`.
@@ -48,12 +51,37 @@ pub fn ptides<S: Source, K: Sink, E: Sink>(
     // Where all was put, nothing is held back.
     ensures flushed { result.fault ≡ None → K.flushed out.new }
     // What was put on notes.
-    ensures notes { TellsBy result.fault result.misses (order_of words.now) (S.tells source.old) blocks.now.listed.items
+    ensures notes { TellsOf result.fault result.misses (order_of words.now) (S.tells source.old) blocks.now.listed.items
+        (record { before = E.faults notes.old; now = E.faults notes.new; written_before = E.written notes.old; written_now = E.written notes.new }) }
+{
+    run_words(alloc, words, source, out, notes, blocks)
+}
+
+/// Runs the command of these words.
+fn run_words<S: Source, K: Sink, E: Sink>(
+    alloc: Global,
+    words: &[String],
+    source: &mut S,
+    out: &mut K,
+    notes: &mut E,
+    blocks: &Blocks,
+) -> Outcome
+    ensures status { result.status ≡ status_of result.fault result.misses }
+    ensures asks { AsksOf (order_of words.now) (S.tells source.old) blocks.now.listed.items
+        (record { asked_before = S.asked source.old; asked_now = S.asked source.new; before = S.faults source.old; now = S.faults source.new }) }
+    ensures ends { Ends result.fault (left_by result) (order_of words.now) (S.tells source.old) blocks.now.listed.items
+        (record { asked_before = S.asked source.old; asked_now = S.asked source.new; before = S.faults source.old; now = S.faults source.new })
+        (record { before = K.faults out.old; now = K.faults out.new; written_before = K.written out.old; written_now = K.written out.new }) }
+    ensures flushed { result.fault ≡ None → K.flushed out.new }
+    ensures notes { TellsOf result.fault result.misses (order_of words.now) (S.tells source.old) blocks.now.listed.items
         (record { before = E.faults notes.old; now = E.faults notes.new; written_before = E.written notes.old; written_now = E.written notes.new }) }
 {
     let fault = match order_of(alloc, words) {
-        Ok(Some((command, name))) => {
-            return run_file(alloc, command, name, source, out, notes, blocks);
+        Ok(Some(Asked::Over { command, graph })) => {
+            return run_file(alloc, command, graph, source, out, notes, blocks);
+        }
+        Ok(Some(Asked::Make { number, workers })) => {
+            return make(alloc, number, workers, out, notes, blocks);
         }
         Ok(None) => Fault::Usage,
         Err(_) => Fault::Memory,

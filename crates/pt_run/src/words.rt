@@ -1,7 +1,8 @@
 //! The command that the words ask for.
 
 ghost use Rattle.std.specs.Prelude.{◌≡◌, IfOk, option_map};
-ghost use Rattle.pt_run.specs.Words.{command_of, order_of};
+ghost use Rattle.pt_run.specs.Asking.{in_words};
+ghost use Rattle.pt_run.specs.Words.{order_by, order_of};
 ghost use Rattle.pt_words.specs.Views.{asked};
 
 use pt_words::Order;
@@ -19,24 +20,30 @@ pub enum Command {
     Meaning,
 }
 
-/// A command and the name of its graph file, where the words ask for one.
+/// What the words ask for.
+#[derive(Clone, Copy, Debug, PartialEq, Eq)]
+pub enum Asked<'a> {
+    /// A command over the graph file of that name.
+    Over { command: Command, graph: &'a str },
+    /// A run of the input that this number (1 to 100) makes, on so many workers (1 to 64).
+    Make { number: u32, workers: u32 },
+}
+
+/// What the words ask for, where they are a command line.
 ///
 /// A run has a clock too: all runs are paced.
-pub fn order_of<'a>(
-    alloc: Global,
-    words: &'a [String],
-) -> Result<Option<(Command, &'a str)>, AllocError>
-    ensures { IfOk result (λ order. option_map (λ o. (o.0, o.1.now)) order ≡ order_of words.entry.now) }
+pub fn order_of<'a>(alloc: Global, words: &'a [String]) -> Result<Option<Asked<'a>>, AllocError>
+    ensures { IfOk result (λ order. option_map in_words order ≡ order_of words.entry.now) }
 {
     match pt_words::order_of(alloc, words)? {
-        Some(order) => Ok(Some(command_of(order))),
+        Some(order) => Ok(Some(asked_by(order))),
         None => Ok(None),
     }
 }
 
-/// The command of an order, and its graph file.
-fn command_of<'a>(order: Order<'a>) -> (Command, &'a str)
-    ensures { (result.0, result.1.now) ≡ command_of (asked order.entry) }
+/// What an order asks for.
+fn asked_by<'a>(order: Order<'a>) -> Asked<'a>
+    ensures { in_words result ≡ order_by (asked order.entry) }
 {
     match order {
         Order::Run {
@@ -44,8 +51,18 @@ fn command_of<'a>(order: Order<'a>) -> (Command, &'a str)
             workers,
             clock: _,
             log,
-        } => (Command::Run { workers, log }, graph),
-        Order::Check { graph } => (Command::Check, graph),
-        Order::Meaning { graph } => (Command::Meaning, graph),
+        } => Asked::Over {
+            command: Command::Run { workers, log },
+            graph,
+        },
+        Order::Check { graph } => Asked::Over {
+            command: Command::Check,
+            graph,
+        },
+        Order::Meaning { graph } => Asked::Over {
+            command: Command::Meaning,
+            graph,
+        },
+        Order::Make { number, workers } => Asked::Make { number, workers },
     }
 }

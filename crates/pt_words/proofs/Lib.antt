@@ -3,3 +3,4 @@ pub mod Parsing
 pub mod Rows
 pub mod Shapes
 pub mod Steps
+pub mod Numbers

@@ -7,22 +7,24 @@ use Rattle.std.specs.declared.alloc.Global.{Global}
 use Rattle.pt_words.specs.declared.orders.ClockChoice.{ClockChoice}
 use Rattle.pt_words.specs.declared.orders.ClockChoice.TheVariants.{Paced}
 use Rattle.pt_words.specs.declared.orders.Command.{Command}
-use Rattle.pt_words.specs.declared.orders.Command.TheVariants.{Run, Check, Meaning}
+use Rattle.pt_words.specs.declared.orders.Command.TheVariants.{Run, Check, Meaning, Make}
 use Rattle.pt_words.specs.Said.{Said, among, said}
 
 -- what a command line asks for: a command with its graph file, and a run with its number of workers, its clock, and
--- whether the log is written too
+-- whether the log is written too; or a run of the input that a number makes, with its number of workers
 pub data Request : Type 0 where
   run : (graph : List ℕ) (workers : ℕ) (clock : ClockChoice) (log : Bool) → Request
   check : (graph : List ℕ) → Request
   meaning : (graph : List ℕ) → Request
+  make : (number : ℕ) (workers : ℕ) → Request
 
 -- the command of that name
 abbrev pub command_of : List ℕ → Option Command
 command_of word =
     if bytes_eq word (codes "run") then Some Run else (
     if bytes_eq word (codes "check") then Some Check else (
-    if bytes_eq word (codes "meaning") then Some Meaning else None))
+    if bytes_eq word (codes "meaning") then Some Meaning else (
+    if bytes_eq word (codes "make") then Some Make else None)))
 
 -- digits with no sign and no leading zero, but for `0` itself
 abbrev pub is_numeral : List ℕ → Bool
@@ -40,11 +42,15 @@ number_within low high word =
 unfoldable pub workers_of : List ℕ → Option ℕ
 workers_of value = number_within 1 64 value
 
+-- 1 to 100 for the number that makes an input
+unfoldable pub made_number_of : List ℕ → Option ℕ
+made_number_of word = number_within 1 100 word
+
 -- the clock that a value names
 abbrev pub clock_of : List ℕ → Option ClockChoice
 clock_of value = if bytes_eq value (codes "paced") then Some Paced else None
 
--- the graph file: exactly one positional word, which isn't empty
+-- exactly one positional word, which isn't empty: the graph file, or the number
 abbrev pub graph_in : List (List ℕ) → Option (List ℕ)
 graph_in [] = None
 graph_in (word ∷ []) = if length word == 0 then None else Some word
@@ -77,11 +83,17 @@ run_of words graph =
 abbrev pub is_bare : Said → Bool
 is_bare words = length words.workers == 0 && (length words.clocks == 0 && length words.logs == 0)
 
--- what is asked of a graph file: a run alone has options
+-- a run of the input that a number makes: its number of workers is the one option
+abbrev pub make_of : Said → List ℕ → Option Request
+make_of words word =
+    if length words.clocks == 0 && length words.logs == 0 then option_and_then (λ number. option_map (λ workers. make number workers) (workers_in words.workers)) (made_number_of word) else None
+
+-- what is asked of a graph file, or of a number: runs alone have options
 abbrev pub request_over : Command → Said → List ℕ → Option Request
 request_over Run words graph = run_of words graph
 request_over Check words graph = if is_bare words then Some (check graph) else None
 request_over Meaning words graph = if is_bare words then Some (meaning graph) else None
+request_over Make words number = make_of words number
 
 -- what a command asks with what the words after it say
 abbrev pub request_of : Command → Said → Option Request

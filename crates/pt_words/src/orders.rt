@@ -6,6 +6,7 @@ pub(crate) enum Command {
     Run,
     Check,
     Meaning,
+    Make,
 }
 
 /// The clock that the platforms of a run read.
@@ -19,7 +20,7 @@ pub enum ClockChoice {
     Machine,
 }
 
-/// What is asked of the graph file of that name.
+/// What is asked of the graph file of that name, or of the input that a number makes.
 #[derive(Clone, Copy, Debug, PartialEq, Eq)]
 pub enum Order<'a> {
     /// To run it on so many workers (1 to 64), with that clock, and to write the log too where `log` holds.
@@ -36,5 +37,10 @@ pub enum Order<'a> {
     /// To write its meaning, whatever its bounds and slacks.
     Meaning {
         graph: &'a str,
+    },
+    /// To run the input that this number (1 to 100) makes on so many workers (1 to 64), and to write its summary.
+    Make {
+        number: u32,
+        workers: u32,
     },
 }

@@ -17,11 +17,18 @@ const RUNS: [&str; 8] = [
 ];
 
 /// Lines outside the grammar; two spaces enclose an empty word.
-const REFUSED: [&str; 41] = [
+const REFUSED: [&str; 48] = [
     "",
     "run",
     "Run g.json",
-    "make 7",
+    "make",
+    "make 0",
+    "make 07",
+    "make 101",
+    "make g.json",
+    "make 7 --log",
+    "make 7 --clock paced",
+    "make 7 --workers 0",
     "run a b",
     "run ",
     "run -- ",
@@ -121,6 +128,16 @@ fn values_and_names_are_read(rt: HostRuntime) -> Result<(), Fail> {
             Some(Order::Meaning { graph: "g.json" })
         )?
     );
+    Ok(())
+}
+
+#[test]
+fn a_number_is_made_on_workers(rt: HostRuntime) -> Result<(), Fail> {
+    let alloc = rt.alloc();
+    let made = |number, workers| Some(Order::Make { number, workers });
+    assert!(rt; gives(alloc, "make 7", made(7, 4))?);
+    assert!(rt; gives(alloc, "make --workers=1 100", made(100, 1))?);
+    assert!(rt; gives(alloc, "make --workers 64 -- 1", made(1, 64))?);
     Ok(())
 }
 

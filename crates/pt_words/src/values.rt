@@ -3,7 +3,7 @@
 ghost use Rattle.std.specs.Prelude.{◌≡◌, ◌≤◌, IfSome};
 ghost use Rattle.std.specs.Char.{is_ascii_digit};
 ghost use Rattle.std.specs.List.{list_all};
-ghost use Rattle.pt_words.specs.Grammar.{clock_of, is_numeral, number_within, workers_of};
+ghost use Rattle.pt_words.specs.Grammar.{clock_of, is_numeral, made_number_of, number_within, workers_of};
 
 use crate::orders::ClockChoice;
 
@@ -51,6 +51,17 @@ pub(crate) fn workers_of(value: &str) -> Option<u32>
     ensures { result ≡ workers_of value.now }
 {
     match number_within(1, 64, value) {
+        Some(number) => Some(number as u32),
+        None => None,
+    }
+}
+
+/// The number that makes an input: 1 to 100.
+#[tactic(auto, unfolding(crate::specs::Grammar::made_number_of))]
+pub(crate) fn made_number_of(word: &str) -> Option<u32>
+    ensures { result ≡ made_number_of word.now }
+{
+    match number_within(1, 100, word) {
         Some(number) => Some(number as u32),
         None => None,
     }

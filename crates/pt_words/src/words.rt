@@ -1,13 +1,13 @@
 //! The order that the words give.
 
 ghost use Rattle.std.specs.Prelude.{◌≡◌, ◌==◌, IfOk, codes, length, map, option_map, string_bytes};
-ghost use Rattle.pt_words.specs.Grammar.{clock_in, command_of, graph_in, is_bare, log_in, order_of, order_with, request_of, request_over, run_of, workers_in};
+ghost use Rattle.pt_words.specs.Grammar.{clock_in, command_of, graph_in, is_bare, log_in, make_of, order_of, order_with, request_of, request_over, run_of, workers_in};
 ghost use Rattle.pt_words.specs.Views.{asked, texts_in, told, values_of};
 
 use crate::orders::{ClockChoice, Command, Order};
 use crate::reading::words_command;
 use crate::short::has_short;
-use crate::values::{clock_of, workers_of};
+use crate::values::{clock_of, made_number_of, workers_of};
 use clap::ArgMatches;
 use clap::error::ErrorKind;
 use std::alloc::{AllocError, Global};
@@ -23,7 +23,7 @@ struct Values<'m, 'a> {
 
 /// The order that these words give, those after the program's name, or nothing where they are outside the grammar.
 ///
-/// The first word is the command. Options stand before or after the one positional word, the graph file, in any
+/// The first word is the command. Options stand before or after the one positional word, the graph file or a number, in any
 /// order, each at most once. A value is the next word, or follows `=` in the same word; `--log` takes none. A word
 /// `--` ends the options. Any other word that begins with `-` and is longer is refused, also as a value.
 pub fn order_of<'a>(alloc: Global, words: &'a [String]) -> Result<Option<Order<'a>>, AllocError>
@@ -46,6 +46,7 @@ fn command_of(word: &str) -> Option<Command>
         "run" => Some(Command::Run),
         "check" => Some(Command::Check),
         "meaning" => Some(Command::Meaning),
+        "make" => Some(Command::Make),
         _ => None,
     }
 }
@@ -95,6 +96,7 @@ fn request_of<'m, 'a>(command: Command, values: Values<'m, 'a>) -> Option<Order<
         Command::Run => run_of(values, graph),
         Command::Check if is_bare(values) => Some(Order::Check { graph }),
         Command::Meaning if is_bare(values) => Some(Order::Meaning { graph }),
+        Command::Make => make_of(values, graph),
         _ => None,
     }
 }
@@ -114,6 +116,18 @@ fn run_of<'m, 'a>(values: Values<'m, 'a>, graph: &'a str) -> Option<Order<'a>>
     })
 }
 
+/// The run of the input that a number makes.
+fn make_of<'m, 'a>(values: Values<'m, 'a>, word: &'a str) -> Option<Order<'a>>
+    ensures { option_map asked result ≡ make_of (told values.entry) word.entry.now }
+{
+    if !is_absent(values.clocks) || !is_absent(values.logs) {
+        return None;
+    }
+    let number = made_number_of(word)?;
+    let workers = workers_in(values.workers)?;
+    Some(Order::Make { number, workers })
+}
+
 /// Whether there is no option.
 fn is_bare<'m, 'a>(values: Values<'m, 'a>) -> bool
     ensures { result ≡ is_bare (told values.entry) }
@@ -131,7 +145,7 @@ fn is_absent<'m, 'a>(words: Option<&'m [&'a str]>) -> bool
     }
 }
 
-/// The graph file.
+/// The one positional word, which isn't empty.
 fn graph_in<'m, 'a>(words: Option<&'m [&'a str]>) -> Option<&'a str>
     ensures { option_map (λ word. word.now) result ≡ graph_in (texts_in words.entry) }
 {

@@ -1,0 +1,206 @@
+-- Runs over made inputs.
+use Rattle.std.proofs.Common.{◌≡◌, ◌≢◌, ℕ, suc, ◌+◌, ◌<◌, ◌≤◌, List, [], ◌∷◌, get_or, Option, None, Some, ℤ, pos, ◌-ℤ◌, ◌+ℤ◌, ◌<ℤ◌, length, option_map, slice_get, arith, append-nil, Bool, refl, sym, ap, subst, ◌∙◌, inl, ⊎_elim}
+use Rattle.std.specs.Prelude.{MatchOption, String, flat_map}
+use Rattle.std.specs.declared.alloc.Global.{Global}
+use Rattle.std.proofs.lemmas.Int.{ints}
+use Rattle.std.proofs.lemmas.Option.{slice_get-get_or, slice_get_within}
+use Rattle.pt_types.specs.declared.graph.Graph.{Graph}
+use Rattle.pt_types.specs.declared.graph.Unit.{Unit as Part}
+use Rattle.pt_types.specs.declared.rows.Row.{Row}
+use Rattle.pt_history.specs.declared.miss.Miss.{Miss}
+use Rattle.pt_semantics.specs.Lists.{IsIn}
+use Rattle.pt_semantics.specs.Meaning.{ActorFiring, IsMeaning}
+use Rattle.pt_semantics.specs.Missed.{IsMissed}
+use Rattle.pt_semantics.specs.Offsets.{HasOffset}
+use Rattle.pt_semantics.specs.Platform.{State}
+use Rattle.pt_semantics.specs.Ranks.{AreLevels, sum_along}
+use Rattle.pt_semantics.specs.Rounds.{IsWholeRun}
+use Rattle.pt_semantics.specs.Rows.{FitRows}
+use Rattle.pt_semantics.proofs.Lookups.{none_some, same_some}
+use Rattle.pt_semantics.specs.Visits.{Together}
+use Rattle.pt_ranks.specs.Ranked.{level_of, rank_of}
+use Rattle.pt_offsets.specs.Plans.{IsAdmitted, Parts}
+use Rattle.pt_offsets.specs.Timings.{offset_of}
+use Rattle.pt_turn.specs.Platforms.{PlatformView, state_at}
+use Rattle.pt_turn.specs.declared.fault.TurnFault.{TurnFault}
+use Rattle.pt_turn.specs.declared.fault.TurnFault.TheVariants.{Long}
+use Rattle.pt_turn.specs.Running.{Shows, ShowsLong}
+use Rattle.pt_monitors.specs.Platforms.{missed_by}
+use Rattle.pt_monitors.proofs.Members.{in_flat_map}
+use Rattle.pt_monitors.proofs.Missing.{lists_missed}
+use Rattle.pt_recorded.specs.Places.{of_run}
+use Rattle.pt_rounds.specs.HaveRun.{HaveRun}
+use Rattle.pt_confluence.specs.Gathered.{HaveFinished}
+use Rattle.pt_runs.proofs.Finished.{have_finished}
+use Rattle.pt_made.specs.Input.{made_graph, made_rows}
+use Rattle.pt_made.specs.Summary.{summary}
+use Rattle.pt_made.proofs.Fitting.{rows_fit}
+use Rattle.pt_made.proofs.Shape.{feasible, no_cycle}
+use Rattle.pt_made.proofs.Steady.{never_long}
+use Rattle.pt_made.proofs.Timely.{never_missed}
+use Rattle.pt_run.specs.declared.fault.Fault.{Fault}
+use Rattle.pt_run.specs.declared.fault.Fault.TheVariants as fault
+use Rattle.pt_platforms.specs.All.{AreReady}
+use Rattle.pt_io.specs.Causes.{Appends}
+use Rattle.pt_words.specs.Grammar as grammar
+use Rattle.pt_words.proofs.Numbers.{made_number}
+use Rattle.pt_run.specs.declared.words.Asked.{Asked}
+use Rattle.pt_run.specs.declared.words.Asked.TheVariants.{Make}
+use Rattle.pt_run.specs.declared.words.Command.TheVariants.{Run, Check, Meaning}
+use Rattle.pt_run.specs.Asking.{in_words}
+use Rattle.pt_blocks.specs.declared.blocks.Named.{Named}
+use Rattle.pt_recorded.specs.Asked.{Contents}
+use Rattle.pt_recorded.proofs.Asking.{asks_none}
+use Rattle.pt_run.specs.Making.{AsksOf, IsMadeRun}
+use Rattle.pt_run.specs.Telling.{Tells}
+use Rattle.pt_run.specs.Texts.{CauseOfPlan}
+use Rattle.pt_run.specs.Words.{make, order_by, order_of, over}
+
+-- a made graph has no other fault than want of memory
+pub never_refused : (n : ℕ) (f : Fault) → CauseOfPlan f (made_graph n) → f ≢ fault.Memory → ⊥
+never_refused n (fault.Cycle actors) h other = no_cycle n h.first h.edge h.path h.cycle h.free
+never_refused n (fault.Infeasible send offset slack) h other =
+    let late = h.1.infeasible in
+    let (s, b, path, feeds, is) = late.offset_is.some in
+    in_time b slack (sum_along path).time offset (feasible n send slack s b path late.sends feeds) is late.late
+  where
+    in_time : (b slack t : ℕ) (o : ℤ) → b + 1 ≤ slack + t → pos b -ℤ pos t ≡ o → pos slack <ℤ (o +ℤ pos 1) → ⊥
+    in_time b slack t o le is late = omega (arith, ints)
+never_refused n fault.Memory h other = other refl
+never_refused n fault.Usage h other = absurd h
+never_refused n (fault.Graph e) h other = absurd h
+never_refused n (fault.Sensor actor e) h other = absurd h
+never_refused n (fault.LateRow actor row seen limit) h other = absurd h
+never_refused n (fault.Long platform) h other = absurd h
+never_refused n (fault.Read sensor) h other = absurd h
+never_refused n fault.Write h other = absurd h
+
+place_of : {X : Type 0} (x : X) (xs : List X) → IsIn x xs → (i : ℕ) × (slice_get xs i ≡ Some x)
+place_of x [] h = absurd h
+place_of x (y ∷ ys) h =
+    ⊎_elim
+    (λ (e : x ≡ y). (0, ap Some (sym e)))
+    (λ (m : IsIn x ys). let there = place_of x ys m in (suc there.0, there.1))
+    h
+
+none_of : {X : Type 0} (xs : List X) → ((x : X) → IsIn x xs → ⊥) → xs ≡ []
+none_of [] h = refl
+none_of (x ∷ xs) h = absurd (h x (inl refl))
+
+-- what holds of the graph of a plan, as the laws of made inputs ask for it
+record Known (plan : Parts) (g : Graph) (rows : ℕ → List Row) (y : Together) : Type 0 where
+  pub levels : AreLevels g (level_of plan.ranks)
+  pub offsets : (u : Part) → HasOffset g u (offset_of plan.offsets u)
+  pub run : IsWholeRun g (level_of plan.ranks) rows y
+
+module _ (n : ℕ) (few : n ≤ 100) (plan : Parts) (is : plan.graph ≡ made_graph n) (admitted : IsAdmitted plan) (platforms : List PlatformView) where
+  abbrev rows : ℕ → List Row
+  rows = of_run (made_graph n) (made_rows n)
+
+  known : (fault : Option ℕ) (run : HaveRun plan (level_of plan.ranks) rows platforms fault) → Known plan (made_graph n) rows run.after.together
+  known fault run = subst (λ g. Known plan g rows run.after.together) is (record { levels = admitted.levels; offsets = admitted.offsets.units; run = run.after.run })
+
+  -- a platform's number
+  number_in : (fault : Option ℕ) (run : HaveRun plan (level_of plan.ranks) rows platforms fault) (i : ℕ) (v : PlatformView) → slice_get platforms i ≡ Some v → i < 4
+  number_in fault run i v at = subst (λ k. i < k) (run.all.count ∙ ap (λ (g : Graph). length g.platforms) is) (slice_get_within platforms i v at)
+
+  -- no platform shows that it made all its claims
+  pub no_long : (fault : Option ℕ) (run : HaveRun plan (level_of plan.ranks) rows platforms fault) (i : ℕ) (v : PlatformView) → slice_get platforms i ≡ Some v → (g : Graph) → ShowsLong g (state_at v) → ⊥
+  no_long fault run i v at g shows =
+      let k = known fault run in
+      let below = never_long n few (level_of plan.ranks) (offset_of plan.offsets) k.levels k.offsets run.after.together k.run i (number_in fault run i v at) in
+      past (state_at v).claims (subst (λ (s : State). s.claims < 200000) (run.after.states i v at) below) shows.all
+    where
+      past : (k : ℕ) → k < 200000 → 200000 ≤ k → ⊥
+      past k h all = omega arith
+
+  -- the platform that was the first to make all its claims shows it
+  pub no_long_at : (number : ℕ) → HaveRun plan (level_of plan.ranks) rows platforms (Some number) → (v : PlatformView) → v ≡ get_or platforms number v → (shown : Option TurnFault) → shown ≡ v.fault → MatchOption shown (Unit {0}) (Shows v.plan.graph v.turns (state_at v)) → ⊥
+  no_long_at number run v indexed shown is_fault shows =
+      let (w, at, long, before) = run.ends in
+      let here : slice_get platforms number ≡ Some v = slice_get-get_or platforms number v (slice_get_within platforms number w at) ∙ ap Some (sym indexed) in
+      let same : w ≡ v = same_some w v (sym at ∙ here) in
+      let fault : shown ≡ Some Long = is_fault ∙ ap (λ (z : PlatformView). z.fault) (sym same) ∙ long in
+      no_long (Some number) run number v here v.plan.graph (subst (λ o. MatchOption o (Unit {0}) (Shows v.plan.graph v.turns (state_at v))) fault shows)
+
+  -- nothing is missed
+  pub none_missed : (fault : Option ℕ) (run : HaveRun plan (level_of plan.ranks) rows platforms fault) → flat_map missed_by platforms ≡ []
+  none_missed fault run = none_of (flat_map missed_by platforms) (λ m mem.
+      let v = in_flat_map missed_by platforms m mem in
+      let at = place_of v.0 platforms v.1 in
+      at_platform m at.0 v.0 at.1 v.2)
+    where
+      at_platform : (m : Miss) (i : ℕ) (v : PlatformView) → slice_get platforms i ≡ Some v → IsIn m (missed_by v) → ⊥
+      at_platform m i v at mem =
+          let k = known fault run in
+          let graph : v.plan.graph ≡ made_graph n = ap (λ (p : Parts). p.graph) (run.all.plans i v at) ∙ is in
+          let (turn, there, reading, missed) = (lists_missed v.plan.graph v.turns m).0 mem in
+          never_missed n few (level_of plan.ranks) (offset_of plan.offsets) k.levels k.offsets run.after.together k.run i (number_in fault run i v at) turn
+          (subst (IsIn turn) (run.after.kept_turns i v at) there) m.actor m.limit m.tag
+          (subst (λ g. IsMissed g turn m.actor m.tag m.limit) graph missed)
+
+  -- what is made of finished platforms
+  pub made_run : (firings : List ActorFiring) (missed : ℕ) (text : List ℕ) → HaveRun plan (level_of plan.ranks) rows platforms None →
+      ((rows : ℕ → List Row) → HaveFinished plan rows platforms → IsMeaning plan.graph (rank_of plan.ranks) rows firings) → missed ≡ length (flat_map missed_by platforms) → text ≡ summary n firings missed → IsMadeRun n platforms text
+  made_run firings missed text run gathered count written = record {
+    plan = plan;
+    graph = is;
+    admitted = admitted;
+    run = run;
+    firings = firings;
+    meaning = subst (λ g. IsMeaning g (rank_of plan.ranks) rows firings) is (gathered rows (have_finished plan rows platforms (subst (λ g. FitRows g rows) (sym is) (rows_fit n)) run));
+    none_missed = none_missed None run;
+    written = written ∙ ap (summary n firings) count;
+  }
+
+-- the platforms that open with made rows
+pub made_ready : (n : ℕ) (plan : Parts) (opened : List PlatformView) (rows : ℕ → List Row) → plan.graph ≡ made_graph n → rows ≡ made_rows n → AreReady plan (of_run plan.graph rows) opened → AreReady plan (of_run (made_graph n) (made_rows n)) opened
+made_ready n plan opened rows is same ready = subst (λ z. AreReady plan (of_run (made_graph n) z) opened) same (subst (λ g. AreReady plan (of_run g rows) opened) is ready)
+
+-- a call that wrote all and missed nothing tells nothing
+pub tells_nothing : (outcome : Option Fault) (misses : List Miss) (n : ℕ) (written : Option (List ℕ)) → outcome ≡ None → misses ≡ [] → Tells outcome misses None (record { before = n; now = n; written_before = written; written_now = written })
+tells_nothing outcome misses n written is none =
+    subst (λ o. Tells o misses None (record { before = n; now = n; written_before = written; written_now = written })) (sym is) (inl (nothing_put written))
+  where
+    nothing_put : (o : Option (List ℕ)) → Appends o o []
+    nothing_put None = tt
+    nothing_put (Some bytes) = ap Some (sym (append-nil bytes))
+
+-- the number of a `make`
+pub made_number_in : (words : List (String Global)) (order : Option Asked) (n k : ℕ) → option_map in_words order ≡ order_of words → order ≡ Some (Make n k) → n ≤ 100
+made_number_in words order n k says is = by_request (grammar.order_of words) refl (sym says ∙ ap (option_map in_words) is)
+  where
+    by_request : (o : Option grammar.Request) → grammar.order_of words ≡ o → option_map order_by o ≡ Some (make n k) → n ≤ 100
+    by_request None e h = absurd (none_some (make n k) h)
+    by_request (Some (grammar.run graph workers clock log)) e h = absurd (other graph workers log h)
+      where
+        other : (graph : List ℕ) (workers : ℕ) (log : Bool) → Some (over (Run workers log) graph) ≡ Some (make n k) → ⊥
+        other graph workers log h = cc
+    by_request (Some (grammar.check graph)) e h = absurd (other graph h)
+      where
+        other : (graph : List ℕ) → Some (over Check graph) ≡ Some (make n k) → ⊥
+        other graph h = cc
+    by_request (Some (grammar.meaning graph)) e h = absurd (other graph h)
+      where
+        other : (graph : List ℕ) → Some (over Meaning graph) ≡ Some (make n k) → ⊥
+        other graph h = cc
+    by_request (Some (grammar.make number workers)) e h = made_number words n k (e ∙ ap Some (same number workers h))
+      where
+        same : (a b : ℕ) → Some (make a b) ≡ Some (make n k) → grammar.make a b ≡ grammar.make n k
+        same a b h = cc
+
+order_is : (words : List (String Global)) (order : Option Asked) (n k : ℕ) → option_map in_words order ≡ order_of words → order ≡ Some (Make n k) → Some (make n k) ≡ order_of words
+order_is words order n k says is = sym (ap (option_map in_words) is) ∙ says
+
+-- it asks for no file
+pub asks_for_none : (words : List (String Global)) (order : Option Asked) (n k : ℕ) (tells : Contents) (blocks : List Named) (asked : Option (List (List ℕ))) (faults : ℕ) → option_map in_words order ≡ order_of words → order ≡ Some (Make n k)
+    → AsksOf (order_of words) tells blocks (record { asked_before = asked; asked_now = asked; before = faults; now = faults })
+asks_for_none words order n k tells blocks asked faults says is =
+    subst (λ o. AsksOf o tells blocks (record { asked_before = asked; asked_now = asked; before = faults; now = faults })) (order_is words order n k says is) (asks_none asked asked refl)
+
+-- what is gathered of the platforms of a plan
+pub gathered_as : (plan other : Parts) (platforms views : List PlatformView) (firings : List ActorFiring) → other ≡ plan → views ≡ platforms → ((rows : ℕ → List Row) → HaveFinished other rows views → IsMeaning other.graph (rank_of other.ranks) rows firings)
+    → (rows : ℕ → List Row) → HaveFinished plan rows platforms → IsMeaning plan.graph (rank_of plan.ranks) rows firings
+gathered_as plan other platforms views firings same seen h rows finished =
+    subst (λ (p : Parts). IsMeaning p.graph (rank_of p.ranks) rows firings) same
+    (h rows (subst (λ (p : Parts). HaveFinished p rows views) (sym same) (subst (HaveFinished plan rows) (sym seen) finished)))

@@ -1,0 +1,59 @@
+-- How a run of the input that a number makes ends, and how any call ends.
+use Rattle.std.specs.Prelude.{◌≡◌, ℕ, List, [], Option, None, Some, flat_map, length}
+use Rattle.pt_io.specs.Causes.{Appends, AppendsPart, Rose}
+use Rattle.pt_blocks.specs.declared.blocks.Named.{Named}
+use Rattle.pt_history.specs.declared.miss.Miss.{Miss}
+use Rattle.pt_semantics.specs.Meaning.{ActorFiring, IsMeaning}
+use Rattle.pt_ranks.specs.Ranked.{level_of, rank_of}
+use Rattle.pt_offsets.specs.Plans.{IsAdmitted, Parts}
+use Rattle.pt_turn.specs.Platforms.{PlatformView}
+use Rattle.pt_monitors.specs.Platforms.{missed_by}
+use Rattle.pt_recorded.specs.Asked.{Asks, Contents, Reading}
+use Rattle.pt_recorded.specs.Places.{of_run}
+use Rattle.pt_rounds.specs.HaveRun.{HaveRun}
+use Rattle.pt_made.specs.Input.{made_graph, made_rows}
+use Rattle.pt_made.specs.Summary.{summary}
+use Rattle.pt_run.specs.declared.fault.Fault.{Fault}
+use Rattle.pt_run.specs.declared.fault.Fault.TheVariants as fault
+use Rattle.pt_run.specs.Causes.{Writing}
+use Rattle.pt_run.specs.Headline.{Leaves, nothing}
+use Rattle.pt_run.specs.Telling.{Tells, TellsBy}
+use Rattle.pt_run.specs.Texts.{AsksBy, EndsBy}
+use Rattle.pt_run.specs.Words.{Order, over, make}
+
+-- what a run of the input that a number makes must write and leave: its platforms went on in paced rounds until all were
+-- finished and missed nothing, and the text is the summary of the meaning
+pub record IsMadeRun (n : ℕ) (platforms : List PlatformView) (text : List ℕ) : Type 0 where
+  pub plan : Parts
+  pub graph : plan.graph ≡ made_graph n
+  pub admitted : IsAdmitted plan
+  pub run : HaveRun plan (level_of plan.ranks) (of_run (made_graph n) (made_rows n)) platforms None
+  pub firings : List ActorFiring
+  pub meaning : IsMeaning (made_graph n) (rank_of plan.ranks) (of_run (made_graph n) (made_rows n)) firings
+  pub none_missed : flat_map missed_by platforms ≡ []
+  pub written : text ≡ summary n firings (length (flat_map missed_by platforms))
+
+-- how such a run ends: it is written, a write fails after a prefix of it, or memory runs out
+abbrev pub EndsMade : Option Fault → Leaves → ℕ → Writing → Type 0
+EndsMade None left n w = (left.misses ≡ []) × (text : List ℕ) × IsMadeRun n left.platforms text × Appends w.written_before w.written_now text
+EndsMade (Some fault.Write) left n w = Rose w.before w.now × (left.misses ≡ []) × (text : List ℕ) × IsMadeRun n left.platforms text × AppendsPart w.written_before w.written_now text
+EndsMade (Some fault.Memory) left n w = (left ≡ nothing) × (w.written_now ≡ w.written_before)
+EndsMade (Some f) left n w = ⊥
+
+-- how a call ends, by what the words ask for
+abbrev pub Ends : Option Fault → Leaves → Option Order → Contents → List Named → Reading → Writing → Type 0
+Ends outcome left None tells blocks r w = EndsBy outcome left None tells blocks r w
+Ends outcome left (Some (over command graph)) tells blocks r w = EndsBy outcome left (Some (command, graph)) tells blocks r w
+Ends outcome left (Some (make number workers)) tells blocks r w = EndsMade outcome left number w
+
+-- what is asked for: a run of a made input asks for nothing
+abbrev pub AsksOf : Option Order → Contents → List Named → Reading → Type 0
+AsksOf None tells blocks r = AsksBy None tells blocks r
+AsksOf (Some (over command graph)) tells blocks r = AsksBy (Some (command, graph)) tells blocks r
+AsksOf (Some (make number workers)) tells blocks r = Asks r.asked_before r.asked_now []
+
+-- what is told on notes: no line of such a run has a name in it
+abbrev pub TellsOf : Option Fault → List Miss → Option Order → Contents → List Named → Writing → Type 0
+TellsOf outcome misses None tells blocks w = TellsBy outcome misses None tells blocks w
+TellsOf outcome misses (Some (over command graph)) tells blocks w = TellsBy outcome misses (Some (command, graph)) tells blocks w
+TellsOf outcome misses (Some (make number workers)) tells blocks w = Tells outcome misses None w

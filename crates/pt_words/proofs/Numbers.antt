@@ -1,0 +1,86 @@
+-- The number of a `make` is from 1 to 100.
+use Rattle.std.proofs.Common.{◌≡◌, ℕ, ◌≤◌, ◌&&◌, ◌==◌, Bool, true, false, List, [], ◌∷◌, Option, None, Some, length, map, nat_le, option_map, option_and_then, string_bytes, if◌then◌else◌, refl, subst, arith}
+use Rattle.std.specs.Prelude.{String}
+use Rattle.std.specs.Str.Parse.{digits_value}
+use Rattle.std.specs.declared.alloc.Global.{Global}
+use Rattle.std.proofs.lemmas.Bool.{and_parts}
+use Rattle.std.proofs.lemmas.Bool.Decides.{nat_tests}
+use Rattle.pt_words.specs.declared.orders.ClockChoice.{ClockChoice}
+use Rattle.pt_words.specs.declared.orders.Command.{Command}
+use Rattle.pt_words.specs.declared.orders.Command.TheVariants.{Run, Check, Meaning, Make}
+use Rattle.pt_words.specs.Grammar.{run, check, meaning, make, clock_in, command_of, graph_in, is_bare, is_numeral, log_in, made_number_of, make_of, number_within, order_of, order_with, request_of, request_over, run_of, workers_in}
+use Rattle.pt_words.specs.Said.{Said, among, said}
+
+-- what comes of an option comes of a value that is there
+and_then_found : {X Y : Type 0} (f : X → Option Y) (o : Option X) (y : Y) → option_and_then f o ≡ Some y → (x : X) × (f x ≡ Some y)
+and_then_found f None y h = absurd cc
+and_then_found f (Some x) y h = (x, h)
+
+map_found : {X Y : Type 0} (f : X → Y) (o : Option X) (y : Y) → option_map f o ≡ Some y → (x : X) × (f x ≡ y)
+map_found f None y h = absurd cc
+map_found f (Some x) y h = (x, cc)
+
+and_then_from : {X Y : Type 0} (f : X → Option Y) (o : Option X) (y : Y) → option_and_then f o ≡ Some y → (x : X) × (o ≡ Some x) × (f x ≡ Some y)
+and_then_from f None y h = absurd cc
+and_then_from f (Some x) y h = (x, refl, h)
+
+if_found : {Y : Type 0} (b : Bool) (o : Option Y) (y : Y) → (if b then o else None) ≡ Some y → (b ≡ true) × (o ≡ Some y)
+if_found true o y h = (refl, h)
+if_found false o y h = absurd cc
+
+number_is : (low high : ℕ) (word : List ℕ) (n : ℕ) → number_within low high word ≡ Some n → n ≤ high
+unfolding number_within
+number_is low high word n h =
+    let both = if_found (is_numeral word && (nat_le low (digits_value 10 word) && nat_le (digits_value 10 word) high)) (Some (digits_value 10 word)) n h in
+    let within = and_parts (nat_le low (digits_value 10 word)) (nat_le (digits_value 10 word) high) (and_parts (is_numeral word) (nat_le low (digits_value 10 word) && nat_le (digits_value 10 word) high) both.0).1 in
+    subst (λ k. k ≤ high) (same (digits_value 10 word) n both.1) (le_of (digits_value 10 word) high within.1)
+  where
+    same : (a b : ℕ) → Some a ≡ Some b → a ≡ b
+    same a b e = cc
+
+    le_of : (a b : ℕ) → nat_le a b ≡ true → a ≤ b
+    le_of a b e = grind (arith, nat_tests)
+
+made_number_is : (word : List ℕ) (n : ℕ) → made_number_of word ≡ Some n → n ≤ 100
+unfolding made_number_of
+made_number_is word n h = number_is 1 100 word n h
+
+made_by : (words : Said) (word : List ℕ) (n k : ℕ) → make_of words word ≡ Some (make n k) → n ≤ 100
+made_by words word n k h =
+    let bare = if_found (length words.clocks == 0 && length words.logs == 0) (option_and_then (λ number. option_map (λ workers. make number workers) (workers_in words.workers)) (made_number_of word)) (make n k) h in
+    let number = and_then_from (λ number. option_map (λ workers. make number workers) (workers_in words.workers)) (made_number_of word) (make n k) bare.1 in
+    let worked = map_found (λ workers. make number.0 workers) (workers_in words.workers) (make n k) number.2 in
+    subst (λ m. m ≤ 100) (same number.0 worked.0 n k worked.1) (made_number_is word number.0 number.1)
+  where
+    same : (a b c d : ℕ) → make a b ≡ make c d → a ≡ c
+    same a b c d e = cc
+
+ran_by : (words : Said) (graph : List ℕ) (n k : ℕ) → run_of words graph ≡ Some (make n k) → ⊥
+ran_by words graph n k h =
+    let workers = and_then_found (λ workers. option_and_then (λ clock. option_map (λ log. run graph workers clock log) (log_in words.logs)) (clock_in words.clocks)) (workers_in words.workers) (make n k) h in
+    let clock = and_then_found (λ clock. option_map (λ log. run graph workers.0 clock log) (log_in words.logs)) (clock_in words.clocks) (make n k) workers.1 in
+    let log = map_found (λ log. run graph workers.0 clock.0 log) (log_in words.logs) (make n k) clock.1 in
+    other workers.0 clock.0 log.0 log.1
+  where
+    other : (w : ℕ) (c : ClockChoice) (l : Bool) → run graph w c l ≡ make n k → ⊥
+    other w c l e = cc
+
+over_by : (command : Command) (words : Said) (word : List ℕ) (n k : ℕ) → request_over command words word ≡ Some (make n k) → n ≤ 100
+over_by Run words word n k h = absurd (ran_by words word n k h)
+over_by Check words word n k h = absurd (other (if_found (is_bare words) (Some (check word)) (make n k) h).1)
+  where
+    other : Some (check word) ≡ Some (make n k) → ⊥
+    other e = cc
+over_by Meaning words word n k h = absurd (other (if_found (is_bare words) (Some (meaning word)) (make n k) h).1)
+  where
+    other : Some (meaning word) ≡ Some (make n k) → ⊥
+    other e = cc
+over_by Make words word n k h = made_by words word n k h
+
+pub made_number : (words : List (String Global)) (n k : ℕ) → order_of words ≡ Some (make n k) → n ≤ 100
+made_number [] n k h = absurd cc
+made_number (word ∷ words) n k h =
+    let command = and_then_found (λ command. order_with command (map string_bytes words)) (command_of (string_bytes word)) (make n k) h in
+    let words_said = and_then_found (request_of command.0) (said among (map string_bytes words)) (make n k) command.1 in
+    let word = and_then_found (request_over command.0 words_said.0) (graph_in words_said.0.graphs) (make n k) words_said.1 in
+    over_by command.0 words_said.0 word.0 n k word.1
