@@ -1,5 +1,5 @@
 -- Marks of whose events lead to each unit.
-use Rattle.std.proofs.Common.{◌≡◌, ℕ, zero, suc, ◌<◌, ◌&&◌, ◌||◌, ◌⊎◌, ◌+◌, not, Bool, true, false, IsSome, List, [], ◌∷◌, Option, Some, None, length, refl, sym, ap, ap₂, subst, ◌∙◌, arith}
+use Rattle.std.proofs.Common.{◌≡◌, ℕ, suc, ◌<◌, ◌&&◌, ◌||◌, ◌⊎◌, ◌+◌, not, Bool, true, false, IsSome, List, [], ◌∷◌, Option, Some, None, length, refl, sym, ap₂, subst, ◌∙◌, arith}
 use Rattle.std.specs.List.{list_any, Contains}
 use Rattle.std.proofs.lemmas.Bool.{false≢true}
 use Rattle.pt_tags.specs.declared.tag.Tag.{Tag}
@@ -13,7 +13,7 @@ use Rattle.pt_delays.specs.declared.least.Least.{Least}
 use Rattle.pt_delays.specs.Delays.{least_of, number_of}
 use Rattle.pt_queue.specs.declared.groups.Groups.{Groups}
 use Rattle.pt_queue.specs.declared.marks.Mark.{Mark}
-use Rattle.pt_queue.specs.Lines.{AreBusy, AreInLines, IsInLine, all_of, first, line_at}
+use Rattle.pt_queue.specs.Lines.{AreBusy, IsInLine, all_of, first, line_at}
 use Rattle.pt_queue.specs.Marks.{counts, mark_at, AreMarked, CountMore, IsMarked}
 use Rattle.pt_queue.specs.Scans.{blocks, has_unit, is_of, reaches, unit_in}
 use Rattle.pt_queue.proofs.Blocking.{same_line, same_unit}

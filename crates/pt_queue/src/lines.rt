@@ -2,9 +2,9 @@
 
 ghost use Rattle.std.specs.Prelude.{◌≡◌, ◌<◌, [], not, filter, IfOk, length, replicate, slice_set, if◌then◌else◌};
 ghost use Rattle.pt_tags.specs.Tags.{same_tag};
-ghost use Rattle.pt_queue.specs.Lines.{InOrder, AreBusy, first, joined_by, line_at, line_of, value_on};
+ghost use Rattle.pt_queue.specs.Lines.{InOrder, AreBusy, AreFlagged, first, joined_by, line_at, line_of, value_on};
 
-use crate::busy::{mark, unmark};
+use crate::busy::{eight_from, mark, unmark};
 use crate::line::Line;
 use pt_tags::Tag;
 use pt_types::Event;
@@ -70,6 +70,13 @@ impl Lines {
         ensures { AreBusy self.now result.now }
     {
         self.busy.as_slice()
+    }
+
+    /// Flags for the eight inputs of an actor: one without a flag has no event.
+    pub fn flags(&self, actor: u32) -> [bool; 8]
+        ensures { AreFlagged self.now actor result }
+    {
+        eight_from(self.busy.as_slice(), 8 * actor as usize)
     }
 
     /// Puts an event at the end of its line, and says whether it did: its tag has to be the greatest there, and there has to

@@ -134,8 +134,9 @@ impl Queue {
         ensures groups { self.new.groups ≡ self.old.groups }
     {
         let table = self.groups.as_slice();
-        let inputs = values_of(table, &self.lines, &self.loose, unit, tag);
-        remove_from_lines(&mut self.lines, table, unit, tag);
+        let flags = self.lines.flags(unit.actor);
+        let inputs = values_of(table, &self.lines, &self.loose, unit, tag, &flags);
+        remove_from_lines(&mut self.lines, table, unit, tag, &flags);
         remove(&mut self.loose, table, unit, tag);
         inputs
     }

@@ -1,4 +1,4 @@
-use Rattle.std.proofs.Common.{◌≡◌, ◌<◌, ℕ, sym, subst, ◌∙◌, length, slice_index_or, ⊎_elim, arith}
+use Rattle.std.proofs.Common.{◌≡◌, ◌<◌, ℕ, sym, subst, ◌∙◌, slice_index_or, ⊎_elim, arith}
 use Rattle.std.proofs.lemmas.List.{get_or_default}
 use Rattle.pt_queue.specs.Lines.{line_at}
 use Rattle.pt_queue.specs.Marks.{AreMarked}

@@ -1,4 +1,4 @@
-use Rattle.std.proofs.Common.{◌≡◌, ℕ, true, ◌<◌, length, slice_index_or}
+use Rattle.std.proofs.Common.{◌≡◌, ℕ, ◌<◌, length, slice_index_or}
 use Rattle.pt_queue.specs.Lines.{line_at}
 use Rattle.pt_queue.specs.Marks.{AreMarked}
 use Rattle.pt_queue.proofs.marks.mark_lines.Given as goal

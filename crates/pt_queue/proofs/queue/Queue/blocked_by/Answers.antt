@@ -1,10 +1,8 @@
 use Rattle.std.proofs.Common.{◌≡◌, true, false, ◌↔◌, subst, sym}
-use Rattle.std.specs.List.{list_any}
 use Rattle.pt_semantics.specs.Lists.{Each}
 use Rattle.pt_delays.specs.Delays.{least_of}
 use Rattle.pt_queue.specs.Events.{waiting_in, IsBlocked, IsClear, IsPlaced, Queued}
 use Rattle.pt_queue.specs.Marks.{counts, mark_at}
-use Rattle.pt_queue.specs.Scans.{blocks}
 use Rattle.pt_queue.proofs.Found.{blocked_is, clear_is}
 use Rattle.pt_queue.proofs.Marking.{alone_clear}
 use Rattle.pt_queue.proofs.Views.{placed_settled}
