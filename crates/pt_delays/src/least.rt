@@ -52,7 +52,7 @@ impl Least {
     }
 
     /// The numbers of the units to which a path leads from `x`, and maybe others; `None` where they are not known.
-    pub fn after(&self, x: Unit) -> Option<&[usize]>
+    pub fn after(&self, x: Unit) -> Option<&[u16]>
         ensures { IfSome result (λ numbers. HasAllAfter self.now x numbers.now) }
     {
         let number = self.numbers.of(x);

@@ -13,13 +13,16 @@ const ABSENT: Delay = Delay {
     step: 0,
 };
 
+/// How many places of a row are listed at most.
+const MOST_LISTED: usize = 256;
+
 /// A delay at each place, or none. Contracts see a list of options.
 #[derive(Drop)]
 pub struct Row {
     cells: Vec<Delay>,
     /// The places that have a delay.
-    places: Vec<usize>,
-    /// Whether these are all of them, as there was memory for each.
+    places: Vec<u16>,
+    /// Whether these are all of them.
     is_listed: bool,
 }
 
@@ -70,8 +73,8 @@ impl Row {
         self.is_listed = is_listed;
     }
 
-    /// The places that have a delay; `None` where they are not known, as memory had run out.
-    pub fn places(&self) -> Option<&[usize]>
+    /// The places that have a delay; `None` where they are not listed.
+    pub fn places(&self) -> Option<&[u16]>
         ensures { IfSome result (λ places. HasAllPlaces places.now self.now) }
     {
         if self.is_listed {
@@ -82,13 +85,16 @@ impl Row {
     }
 }
 
-/// Lists one more place, and says whether all are listed still: there has to be memory for it.
-fn list(places: &mut Vec<usize>, is_listed: bool, place: usize) -> bool
+/// Lists one more place, and says whether all are listed still: they have to be few, and there has to be memory for it.
+fn list(places: &mut Vec<u16>, is_listed: bool, place: usize) -> bool
     ensures before { result ≡ true → is_listed ≡ true }
     ensures places { result ≡ true → places.new.items ≡ places.old.items ++ place ∷ [] }
 {
-    match places.push(place) {
-        Ok(()) => is_listed,
+    if !is_listed || places.len() >= MOST_LISTED {
+        return false;
+    }
+    match u16::try_from(place) {
         Err(_) => false,
+        Ok(place) => places.push(place).is_ok(),
     }
 }

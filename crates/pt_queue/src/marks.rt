@@ -52,12 +52,12 @@ fn mark_one(marks: &mut [Mark], number: usize, unit: Unit)
 }
 
 /// Counts a unit in at several numbers.
-fn mark_all(marks: &mut [Mark], numbers: &[usize], unit: Unit)
+fn mark_all(marks: &mut [Mark], numbers: &[u16], unit: Unit)
     ensures counted { (k : ℕ) → Contains numbers.now k → counts (mark_at marks.new k) unit ≡ true }
     ensures others { CountMore marks.old marks.new }
 {
     for number in numbers {
-        mark_one(marks, *number, unit);
+        mark_one(marks, *number as usize, unit);
     }
 }
 
