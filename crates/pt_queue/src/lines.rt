@@ -101,6 +101,15 @@ impl Lines {
         self.lines[line].grow();
     }
 
+    /// Makes room for one more event in a line, if there is such a line and memory for it.
+    pub fn widen(&mut self, line: usize)
+        ensures { self.new ≡ self.old }
+    {
+        if line < self.lines.len() {
+            self.lines[line].grow();
+        }
+    }
+
     /// Removes the event at a tag from a line.
     pub fn take(&mut self, line: usize, tag: Tag)
         ensures { self.new ≡ slice_set self.old line (filter (λ e. not (same_tag tag e.tag)) (line_at self.old line)) }

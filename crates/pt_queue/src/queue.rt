@@ -43,6 +43,9 @@ pub struct Queue {
     lines: Lines,
     loose: VecDeque<Event>,
     spare: usize,
+    /// The number of a line that had no room for an event, or of no line: `reserve` makes room there. An event that was
+    /// taken before it could join its line leaves this.
+    short: usize,
 }
 
 impl Model for Queue {
@@ -76,6 +79,7 @@ impl Queue {
             lines,
             loose: VecDeque::new(alloc),
             spare: 0,
+            short: usize::MAX,
         })
     }
 
@@ -88,6 +92,8 @@ impl Queue {
         ensures refused { OnErr result (self.new ≡ self.old) }
     {
         settle(&mut self.lines, &mut self.loose);
+        self.lines.widen(self.short);
+        self.short = usize::MAX;
         if self.spare >= count {
             return Ok(());
         }
@@ -111,7 +117,9 @@ impl Queue {
         ensures groups { self.new.groups ≡ self.old.groups }
     {
         self.spare -= 1;
-        if !self.lines.push(line_number(event.actor, event.port), event) {
+        let line = line_number(event.actor, event.port);
+        if !self.lines.push(line, event) {
+            self.short = line;
             match self.loose.push_back(event) {
                 Ok(()) => (),
                 Err(_) => unreachable!(),
