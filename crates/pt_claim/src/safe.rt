@@ -8,12 +8,13 @@ ghost use Rattle.pt_semantics.specs.Paced.{paced_by};
 ghost use Rattle.pt_delays.specs.Delays.{AreLeast, IsUnit, least_of};
 ghost use Rattle.pt_offsets.specs.Plans.{AreOffsets};
 ghost use Rattle.pt_queue.specs.Events.{waiting_in};
+ghost use Rattle.pt_queue.specs.Marks.{AreMarked};
 ghost use Rattle.pt_state.specs.State.{busy_in, IsSound};
 ghost use Rattle.pt_claim.specs.Safe.{IsSafeAt, leads_to};
 
 use pt_delays::Least;
 use pt_offsets::Offsets;
-use pt_queue::reaches;
+use pt_queue::{Mark, reaches};
 use pt_state::{Fields, OpenClaim, same_unit};
 use pt_tags::Tag;
 use pt_types::{Graph, Unit};
@@ -73,6 +74,27 @@ pub fn safe_tag(
     requires unit { IsUnit graph.now unit }
     ensures { IsSafeAt graph.now (waiting_in fields.now.queue.events) (busy_in fields.now.open_claims.items) reading unit result }
 {
+    safe_tag_by(fields, graph, least, offsets, reading, &[], unit)
+}
+
+/// What `safe_tag` says, where marks of the queue's events are at hand.
+pub fn safe_tag_by(
+    fields: &Fields,
+    graph: &Graph,
+    least: &Least,
+    offsets: &Offsets,
+    reading: u64,
+    marks: &[Mark],
+    unit: Unit,
+) -> Option<Tag>
+    requires lawful { IsLawful graph.now }
+    requires sound { IsSound graph.now fields.now }
+    requires least { AreLeast graph.now (least_of least.now) }
+    requires offsets { AreOffsets graph.now offsets.now }
+    requires marks { AreMarked least.now fields.now.queue.groups marks.now fields.now.queue.events }
+    requires unit { IsUnit graph.now unit }
+    ensures { IsSafeAt graph.now (waiting_in fields.now.queue.events) (busy_in fields.now.open_claims.items) reading unit result }
+{
     if has_open(fields.open_claims.as_slice(), unit) {
         return None;
     }
@@ -82,7 +104,7 @@ pub fn safe_tag(
             if !is_due(offsets.of_unit(unit), tag, reading) {
                 return None;
             }
-            if fields.queue.blocked(unit, tag, least) {
+            if fields.queue.blocked_by(unit, tag, least, marks) {
                 return None;
             }
             if is_held_up(fields.open_claims.as_slice(), least, unit, tag) {

@@ -1,5 +1,6 @@
 -- The rows of a table of delays, and the numbers of units in it.
-use Rattle.std.specs.Prelude.{ℕ, ◌+◌, ◌==◌, if◌then◌else◌, List, [], Option, None, Some, slice_index_or}
+use Rattle.std.specs.Prelude.{ℕ, ◌+◌, ◌==◌, if◌then◌else◌, IsSome, List, [], Option, None, Some, slice_index_or}
+use Rattle.std.specs.List.{Contains}
 use Rattle.pt_tags.specs.declared.tag.Delay.{Delay}
 use Rattle.pt_types.specs.declared.graph.Unit.{Unit as Part}
 
@@ -19,3 +20,7 @@ delay_at row k = slice_index_or row k None
 -- the row at a place of a table
 abbrev pub row_at : List (List (Option Delay)) → ℕ → List (Option Delay)
 row_at rows i = slice_index_or rows i []
+
+-- each place of a row that has a delay is one of these
+abbrev pub HasAllPlaces : List ℕ → List (Option Delay) → Type 0
+HasAllPlaces places row = (k : ℕ) → IsSome (delay_at row k) → Contains places k

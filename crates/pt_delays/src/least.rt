@@ -1,6 +1,6 @@
 //! The table of least delays.
 
-ghost use Rattle.std.specs.Prelude.{◌≡◌, IfOk};
+ghost use Rattle.std.specs.Prelude.{◌≡◌, IfOk, IfSome};
 ghost use Rattle.pt_types.specs.Lawful.{IsLawful};
 
 use crate::arcs::arcs_by_unit;
@@ -21,7 +21,7 @@ pub struct Least {
 }
 
 impl Least {
-    ghost use Rattle.pt_delays.specs.Delays.{least_of, AreLeast, AreSmall};
+    ghost use Rattle.pt_delays.specs.Delays.{least_of, number_of, AreLeast, AreSmall, HasAllAfter};
 
     /// Finds all least delays of a graph.
     pub(crate) fn new(alloc: Global, graph: &Graph) -> Result<Least, AllocError>
@@ -42,5 +42,20 @@ impl Least {
     {
         let row = self.rows.get(self.numbers.of(x))?;
         row.get(self.numbers.of(a))
+    }
+
+    /// The number of a unit in the table.
+    pub fn number(&self, a: Unit) -> usize
+        ensures { result ≡ number_of self.now a }
+    {
+        self.numbers.of(a)
+    }
+
+    /// The numbers of the units to which a path leads from `x`, and maybe others; `None` where they are not known.
+    pub fn after(&self, x: Unit) -> Option<&[u16]>
+        ensures { IfSome result (λ numbers. HasAllAfter self.now x numbers.now) }
+    {
+        let number = self.numbers.of(x);
+        self.rows.get(number)?.places()
     }
 }

@@ -39,13 +39,13 @@ blocks_later table least u t e x same actor l h =
     ∙ and_later (not (same_part (unit_in table e) u)) (nat_lt (unit_in table e).group (groups_at table e.actor).count) (reaches (least (unit_in table e) u) e.tag t) (reaches (least (unit_in table e) u) x.tag t)
     (reaches_later (least (unit_in table e) u) e.tag x.tag t l) h
 
-same_line : (table : List Groups) (n : ℕ) (e x : Event) → IsInLine table n e → IsInLine table n x → (x.actor ≡ e.actor) × (x.port ≡ e.port)
+pub same_line : (table : List Groups) (n : ℕ) (e x : Event) → IsInLine table n e → IsInLine table n x → (x.actor ≡ e.actor) × (x.port ≡ e.port)
 same_line table n e x h k =
     let a : 8 * e.actor + e.port ≡ n = h.line in let b : 8 * x.actor + x.port ≡ n = k.line in
     let p : e.port < 8 = h.placed.port in let q : x.port < 8 = k.placed.port in
     (omega (arith, a, b, p, q), omega (arith, a, b, p, q))
 
-same_unit : (table : List Groups) (e x : Event) → x.actor ≡ e.actor → x.port ≡ e.port → unit_in table x ≡ unit_in table e
+pub same_unit : (table : List Groups) (e x : Event) → x.actor ≡ e.actor → x.port ≡ e.port → unit_in table x ≡ unit_in table e
 same_unit table e x a p = λ i. record { actor = a i; group = group_in table (a i) (p i) }
 
 none_later : (table : List Groups) (least : Part → Part → Option Delay) (u : Part) (t : Tag) (n : ℕ) (e : Event) (es : List Event) → IsInLine table n e → Each (IsInLine table n) es → Each (λ (x : Event). Before e.tag x.tag) es → blocks table least u t e ≡ false → list_any (blocks table least u t) es ≡ false

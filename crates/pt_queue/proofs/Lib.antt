@@ -10,3 +10,4 @@ pub mod Blocking
 pub mod Removing
 pub mod Nearest
 pub mod Views
+pub mod Marking

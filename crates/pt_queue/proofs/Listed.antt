@@ -1,10 +1,10 @@
 -- Which lines have events, after one of them changed.
-use Rattle.std.proofs.Common.{◌≡◌, ◌≢◌, ◌↔◌, ℕ, ◌<◌, ◌≤◌, ◌⊎◌, List, [], ◌∷◌, length, get_or, slice_set, replicate, Bool, false, is_some, filter, refl, sym, ap, subst, ◌∙◌, inl, inr, ⊎_elim, arith}
+use Rattle.std.proofs.Common.{◌≡◌, ◌≢◌, ◌↔◌, ℕ, ◌<◌, ◌≤◌, ◌⊎◌, ◌+◌, ◌*◌, List, [], ◌∷◌, length, get_or, slice_index_or, slice_set, replicate, Bool, true, false, is_some, filter, refl, sym, ap, subst, ◌∙◌, inl, inr, ⊎_elim, arith}
 use Rattle.std.specs.List.{Contains}
 use Rattle.std.proofs.lemmas.Bool.{false≢true}
 use Rattle.std.proofs.lemmas.List.{get_or-set_same, get_or-set_other, get_or_past, get_or-replicate, length-set, length-replicate}
 use Rattle.pt_types.specs.declared.firing.Event.{Event}
-use Rattle.pt_queue.specs.Lines.{AreBusy, Rises, first, line_at}
+use Rattle.pt_queue.specs.Lines.{AreBusy, AreFlagged, Rises, first, line_at}
 
 cases_place : (n i : ℕ) → (n ≡ i) ⊎ (n ≢ i)
 cases_place n i = grind arith
@@ -100,3 +100,11 @@ first_none (e ∷ es) h = absurd (false≢true (sym h))
 -- what is read where something was written
 pub read_back : (lines : List (List Event)) (i : ℕ) (line read : List Event) → i < length lines → read ≡ get_or (slice_set lines i line) i read → read ≡ line
 read_back lines i line read l is = is ∙ get_or-set_same lines i line read l
+
+some_or_empty : (line : List Event) → (0 < length line → ⊥) → line ≡ []
+some_or_empty [] h = refl
+some_or_empty (x ∷ line) h = absurd (h (omega arith))
+
+-- flags of the busy numbers among eight are those of the lines that have events
+pub flagged : (lines : List (List Event)) (busy : List ℕ) (a : ℕ) (flags : List Bool) → AreBusy lines busy → ((p : ℕ) → p < 8 → Contains busy (8 * a + p) → slice_index_or flags p true ≡ true) → AreFlagged lines a flags
+flagged lines busy a flags are h = λ p l off. some_or_empty (line_at lines (8 * a + p)) (λ some. false≢true (sym off ∙ h p l ((are.exact (8 * a + p)).1 some)))

@@ -1,5 +1,5 @@
 -- The events of each input, one line after another.
-use Rattle.std.specs.Prelude.{◌≡◌, ℕ, ◌+◌, ◌*◌, ◌<◌, ◌≤◌, ◌⊎◌, ◌↔◌, List, [], ◌∷◌, ◌++◌, Option, Some, None, ℤ, length, slice_index_or, slice_set}
+use Rattle.std.specs.Prelude.{◌≡◌, ℕ, ◌+◌, ◌*◌, ◌<◌, ◌≤◌, ◌⊎◌, ◌↔◌, Bool, true, false, List, [], ◌∷◌, ◌++◌, Option, Some, None, ℤ, length, slice_index_or, slice_set}
 use Rattle.std.specs.List.{Contains, flat_map}
 use Rattle.pt_tags.specs.declared.tag.Tag.{Tag}
 use Rattle.pt_tags.specs.Tags.{same_tag, Before}
@@ -72,3 +72,7 @@ pub record AreKept (table : List Groups) (lines : List (List Event)) (loose : Li
   pub count : length lines ≡ 8 * length table
   pub in_lines : AreInLines table lines
   pub placed : Each (IsPlaced table) loose
+
+-- flags for the eight inputs of an actor: one without a flag has no event
+abbrev pub AreFlagged : List (List Event) → ℕ → List Bool → Type 0
+AreFlagged lines a flags = (p : ℕ) → p < 8 → slice_index_or flags p true ≡ false → line_at lines (8 * a + p) ≡ []

@@ -8,7 +8,7 @@ ghost use Rattle.pt_delays.specs.Delays.{least_of};
 ghost use Rattle.pt_queue.specs.Events.{waiting_in};
 ghost use Rattle.pt_queue.specs.Scans.{is_at, is_of, least_from, sooner, reaches, blocks};
 
-use crate::groups::{Groups, group_in, groups_at};
+use crate::groups::{Groups, count_at, group_in};
 use pt_delays::Least;
 use pt_tags::{Delay, Tag};
 use pt_types::{Event, Unit};
@@ -108,11 +108,11 @@ pub fn reaches(delay: Option<Delay>, from: Tag, tag: Tag) -> bool
 pub fn blocks(table: &[Groups], least: &Least, unit: Unit, tag: Tag, event: &Event) -> bool
     ensures { result ≡ blocks table.now (least_of least.now) unit tag event.now }
 {
-    if is_of(table, unit, event) {
+    let group = group_in(table, event.actor, event.port);
+    if event.actor == unit.actor && group == unit.group {
         return false;
     }
-    let group = group_in(table, event.actor, event.port);
-    if group >= groups_at(table, event.actor).count {
+    if group >= count_at(table, event.actor) {
         return false;
     }
     let from = Unit {

@@ -3,7 +3,7 @@
 ghost use Rattle.std.specs.Prelude.{◌≡◌, ◌≤◌, IfOk, slice_index_or};
 ghost use Rattle.pt_types.specs.Lawful.{IsLawful};
 ghost use Rattle.pt_semantics.specs.Units.{groups, input_group};
-ghost use Rattle.pt_queue.specs.Groups.{groups_of, groups_at, group_in, one_unit, AreGroups};
+ghost use Rattle.pt_queue.specs.Groups.{groups_of, groups_at, group_in, AreGroups};
 
 use pt_types::{Graph, Kind};
 use pt_units::input_group;
@@ -69,23 +69,22 @@ pub fn all_groups(alloc: Global, graph: &Graph) -> Result<Vec<Groups>, AllocErro
     Ok(groups)
 }
 
-/// The groups of an actor; past the table's end, those of an actor that is one unit.
-pub fn groups_at(table: &[Groups], actor: u32) -> Groups
-    ensures { result ≡ groups_at table.now actor }
+/// How many groups an actor has; past the table's end one.
+pub fn count_at(table: &[Groups], actor: u32) -> u32
+    ensures { result ≡ (groups_at table.now actor).count }
 {
     match table.get(actor as usize) {
-        Some(groups) => *groups,
-        None => Groups {
-            inputs: [0; 8],
-            count: 1,
-        },
+        Some(groups) => groups.count,
+        None => 1,
     }
 }
 
-/// The group of an input of an actor.
+/// The group of an input of an actor; past the table's end, that of an actor that is one unit.
 pub fn group_in(table: &[Groups], actor: u32, input: u32) -> u32
     ensures { result ≡ group_in table.now actor input }
 {
-    let groups = groups_at(table, actor);
-    groups.inputs.get(input as usize).copied().unwrap_or(0)
+    match table.get(actor as usize) {
+        Some(groups) => groups.inputs.get(input as usize).copied().unwrap_or(0),
+        None => 0,
+    }
 }

@@ -13,9 +13,11 @@ mod groups;
 mod line;
 mod lines;
 mod loose;
+mod marks;
 mod queue;
 mod scan;
 mod whole;
 
 pub use events::reaches;
+pub use marks::Mark;
 pub use queue::Queue;

@@ -2,9 +2,9 @@
 
 ghost use Rattle.std.specs.Prelude.{◌≡◌, ◌<◌, [], not, filter, IfOk, length, replicate, slice_set, if◌then◌else◌};
 ghost use Rattle.pt_tags.specs.Tags.{same_tag};
-ghost use Rattle.pt_queue.specs.Lines.{InOrder, AreBusy, first, joined_by, line_at, line_of, value_on};
+ghost use Rattle.pt_queue.specs.Lines.{InOrder, AreBusy, AreFlagged, first, joined_by, line_at, line_of, value_on};
 
-use crate::busy::{mark, unmark};
+use crate::busy::{eight_from, mark, unmark};
 use crate::line::Line;
 use pt_tags::Tag;
 use pt_types::Event;
@@ -72,6 +72,13 @@ impl Lines {
         self.busy.as_slice()
     }
 
+    /// Flags for the eight inputs of an actor: one without a flag has no event.
+    pub fn flags(&self, actor: u32) -> [bool; 8]
+        ensures { AreFlagged self.now actor result }
+    {
+        eight_from(self.busy.as_slice(), 8 * actor as usize)
+    }
+
     /// Puts an event at the end of its line, and says whether it did: its tag has to be the greatest there, and there has to
     /// be room for it. This takes no memory.
     pub fn push(&mut self, line: usize, event: Event) -> bool
@@ -92,6 +99,15 @@ impl Lines {
         ensures { self.new ≡ self.old }
     {
         self.lines[line].grow();
+    }
+
+    /// Makes room for one more event in a line, if there is such a line and memory for it.
+    pub fn widen(&mut self, line: usize)
+        ensures { self.new ≡ self.old }
+    {
+        if line < self.lines.len() {
+            self.lines[line].grow();
+        }
     }
 
     /// Removes the event at a tag from a line.

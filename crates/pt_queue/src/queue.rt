@@ -11,11 +11,13 @@ ghost use Rattle.pt_semantics.specs.Units.{unit_inputs};
 ghost use Rattle.pt_delays.specs.Delays.{AreLeast, IsUnit, least_of};
 ghost use Rattle.pt_queue.specs.Groups.{AreGroups};
 ghost use Rattle.pt_queue.specs.Events.{waiting_in, value_in, IsPlaced, IsLeastTag, IsBlocked, IsClear, IsNextActive};
+ghost use Rattle.pt_queue.specs.Marks.{AreMarked};
 
 use crate::events::remove;
 use crate::groups::{Groups, all_groups};
 use crate::lines::Lines;
 use crate::loose::{next_in_all, settle};
+use crate::marks::{Mark, is_alone, mark_lines};
 use crate::scan::{line_number, next_in_lines, remove_from_lines};
 use crate::whole::{is_none, is_unit_blocked, least_of_unit, values_of};
 use pt_delays::Least;
@@ -24,6 +26,9 @@ use pt_types::{Event, Graph, Ports, Unit};
 use std::alloc::Global;
 use std::collections::VecDeque;
 use std::marker::Model;
+
+/// More inputs than these that have events are many.
+const CROWD: usize = 16;
 
 /// The events that wait on a platform.
 ///
@@ -38,6 +43,9 @@ pub struct Queue {
     lines: Lines,
     loose: VecDeque<Event>,
     spare: usize,
+    /// The number of a line that had no room for an event, or of no line: `reserve` makes room there. An event that was
+    /// taken before it could join its line leaves this.
+    short: usize,
 }
 
 impl Model for Queue {
@@ -71,6 +79,7 @@ impl Queue {
             lines,
             loose: VecDeque::new(alloc),
             spare: 0,
+            short: usize::MAX,
         })
     }
 
@@ -83,6 +92,8 @@ impl Queue {
         ensures refused { OnErr result (self.new ≡ self.old) }
     {
         settle(&mut self.lines, &mut self.loose);
+        self.lines.widen(self.short);
+        self.short = usize::MAX;
         if self.spare >= count {
             return Ok(());
         }
@@ -106,7 +117,9 @@ impl Queue {
         ensures groups { self.new.groups ≡ self.old.groups }
     {
         self.spare -= 1;
-        if !self.lines.push(line_number(event.actor, event.port), event) {
+        let line = line_number(event.actor, event.port);
+        if !self.lines.push(line, event) {
+            self.short = line;
             match self.loose.push_back(event) {
                 Ok(()) => (),
                 Err(_) => unreachable!(),
@@ -129,8 +142,9 @@ impl Queue {
         ensures groups { self.new.groups ≡ self.old.groups }
     {
         let table = self.groups.as_slice();
-        let inputs = values_of(table, &self.lines, &self.loose, unit, tag);
-        remove_from_lines(&mut self.lines, table, unit, tag);
+        let flags = self.lines.flags(unit.actor);
+        let inputs = values_of(table, &self.lines, &self.loose, unit, tag, &flags);
+        remove_from_lines(&mut self.lines, table, unit, tag, &flags);
         remove(&mut self.loose, table, unit, tag);
         inputs
     }
@@ -153,6 +167,37 @@ impl Queue {
             tag,
             least,
         )
+    }
+
+    /// Whether so many inputs have events that a search for blocked units is quicker with marks.
+    pub fn is_crowded(&self) -> bool {
+        self.lines.busy().len() > CROWD
+    }
+
+    /// Counts the unit of each event in at all units that come after it, and says whether those are known.
+    ///
+    /// A mark stands at its unit's number in `least`.
+    pub fn mark(&self, least: &Least, marks: &mut [Mark]) -> bool
+        ensures { result ≡ true → AreMarked least.now self.now.groups marks.new self.now.events }
+    {
+        if !self.loose.is_empty() {
+            return false;
+        }
+        mark_lines(marks, least, self.groups.as_slice(), &self.lines)
+    }
+
+    /// What `blocked` says, known at once where the marks say that no other unit's events lead to this one.
+    pub fn blocked_by(&self, unit: Unit, tag: Tag, least: &Least, marks: &[Mark]) -> bool
+        requires marks { AreMarked least.now self.now.groups marks.now self.now.events }
+        ensures blocked { (g : Graph) → IsLawful g → AreGroups g self.now.groups → AreLeast g (least_of least.now) → IsUnit g unit
+            → (result ≡ true) ↔ IsBlocked g (waiting_in self.now.events) unit tag }
+        ensures clear { (g : Graph) → IsLawful g → AreGroups g self.now.groups → AreLeast g (least_of least.now) → IsUnit g unit
+            → (result ≡ false) ↔ IsClear g (waiting_in self.now.events) unit tag }
+    {
+        if self.loose.is_empty() && is_alone(marks, least.number(unit), unit) {
+            return false;
+        }
+        self.blocked(unit, tag, least)
     }
 
     /// Of the actors from `from` on, the least one that has an event; `None` exactly where there is none.

@@ -1,13 +1,13 @@
 //! What the lines say of a unit, each by its first event.
 
-ghost use Rattle.std.specs.Prelude.{◌≡◌, ◌+◌, ◌*◌, ◌<◌, ◌==◌, None, not, filter, map, slice_set, List};
+ghost use Rattle.std.specs.Prelude.{◌≡◌, ◌+◌, ◌*◌, ◌<◌, ◌==◌, false, None, [], not, filter, map, slice_set, List};
 ghost use Rattle.std.specs.List.{list_any};
 ghost use Rattle.pt_types.specs.Ports.{when};
 ghost use Rattle.pt_delays.specs.Delays.{least_of};
 ghost use Rattle.pt_queue.specs.declared.groups.Groups.{Groups as Table};
 ghost use Rattle.pt_queue.specs.Groups.{group_in};
 ghost use Rattle.pt_queue.specs.Events.{waiting_in};
-ghost use Rattle.pt_queue.specs.Lines.{AreInLines, all_of, line_at};
+ghost use Rattle.pt_queue.specs.Lines.{AreFlagged, AreInLines, all_of, line_at};
 ghost use Rattle.pt_queue.specs.Scans.{is_at, least_from, blocks, IsNextIn};
 
 use crate::busy::first_from;
@@ -31,12 +31,17 @@ fn sooner_in_line(
     lines: &Lines,
     unit: Unit,
     port: u32,
+    is_flagged: bool,
     so_far: Option<Tag>,
 ) -> Option<Tag>
     requires in_lines { AreInLines table.now lines.now }
     requires port { port < 8 }
+    requires flag { is_flagged ≡ false → line_at lines.now (8 * unit.actor + port) ≡ [] }
     ensures { result ≡ least_from table.now unit so_far (line_at lines.now (8 * unit.actor + port)) }
 {
+    if !is_flagged {
+        return so_far;
+    }
     if group_in(table, unit.actor, port) != unit.group {
         return so_far;
     }
@@ -51,9 +56,10 @@ pub fn least_in_lines(table: &[Groups], lines: &Lines, unit: Unit) -> Option<Tag
     requires in_lines { AreInLines table.now lines.now }
     ensures { result ≡ least_from table.now unit None (all_of lines.now) }
 {
+    let flags = lines.flags(unit.actor);
     let mut best = None;
     for port in 0..8 {
-        best = sooner_in_line(table, lines, unit, port, best);
+        best = sooner_in_line(table, lines, unit, port, flags[port as usize], best);
     }
     best
 }
@@ -64,33 +70,56 @@ pub fn value_in_lines(
     lines: &Lines,
     actor: u32,
     port: u32,
+    is_flagged: bool,
     tag: Tag,
 ) -> Option<i64>
     requires in_lines { AreInLines table.now lines.now }
     requires port { port < 8 }
+    requires flag { is_flagged ≡ false → line_at lines.now (8 * actor + port) ≡ [] }
     ensures { result ≡ waiting_in (all_of lines.now) actor port tag }
 {
+    if !is_flagged {
+        return None;
+    }
     lines.value(line_number(actor, port), tag)
 }
 
 /// Removes the event of a unit at a tag from the line of one of the actor's inputs.
-fn remove_from_line(lines: &mut Lines, table: &[Groups], unit: Unit, tag: Tag, port: u32)
+fn remove_from_line(
+    lines: &mut Lines,
+    table: &[Groups],
+    unit: Unit,
+    tag: Tag,
+    port: u32,
+    is_flagged: bool,
+)
     requires in_lines { AreInLines table.now lines.old }
     requires port { port < 8 }
+    requires flag { is_flagged ≡ false → line_at lines.old (8 * unit.actor + port) ≡ [] }
     ensures { lines.new ≡ slice_set lines.old (8 * unit.actor + port) (filter (λ e. not (is_at table.now unit tag e)) (line_at lines.old (8 * unit.actor + port))) }
 {
+    if !is_flagged {
+        return;
+    }
     if group_in(table, unit.actor, port) == unit.group {
         lines.take(line_number(unit.actor, port), tag);
     }
 }
 
-/// Removes the events that wait for a unit at a tag from its lines.
-pub fn remove_from_lines(lines: &mut Lines, table: &[Groups], unit: Unit, tag: Tag)
+/// Removes the events that wait for a unit at a tag from its lines. The flags are those of its actor's inputs.
+pub fn remove_from_lines(
+    lines: &mut Lines,
+    table: &[Groups],
+    unit: Unit,
+    tag: Tag,
+    flags: &[bool; 8],
+)
     requires in_lines { AreInLines table.now lines.old }
+    requires flags { AreFlagged lines.old unit.actor flags.now }
     ensures { lines.new ≡ map (filter (λ e. not (is_at table.now unit tag e))) lines.old }
 {
     for port in 0..8 {
-        remove_from_line(lines, table, unit, tag, port);
+        remove_from_line(lines, table, unit, tag, port, flags[port as usize]);
     }
 }
 

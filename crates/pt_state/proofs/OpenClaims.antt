@@ -1,5 +1,5 @@
 -- Open claims: one is closed, one is found, and one more is made. And numbers of actors: one is set.
-use Rattle.std.proofs.Common.{◌≡◌, ℕ, zero, suc, ◌+◌, ◌⊎◌, ◌==◌, ◌<◌, Bool, true, false, not, cond, List, [], ◌∷◌, ◌++◌, Option, Some, None, ℤ, pos, filter, get_or, set, length, refl, sym, ap, ap₂, subst, ◌∙◌, inl, inr, ⊎_elim, if◌then◌else◌, eqb-true, eq-eqb, get_or-set_same, get_or-set_other, take, arith}
+use Rattle.std.proofs.Common.{◌≡◌, ℕ, zero, suc, ◌+◌, ◌⊎◌, ◌==◌, ◌<◌, Bool, true, false, not, cond, List, [], ◌∷◌, ◌++◌, Option, Some, None, ℤ, pos, filter, get_or, set, length, slice_index_or, remove, refl, sym, ap, ap₂, subst, ◌∙◌, inl, inr, ⊎_elim, if◌then◌else◌, eqb-true, eq-eqb, get_or-set_same, get_or-set_other, take, arith}
 use Rattle.std.proofs.lemmas.Bool.{cases_Bool, false≢true, cond-true, cond-false}
 use Rattle.std.proofs.lemmas.List.{take_more}
 use Rattle.pt_types.specs.declared.graph.Graph.{Graph}
@@ -13,6 +13,7 @@ use Rattle.pt_semantics.specs.Units.{same_part, unit_of}
 use Rattle.pt_semantics.proofs.Lookups.{when_found, first_of_found, first_of-append, or_else_none, same_some, same_part-true, same_part-refl, same_part_not, Each-append, Each-in, Each-from, IsIn-append}
 use Rattle.pt_delays.specs.Units.{IsUnit}
 use Rattle.pt_state.specs.declared.fields.OpenClaim.{OpenClaim}
+use Rattle.pt_state.specs.Others.{is_other, IsPlaceOf}
 use Rattle.pt_state.specs.State.{busy_in, states_in, IsOpen, IsFound}
 
 -- the claims of the other units
@@ -130,3 +131,16 @@ sound_push g claims o sound free unit is =
 
 pub states_set_as : (states : List ℤ) (a : ℕ) (q r : ℤ) → a < length states → r ≡ q → states_in (set states a r) ≡ put_state (states_in states) a q
 states_set_as states a q r lt is = ap (λ z. states_in (set states a z)) is ∙ states_set states a q lt
+
+-- where all claims are others', none goes
+pub none_goes : (u : Part) (claims : List OpenClaim) → IsPlaceOf claims u None → claims ≡ others u claims
+none_goes u [] h = refl
+none_goes u (o ∷ os) h =
+    ap (λ xs. o ∷ xs) (none_goes u os (λ k c l is. h (suc k) c (omega (arith, l)) is))
+    ∙ ap (λ b. cond b (o ∷ others u os) (others u os)) (sym (h 0 o (omega arith) refl))
+
+-- the others are the same after a claim of the unit goes
+pub one_goes : (u : Part) (claims : List OpenClaim) (k : ℕ) → k < length claims → ((c : OpenClaim) → slice_index_or claims k c ≡ c → is_other u c ≡ false) → others u (remove claims k) ≡ others u claims
+one_goes u [] k l h = absurd (omega (arith, l))
+one_goes u (o ∷ os) zero l h = ap (λ b. cond b (o ∷ others u os) (others u os)) (sym (h o refl))
+one_goes u (o ∷ os) (suc k) l h = ap (λ xs. cond (is_other u o) (o ∷ xs) xs) (one_goes u os k (omega (arith, l)) h)

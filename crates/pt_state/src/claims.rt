@@ -1,12 +1,13 @@
 //! The open claims, and the numbers of the actors.
 
-ghost use Rattle.std.specs.Prelude.{◌≡◌, ◌+◌, ◌<◌, ◌≤◌, None, Some, length, vec_len, vec_capacity};
+ghost use Rattle.std.specs.Prelude.{◌≡◌, ◌+◌, ◌<◌, ◌≤◌, filter, None, Some, length, vec_len, vec_capacity};
 ghost use Rattle.pt_types.specs.declared.graph.Graph.{Graph};
 ghost use Rattle.pt_semantics.specs.Lists.{Each};
 ghost use Rattle.pt_semantics.specs.Meaning.{put_state};
 ghost use Rattle.pt_semantics.specs.Platform.{put_busy};
 ghost use Rattle.pt_semantics.specs.Units.{unit_of};
 ghost use Rattle.pt_delays.specs.Units.{IsUnit};
+ghost use Rattle.pt_state.specs.Others.{is_other, IsPlaceOf};
 ghost use Rattle.pt_state.specs.State.{busy_in, states_in, IsOpen, IsFound};
 
 use crate::fields::OpenClaim;
@@ -41,6 +42,30 @@ pub fn add_claim(claims: &mut Vec<OpenClaim>, claim: OpenClaim)
     }
 }
 
+/// Where the first open claim of a unit stands.
+fn place_of(claims: &[OpenClaim], unit: Unit) -> Option<usize>
+    ensures { IsPlaceOf claims.now unit result }
+{
+    for (place, claim) in claims.iter().enumerate() {
+        if same_unit(claim.unit, unit) {
+            return Some(place);
+        }
+    }
+    None
+}
+
+/// Removes all open claims of a unit, of which there is hardly ever one.
+fn close_others(claims: &mut Vec<OpenClaim>, unit: Unit)
+    ensures claims { claims.new.items ≡ filter (is_other unit) claims.old.items }
+    ensures len { vec_len claims.new ≤ vec_len claims.old }
+    ensures capacity { vec_capacity claims.new ≡ vec_capacity claims.old }
+{
+    match place_of(claims.as_slice(), unit) {
+        None => (),
+        Some(_) => claims.retain(|claim| !same_unit(claim.unit, unit)),
+    }
+}
+
 /// Removes the open claim of a unit, where it has one.
 pub fn close_claim(claims: &mut Vec<OpenClaim>, unit: Unit)
     ensures busy { busy_in claims.new.items ≡ put_busy (busy_in claims.old.items) unit None }
@@ -48,7 +73,13 @@ pub fn close_claim(claims: &mut Vec<OpenClaim>, unit: Unit)
     ensures len { vec_len claims.new ≤ vec_len claims.old }
     ensures capacity { vec_capacity claims.new ≡ vec_capacity claims.old }
 {
-    claims.retain(|claim| !same_unit(claim.unit, unit));
+    match place_of(claims.as_slice(), unit) {
+        None => (),
+        Some(place) => {
+            claims.remove(place);
+            close_others(claims, unit);
+        }
+    }
 }
 
 /// Sets the number of an actor.

@@ -18,7 +18,7 @@ loop-group-preserved c =
     let busy = busy_in c.args.fields.now.open_claims.items in
     let count : c.groups-group-end.result ≡ groups (kind_of g c.args.actor) = groups_are g c.args.actor c.groups-group-end.result c.requires.lawful c.requires.actor c.groups-group-end.ensures in
     let unit : IsUnit g (record { actor = c.args.actor; group = c.loop-group.group }) = (c.requires.actor, subst (λ n. c.loop-group.group < n) count c.loop-group-test.true) in
-    elim c.match-safe_tag.branch [
+    elim c.match-safe_tag_by.branch [
       | in-None w ↦ subst (λ (v : ArrayVec SafeUnit). AreFirst g waits busy c.args.reading c.args.actor (c.loop-group.group + 1) v.items) (sym w.units-is)
           (first_skip g waits busy c.args.reading c.args.actor c.loop-group.group c.loop-group.units.items c.loop-group.invariant w.in-None.ensures)
       | in-Some w ↦ subst (λ (v : ArrayVec SafeUnit). AreFirst g waits busy c.args.reading c.args.actor (c.loop-group.group + 1) v.items) (sym w.units-is)

@@ -9,7 +9,7 @@ use Rattle.pt_queue.specs.Events.{waiting_in, IsLeastTag}
 use Rattle.pt_state.specs.State.{busy_in}
 use Rattle.pt_claim.specs.Safe.{leads_to}
 use Rattle.pt_claim.proofs.SafeTags.{only_tag, bounds_paced, paced_bounds, open_clear, not_some}
-use Rattle.pt_claim.proofs.safe.safe_tag.Goals as goal
+use Rattle.pt_claim.proofs.safe.safe_tag_by.Goals as goal
 
 pub returns-then-not-is_due : goal.returns-then-not-is_due
 returns-then-not-is_due c = λ t safe.
@@ -38,7 +38,7 @@ returns-else-is_held_up c =
       least = least.1;
       free = not_some (busy_in c.args.fields.now.open_claims.items c.args.unit) (ap (λ xs. is_some (busy_in xs c.args.unit)) (sym c.as_slice.ensures.value) ∙ sym c.has_open.ensures ∙ c.if-has_open.false);
       bounds = paced_bounds c.args.graph.now c.args.unit c.of_unit.result c.in-Some.tag c.args.reading has (c.is_due.ensures.0 c.if-not-is_due.false);
-      events = (c.blocked.ensures.clear c.args.graph.now c.requires.lawful c.requires.sound.groups c.requires.least c.requires.unit).0 c.if-blocked.false;
+      events = (c.blocked_by.ensures.clear c.args.graph.now c.requires.lawful c.requires.sound.groups c.requires.least c.requires.unit).0 c.if-blocked_by.false;
       claims = (open_clear c.args.graph.now (least_of c.args.least.now) c.args.fields.now.open_claims.items c.args.unit c.in-Some.tag c.requires.least c.requires.unit c.requires.sound.open_claims).0
           (sym (c.is_held_up.ensures ∙ ap (list_any (leads_to (least_of c.args.least.now) c.args.unit c.in-Some.tag)) c.as_slice-in-Some.ensures.value) ∙ c.if-is_held_up.false);
     }

@@ -2,7 +2,7 @@ use Rattle.std.proofs.Common.{◌≤◌}
 use Rattle.pt_queue.specs.Events.{waiting_in}
 use Rattle.pt_state.specs.State.{busy_in}
 use Rattle.pt_claim.specs.Fronts.{AreFirst}
-use Rattle.pt_claim.proofs.front.fill.Given as goal
+use Rattle.pt_claim.proofs.front.fill_by.Given as goal
 
 abbrev pub invariant-loop : goal.invariant-loop
 invariant-loop l = record {

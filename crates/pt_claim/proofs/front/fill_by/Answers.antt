@@ -2,7 +2,7 @@ use Rattle.std.proofs.Common.{◌≡◌, length, ap, arith}
 use Rattle.pt_queue.specs.Events.{waiting_in}
 use Rattle.pt_state.specs.State.{busy_in}
 use Rattle.pt_claim.proofs.Fronts.{first_jump, first_end}
-use Rattle.pt_claim.proofs.front.fill.Goals as goal
+use Rattle.pt_claim.proofs.front.fill_by.Goals as goal
 
 pub returns-in-None : goal.returns-in-None
 returns-in-None c = first_end c.args.graph.now (waiting_in c.args.fields.now.queue.events) (busy_in c.args.fields.now.open_claims.items) c.args.reading c.loop.from c.loop.units.items (λ a p t l m. c.in-None.ensures a p t l) c.loop.invariant.first
