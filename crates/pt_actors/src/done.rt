@@ -49,6 +49,13 @@ impl Done {
         &self.both.fired
     }
 
+    /// The plain record of both, where it stands.
+    pub fn as_record(&self) -> &Record
+        ensures { result.now ≡ self.now }
+    {
+        &self.both
+    }
+
     /// The plain record of both.
     pub fn record(&self) -> Record
         ensures { result ≡ self.now }

@@ -14,7 +14,7 @@ use Rattle.pt_semantics.proofs.Lookups.{same_part-true, none_some}
 use Rattle.pt_post.specs.Room.{leaving, leaving_open}
 
 -- one wire in front
-count_cons : (p : Wire → Bool) (w : Wire) (ws : List Wire) → count_by p (w ∷ ws) ≡ cond (p w) 1 0 + count_by p ws
+pub count_cons : (p : Wire → Bool) (w : Wire) (ws : List Wire) → count_by p (w ∷ ws) ≡ cond (p w) 1 0 + count_by p ws
 count_cons p w ws = sum_by-cons (λ (x : Wire). cond (p x) 1 0) w ws
 
 -- a front has no more

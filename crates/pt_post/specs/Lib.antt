@@ -1,3 +1,4 @@
 pub mod Sent
 pub mod Room
 pub mod Posted
+pub mod Branches

@@ -9,9 +9,11 @@ ghost use Rattle.pt_semantics.specs.Units.{leaves_unit, output_group};
 ghost use Rattle.pt_semantics.specs.Wired.{IsWired};
 ghost use Rattle.pt_queue.specs.Events.{waiting_in};
 ghost use Rattle.pt_queue.specs.Groups.{AreGroups};
+ghost use Rattle.pt_post.specs.Branches.{AreBranches};
 ghost use Rattle.pt_post.specs.Room.{leaving};
 ghost use Rattle.pt_post.specs.Sent.{along, sent, SumsFit};
 
+use crate::branches::Branches;
 use pt_edges::weight;
 use pt_queue::Queue;
 use pt_tags::{Delay, Tag};
@@ -89,8 +91,18 @@ fn emit_along(queue: &mut Queue, graph: &Graph, unit: Unit, tag: Tag, outputs: &
     );
 }
 
-/// Sends the outputs of a unit's firing at a tag along its wires, into the queue.
-pub fn emit(queue: &mut Queue, graph: &Graph, unit: Unit, tag: Tag, outputs: &Ports)
+/// Sends the outputs of a unit's firing at a tag along its wires, into the queue. Only the wires of its actor are gone
+/// through.
+pub fn emit(
+    queue: &mut Queue,
+    graph: &Graph,
+    branches: &Branches,
+    unit: Unit,
+    tag: Tag,
+    outputs: &Ports,
+)
+    requires branches { AreBranches graph.now branches.now }
+    requires actor { unit.actor < length graph.now.actors }
     requires groups { AreGroups graph.now queue.old.groups }
     requires wired { IsWired graph.now }
     requires fits { SumsFit graph.now unit.actor tag }
@@ -100,7 +112,10 @@ pub fn emit(queue: &mut Queue, graph: &Graph, unit: Unit, tag: Tag, outputs: &Po
     ensures groups { queue.new.groups ≡ queue.old.groups }
     ensures spare { queue.old.spare ≤ queue.new.spare + leaving graph.now unit graph.now.wires }
 {
-    for wire in graph.wires.as_slice() {
-        emit_along(queue, graph, unit, tag, outputs, *wire);
+    let wires = graph.wires.as_slice();
+    let mut place = branches.first[unit.actor as usize];
+    'branches: while place < wires.len() {
+        emit_along(queue, graph, unit, tag, outputs, wires[place]);
+        place = branches.next[place];
     }
 }

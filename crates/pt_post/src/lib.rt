@@ -6,12 +6,14 @@
 //! Read first: `post`, then `after_post` in `specs/Posting.antt` of pt_semantics.
 #![tactic(auto)]
 
+mod branches;
 mod emit;
 mod fits;
 mod outbox;
 mod result;
 mod results;
 
+pub use branches::{Branches, find_branches};
 pub use fits::open_claims_fit;
 pub use result::post;
 pub use results::posts;

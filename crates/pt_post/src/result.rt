@@ -5,9 +5,11 @@ ghost use Rattle.pt_types.specs.declared.firing.OnLink.{OnLink};
 ghost use Rattle.pt_semantics.specs.Posting.{after_post};
 ghost use Rattle.pt_semantics.specs.Wired.{IsWired};
 ghost use Rattle.pt_state.specs.State.{state_of, busy_in, IsSound};
+ghost use Rattle.pt_post.specs.Branches.{AreBranches};
 ghost use Rattle.pt_post.specs.Room.{leaving_open};
 ghost use Rattle.pt_post.specs.Sent.{FindsNothing, IsClaimed, SumsFit};
 
+use crate::branches::Branches;
 use crate::emit::emit;
 use crate::outbox::send;
 use pt_state::{Fields, close_claim, find_claim, set_state};
@@ -18,9 +20,10 @@ use pt_types::{Done, Graph};
 ///
 /// The sums of the task's tag and the actor's delays have to stay in 64 bits, and where an output goes nothing may wait:
 /// both hold in every state that a history leads to, in which no message came late.
-pub fn post(fields: &mut Fields, graph: &Graph, done: &Done) -> bool
+pub fn post(fields: &mut Fields, graph: &Graph, branches: &Branches, done: &Done) -> bool
     requires sound { IsSound graph.now fields.old }
     requires wired { IsWired graph.now }
+    requires branches { AreBranches graph.now branches.now }
     requires links { length graph.now.links < 2 ^ 32 }
     requires fits { IsClaimed graph.now fields.old done.now.task → SumsFit graph.now done.now.task.actor done.now.task.tag }
     requires events { leaving_open graph.now (busy_in fields.old.open_claims.items) graph.now.wires ≤ fields.old.queue.spare }
@@ -43,6 +46,7 @@ pub fn post(fields: &mut Fields, graph: &Graph, done: &Done) -> bool
             emit(
                 &mut fields.queue,
                 graph,
+                branches,
                 unit,
                 done.task.tag,
                 &done.fired.outputs,

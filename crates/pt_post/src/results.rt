@@ -4,9 +4,11 @@ ghost use Rattle.std.specs.Prelude.{◌≡◌, ◌+◌, ◌*◌, ◌<◌, ◌≤
 ghost use Rattle.pt_types.specs.declared.firing.OnLink.{OnLink};
 ghost use Rattle.pt_semantics.specs.Wired.{IsWired};
 ghost use Rattle.pt_state.specs.State.{state_of, busy_in, IsSound};
+ghost use Rattle.pt_post.specs.Branches.{AreBranches};
 ghost use Rattle.pt_post.specs.Posted.{AreDone, ClaimsFit, NeverPosts, Posted};
 ghost use Rattle.pt_post.specs.Room.{leaving_open};
 
+use crate::branches::Branches;
 use crate::result::post;
 use pt_actors::Done;
 use pt_state::Fields;
@@ -16,9 +18,16 @@ use pt_types::{Done as Record, Graph};
 ///
 /// Every result has to be what its actor's kind gives for its task. All together need room for one event on each wire
 /// that leaves a unit with an open claim, since a claim is closed once; each may need room for a message on each link.
-pub fn posts(fields: &mut Fields, graph: &Graph, dones: &[Done], kept: &mut Vec<Record>)
+pub fn posts(
+    fields: &mut Fields,
+    graph: &Graph,
+    branches: &Branches,
+    dones: &[Done],
+    kept: &mut Vec<Record>,
+)
     requires sound { IsSound graph.now fields.old }
     requires wired { IsWired graph.now }
+    requires branches { AreBranches graph.now branches.now }
     requires links { length graph.now.links < 2 ^ 32 }
     requires dones { AreDone graph.now dones.now }
     requires fit { ClaimsFit graph.now fields.old.open_claims.items }
@@ -36,9 +45,9 @@ pub fn posts(fields: &mut Fields, graph: &Graph, dones: &[Done], kept: &mut Vec<
     ensures groups { fields.new.queue.groups ≡ fields.old.queue.groups }
 {
     for done in dones {
-        let record = done.record();
-        if post(fields, graph, &record) {
-            match kept.push(record) {
+        let record = done.as_record();
+        if post(fields, graph, branches, record) {
+            match kept.push(*record) {
                 Ok(()) => (),
                 Err(_) => unreachable!(),
             }

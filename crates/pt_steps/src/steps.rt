@@ -3,6 +3,7 @@
 ghost use Rattle.std.specs.Prelude.{◌≡◌, ◌+◌, ◌*◌, ◌≤◌, ℕ, Some, length, vec_len, vec_capacity};
 ghost use Rattle.pt_semantics.specs.Paced.{IsClosing};
 ghost use Rattle.pt_state.specs.State.{rows_of, IsSound};
+ghost use Rattle.pt_post.specs.Branches.{AreBranches};
 ghost use Rattle.pt_post.specs.Posted.{AreDone};
 ghost use Rattle.pt_enter.specs.Sensors.{AreSensors};
 ghost use Rattle.pt_take.specs.Taken.{Arrive, Basis};
@@ -13,7 +14,7 @@ use pt_actors::Done;
 use pt_close::close;
 use pt_enter::enter;
 use pt_offsets::Plan;
-use pt_post::posts;
+use pt_post::{Branches, posts};
 use pt_state::Fields;
 use pt_take::takes;
 use pt_types::{Done as Record, OnLink, RowAt, Task};
@@ -31,7 +32,7 @@ pub struct Lists {
 /// Makes a turn of platform `number` at a reading that is at least the last, with these results and messages, and claims
 /// `most` units at most. What it did is in `lists`, which were empty before; the result says whether a turn may follow.
 ///
-/// `closing` is the closing reading of the platform. Readings are microseconds. No memory is taken.
+/// `closing` is the closing reading of the platform, and `branches` are those of the plan's graph. Readings are microseconds. No memory is taken.
 pub fn turn(
     fields: &mut Fields,
     plan: &Plan,
@@ -42,6 +43,7 @@ pub fn turn(
     messages: &[OnLink],
     most: usize,
     lists: &mut Lists,
+    branches: &Branches,
 ) -> Ending
     ghost basis: { Basis }
     requires sound { IsSound plan.now.graph fields.old }
@@ -56,6 +58,7 @@ pub fn turn(
     requires claims { fields.old.claims ≤ 200000 }
     requires room { HasRoom plan.now.graph fields.old lists.old reading (length dones.now) (length messages.now) most }
     requires empty { AreEmpty lists.old }
+    requires branches { AreBranches plan.now.graph branches.now }
     ensures sound { IsSound plan.now.graph fields.new }
     ensures sensors { AreSensors plan.now.graph fields.new.sensors.items }
     ensures made { IsMade plan.now.graph basis reading most dones.now messages.now fields.old fields.new lists.new result }
@@ -67,7 +70,7 @@ pub fn turn(
     ensures outbox { vec_len fields.new.outbox ≤ vec_len fields.old.outbox + length dones.now * length plan.now.graph.links + length plan.now.graph.links }
 {
     let graph = plan.graph();
-    posts(fields, graph, dones, &mut lists.posted);
+    posts(fields, graph, branches, dones, &mut lists.posted);
     enter(fields, graph, reading, &mut lists.rows);
     let late = takes(fields, graph, plan.offsets(), messages, &mut lists.taken);
     fields.reading = Some(reading);

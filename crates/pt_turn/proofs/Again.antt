@@ -1,5 +1,6 @@
 -- After a turn it is a platform again, and what the turn did.
 use Rattle.std.proofs.Common.{◌≡◌, ℕ, ◌+◌, ◌*◌, ◌<◌, ◌≤◌, ◌⊎◌, ◌^◌, Bool, false, List, [], ◌∷◌, ◌++◌, Option, Some, None, length, refl, sym, ap, subst, ◌∙◌, arith, vec_len}
+use Rattle.std.specs.Prelude.{MatchOption}
 use Rattle.std.specs.Arc.{arc_value}
 use Rattle.std.proofs.Math.Nat.{mul-le-mul_right}
 use Rattle.pt_types.specs.declared.graph.Graph.{Graph}
@@ -8,6 +9,7 @@ use Rattle.pt_types.specs.declared.firing.OnLink.{OnLink}
 use Rattle.pt_types.specs.declared.firing.Task.{Task}
 use Rattle.pt_types.specs.declared.rows.Row.{Row}
 use Rattle.pt_semantics.specs.Kept.{IsSingle, kept_with}
+use Rattle.pt_semantics.specs.Paced.{IsNextReading}
 use Rattle.pt_semantics.specs.Platform.{State}
 use Rattle.pt_semantics.specs.Rows.{FitRows}
 use Rattle.pt_semantics.specs.Safe.{NothingSafe}
@@ -66,8 +68,8 @@ is_done p plan room r most dones messages new history lists fault handed now sam
       fits = fits;
     }
 
-abbrev pub after : Inside → Fields → History → Lists → Option TurnFault → Inside
-after p fields history lists fault = record { plan = p.plan; number = p.number; closing = p.closing; fields = fields; history = history; lists = lists; fault = fault; room = None }
+abbrev pub after : Inside → Fields → History → Lists → Option TurnFault → Option ℕ → Inside
+after p fields history lists fault next = record { plan = p.plan; number = p.number; branches = p.branches; closing = p.closing; fields = fields; history = history; lists = lists; fault = fault; room = None; next = next }
 
 shows_long : (g : Graph) (new : Fields) (taken : List OnLink) (r : ℕ) (ending : Ending) → new.reading ≡ Some r → ShowsEnd g r new ending → ending ≡ LongEnd → ShowsLong g (state_of new taken)
 shows_long g new taken r ending read full is =
@@ -77,8 +79,8 @@ shows_long g new taken r ending read full is =
 taken_is : (p : Inside) (history : History) (turn : Turn) → history.turns ≡ kept_with p.history.turns turn → messages_of history.turns ≡ messages_of p.history.turns ++ turn.taken
 taken_is p history turn is = ap messages_of is ∙ messages_more p.history.turns turn
 
-pub is_again : (p : Inside) (r most : ℕ) (dones : List Done) (messages : List OnLink) (new : Fields) (history : History) (lists : Lists) (fault : Option TurnFault) (handed now : List Task) → IsPlatform p → p.fault ≡ None → IsDone p r most dones messages new history lists fault handed now → IsPlatform (after p new history lists fault)
-is_again p r most dones messages new history lists fault handed now is on d =
+pub is_again : (p : Inside) (r most : ℕ) (dones : List Done) (messages : List OnLink) (new : Fields) (history : History) (lists : Lists) (fault : Option TurnFault) (next : Option ℕ) (handed now : List Task) → IsPlatform p → p.fault ≡ None → IsDone p r most dones messages new history lists fault handed now → MatchOption next (Unit {0}) (IsNextReading (graph_of p) p.number (state_of new (messages_of history.turns))) → IsPlatform (after p new history lists fault next)
+is_again p r most dones messages new history lists fault next handed now is on d is_next =
     let k = d.kept in
     let turn : Turn = turn_of r k.lists in
     let rows : rows_of new.sensors.items ≡ rows_of p.fields.sensors.items = λ i a. d.all_rows a i in
@@ -98,6 +100,8 @@ is_again p r most dones messages new history lists fault handed now is on d =
       empty = d.empty;
       sent = d.sent;
       room = tt;
+      branches = is.branches;
+      next = is_next;
     }
 
 -- a turn with what it claims and how it ends
@@ -108,7 +112,7 @@ record TurnPart (g : Graph) (level : ℕ → ℕ) (i : ℕ) (s : State) (turn : 
 
 -- the turn that was made
 pub is_turned : (p : Inside) (r reading most : ℕ) (dones : List Done) (messages : List OnLink) (new : Fields) (history : History) (lists : Lists) (fault : Option TurnFault) (handed now : List Task) → r ≡ raised_to p.fields.reading reading → IsDone p r most dones messages new history lists fault handed now
-    → (made : IsTurned (view_of p) (view_of (after p new history lists fault)) reading most dones messages) × (now ≡ handed ++ made.turn.claimed) × StaysThere (view_of p) (view_of (after p new history lists fault))
+    → (made : IsTurned (view_of p) (view_of (after p new history lists fault None)) reading most dones messages) × (now ≡ handed ++ made.turn.claimed) × StaysThere (view_of p) (view_of (after p new history lists fault None))
 is_turned p r reading most dones messages new history lists fault handed now raised d =
     let k = d.kept in
     let g : Graph = graph_of p in

@@ -13,3 +13,4 @@ pub mod Sending
 pub mod Lighter
 pub mod Ends
 pub mod Moving
+pub mod Idling

@@ -130,6 +130,8 @@ is_lighter p l m outbox history is w =
       empty = is.empty;
       sent = omega (arith, w.len, sent, is.sent);
       room = room_still p l m outbox history p.room w is.room;
+      branches = is.branches;
+      next = is.next;
     }
 
 pub has_gone : (p : Inside) (l : ℕ) (m : OnLink) (outbox : Vec OnLink) (history : History) → Went p l m outbox history → HasGone (view_of p) (view_of (lighter p outbox history)) l

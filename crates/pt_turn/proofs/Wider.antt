@@ -29,7 +29,7 @@ use Rattle.pt_turn.specs.Platforms.{IsPlatform, IsRoomy, graph_of, messages_of, 
 use Rattle.pt_turn.specs.Running.{Ran}
 
 abbrev pub wider : Inside → Fields → History → Lists → Option Room → Inside
-wider p fields history lists room = record { plan = p.plan; number = p.number; closing = p.closing; fields = fields; history = history; lists = lists; fault = p.fault; room = room }
+wider p fields history lists room = record { plan = p.plan; number = p.number; branches = p.branches; closing = p.closing; fields = fields; history = history; lists = lists; fault = p.fault; room = room; next = None }
 
 same_state : (old new : Fields) (taken : List OnLink) → AreWider old new → state_of new taken ≡ state_of old taken
 same_state old new taken w = λ i. record {
@@ -74,6 +74,8 @@ is_wider p fields history lists room is f h l roomy = record {
   };
   sent = omega (arith, f.outbox.len, h.sent, is.sent);
   room = roomy;
+  branches = is.branches;
+  next = tt;
 }
 
 -- what there was room for there still is

@@ -7,3 +7,4 @@ pub mod Growing
 pub mod Gone
 pub mod Finished
 pub mod Laws
+pub mod Rested

@@ -7,7 +7,7 @@ use Rattle.pt_types.specs.declared.rows.Row.{Row}
 use Rattle.pt_types.specs.declared.firing.Event.{Event}
 use Rattle.pt_types.specs.declared.firing.OnLink.{OnLink}
 use Rattle.pt_semantics.specs.Closing.{on_link}
-use Rattle.pt_semantics.specs.Paced.{IsClosing}
+use Rattle.pt_semantics.specs.Paced.{IsClosing, IsNextReading}
 use Rattle.pt_semantics.specs.Platform.{State}
 use Rattle.pt_semantics.specs.Readings.{later_of}
 use Rattle.pt_semantics.specs.Rows.{FitRows}
@@ -18,6 +18,7 @@ use Rattle.pt_state.specs.declared.fields.OpenClaim.{OpenClaim}
 use Rattle.pt_state.specs.declared.fields.Sensor.{Sensor}
 use Rattle.pt_queue.specs.Events.{waiting_in}
 use Rattle.pt_state.specs.State.{busy_in, left_in, rows_of, state_of, states_in, IsSound}
+use Rattle.pt_post.specs.Branches.{AreBranches}
 use Rattle.pt_enter.specs.Sensors.{AreSensors}
 use Rattle.pt_steps.specs.Steps.{AreEmpty, HasRoom, count_due}
 use Rattle.pt_turn.specs.declared.fault.TurnFault.{TurnFault}
@@ -115,3 +116,5 @@ pub record IsPlatform (p : Inside) : Type 0 where
   pub empty : AreEmpty p.lists
   pub sent : vec_len p.fields.outbox ≤ p.history.room.sent
   pub room : MatchOption p.room (Unit {0}) (IsRoomy p)
+  pub branches : AreBranches (graph_of p) p.branches
+  pub next : MatchOption p.next (Unit {0}) (IsNextReading (graph_of p) p.number (state_of p.fields (messages_of p.history.turns)))

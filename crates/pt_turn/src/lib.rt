@@ -15,6 +15,7 @@ mod making_room;
 mod needing;
 mod opening;
 mod platform;
+mod resting;
 mod room;
 mod rooming;
 mod turning;

@@ -2,6 +2,7 @@
 
 ghost use Rattle.std.specs.Prelude.{◌≡◌, ◌+◌, ◌*◌, ◌≤◌, ℕ, Some, length, vec_len};
 ghost use Rattle.pt_state.specs.State.{rows_of, IsSound};
+ghost use Rattle.pt_post.specs.Branches.{AreBranches};
 ghost use Rattle.pt_enter.specs.Sensors.{AreSensors};
 ghost use Rattle.pt_take.specs.Taken.{Basis};
 ghost use Rattle.pt_steps.specs.Steps.{AreEmpty};
@@ -14,6 +15,7 @@ use crate::keeping::{hand_out, keep};
 use pt_actors::{Done, Tasks};
 use pt_history::History;
 use pt_offsets::Plan;
+use pt_post::Branches;
 use pt_state::Fields;
 use pt_steps::{Lists, turn};
 use pt_types::OnLink;
@@ -23,6 +25,7 @@ use pt_types::OnLink;
 pub fn make(
     fields: &mut Fields,
     plan: &Plan,
+    branches: &Branches,
     number: u32,
     closing: u64,
     reading: u64,
@@ -37,6 +40,7 @@ pub fn make(
     requires ready { IsReady plan.now basis number closing reading most dones.now messages.now fields.old lists.old }
     requires keep { CanKeep plan.now reading (length dones.now) (length messages.now) most fields.old history.old.room }
     requires tasks { most ≤ tasks.old.spare }
+    requires branches { AreBranches plan.now.graph branches.now }
     ensures kept { IsKept plan.now basis reading most dones.now messages.now fields.old fields.new history.old.turns history.new.turns tasks.old.tasks tasks.new.tasks result }
     ensures sound { IsSound plan.now.graph fields.new }
     ensures sensors { AreSensors plan.now.graph fields.new.sensors.items }
@@ -49,7 +53,7 @@ pub fn make(
 {
     let last = fields.reading;
     let ending = turn(
-        fields, plan, number, closing, reading, dones, messages, most, lists,
+        fields, plan, number, closing, reading, dones, messages, most, lists, branches,
     );
     let fault = fault_of(plan, ending, last, lists.taken.as_slice());
     hand_out(lists.claimed.as_slice(), tasks);

@@ -11,6 +11,7 @@ use pt_history::History;
 use pt_next::{closing_reading, next_reading};
 use pt_offsets::Plan;
 use pt_open::open_fields;
+use pt_post::find_branches;
 use pt_sensors::SensorRows;
 use pt_steps::Lists;
 use pt_tags::Memory;
@@ -35,9 +36,11 @@ impl Platform {
     {
         let fields = open_fields(alloc, &plan, platform, rows)?;
         let closing = closing_reading(&plan, platform);
+        let branches = find_branches(alloc, plan.graph())?;
         Ok(Platform {
             plan,
             number: platform,
+            branches,
             closing,
             fields,
             history: History::new(alloc),
@@ -49,6 +52,7 @@ impl Platform {
             },
             fault: None,
             room: None,
+            next: None,
         })
     }
 
@@ -60,6 +64,9 @@ impl Platform {
         if self.fields.closed {
             return None;
         }
-        Some(next_reading(&self.fields, &self.plan, self.number, self.closing))
+        match self.next {
+            Some(next) => Some(next),
+            None => Some(next_reading(&self.fields, &self.plan, self.number, self.closing)),
+        }
     }
 }

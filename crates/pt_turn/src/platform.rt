@@ -10,6 +10,7 @@ use crate::fault::TurnFault;
 use crate::room::Room;
 use pt_history::History;
 use pt_offsets::Plan;
+use pt_post::Branches;
 use pt_state::Fields;
 use pt_steps::Lists;
 use pt_types::Task;
@@ -24,6 +25,8 @@ use std::sync::Arc;
 pub struct Platform {
     pub(crate) plan: Arc<Plan>,
     pub(crate) number: u32,
+    /// Where the wires of its graph stand, actor by actor.
+    pub(crate) branches: Branches,
     /// From this reading on it may close, in microseconds.
     pub(crate) closing: u64,
     pub(crate) fields: Fields,
@@ -32,6 +35,8 @@ pub struct Platform {
     pub(crate) lists: Lists,
     pub(crate) fault: Option<TurnFault>,
     pub(crate) room: Option<Room>,
+    /// Its next reading, in microseconds, where that is known.
+    pub(crate) next: Option<u64>,
 }
 
 impl Model for Platform {

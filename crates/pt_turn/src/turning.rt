@@ -44,6 +44,7 @@ impl Platform {
         self.fault = make(
             &mut self.fields,
             &self.plan,
+            &self.branches,
             self.number,
             self.closing,
             reading,
@@ -55,6 +56,7 @@ impl Platform {
             tasks,
         );
         self.room = None;
+        self.next = None;
         match self.fault {
             None => Ok(()),
             Some(fault) => Err(fault),

@@ -1,5 +1,5 @@
 -- A turn and what is sent after it are a visit.
-use Rattle.std.proofs.Common.{◌≡◌, ℕ, min, ◌+◌, ◌-◌, ◌<◌, ◌≤◌, Bool, List, [], ◌∷◌, ◌++◌, Option, length, map, take, inl, inr, sym, ap, subst, ◌∙◌, append_assoc, length-append, arith}
+use Rattle.std.proofs.Common.{◌≡◌, ℕ, min, ◌+◌, ◌-◌, ◌<◌, ◌≤◌, Bool, List, [], ◌∷◌, ◌++◌, Option, Some, length, map, take, zero, suc, refl, inl, inr, append-nil, sym, ap, subst, ◌∙◌, append_assoc, length-append, arith}
 use Rattle.std.proofs.lemmas.List.{length-take}
 use Rattle.std.proofs.lemmas.Option.{slice_get_cases}
 use Rattle.pt_tags.specs.declared.message.Message.{Message}
@@ -19,12 +19,14 @@ use Rattle.pt_history.specs.Turns.{sending}
 use Rattle.pt_post.specs.Posted.{AreDone}
 use Rattle.pt_turn.specs.Gone.{last_sent}
 use Rattle.pt_turn.specs.Platforms.{PlatformView, level_at, state_at}
+use Rattle.pt_turn.specs.Rested.{HasRested}
 use Rattle.pt_turn.specs.Turned.{IsTurned, StaysThere, is_late}
 use Rattle.pt_turn.proofs.Coming.{on_append}
 use Rattle.pt_turn.proofs.Sending.{last_sent_pushed, taken_still}
 use Rattle.pt_visits.specs.Pipes.{HavePushed, arriving, emptied}
 use Rattle.pt_visits.specs.Pushing.{ArePushed}
 use Rattle.pt_visits.specs.Visited.{IsVisited}
+use Rattle.pt_visits.proofs.Sent.{sent_none}
 
 -- these messages are a front of each outbox, and are few
 record IsFrontOf (outbox : ℕ → List Message) (ms : List OnLink) (rest : ℕ → List Message) : Type 0 where
@@ -154,3 +156,28 @@ is_visited r dones given results old mid new pipes between piped messages handed
     let all : MakesTurn old mid r dones (arriving old.plan.graph old.number 0 pipes) [] tasks = subst (λ (ts : List Task). MakesTurn old mid r dones (arriving old.plan.graph old.number 0 pipes) ts tasks) handed_are two in
     let graph_is : new.plan.graph ≡ old.plan.graph = ap (λ (v : PlatformView). v.plan.graph) pushed.gone.stays ∙ ap (λ (p : Parts). p.graph) all.2.plan in
     visited r dones results old mid pipes piped all.0 all.2 (fired ∙ all.1) (subst (λ (g : Graph). AreDone g results) graph_is are) new (subst (λ (ps : List (List Message)). ArePushed mid new ps piped) between_are pushed)
+
+-- a visit in which nothing is done
+nothing_pushed : (v : PlatformView) (pipes : List (List Message)) → v.outbox ≡ [] → ArePushed v v pipes pipes
+nothing_pushed v pipes none = record {
+  sent = [];
+  gone = sent_none v;
+  pushed = record {
+    count = refl;
+    pipes = λ l pipe at. at ∙ ap Some (sym (append-nil pipe));
+    first = λ l pipe at. sym (ap (λ (ms : List OnLink). take (64 - length pipe) (on_link l ms)) none ∙ take-nil (64 - length pipe));
+    nowhere_else = λ l at. refl;
+    by_link = tt;
+  };
+}
+  where
+    take-nil : (n : ℕ) → take {A = Message} n [] ≡ []
+    take-nil zero = refl
+    take-nil (suc n) = refl
+
+pub rested_visit : (r : ℕ) (dones : List Done) (old new : PlatformView) (pipes piped : List (List Message)) (taken : List OnLink) → dones ≡ [] → taken ≡ [] → taken ≡ arriving old.plan.graph old.number 0 pipes → piped ≡ emptied old.plan.graph old.number 0 pipes → HasRested old new r → IsVisited r dones dones old new pipes piped
+rested_visit r dones old new pipes piped taken no_dones none are emptied_are h =
+    let turned : (made : IsTurned old new r 64 [] (arriving old.plan.graph old.number 0 pipes)) × (made.turn.claimed ≡ []) = subst (λ (ms : List OnLink). (made : IsTurned old new r 64 [] ms) × (made.turn.claimed ≡ [])) (sym none ∙ are) (h.made 64, h.idle 64) in
+    subst (λ (ds : List Done). IsVisited r ds ds old new pipes piped) (sym no_dones)
+    (subst (λ (ps : List (List Message)). IsVisited r [] [] old new pipes ps) (sym emptied_are)
+    (visited r [] [] old new pipes (emptied old.plan.graph old.number 0 pipes) turned.0 h.stays (sym turned.1) tt new (nothing_pushed new (emptied old.plan.graph old.number 0 pipes) h.sent_all)))

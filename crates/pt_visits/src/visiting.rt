@@ -1,8 +1,9 @@
 //! A visit of a platform.
 
-ghost use Rattle.std.specs.Prelude.{◌≡◌, None, OnOk, length};
+ghost use Rattle.std.specs.Prelude.{◌≡◌, [], None, IfOk, OnOk, false, length, true};
 ghost use Rattle.pt_post.specs.Posted.{AreDone};
 ghost use Rattle.pt_turn.specs.Platforms.{level_at, state_at};
+ghost use Rattle.pt_turn.specs.Rested.{HasRested};
 ghost use Rattle.pt_turn.specs.Turned.{MayCome};
 ghost use Rattle.pt_visits.specs.Pipes.{arriving};
 ghost use Rattle.pt_visits.specs.Visited.{IsVisited};
@@ -16,9 +17,31 @@ use pt_blocks::Blocks;
 use pt_links::Pipe;
 use pt_tags::Memory;
 use pt_turn::{Platform, Room};
+use pt_types::OnLink;
 
 /// How many units a platform claims at most in one turn.
 const MOST: usize = 64;
+
+/// Makes the turn of a visit, if nothing has come, no result is in hand, and it is known at once that nothing is done in it.
+/// Tells whether it made one; else nothing is changed.
+fn rests(
+    platform: &mut Platform,
+    results: &[Done],
+    taken: &[OnLink],
+    reading: u64,
+) -> Result<bool, Memory>
+    requires no_fault { platform.old.fault ≡ None }
+    ensures rested { IfOk result (λ rested. rested ≡ true → (results.now ≡ []) × (taken.now ≡ []) × HasRested platform.old platform.new reading) }
+    ensures awake { IfOk result (λ rested. rested ≡ false → platform.new ≡ platform.old) }
+{
+    if !results.is_empty() {
+        return Ok(false);
+    }
+    if !taken.is_empty() {
+        return Ok(false);
+    }
+    platform.rest(reading)
+}
 
 /// Visits a platform at a reading, in microseconds, which is raised to the last one where it is smaller: takes all messages
 /// that have come to it, link by link, makes one turn with the results in hand, and pushes what goes out until each outbox
@@ -45,6 +68,10 @@ pub fn visit(
     desk.tasks.clear();
     let graph = platform.plan().graph();
     take_all(graph, platform.number(), pipes, &mut desk.taken)?;
+    let rested = rests(platform, results.as_slice(), desk.taken.as_slice(), reading)?;
+    if rested {
+        return Ok(());
+    }
     desk.tasks.reserve(MOST)?;
     platform.room(Room {
         reading,

@@ -90,3 +90,9 @@ returns-in-Some-clause-events c =
     let new = ap (λ b. leaving_open c.args.graph.now b c.args.graph.now.wires) busy in
     let spare : c.args.fields.now.queue.spare ≤ c.emit.new.queue.spare + leaving c.args.graph.now (unit_of c.args.graph.now c.args.done.now.task) c.args.graph.now.wires = subst (λ (u : Part). c.args.fields.now.queue.spare ≤ c.emit.new.queue.spare + leaving c.args.graph.now u c.args.graph.now.wires) found.0 c.emit.ensures.spare in
     omega (arith, sum, new, spare)
+
+pub emit-requires-clause-actor : goal.emit-requires-clause-actor
+emit-requires-clause-actor c =
+    let found = found_is c.args.graph.now c.args.fields.now.open_claims.items c.args.done.now.task c.in-Some.unit c.requires.sound.open_claims (subst (λ os. IsFound os c.args.done.now.task (Some c.in-Some.unit)) c.as_slice.ensures.value c.in-Some.ensures) in
+    let actor : c.args.done.now.task.actor < length c.args.graph.now.actors = found_actor c.args.graph.now c.args.fields.now.open_claims.items c.args.done.now.task c.in-Some.unit c.requires.sound.open_claims (subst (λ os. IsFound os c.args.done.now.task (Some c.in-Some.unit)) c.as_slice.ensures.value c.in-Some.ensures) in
+    subst (λ (u : Part). u.actor < length c.args.graph.now.actors) (sym found.0) actor

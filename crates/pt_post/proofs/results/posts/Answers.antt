@@ -12,12 +12,12 @@ pub post-requires-clause-fits : goal.post-requires-clause-fits
 post-requires-clause-fits c = λ busy. fit_found c.args.graph.now c.loop-done.fields.open_claims.items _ _ c.loop-done.invariant.so_far.fit busy
 
 pub post-requires-clause-absent : goal.post-requires-clause-absent
-post-requires-clause-absent c = λ busy. c.requires.never [] c.loop-done.invariant.so_far.posted (state_of c.loop-done.fields []) c.record-record.result (c.loop-done.invariant.so_far.posts []) busy
+post-requires-clause-absent c = λ busy. c.requires.never [] c.loop-done.invariant.so_far.posted (state_of c.loop-done.fields []) c.as_record-record.result.now (c.loop-done.invariant.so_far.posts []) busy
 
 pub loop-done-preserved : goal.loop-done-preserved
 loop-done-preserved c =
-    let item : c.record-record.result ≡ get_or c.args.dones.now c.loop-done.done-index c.done-item.result = c.record-record.ensures ∙ c.done-item.is in
-    let handed : take (c.loop-done.done-index + 1) c.args.dones.now ≡ take c.loop-done.done-index c.args.dones.now ++ c.record-record.result ∷ [] = take_more c.args.dones.now c.loop-done.done-index c.done-item.result c.loop-done-test.true ∙ ap (λ d. take c.loop-done.done-index c.args.dones.now ++ d ∷ []) (sym item) in
+    let item : c.as_record-record.result.now ≡ get_or c.args.dones.now c.loop-done.done-index c.done-item.result = c.as_record-record.ensures ∙ c.done-item.is in
+    let handed : take (c.loop-done.done-index + 1) c.args.dones.now ≡ take c.loop-done.done-index c.args.dones.now ++ c.as_record-record.result.now ∷ [] = take_more c.args.dones.now c.loop-done.done-index c.done-item.result c.loop-done-test.true ∙ ap (λ d. take c.loop-done.done-index c.args.dones.now ++ d ∷ []) (sym item) in
     let events : c.args.fields.now.queue.spare + leaving_open c.args.graph.now (busy_in c.post.new.fields.open_claims.items) c.args.graph.now.wires ≤ c.post.new.fields.queue.spare + leaving_open c.args.graph.now (busy_in c.args.fields.now.open_claims.items) c.args.graph.now.wires = omega (arith, c.post.ensures.events, c.loop-done.invariant.events) in
     let messages : vec_len c.post.new.fields.outbox ≤ vec_len c.args.fields.now.outbox + (c.loop-done.done-index + 1) * length c.args.graph.now.links = omega (arith, c.post.ensures.messages.1, c.loop-done.invariant.messages) in
     let room : vec_capacity c.args.fields.now.outbox ≤ vec_capacity c.post.new.fields.outbox = omega (arith, c.post.ensures.messages.0, c.loop-done.invariant.messages_room) in
@@ -27,11 +27,11 @@ loop-done-preserved c =
     let groups = c.post.ensures.groups ∙ c.loop-done.invariant.groups in
     elim c.if-post.branch [
       | then-post+in-Ok w ↦
-          let items : c.if-post.kept.items ≡ c.loop-done.kept.items ++ c.record-record.result ∷ [] = ap (λ v. v.items) w.kept-is ∙ w.in-Ok.ensures.items in
+          let items : c.if-post.kept.items ≡ c.loop-done.kept.items ++ c.as_record-record.result.now ∷ [] = ap (λ v. v.items) w.kept-is ∙ w.in-Ok.ensures.items in
           record {
             sound = c.post.ensures.sound;
             so_far = subst (λ ds. Posted c.args.graph.now c.args.fields.now c.post.new.fields ds c.args.kept.now.items c.if-post.kept.items) (sym handed)
-                (posted_more c.args.graph.now c.args.fields.now c.loop-done.fields c.post.new.fields (take c.loop-done.done-index c.args.dones.now) c.args.kept.now.items c.loop-done.kept.items c.if-post.kept.items c.record-record.result c.loop-done.invariant.so_far items
+                (posted_more c.args.graph.now c.args.fields.now c.loop-done.fields c.post.new.fields (take c.loop-done.done-index c.args.dones.now) c.args.kept.now.items c.loop-done.kept.items c.if-post.kept.items c.as_record-record.result.now c.loop-done.invariant.so_far items
                 (subst (IsDone c.args.graph.now) (sym item) (read_each (IsDone c.args.graph.now) c.args.dones.now c.loop-done.done-index c.done-item.result c.requires.dones c.loop-done-test.true))
                 (c.post.ensures.claimed.0 w.if-post.true) c.post.ensures.sound.open_claims (c.post.ensures.posted w.if-post.true));
             kept = omega (arith, ap (λ v. vec_len v) w.kept-is, w.push.ensures.upper_bound, c.loop-done.invariant.kept);
@@ -47,7 +47,7 @@ loop-done-preserved c =
       | else-post w ↦ record {
         sound = c.post.ensures.sound;
         so_far = subst (λ ds. Posted c.args.graph.now c.args.fields.now c.post.new.fields ds c.args.kept.now.items c.if-post.kept.items) (sym handed)
-            (posted_same c.args.graph.now c.args.fields.now c.loop-done.fields c.post.new.fields (take c.loop-done.done-index c.args.dones.now) c.args.kept.now.items c.loop-done.kept.items c.if-post.kept.items c.record-record.result c.loop-done.invariant.so_far (ap (λ v. v.items) w.kept-is)
+            (posted_same c.args.graph.now c.args.fields.now c.loop-done.fields c.post.new.fields (take c.loop-done.done-index c.args.dones.now) c.args.kept.now.items c.loop-done.kept.items c.if-post.kept.items c.as_record-record.result.now c.loop-done.invariant.so_far (ap (λ v. v.items) w.kept-is)
             (λ busy. false≢true (sym w.if-post.false ∙ c.post.ensures.claimed.1 busy)) (c.post.ensures.passed w.if-post.false));
         kept = omega (arith, ap (λ v. vec_len v) w.kept-is, c.loop-done.invariant.kept);
         kept_room = omega (arith, ap (λ v. vec_capacity v) w.kept-is, c.loop-done.invariant.kept_room);

@@ -20,6 +20,7 @@ use Rattle.pt_steps.specs.declared.steps.Lists.{Lists}
 use Rattle.pt_steps.specs.Claiming.{HasClaimed}
 use Rattle.pt_steps.specs.Steps.{HasRoom, IsFront, IsGround, IsMade}
 use Rattle.pt_steps.proofs.Joining.{AreSteps, claims_part, is_made, late_is, never_posts, shows_end}
+use Rattle.pt_post.specs.Branches.{AreBranches}
 use Rattle.pt_steps.proofs.steps.turn.Goals as goal
 
 pub posts-requires-clause-wired : goal.posts-requires-clause-wired
@@ -65,7 +66,7 @@ pub returns-clause-made : goal.returns-clause-made
 returns-clause-made g c =
     let gr : Graph = c.graph-graph.result.now in
     let value : gr ≡ c.args.plan.now.graph = c.graph-graph.ensures.value in
-    let empty = c.requires.1.1.1.1.1.1.1.1.1.1.1 in
+    let empty = c.requires.1.1.1.1.1.1.1.1.1.1.1.0 in
     let most = c.requires.1.1.1.1.1.1.1.1.0 in
     let few : c.args.fields.now.claims ≤ 200000 = c.requires.1.1.1.1.1.1.1.1.1.0 in
     let rises : (p : ℕ) → c.args.fields.now.reading ≡ Some p → p ≤ c.args.reading = c.requires.1.1.1.1.1.0 in
@@ -105,3 +106,6 @@ returns-clause-full g c =
     let claimed = c.claim_unless-ending.ensures.claimed in
     shows_end c.args.plan.now.graph c.args.reading (record c.takes-late.new.fields { reading = Some c.args.reading }) c.claim_unless-ending.new.fields c.close.new.fields c.takes-late.result c.claim_unless-ending.result
     c.close.ensures.frame.5 c.close.ensures.frame.0 c.close.ensures.frame.1 (λ on. let k = (claimed.claimed on).count in omega (arith, k)) claimed.ends
+
+pub posts-requires-clause-branches : goal.posts-requires-clause-branches
+posts-requires-clause-branches g c = subst (λ gr. AreBranches gr c.args.branches.now) (sym c.graph-graph.ensures.value) c.requires.1.1.1.1.1.1.1.1.1.1.1.1

@@ -7,6 +7,10 @@ use Rattle.pt_semantics.specs.Rows.{FitRows}
 use Rattle.pt_semantics.specs.Turn.{Turn}
 use Rattle.pt_ranks.specs.Ranked.{level_of}
 use Rattle.pt_offsets.specs.Plans.{IsAdmitted, Parts}
+use Rattle.pt_types.specs.declared.graph.Graph.{Graph}
+use Rattle.pt_lawful.proofs.Edges.{wired}
+use Rattle.pt_semantics.specs.Wired.{IsWired}
+use Rattle.pt_post.specs.Branches.{AreBranches}
 use Rattle.pt_enter.specs.Sensors.{AreSensors}
 use Rattle.pt_state.specs.State.{rows_of, state_of, IsSound}
 use Rattle.pt_turn.specs.Platforms.{messages_of}
@@ -38,4 +42,11 @@ invariant_of-result c =
       empty = record { posted = c.new-2.ensures.items; rows = c.new-3.ensures.items; taken = c.new-4.ensures.items; claimed = c.new-5.ensures.items };
       sent = omega (arith, none);
       room = tt;
+      branches = subst (λ (g : Graph). AreBranches g c.in_ok-branches.branches) (c.graph.ensures.value ∙ ap (λ (z : Parts). z.graph) c.deref-3.ensures) c.in_ok-branches.ensures;
+      next = tt;
     }
+
+pub find_branches-requires : goal.find_branches-requires
+find_branches-requires c =
+    let admitted : IsAdmitted (arc_value c.args.plan) = subst IsAdmitted c.deref.ensures c.in_ok-fields.ensures.admitted in
+    record { wired = subst IsWired (sym (c.graph.ensures.value ∙ ap (λ (z : Parts). z.graph) c.deref-3.ensures)) (wired (arc_value c.args.plan).graph admitted.lawful) }

@@ -6,6 +6,7 @@ use Rattle.pt_ranks.specs.Ranked.{level_of}
 use Rattle.pt_offsets.specs.Plans.{Parts}
 use Rattle.pt_state.specs.State.{IsSound}
 use Rattle.pt_post.specs.Posted.{AreDone}
+use Rattle.pt_post.specs.Branches.{AreBranches}
 use Rattle.pt_enter.specs.Sensors.{AreSensors}
 use Rattle.pt_turn.specs.declared.room.Room.{Room}
 use Rattle.pt_turn.specs.declared.platform.Platform.TheInside.{Inside}
@@ -23,9 +24,9 @@ make-self-inside-requires c =
     (subst (λ (v : PlatformView). MatchOption v.room ⊥ (IsEnough c.args.reading (length c.args.done.now) (length c.args.taken.now) c.args.most)) (sym c.self.view_is) c.requires.room) in
     let done : AreDone (graph_of p) c.args.done.now = subst (λ (v : PlatformView). AreDone v.plan.graph c.args.done.now) (sym c.self.view_is) c.requires.done in
     let may : MayCome (graph_of p) (level_of (arc_value p.plan).ranks) p.number (state_at (view_of p)) c.args.taken.now = subst (λ (v : PlatformView). MayCome v.plan.graph (level_at v) v.number (state_at v) c.args.taken.now) (sym c.self.view_is) c.requires.taken in
-    subst (λ (plan : Parts). IsReady plan (record { level = level_of plan.ranks; platform = p.number; taken = messages_of p.history.turns }) p.number p.closing c.raised_to-reading.result c.args.most c.args.done.now c.args.taken.now p.fields p.lists × (CanKeep plan c.raised_to-reading.result (length c.args.done.now) (length c.args.taken.now) c.args.most p.fields p.history.room × (c.args.most ≤ c.args.tasks.now.spare))) (sym c.deref.ensures)
-    (subst (λ r. IsReady (arc_value p.plan) (basis_of p) p.number p.closing r c.args.most c.args.done.now c.args.taken.now p.fields p.lists × (CanKeep (arc_value p.plan) r (length c.args.done.now) (length c.args.taken.now) c.args.most p.fields p.history.room × (c.args.most ≤ c.args.tasks.now.spare))) (sym c.raised_to-reading.ensures)
-    (is_ready p room.0 c.args.reading c.args.most c.args.done.now c.args.taken.now c.self.invariant c.in_default.is room.1 room.2 c.requires.most done may, (can_keep p room.0 c.args.reading c.args.most (length c.args.done.now) (length c.args.taken.now) room.1 room.2, c.requires.tasks)))
+    subst (λ (plan : Parts). IsReady plan (record { level = level_of plan.ranks; platform = p.number; taken = messages_of p.history.turns }) p.number p.closing c.raised_to-reading.result c.args.most c.args.done.now c.args.taken.now p.fields p.lists × (CanKeep plan c.raised_to-reading.result (length c.args.done.now) (length c.args.taken.now) c.args.most p.fields p.history.room × ((c.args.most ≤ c.args.tasks.now.spare) × AreBranches plan.graph p.branches))) (sym c.deref.ensures)
+    (subst (λ r. IsReady (arc_value p.plan) (basis_of p) p.number p.closing r c.args.most c.args.done.now c.args.taken.now p.fields p.lists × (CanKeep (arc_value p.plan) r (length c.args.done.now) (length c.args.taken.now) c.args.most p.fields p.history.room × ((c.args.most ≤ c.args.tasks.now.spare) × AreBranches (graph_of p) p.branches))) (sym c.raised_to-reading.ensures)
+    (is_ready p room.0 c.args.reading c.args.most c.args.done.now c.args.taken.now c.self.invariant c.in_default.is room.1 room.2 c.requires.most done may, (can_keep p room.0 c.args.reading c.args.most (length c.args.done.now) (length c.args.taken.now) room.1 room.2, (c.requires.tasks, c.self.invariant.branches))))
 
 pub invariant_of-self : goal.invariant_of-self
 invariant_of-self c =
@@ -36,7 +37,7 @@ invariant_of-self c =
     let done : IsDone p c.raised_to-reading.result c.args.most c.args.done.now c.args.taken.now c.make-self-inside.new.fields c.make-self-inside.new.history c.make-self-inside.new.lists c.make-self-inside.result c.args.tasks.now.tasks c.make-self-inside.new.tasks.tasks =
     is_done p c.deref.result.now room.0 c.raised_to-reading.result c.args.most c.args.done.now c.args.taken.now c.make-self-inside.new.fields c.make-self-inside.new.history c.make-self-inside.new.lists c.make-self-inside.result c.args.tasks.now.tasks c.make-self-inside.new.tasks.tasks c.deref.ensures room.1 room.2.done
     m.kept m.sound m.sensors m.all_rows m.reading m.claims m.empty m.outbox m.sent c.raised_to-reading.type_inv in
-    is_again p c.raised_to-reading.result c.args.most c.args.done.now c.args.taken.now c.make-self-inside.new.fields c.make-self-inside.new.history c.make-self-inside.new.lists c.make-self-inside.result c.args.tasks.now.tasks c.make-self-inside.new.tasks.tasks c.self.invariant c.in_default.is done
+    is_again p c.raised_to-reading.result c.args.most c.args.done.now c.args.taken.now c.make-self-inside.new.fields c.make-self-inside.new.history c.make-self-inside.new.lists c.make-self-inside.result None c.args.tasks.now.tasks c.make-self-inside.new.tasks.tasks c.self.invariant c.in_default.is done tt
 
 pub returns-clause-turned : goal.returns-clause-turned
 returns-clause-turned c =
@@ -47,6 +48,6 @@ returns-clause-turned c =
     let done : IsDone p c.raised_to-reading.result c.args.most c.args.done.now c.args.taken.now c.make-self-inside.new.fields c.make-self-inside.new.history c.make-self-inside.new.lists c.make-self-inside.result c.args.tasks.now.tasks c.make-self-inside.new.tasks.tasks =
     is_done p c.deref.result.now room.0 c.raised_to-reading.result c.args.most c.args.done.now c.args.taken.now c.make-self-inside.new.fields c.make-self-inside.new.history c.make-self-inside.new.lists c.make-self-inside.result c.args.tasks.now.tasks c.make-self-inside.new.tasks.tasks c.deref.ensures room.1 room.2.done
     m.kept m.sound m.sensors m.all_rows m.reading m.claims m.empty m.outbox m.sent c.raised_to-reading.type_inv in
-    let new : PlatformView = view_of (after p c.make-self-inside.new.fields c.make-self-inside.new.history c.make-self-inside.new.lists c.make-self-inside.result) in
+    let new : PlatformView = view_of (after p c.make-self-inside.new.fields c.make-self-inside.new.history c.make-self-inside.new.lists c.make-self-inside.result None) in
     λ none. subst (λ (v : PlatformView). (made : IsTurned v new c.args.reading c.args.most c.args.done.now c.args.taken.now) × (c.make-self-inside.new.tasks.tasks ≡ c.args.tasks.now.tasks ++ made.turn.claimed) × StaysThere v new) c.self.view_is
     (is_turned p c.raised_to-reading.result c.args.reading c.args.most c.args.done.now c.args.taken.now c.make-self-inside.new.fields c.make-self-inside.new.history c.make-self-inside.new.lists c.make-self-inside.result c.args.tasks.now.tasks c.make-self-inside.new.tasks.tasks c.raised_to-reading.ensures done)

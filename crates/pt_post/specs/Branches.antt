@@ -1,0 +1,22 @@
+-- Where the wires of each actor stand.
+use Rattle.std.specs.Prelude.{◌≡◌, ℕ, ◌<◌, ◌≤◌, ◌+◌, List, Some, length, slice_get, slice_index_or}
+use Rattle.pt_types.specs.declared.graph.Graph.{Graph}
+use Rattle.pt_types.specs.declared.graph.Wire.{Wire}
+use Rattle.pt_post.specs.declared.branches.Branches.{Branches}
+
+-- from place j up to place k no wire leads from actor a
+abbrev pub NoneFrom : List Wire → ℕ → ℕ → ℕ → Type 0
+NoneFrom ws a j k = (i : ℕ) (w : Wire) → j ≤ i → i < k → slice_get ws i ≡ Some w → w.from ≡ a → ⊥
+
+-- place k is that of actor a's next wire from place j on, or past all wires
+pub record IsNext (ws : List Wire) (a j k : ℕ) : Type 0 where
+  pub later : j ≤ k
+  pub none : NoneFrom ws a j k
+  pub is : (w : Wire) → slice_get ws k ≡ Some w → w.from ≡ a
+
+-- the places of each actor's first wire, and of the next one behind each wire
+pub record AreBranches (g : Graph) (b : Branches) : Type 0 where
+  pub actors : length b.first.items ≡ length g.actors
+  pub wires : length b.next.items ≡ length g.wires
+  pub first : (a : ℕ) → a < length g.actors → IsNext g.wires a 0 (slice_index_or b.first.items a 0)
+  pub next : (i : ℕ) (w : Wire) → slice_get g.wires i ≡ Some w → IsNext g.wires w.from (i + 1) (slice_index_or b.next.items i 0)

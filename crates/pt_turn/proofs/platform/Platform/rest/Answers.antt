@@ -1,0 +1,57 @@
+use Rattle.std.proofs.Common.{◌≡◌, ◌<◌, ◌≤◌, ℕ, [], List, Option, Some, None, length, max, sym, ap, subst, ◌∙◌, eqb-true, vec_len, arith}
+use Rattle.pt_types.specs.declared.firing.OnLink.{OnLink}
+use Rattle.pt_semantics.specs.Kept.{kept_with}
+use Rattle.pt_semantics.specs.Paced.{IsNextReading}
+use Rattle.pt_semantics.specs.Turn.{Turn}
+use Rattle.pt_history.specs.Turns.{fresh}
+use Rattle.pt_turn.specs.declared.fault.TurnFault.{TurnFault}
+use Rattle.pt_turn.specs.declared.platform.Platform.TheInside.{Inside}
+use Rattle.pt_turn.specs.Platforms.{IsPlatform, PlatformView, graph_of, messages_of, raised_to, state_at, view_of}
+use Rattle.pt_turn.specs.Rested.{HasRested}
+use Rattle.pt_turn.proofs.Again.{IsDone, after, is_again, is_turned}
+use Rattle.pt_turn.proofs.Ends.{no_members}
+use Rattle.pt_turn.proofs.Idling.{has_rested}
+use Rattle.pt_turn.proofs.Rooms.{raised_rises}
+use Rattle.pt_turn.proofs.platform.Platform.rest.Goals as goal
+
+pub invariant_of-self : goal.invariant_of-self
+invariant_of-self c = subst (λ h. IsPlatform (record c.self-2.inside { history = h })) (sym c.in_err-reserve.ensures.unchanged) c.self-2.invariant
+
+pub invariant_of-self-2 : goal.invariant_of-self-2
+invariant_of-self-2 c =
+    let p : Inside = c.self-2.inside in
+    let r : ℕ = c.raised_to-reading.result in
+    let same : view_of p ≡ c.args.self.now = c.self-2.view_is ∙ c.find_next-next.ensures.same in
+    let next : IsNextReading (graph_of p) p.number (state_at (view_of p)) c.find_next-next.result = subst (λ (v : PlatformView). IsNextReading v.plan.graph v.number (state_at v) c.find_next-next.result) (sym same) c.find_next-next.ensures.next in
+    let rises : (q : ℕ) → p.fields.reading ≡ Some q → q ≤ r = λ q is. subst (λ n. q ≤ n) (sym c.raised_to-reading.ensures) (raised_rises p.fields.reading c.args.reading q is) in
+    let turns : c.begin.new.self.turns ≡ kept_with p.history.turns (fresh r) = c.begin.ensures.turns ∙ ap (λ (ts : List Turn). kept_with ts (fresh r)) c.in_ok-reserve.ensures.turns in
+    let room : c.begin.new.self.room.sent ≡ max p.history.room.sent 0 = ap (λ z. z.sent) c.begin.ensures.room ∙ ap (λ z. z.sent) c.in_ok-reserve.ensures.room in
+    let sent : vec_len p.fields.outbox ≤ c.begin.new.self.room.sent = omega (arith, room, c.self-2.invariant.sent) in
+    let done = has_rested p r 1 c.find_next-next.result c.begin.new.self [] c.self-2.invariant next c.if-next-reading.false rises turns sent c.raised_to-reading.type_inv in
+    let no_fault : p.fault ≡ None = ap (λ (v : PlatformView). v.fault) same ∙ c.requires.no_fault in
+    subst (λ (fault : Option TurnFault). IsPlatform (after p (record p.fields { reading = Some r }) c.begin.new.self p.lists fault p.next)) (sym no_fault)
+    (is_again p r 1 [] [] (record p.fields { reading = Some r }) c.begin.new.self p.lists None p.next [] [] c.self-2.invariant no_fault done c.self-2.invariant.next)
+
+pub returns-clause-rested : goal.returns-clause-rested
+returns-clause-rested c = λ yes.
+    let p : Inside = c.self-2.inside in
+    let r : ℕ = c.raised_to-reading.result in
+    let same : view_of p ≡ c.args.self.now = c.self-2.view_is ∙ c.find_next-next.ensures.same in
+    let next : IsNextReading (graph_of p) p.number (state_at (view_of p)) c.find_next-next.result = subst (λ (v : PlatformView). IsNextReading v.plan.graph v.number (state_at v) c.find_next-next.result) (sym same) c.find_next-next.ensures.next in
+    let rises : (q : ℕ) → p.fields.reading ≡ Some q → q ≤ r = λ q is. subst (λ n. q ≤ n) (sym c.raised_to-reading.ensures) (raised_rises p.fields.reading c.args.reading q is) in
+    let turns : c.begin.new.self.turns ≡ kept_with p.history.turns (fresh r) = c.begin.ensures.turns ∙ ap (λ (ts : List Turn). kept_with ts (fresh r)) c.in_ok-reserve.ensures.turns in
+    let room : c.begin.new.self.room.sent ≡ max p.history.room.sent 0 = ap (λ z. z.sent) c.begin.ensures.room ∙ ap (λ z. z.sent) c.in_ok-reserve.ensures.room in
+    let sent : vec_len p.fields.outbox ≤ c.begin.new.self.room.sent = omega (arith, room, c.self-2.invariant.sent) in
+    let done : (most : ℕ) → IsDone p r most [] [] (record p.fields { reading = Some r }) c.begin.new.self p.lists None [] [] = λ most. has_rested p r most c.find_next-next.result c.begin.new.self [] c.self-2.invariant next c.if-next-reading.false rises turns sent c.raised_to-reading.type_inv in
+    let turned = λ (most : ℕ). is_turned p r c.args.reading most [] [] (record p.fields { reading = Some r }) c.begin.new.self p.lists None [] [] c.raised_to-reading.ensures (done most) in
+    let len : vec_len c.self.inside.fields.outbox ≡ 0 = eqb-true (vec_len c.self.inside.fields.outbox) 0 (sym c.is_empty.ensures ∙ c.if-not-is_empty.false) in
+    let empty : c.self.inside.fields.outbox.items ≡ [] = no_members c.self.inside.fields.outbox.items (sym c.self.inside.fields.outbox.ok.0 ∙ len) in
+    let outbox : p.fields.outbox.items ≡ [] = ap (λ (v : PlatformView). v.outbox) (same ∙ sym c.self.view_is) ∙ empty in
+    let no_fault : p.fault ≡ None = ap (λ (v : PlatformView). v.fault) same ∙ c.requires.no_fault in
+    subst (λ (fault : Option TurnFault). HasRested c.args.self.now (view_of (after p (record p.fields { reading = Some r }) c.begin.new.self p.lists fault None)) c.args.reading) (sym no_fault)
+    (subst (λ (v : PlatformView). HasRested v (view_of (after p (record p.fields { reading = Some r }) c.begin.new.self p.lists None None)) c.args.reading) same (record {
+      made = λ most. (turned most).0;
+      idle = λ most. sym (turned most).1;
+      stays = (turned 1).2;
+      sent_all = outbox;
+    }))
