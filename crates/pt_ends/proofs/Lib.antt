@@ -1,4 +1,5 @@
 pub mod Ending
+pub mod Existing
 pub mod Few
 pub mod Kept
 pub mod Members

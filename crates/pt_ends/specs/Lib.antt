@@ -1,3 +1,4 @@
 pub mod Ending
+pub mod Existence
 pub mod Schedule
 pub mod WholeRuns

@@ -1,8 +1,9 @@
-//! What every paced run comes to: it ends, and the turns that are kept of it follow one schedule. This crate has no code
-//! that runs: each function has a theorem as its contract.
+//! What every paced run comes to: it ends, and the turns that are kept of it follow one schedule. And that there is a meaning:
+//! its one list of events comes to an end. This crate has no code that runs: each function has a theorem as its contract.
 #![tactic(auto)]
 
 ghost use Rattle.pt_ends.specs.Ending.{RoundsEnd};
+ghost use Rattle.pt_ends.specs.Existence.{MeaningsExist};
 ghost use Rattle.pt_ends.specs.WholeRuns.{AllOnSchedule, AllWithinSlack, ClaimedAsMeant, MissedAsMeant, NoneIsLate, WholeRunsAreOne};
 
 /// A paced run has no more rounds than its graph and its rows tell: each platform claims, enters, takes, sends and closes
@@ -39,4 +40,9 @@ pub fn kept_misses_are_as_meant()
 /// The end of a paced run is one function of the graph and its rows: no number of workers stands in it.
 pub fn whole_runs_are_one()
     ensures { WholeRunsAreOne }
+{}
+
+/// A graph that can run has a meaning, with the rows of every run.
+pub fn meanings_exist()
+    ensures { MeaningsExist }
 {}

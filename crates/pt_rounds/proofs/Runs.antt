@@ -28,9 +28,10 @@ use Rattle.pt_semantics.proofs.PacedKept.{paced_are_legal}
 use Rattle.pt_semantics.proofs.Quiet.{quiet_ends}
 use Rattle.pt_ends.specs.Schedule.{IsOnSchedule, SendsWithinSlack}
 use Rattle.pt_ends.specs.WholeRuns.{IsEnd, kept_by}
+use Rattle.pt_ends.proofs.Existing.{meanings_exist}
 use Rattle.pt_ends.proofs.Kept.{all_on_schedule, all_within_slack, claimed_as_meant, missed_as_meant, none_is_late}
 use Rattle.pt_lawful.proofs.Edges.{wired}
-use Rattle.pt_ranks.specs.Ranked.{level_of}
+use Rattle.pt_ranks.specs.Ranked.{level_of, rank_of}
 use Rattle.pt_offsets.specs.Plans.{IsAdmitted, Parts}
 use Rattle.pt_offsets.specs.Timings.{offset_of}
 use Rattle.pt_platforms.specs.All.{AreReady, histories_of}
@@ -164,6 +165,7 @@ module _ (plan : Parts) (rows : ℕ → List Row) (count c : ℕ) (olds : List P
         (none_is_late plan.graph (level_of plan.ranks) rows h.together end i (below i v there)));
     on_schedule = λ i v there. subst (Each (IsOnSchedule plan.graph)) (sym (h.shown.kept_turns i v there)) (all_on_schedule plan.graph (level_of plan.ranks) rows h.together end i (below i v there));
     within_slack = λ i v there. subst (Each (SendsWithinSlack plan.graph)) (sym (h.shown.kept_turns i v there)) (all_within_slack plan.graph (level_of plan.ranks) rows h.together end i (below i v there));
+    meaning = meanings_exist plan.graph (level_of plan.ranks) (rank_of plan.ranks) rows is_wired s.admitted.levels s.admitted.ranks s.fit;
     claimed_as_meant = λ rank xs ranks meaning u.
         let front = (claimed_as_meant plan.graph (level_of plan.ranks) rank rows h.together xs end ranks meaning).0 u in
         (front.0, front.1 ∙ ap (λ z. z ++ front.0) (sym (claims u)));

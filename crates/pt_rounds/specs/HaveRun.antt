@@ -15,6 +15,7 @@ use Rattle.pt_semantics.specs.Rounds.{IsWholeRun}
 use Rattle.pt_semantics.specs.Rows.{FitRows}
 use Rattle.pt_semantics.specs.Visits.{Made, Together}
 use Rattle.pt_ends.specs.Schedule.{AreAllClaimed, AreClaimedAsMeant, AreMissedAsMeant, IsOnSchedule, SendsWithinSlack}
+use Rattle.pt_ranks.specs.Ranked.{rank_of}
 use Rattle.pt_offsets.specs.Plans.{IsAdmitted, Parts}
 use Rattle.pt_turn.specs.declared.fault.TurnFault.TheVariants.{Long}
 use Rattle.pt_turn.specs.Platforms.{PlatformView, state_at}
@@ -58,6 +59,8 @@ pub record HaveRun (plan : Parts) (level : ℕ → ℕ) (rows : ℕ → List Row
   -- each claim is made at exactly the paced reading of its unit and tag, and no message is sent past its sender's slack
   pub on_schedule : (i : ℕ) (v : PlatformView) → slice_get platforms i ≡ Some v → Each (IsOnSchedule plan.graph) v.turns
   pub within_slack : (i : ℕ) (v : PlatformView) → slice_get platforms i ≡ Some v → Each (SendsWithinSlack plan.graph) v.turns
+  -- the graph has a meaning with these rows
+  pub meaning : (xs : List ActorFiring) × IsMeaning plan.graph (rank_of plan.ranks) rows xs
   -- each unit's claims are the first of its parts of the meaning, and all of them where the platforms are finished
   pub claimed_as_meant : InMeaning plan.graph rows (λ xs. AreClaimedAsMeant plan.graph xs (histories_of platforms))
   pub all_claimed : fault ≡ None → InMeaning plan.graph rows (λ xs. AreAllClaimed plan.graph xs (histories_of platforms))
