@@ -12,8 +12,9 @@
 # The record, dist/ptides.record, has three lines: the digest of the sources (tools/sources-digest.sh), the version line of
 # the toolchain, and the program's sha256.
 set -u
-top=$(cd "$(dirname "$0")/.." && pwd)
-cd "$top" || exit 1
+# A path is meant from the caller's folder.
+file=$(realpath -- "${2:-.}")
+cd "$(dirname "$0")/.." || exit 1
 built=crates/ptides/out/ptides
 shipped=dist/ptides
 record=dist/ptides.record
@@ -83,7 +84,7 @@ check() {
 
 case "$#:${1:-}" in
     0:) build && ship "$built" ;;
-    2:--built) ship "$2" ;;
+    2:--built) ship "$file" ;;
     1:--check) check ;;
     *) fail 'usage: tools/ship.sh [--built FILE | --check]' ;;
 esac

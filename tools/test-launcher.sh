@@ -314,6 +314,11 @@ rm "$place/repo/crates/ptides/src/more.rt"
 echo '# altered' >>"$place/repo/dist/ptides"
 ship --check
 expect 'check: an altered program' 1 $?
+cp "$place/repo/crates/ptides/out/ptides" "$place/caller/near"
+ship --built near
+expect 'ship: a path from the folder of the caller' 0 $?
+ship --built nowhere
+expect 'ship: a file that is not there' 1 $?
 ship --built /bin/true
 expect 'ship: what answers otherwise is not shipped' 1 $?
 ship --other
