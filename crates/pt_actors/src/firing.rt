@@ -22,9 +22,8 @@ pub fn fire(blocks: &Blocks, kind: &Kind, task: &Task) -> Done
     ensures task { result.task ≡ task.now }
     ensures fired { result.fired ≡ fired kind.now task.now.state task.now.inputs }
 {
-    let task = *task;
     let fired = fired(Some(blocks), kind, task.state, &task.inputs);
-    Done::new(task, fired)
+    Done::new(*task, fired)
 }
 
 /// The state and the outputs after a firing in this state on these inputs; a block gives its law's own value.

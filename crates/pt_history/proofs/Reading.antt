@@ -1,9 +1,10 @@
 -- What heads and lists tell of each turn.
-use Rattle.std.proofs.Common.{rules, ◌≡◌, ℕ, zero, suc, ◌+◌, ◌<◌, ◌&&◌, Bool, List, [], ◌∷◌, ◌++◌, length, get_or, Some, drop, refl, sym, ap, ap₂, ◌∙◌, arith, eqb}
+use Rattle.std.proofs.Common.{rules, ◌≡◌, ◌==◌, ℕ, zero, suc, ◌+◌, ◌<◌, ◌&&◌, Bool, List, [], ◌∷◌, ◌++◌, length, get_or, Some, drop, refl, sym, ap, ap₂, ◌∙◌, arith, eqb}
 use Rattle.std.specs.Prelude.{option_map, slice_get}
 use Rattle.std.specs.List.{flat_map}
 use Rattle.std.proofs.lemmas.List.{drop_all, drop_more}
-use Rattle.std.proofs.lemmas.Option.{get_or_from_slice_get}
+use Rattle.std.proofs.lemmas.Option.{get_or_from_slice_get, slice_get-get_or}
+use Rattle.pt_semantics.proofs.Lookups.{same_some}
 use Rattle.pt_types.specs.declared.firing.Task.{Task}
 use Rattle.pt_semantics.specs.Turn.{Turn, is_empty, is_quiet}
 use Rattle.pt_history.specs.declared.head.Head.{Head}
@@ -57,6 +58,8 @@ quiet_by p k hs b1 b2 b3 b4 b5 lt e1 e2 e3 e4 e5 =
     ap (option_map is_quiet) (get_turn p k hs no_head lt)
     ∙ ap Some (ap₂ (λ u v. u && v) (ap₂ (λ u v. u && v) (ap₂ (λ u v. u && v) (ap₂ (λ u v. u && v) e1 e2) e3) e4) e5)
 
--- whether the list that is read of a number is empty
-pub empty_read : {X : Type 0} (lists : List (List X)) (k : ℕ) (list : List X) (b : Bool) → slice_get lists k ≡ Some list → b ≡ eqb (length list) 0 → is_empty (get_or lists k []) ≡ b
-empty_read lists k list b read is = ap is_empty (get_or_from_slice_get lists k list [] read) ∙ empty_by_length list ∙ sym is
+-- whether the list of a number is empty
+pub empty_read : {X : Type 0} (lists : List (List X)) (k : ℕ) (b : Bool) → k < length lists → option_map (λ (list : List X). length list == 0) (slice_get lists k) ≡ Some b → is_empty (get_or lists k []) ≡ b
+empty_read {X} lists k b lt read =
+    empty_by_length (get_or lists k [])
+    ∙ same_some (length (get_or lists k []) == 0) b (sym (ap (option_map (λ (list : List X). length list == 0)) (slice_get-get_or lists k [] lt)) ∙ read)

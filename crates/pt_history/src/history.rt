@@ -167,16 +167,16 @@ impl History {
         }
     }
 
-    /// Whether nothing was done in a turn.
-    fn is_quiet(&self, number: usize) -> bool
+    /// Whether nothing was posted, entered, taken, claimed or sent in a kept turn.
+    pub fn is_quiet(&self, number: usize) -> bool
         requires { number < length self.now.turns }
         ensures { option_map is_quiet (slice_get self.now.turns number) ≡ Some result }
     {
-        let posted = self.posted.get(number).is_empty();
-        let rows = self.rows.get(number).is_empty();
-        let taken = self.taken.get(number).is_empty();
-        let claimed = self.claimed.get(number).is_empty();
-        let sent = self.sent.get(number).is_empty();
+        let posted = self.posted.is_empty_at(number);
+        let rows = self.rows.is_empty_at(number);
+        let taken = self.taken.is_empty_at(number);
+        let claimed = self.claimed.is_empty_at(number);
+        let sent = self.sent.is_empty_at(number);
         posted & rows & taken & claimed & sent
     }
 

@@ -1,5 +1,5 @@
 -- A list with its last member changed.
-use Rattle.std.proofs.Common.{◌≡◌, ℕ, zero, suc, ◌+◌, ◌<◌, List, [], ◌∷◌, ◌++◌, length, get_or, refl, ap, arith}
+use Rattle.std.proofs.Common.{◌≡◌, ℕ, zero, suc, ◌+◌, ◌<◌, List, [], ◌∷◌, ◌++◌, length, get_or, refl, ap, ◌∙◌, append-nil, arith}
 use Rattle.pt_pieces.specs.Lists.{on_last}
 
 pub length-on_last : {X : Type 0} (f : X → X) (xs : List X) → length (on_last f xs) ≡ length xs
@@ -26,3 +26,13 @@ at_last f (x ∷ []) zero d e = refl
 at_last f (x ∷ []) (suc j) d e = absurd (omega arith)
 at_last f (x ∷ y ∷ xs) zero d e = absurd (omega arith)
 at_last f (x ∷ y ∷ xs) (suc j) d e = at_last f (y ∷ xs) j d (omega arith)
+
+-- nothing is appended
+nothing_on : {X : Type 0} (xs : List (List X)) → on_last (λ (l : List X). l ++ []) xs ≡ xs
+nothing_on [] = refl
+nothing_on (x ∷ []) = ap (λ l. l ∷ []) (append-nil x)
+nothing_on (x ∷ y ∷ xs) = ap (λ ls. x ∷ ls) (nothing_on (y ∷ xs))
+
+pub on_last-nothing : {X : Type 0} (more : List X) (xs : List (List X)) → length more ≡ 0 → on_last (λ (l : List X). l ++ more) xs ≡ xs
+on_last-nothing [] xs none = nothing_on xs
+on_last-nothing (x ∷ more) xs none = absurd (omega arith)

@@ -1,6 +1,6 @@
 //! The list of lists.
 
-ghost use Rattle.std.specs.Prelude.{◌≡◌, ◌+◌, ◌<◌, ◌≤◌, ◌++◌, ◌∷◌, [], OnOk, OnErr, MatchResult, Some, length, max, slice_get, slice_index, slice_range, vec_len, vec_capacity};
+ghost use Rattle.std.specs.Prelude.{◌≡◌, ◌==◌, ◌+◌, ◌<◌, ◌≤◌, ◌++◌, ◌∷◌, [], OnOk, OnErr, MatchResult, Some, length, max, option_map, slice_get, slice_index, slice_range, vec_len, vec_capacity};
 ghost use Rattle.std.specs.List.{flat_map};
 ghost use Rattle.pt_pieces.specs.Lists.{on_last};
 
@@ -8,26 +8,29 @@ use pt_tags::Memory;
 use std::alloc::Global;
 use std::marker::Model;
 
+/// How many items there are at most, so that 32 bits number the ends.
+const MOST_ITEMS: usize = 4_294_967_296;
+
 /// A list of lists, and for how many more items and lists room is kept: contracts see `lists`, `spare_items` and
 /// `spare_lists`.
 #[derive(Drop)]
 pub struct Pieces<T> {
     items: Vec<T>,
     /// Where each list ends, counted in items.
-    ends: Vec<usize>,
+    ends: Vec<u32>,
     spare_items: usize,
     spare_lists: usize,
 }
 
 impl<T> Model for Pieces<T> {
-    ghost use Rattle.std.specs.Prelude.{◌+◌, ◌≤◌, length, vec_len, vec_capacity};
+    ghost use Rattle.std.specs.Prelude.{◌+◌, ◌<◌, ◌≤◌, ◌^◌, length, vec_len, vec_capacity};
     ghost use Rattle.pt_pieces.specs.Lists.{Rises, RoomyLists, pieces};
 
     ghost Value = { RoomyLists T };
 
     ghost view = { λ p. record { lists = pieces 0 p.ends.items p.items.items; spare_items = p.spare_items; spare_lists = p.spare_lists } };
 
-    ghost invariant = { λ p. Rises 0 p.ends.items (length p.items.items) × (vec_len p.items + p.spare_items ≤ vec_capacity p.items) × (vec_len p.ends + p.spare_lists ≤ vec_capacity p.ends) };
+    ghost invariant = { λ p. Rises 0 p.ends.items (length p.items.items) × (vec_len p.items + p.spare_items ≤ vec_capacity p.items) × (vec_len p.ends + p.spare_lists ≤ vec_capacity p.ends) × (length p.items.items + p.spare_items < 2 ^ 32) };
 }
 
 impl<T: Drop> Pieces<T> {
@@ -44,13 +47,17 @@ impl<T: Drop> Pieces<T> {
         }
     }
 
-    /// Keeps room for at least so many more items and lists. Where memory runs out all is unchanged.
+    /// Keeps room for at least so many more items and lists. Where memory runs out, or where 32 bits would not number the
+    /// items, all is unchanged.
     pub fn reserve(&mut self, items: usize, lists: usize) -> Result<(), Memory>
         ensures lists { self.new.lists ≡ self.old.lists }
         ensures items { OnOk result (self.new.spare_items ≡ max self.old.spare_items items) }
         ensures room { OnOk result (self.new.spare_lists ≡ max self.old.spare_lists lists) }
         ensures unchanged { OnErr result (self.new ≡ self.old) }
     {
+        if items >= MOST_ITEMS - self.items.len() {
+            return Err(Memory);
+        }
         let spare_items = widened(&mut self.items, self.spare_items, items)?;
         let spare_lists = widened(&mut self.ends, self.spare_lists, lists)?;
         self.spare_items = spare_items;
@@ -65,7 +72,7 @@ impl<T: Drop> Pieces<T> {
         ensures items { self.new.spare_items ≡ self.old.spare_items }
         ensures room { self.new.spare_lists + 1 ≡ self.old.spare_lists }
     {
-        match self.ends.push(self.items.len()) {
+        match self.ends.push(self.items.len() as u32) {
             Ok(()) => self.spare_lists -= 1,
             Err(_) => unreachable!(),
         }
@@ -85,12 +92,20 @@ impl<T: Drop> Pieces<T> {
         self.items.len()
     }
 
+    /// Whether the list at that place, counted from 0, has no items.
+    pub fn is_empty_at(&self, number: usize) -> bool
+        requires { number < length self.now.lists }
+        ensures { option_map (λ list. length list == 0) (slice_get self.now.lists number) ≡ Some result }
+    {
+        self.ends[number] as usize == start_of(self.ends.as_slice(), number)
+    }
+
     /// The list at that place, counted from 0.
     pub fn get(&self, number: usize) -> &[T]
         requires { number < length self.now.lists }
         ensures { slice_get self.now.lists number ≡ Some result.now }
     {
-        let end = self.ends[number];
+        let end = self.ends[number] as usize;
         let start = start_of(self.ends.as_slice(), number);
         part(self.items.as_slice(), start, end)
     }
@@ -105,21 +120,28 @@ impl<T: Copy> Pieces<T> {
         ensures items { self.new.spare_items + length more.now ≡ self.old.spare_items }
         ensures room { self.new.spare_lists ≡ self.old.spare_lists }
     {
+        if more.is_empty() {
+            return;
+        }
         match self.items.extend_from_slice(more) {
             Ok(()) => self.spare_items -= more.len(),
             Err(_) => unreachable!(),
         }
         let last = self.ends.len() - 1;
-        self.ends[last] = self.items.len();
+        self.ends[last] = self.items.len() as u32;
     }
 }
 
 /// Where a list begins: where the one before it ends.
-fn start_of(ends: &[usize], number: usize) -> usize
+fn start_of(ends: &[u32], number: usize) -> usize
     requires { number < length ends.now }
     ensures { result ≡ slice_index (0 ∷ ends.now) number }
 {
-    if number == 0 { 0 } else { ends[number - 1] }
+    if number == 0 {
+        0
+    } else {
+        ends[number - 1] as usize
+    }
 }
 
 /// The items from a place on, up to another.

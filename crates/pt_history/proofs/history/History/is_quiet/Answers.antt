@@ -6,28 +6,28 @@ use Rattle.pt_history.specs.Whole.{lists_of}
 use Rattle.pt_history.proofs.Reading.{length-turns, quiet_by, empty_read}
 use Rattle.pt_history.proofs.history.History.is_quiet.Goals as goal
 
-pub get-requires : goal.get-requires
-get-requires c =
+pub is_empty_at-posted-requires : goal.is_empty_at-posted-requires
+is_empty_at-posted-requires c =
     let lists : length c.args.self.now.turns ≡ length c.self.inside.heads.items = ap (λ (v : RoomyTurns). length v.turns) (sym c.self.view_is) ∙ length-turns (lists_of c.self.inside) 0 c.self.inside.heads.items in
     omega (arith, lists, c.self.invariant.posted.lists)
 
-pub get-requires-2 : goal.get-requires-2
-get-requires-2 c =
+pub is_empty_at-rows-requires : goal.is_empty_at-rows-requires
+is_empty_at-rows-requires c =
     let lists : length c.args.self.now.turns ≡ length c.self.inside.heads.items = ap (λ (v : RoomyTurns). length v.turns) (sym c.self.view_is) ∙ length-turns (lists_of c.self.inside) 0 c.self.inside.heads.items in
     omega (arith, lists, c.self.invariant.rows.lists)
 
-pub get-requires-3 : goal.get-requires-3
-get-requires-3 c =
+pub is_empty_at-taken-requires : goal.is_empty_at-taken-requires
+is_empty_at-taken-requires c =
     let lists : length c.args.self.now.turns ≡ length c.self.inside.heads.items = ap (λ (v : RoomyTurns). length v.turns) (sym c.self.view_is) ∙ length-turns (lists_of c.self.inside) 0 c.self.inside.heads.items in
     omega (arith, lists, c.self.invariant.taken.lists)
 
-pub get-requires-4 : goal.get-requires-4
-get-requires-4 c =
+pub is_empty_at-claimed-requires : goal.is_empty_at-claimed-requires
+is_empty_at-claimed-requires c =
     let lists : length c.args.self.now.turns ≡ length c.self.inside.heads.items = ap (λ (v : RoomyTurns). length v.turns) (sym c.self.view_is) ∙ length-turns (lists_of c.self.inside) 0 c.self.inside.heads.items in
     omega (arith, lists, c.self.invariant.claimed.lists)
 
-pub get-requires-5 : goal.get-requires-5
-get-requires-5 c =
+pub is_empty_at-sent-requires : goal.is_empty_at-sent-requires
+is_empty_at-sent-requires c =
     let lists : length c.args.self.now.turns ≡ length c.self.inside.heads.items = ap (λ (v : RoomyTurns). length v.turns) (sym c.self.view_is) ∙ length-turns (lists_of c.self.inside) 0 c.self.inside.heads.items in
     omega (arith, lists, c.self.invariant.sent.lists)
 
@@ -35,9 +35,9 @@ pub returns : goal.returns
 returns c =
     let lists : length c.args.self.now.turns ≡ length c.self.inside.heads.items = ap (λ (v : RoomyTurns). length v.turns) (sym c.self.view_is) ∙ length-turns (lists_of c.self.inside) 0 c.self.inside.heads.items in
     ap (λ (v : RoomyTurns). option_map is_quiet (slice_get v.turns c.args.number)) (sym c.self.view_is)
-    ∙ quiet_by (lists_of c.self.inside) c.args.number c.self.inside.heads.items c.is_empty-posted.result c.is_empty-rows.result c.is_empty-taken.result c.is_empty-claimed.result c.is_empty-sent.result (omega (arith, lists))
-    (empty_read c.self.inside.posted.lists c.args.number c.get.result.now c.is_empty-posted.result c.get.ensures c.is_empty-posted.ensures)
-    (empty_read c.self.inside.rows.lists c.args.number c.get-2.result.now c.is_empty-rows.result c.get-2.ensures c.is_empty-rows.ensures)
-    (empty_read c.self.inside.taken.lists c.args.number c.get-3.result.now c.is_empty-taken.result c.get-3.ensures c.is_empty-taken.ensures)
-    (empty_read c.self.inside.claimed.lists c.args.number c.get-4.result.now c.is_empty-claimed.result c.get-4.ensures c.is_empty-claimed.ensures)
-    (empty_read c.self.inside.sent.lists c.args.number c.get-5.result.now c.is_empty-sent.result c.get-5.ensures c.is_empty-sent.ensures)
+    ∙ quiet_by (lists_of c.self.inside) c.args.number c.self.inside.heads.items c.is_empty_at-posted.result c.is_empty_at-rows.result c.is_empty_at-taken.result c.is_empty_at-claimed.result c.is_empty_at-sent.result (omega (arith, lists))
+    (empty_read c.self.inside.posted.lists c.args.number c.is_empty_at-posted.result (omega (arith, lists, c.self.invariant.posted.lists)) c.is_empty_at-posted.ensures)
+    (empty_read c.self.inside.rows.lists c.args.number c.is_empty_at-rows.result (omega (arith, lists, c.self.invariant.rows.lists)) c.is_empty_at-rows.ensures)
+    (empty_read c.self.inside.taken.lists c.args.number c.is_empty_at-taken.result (omega (arith, lists, c.self.invariant.taken.lists)) c.is_empty_at-taken.ensures)
+    (empty_read c.self.inside.claimed.lists c.args.number c.is_empty_at-claimed.result (omega (arith, lists, c.self.invariant.claimed.lists)) c.is_empty_at-claimed.ensures)
+    (empty_read c.self.inside.sent.lists c.args.number c.is_empty_at-sent.result (omega (arith, lists, c.self.invariant.sent.lists)) c.is_empty_at-sent.ensures)

@@ -9,6 +9,7 @@ invariant_of-self g c =
       subst (λ es. Rises 0 es (length c.self.inside.items.items)) (sym (c.in-Ok.ensures.items ∙ ap (λ k. c.self.inside.ends.items ++ k ∷ []) n)) (rises_begin 0 c.self.inside.ends.items (length c.self.inside.items.items) c.self.invariant.0),
       c.self.invariant.1,
       omega (arith, c.push.ensures.upper_bound, c.push.ensures.capacity, c.self.invariant.2),
+      c.self.invariant.3,
     )
 
 pub returns-clause-lists : goal.returns-clause-lists
