@@ -23,14 +23,16 @@ offers() {
     fi
 }
 
-offers 'ptides ' 'check meaning run'
-offers 'ptides m' 'meaning'
+offers 'ptides ' 'check make meaning run'
+offers 'ptides me' 'meaning'
 offers 'ptides run ' 'graph.json'
 offers 'ptides check g' 'graph.json'
 offers 'ptides check ../gov' '../governor'
 offers 'ptides run --' '--clock --log --workers'
 offers 'ptides run graph.json --log -' '--clock --workers'
 offers 'ptides check -' ''
+offers 'ptides make 10' '10 100'
+offers 'ptides make 7 -' '--workers'
 offers 'ptides run --workers 6' '6 60 61 62 63 64'
 offers 'ptides run --workers = 6' '6 60 61 62 63 64'
 offers 'ptides run --clock ' 'paced'
