@@ -11,3 +11,4 @@ pub mod Removing
 pub mod Nearest
 pub mod Views
 pub mod Marking
+pub mod Later

@@ -1,5 +1,5 @@
 -- Marks of whose events lead to each unit.
-use Rattle.std.proofs.Common.{◌≡◌, ℕ, suc, ◌<◌, ◌&&◌, ◌||◌, ◌⊎◌, ◌+◌, not, Bool, true, false, IsSome, List, [], ◌∷◌, Option, Some, None, length, refl, sym, ap₂, subst, ◌∙◌, arith}
+use Rattle.std.proofs.Common.{◌≡◌, ℕ, ◌<◌, ◌&&◌, ◌||◌, ◌⊎◌, ◌+◌, not, Bool, true, false, IsSome, List, [], ◌∷◌, Option, Some, None, length, refl, sym, ap₂, subst, ◌∙◌, arith}
 use Rattle.std.specs.List.{list_any, Contains}
 use Rattle.std.proofs.lemmas.Bool.{false≢true}
 use Rattle.pt_tags.specs.declared.tag.Tag.{Tag}
@@ -8,7 +8,7 @@ use Rattle.pt_types.specs.declared.firing.Event.{Event}
 use Rattle.pt_types.specs.declared.graph.Unit.{Unit as Part}
 use Rattle.pt_semantics.specs.Lists.{Each}
 use Rattle.pt_semantics.specs.Units.{same_part}
-use Rattle.pt_semantics.proofs.Lookups.{Each-append, none_some}
+use Rattle.pt_semantics.proofs.Lookups.{none_some}
 use Rattle.pt_delays.specs.declared.least.Least.{Least}
 use Rattle.pt_delays.specs.Delays.{least_of, number_of}
 use Rattle.pt_queue.specs.declared.groups.Groups.{Groups}
@@ -17,6 +17,7 @@ use Rattle.pt_queue.specs.Lines.{AreBusy, IsInLine, all_of, first, line_at}
 use Rattle.pt_queue.specs.Marks.{counts, mark_at, AreMarked, CountMore, IsMarked}
 use Rattle.pt_queue.specs.Scans.{blocks, has_unit, is_of, reaches, unit_in}
 use Rattle.pt_queue.proofs.Blocking.{same_line, same_unit}
+use Rattle.pt_queue.proofs.Flat.{each_all}
 
 -- what is marked stays so where marks count more
 
@@ -51,16 +52,12 @@ none_marked l table marks (x ∷ line) h = absurd (none_some x h)
 
 -- the events of all lines are marked where those of the busy ones are
 
-each_line : (P : Event → Type 0) (lines : List (List Event)) → ((n : ℕ) → Each P (line_at lines n)) → Each P (all_of lines)
-each_line P [] h = tt
-each_line P (line ∷ lines) h = Each-append P line (all_of lines) (h 0) (each_line P lines (λ n. h (suc n)))
-
 some_or_none : (P : Event → Type 0) (line : List Event) → (0 < length line → Each P line) → Each P line
 some_or_none P [] h = tt
 some_or_none P (x ∷ line) h = h (omega arith)
 
 pub busy_marked : (l : Least) (table : List Groups) (marks : List Mark) (lines : List (List Event)) (busy : List ℕ) → AreBusy lines busy → ((n : ℕ) → Contains busy n → AreMarked l table marks (line_at lines n)) → AreMarked l table marks (all_of lines)
-busy_marked l table marks lines busy are h = each_line (λ (e : Event). IsMarked l marks (unit_in table e)) lines (λ n. some_or_none (λ (e : Event). IsMarked l marks (unit_in table e)) (line_at lines n) (λ some. h n ((are.exact n).1 some)))
+busy_marked l table marks lines busy are h = each_all (λ (e : Event). IsMarked l marks (unit_in table e)) lines (λ n. some_or_none (λ (e : Event). IsMarked l marks (unit_in table e)) (line_at lines n) (λ some. h n ((are.exact n).1 some)))
 
 -- where the marks count no other unit in, nothing blocks
 

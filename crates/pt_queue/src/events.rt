@@ -108,6 +108,9 @@ pub fn reaches(delay: Option<Delay>, from: Tag, tag: Tag) -> bool
 pub fn blocks(table: &[Groups], least: &Least, unit: Unit, tag: Tag, event: &Event) -> bool
     ensures { result ≡ blocks table.now (least_of least.now) unit tag event.now }
 {
+    if tag.is_before(event.tag) {
+        return false;
+    }
     let group = group_in(table, event.actor, event.port);
     if event.actor == unit.actor && group == unit.group {
         return false;
