@@ -1,5 +1,5 @@
 -- The turns of a platform that are kept, and for how much more there is room.
-use Rattle.std.specs.Prelude.{ℕ, ◌++◌, ◌∷◌, [], List, max}
+use Rattle.std.specs.Prelude.{ℕ, ◌++◌, [], List, max}
 use Rattle.pt_types.specs.declared.firing.Done.{Done}
 use Rattle.pt_types.specs.declared.firing.OnLink.{OnLink}
 use Rattle.pt_types.specs.declared.firing.Task.{Task}

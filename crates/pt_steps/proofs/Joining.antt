@@ -1,5 +1,5 @@
 -- The steps make one turn.
-use Rattle.std.proofs.Common.{◌≡◌, ℕ, ◌+◌, ◌<◌, ◌≤◌, ◌⊎◌, Bool, true, false, List, [], ◌∷◌, ◌++◌, Option, Some, None, length, refl, sym, ap, subst, ◌∙◌, inl, inr, ⊎_elim, arith}
+use Rattle.std.proofs.Common.{◌≡◌, ℕ, ◌+◌, ◌≤◌, ◌⊎◌, Bool, true, false, List, [], ◌∷◌, ◌++◌, Some, length, refl, sym, ap, subst, ◌∙◌, inl, inr, ⊎_elim, arith}
 use Rattle.std.proofs.lemmas.Bool.{false≢true}
 use Rattle.pt_tags.specs.declared.message.Message.{Message}
 use Rattle.pt_types.specs.declared.graph.Graph.{Graph}
@@ -8,7 +8,7 @@ use Rattle.pt_types.specs.declared.firing.Done.{Done}
 use Rattle.pt_types.specs.declared.firing.OnLink.{OnLink}
 use Rattle.pt_types.specs.declared.rows.RowAt.{RowAt}
 use Rattle.pt_semantics.specs.Claiming.{Claims}
-use Rattle.pt_semantics.specs.Closing.{Closes, on_link}
+use Rattle.pt_semantics.specs.Closing.{Closes}
 use Rattle.pt_semantics.specs.Entering.{after_rows, all_due}
 use Rattle.pt_semantics.specs.Platform.{State, raised}
 use Rattle.pt_semantics.specs.Posting.{Posts, after_post}

@@ -1,5 +1,5 @@
 -- What a turn claims, and how it ends.
-use Rattle.std.specs.Prelude.{◌≡◌, ℕ, ◌<◌, ◌≤◌, Bool, true, false, List}
+use Rattle.std.specs.Prelude.{◌≡◌, ℕ, ◌≤◌, Bool, true, false, List}
 use Rattle.pt_types.specs.declared.graph.Graph.{Graph}
 use Rattle.pt_types.specs.declared.firing.Task.{Task}
 use Rattle.pt_semantics.specs.Safe.{NothingSafe}

@@ -1,5 +1,5 @@
 -- The last turn of a history, changed again and again.
-use Rattle.std.proofs.Common.{◌≡◌, ◌+◌, ◌<◌, List, [], ◌∷◌, ◌++◌, length, sym, ap, subst, ◌∙◌, arith, length-append}
+use Rattle.std.proofs.Common.{◌≡◌, ◌+◌, ◌<◌, List, [], ◌∷◌, ◌++◌, length, ap, ◌∙◌, arith, length-append}
 use Rattle.pt_pieces.specs.Lists.{on_last}
 use Rattle.pt_pieces.proofs.LastMember.{on_last-push}
 use Rattle.pt_semantics.specs.Turn.{Turn}

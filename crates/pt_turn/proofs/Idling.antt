@@ -1,5 +1,5 @@
 -- A turn before the next reading, without results and messages.
-use Rattle.std.proofs.Common.{◌≡◌, ℕ, ◌+◌, ◌<◌, ◌≤◌, ◌==◌, ◌^◌, ◌⊎◌, Bool, true, false, List, [], ◌∷◌, ◌++◌, Option, Some, None, ℤ, length, map, refl, sym, ap, subst, ◌∙◌, inl, inr, ⊎_elim, arith, append-nil, vec_len}
+use Rattle.std.proofs.Common.{◌≡◌, ℕ, ◌<◌, ◌≤◌, ◌==◌, ◌^◌, true, false, List, [], ◌∷◌, ◌++◌, Option, Some, None, ℤ, length, map, refl, sym, ap, subst, ◌∙◌, inl, inr, ⊎_elim, arith, append-nil, vec_len}
 use Rattle.std.proofs.lemmas.Bool.{false≢true}
 use Rattle.std.specs.Prelude.{MatchOption}
 use Rattle.std.specs.Arc.{arc_value}
@@ -11,7 +11,7 @@ use Rattle.pt_types.specs.declared.firing.OnLink.{OnLink}
 use Rattle.pt_types.specs.declared.firing.Task.{Task}
 use Rattle.pt_types.specs.Ports.{when}
 use Rattle.pt_semantics.specs.Closing.{CanClose}
-use Rattle.pt_semantics.specs.Entering.{after_rows, all_due, due, not_due}
+use Rattle.pt_semantics.specs.Entering.{after_rows, due, not_due}
 use Rattle.pt_semantics.specs.Kept.{kept_with}
 use Rattle.pt_semantics.specs.Lists.{or_else}
 use Rattle.pt_semantics.specs.Meaning.{Values, added, row_at}

@@ -1,5 +1,5 @@
 -- A late turn ends with a late message.
-use Rattle.std.proofs.Common.{◌≡◌, ℕ, ◌+◌, ◌<◌, ◌≤◌, ◌⊎◌, Bool, true, false, List, [], ◌∷◌, ◌++◌, Option, Some, None, refl, sym, ap, subst, ◌∙◌, ⊎_elim, arith}
+use Rattle.std.proofs.Common.{◌≡◌, ℕ, ◌+◌, ◌<◌, ◌≤◌, ◌⊎◌, Bool, true, List, [], ◌∷◌, Option, Some, None, refl, sym, ap, subst, ⊎_elim, arith}
 use Rattle.std.specs.Prelude.{slice_get}
 use Rattle.std.proofs.lemmas.Bool.{false≢true}
 use Rattle.pt_tags.specs.declared.message.Message.{Message}
@@ -15,7 +15,6 @@ use Rattle.pt_semantics.specs.Posting.{Posts, after_post}
 use Rattle.pt_semantics.specs.Taking.{IsOnTime, Takes, after_message}
 use Rattle.pt_semantics.specs.Turn.{IsTurn, Turn}
 use Rattle.pt_turn.specs.Faults.{SomeIsLate}
-use Rattle.pt_turn.specs.Running.{LastIsLate}
 
 below : (p n : ℕ) → (p ≤ n → ⊥) → n < p
 below p n not = ⊎_elim (λ (le : p ≤ n). absurd (not le)) (λ (lt : n < p). lt) (either p n)

@@ -17,7 +17,7 @@ use Rattle.pt_semantics.proofs.Progress.{turns_move}
 use Rattle.pt_semantics.proofs.Idle.{idle_before}
 use Rattle.pt_offsets.specs.Timings.{offset_of}
 use Rattle.pt_turn.specs.Laws.{PlatformsMove, PlatformsWait}
-use Rattle.pt_turn.specs.Platforms.{level_at, raised_to, rows_at, state_at}
+use Rattle.pt_turn.specs.Platforms.{level_at, rows_at, state_at}
 use Rattle.pt_turn.specs.Turned.{is_late}
 
 moves : (g : Graph) (level : ℕ → ℕ) (i : ℕ) (rows : ℕ → List Row) (turns : List Turn) (turn : Turn) (s new : State) (c : ℕ) (late : Bool) → late ≡ false → IsWired g → AreLevels g level → FitRows g rows → Legal g level i (opened g i rows) turns s → s.closed ≡ false → ((l : ℕ) → s.outbox l ≡ []) → IsNextReading g i s c → c ≤ turn.last →

@@ -1,17 +1,12 @@
 -- After a turn it is a platform again.
-use Rattle.std.proofs.Common.{◌≡◌, ℕ, ◌+◌, ◌*◌, ◌<◌, ◌≤◌, ◌^◌, Bool, true, false, List, [], ◌∷◌, ◌++◌, Option, Some, None, length, refl, sym, ap, ap₂, subst, ◌∙◌, arith, vec_len}
-use Rattle.std.specs.Arc.{arc_value}
+use Rattle.std.proofs.Common.{◌≡◌, ℕ, List, [], ◌∷◌, ◌++◌, Option, Some, None, refl, sym, ap, subst, ◌∙◌}
 use Rattle.pt_types.specs.declared.graph.Graph.{Graph}
-use Rattle.pt_types.specs.declared.firing.Done.{Done}
 use Rattle.pt_types.specs.declared.firing.OnLink.{OnLink}
-use Rattle.pt_types.specs.declared.firing.Task.{Task}
 use Rattle.pt_types.specs.declared.rows.Row.{Row}
-use Rattle.pt_semantics.specs.History.{Legal}
-use Rattle.pt_semantics.specs.Kept.{IsSingle, kept, kept_with, settled}
+use Rattle.pt_semantics.specs.Kept.{IsSingle, kept_with, settled}
 use Rattle.pt_semantics.specs.Platform.{State, opened}
 use Rattle.pt_semantics.specs.Turn.{IsLast, IsTurn, Turn}
 use Rattle.pt_history.proofs.Gathered.{kept-push}
-use Rattle.pt_take.specs.Taken.{Basis}
 use Rattle.pt_steps.specs.declared.claimed.Ending.{Ending}
 use Rattle.pt_steps.specs.declared.claimed.Ending.TheVariants.{On, Late as LateEnd, Long as LongEnd}
 use Rattle.pt_steps.specs.Steps.{Ends as EndsBy, is_late as ends_late}

@@ -1,5 +1,5 @@
 -- Room for a turn is room for a lesser one.
-use Rattle.std.proofs.Common.{◌≡◌, ℕ, ◌+◌, ◌*◌, ◌<◌, ◌≤◌, Bool, true, false, nat_le, if◌then◌else◌, List, [], ◌∷◌, ◌++◌, Option, Some, None, length, map, flat_map, refl, sym, ap, subst, ◌∙◌, arith, length-append, ⊎_elim, vec_len}
+use Rattle.std.proofs.Common.{◌≡◌, ℕ, ◌+◌, ◌*◌, ◌≤◌, true, false, nat_le, List, [], ◌∷◌, ◌++◌, Option, Some, None, length, map, flat_map, sym, ap, subst, arith, length-append, ⊎_elim}
 use Rattle.std.specs.List.{range_with_len}
 use Rattle.std.proofs.lemmas.Bool.{cases_Bool, cond-true, cond-false}
 use Rattle.std.proofs.lemmas.Bool.Decides.{nat_tests}
@@ -8,7 +8,7 @@ use Rattle.std.proofs.Math.Nat.{mul-le-mul_right}
 use Rattle.pt_types.specs.declared.graph.Graph.{Graph}
 use Rattle.pt_types.specs.declared.rows.Row.{Row}
 use Rattle.pt_types.specs.declared.rows.RowAt.{RowAt}
-use Rattle.pt_semantics.specs.Entering.{all_due, due}
+use Rattle.pt_semantics.specs.Entering.{due}
 use Rattle.pt_semantics.specs.Readings.{later_of}
 use Rattle.pt_semantics.proofs.Lookups.{none_some}
 use Rattle.pt_state.specs.declared.fields.Fields.{Fields}
@@ -16,7 +16,6 @@ use Rattle.pt_state.specs.State.{left_in}
 use Rattle.pt_enter.specs.Sensors.{at_sensor}
 use Rattle.pt_steps.specs.Steps.{HasRoom, count_due}
 use Rattle.pt_steps.specs.declared.steps.Lists.{Lists}
-use Rattle.pt_turn.specs.Making.{CanKeep}
 use Rattle.pt_turn.specs.Platforms.{raised_to}
 
 -- a reading that is raised

@@ -1,15 +1,12 @@
 -- Turns since a platform opened: one more, and what their history makes sure of.
-use Rattle.std.proofs.Common.{◌≡◌, ℕ, ◌+◌, ◌<◌, ◌≤◌, ◌⊎◌, ◌^◌, ◌&&◌, if◌then◌else◌, nat_lt, Bool, true, false, List, [], ◌∷◌, ◌++◌, Option, Some, None, length, refl, sym, ap, subst, ◌∙◌, arith, append_assoc, append-nil}
-use Rattle.std.specs.List.{flat_map}
-use Rattle.std.proofs.lemmas.Bool.{false≢true}
+use Rattle.std.proofs.Common.{◌≡◌, ℕ, ◌+◌, ◌^◌, ◌&&◌, if◌then◌else◌, nat_lt, Bool, true, false, List, [], ◌∷◌, ◌++◌, Option, Some, None, refl, sym, ap, subst, ◌∙◌, append-nil}
 use Rattle.std.proofs.lemmas.List.Concat.{flat_map-append}
 use Rattle.pt_semantics.proofs.Lookups.{none_some}
 use Rattle.pt_types.specs.declared.graph.Graph.{Graph}
-use Rattle.pt_types.specs.declared.firing.OnLink.{OnLink}
 use Rattle.pt_types.specs.declared.rows.Row.{Row}
 use Rattle.pt_semantics.specs.Floor.{Bounded, NeverTwice}
 use Rattle.pt_semantics.specs.History.{IsLegal, Legal, LegalOnTime, claims_of}
-use Rattle.pt_semantics.specs.Kept.{IsSingle, kept, kept_with, settled}
+use Rattle.pt_semantics.specs.Kept.{kept_with, settled}
 use Rattle.pt_semantics.specs.Lists.{Each}
 use Rattle.pt_semantics.specs.Platform.{State, opened}
 use Rattle.pt_semantics.specs.Ranks.{AreLevels}
@@ -19,7 +16,7 @@ use Rattle.pt_semantics.specs.Wired.{IsWired}
 use Rattle.pt_semantics.proofs.Once.{no_port_twice}
 use Rattle.pt_semantics.proofs.Bounds.{steps_bounded}
 use Rattle.pt_semantics.proofs.KeptTurns.{kept_is_legal}
-use Rattle.pt_history.proofs.Gathered.{kept-push, taken_settled}
+use Rattle.pt_history.proofs.Gathered.{taken_settled}
 use Rattle.pt_turn.specs.declared.fault.TurnFault.{TurnFault}
 use Rattle.pt_turn.specs.Platforms.{messages_of}
 use Rattle.pt_turn.specs.Running.{GoesOn, Leads, Ran, Shows, last_reading}

@@ -1,15 +1,13 @@
 -- With more memory it is the same platform.
-use Rattle.std.proofs.Common.{◌≡◌, ℕ, ◌+◌, ◌*◌, ◌<◌, ◌≤◌, List, Option, Some, None, length, refl, sym, ap, subst, ◌∙◌, arith, vec_len, vec_capacity}
+use Rattle.std.proofs.Common.{◌≡◌, ℕ, ◌≤◌, List, Option, Some, None, length, sym, ap, subst, ◌∙◌, arith}
 use Rattle.std.specs.Prelude.{MatchOption}
 use Rattle.std.specs.Arc.{arc_value}
 use Rattle.std.proofs.lemmas.List.Sums.{count_by-le-length}
 use Rattle.pt_types.specs.declared.graph.Graph.{Graph}
-use Rattle.pt_types.specs.declared.graph.Wire.{Wire}
 use Rattle.pt_types.specs.declared.firing.OnLink.{OnLink}
 use Rattle.pt_semantics.specs.Closing.{on_link}
 use Rattle.pt_semantics.specs.Entering.{all_due}
 use Rattle.pt_semantics.specs.Lists.{Each}
-use Rattle.pt_semantics.specs.Platform.{State}
 use Rattle.pt_semantics.specs.Rows.{FitRows}
 use Rattle.pt_ranks.specs.Ranked.{level_of}
 use Rattle.pt_enter.specs.Sensors.{AreSensors}
@@ -20,7 +18,7 @@ use Rattle.pt_queue.specs.Groups.{AreGroups}
 use Rattle.pt_state.specs.declared.fields.Fields.{Fields}
 use Rattle.pt_state.specs.State.{busy_in, left_in, rows_of, state_of, states_in, IsOpen, IsSound}
 use Rattle.pt_steps.specs.declared.steps.Lists.{Lists}
-use Rattle.pt_steps.specs.Steps.{AreEmpty, HasRoom, count_due}
+use Rattle.pt_steps.specs.Steps.{count_due}
 use Rattle.pt_turn.specs.declared.room.Room.{Room}
 use Rattle.pt_turn.specs.declared.making_room.Needs.{Needs}
 use Rattle.pt_turn.specs.declared.platform.Platform.TheInside.{Inside}

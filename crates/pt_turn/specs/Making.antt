@@ -18,7 +18,6 @@ use Rattle.pt_steps.specs.declared.steps.Lists.{Lists}
 use Rattle.pt_steps.specs.Steps.{AreEmpty, HasRoom, IsGround, IsMade, ShowsEnd, count_due, turn_of}
 use Rattle.pt_turn.specs.declared.fault.TurnFault.{TurnFault}
 use Rattle.pt_turn.specs.Faults.{IsFaultOf}
-use Rattle.pt_turn.specs.Platforms.{messages_of}
 
 -- what a turn at reading r rests on
 pub record IsReady (plan : Parts) (w : Basis) (number close_at r n : ℕ) (results : List Done) (messages : List OnLink) (f : Fields) (lists : Lists) : Type 0 where

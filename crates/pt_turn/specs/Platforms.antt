@@ -1,5 +1,5 @@
 -- What contracts see of a platform, and what always holds of it.
-use Rattle.std.specs.Prelude.{◌≡◌, ℕ, ℤ, ◌+◌, ◌*◌, ◌<◌, ◌≤◌, Bool, List, Option, None, Some, MatchOption, length, vec_len}
+use Rattle.std.specs.Prelude.{ℕ, ℤ, ◌+◌, ◌*◌, ◌<◌, ◌≤◌, Bool, List, Option, None, Some, MatchOption, length, vec_len}
 use Rattle.std.specs.Arc.{arc_value}
 use Rattle.std.specs.List.{flat_map}
 use Rattle.pt_types.specs.declared.graph.Graph.{Graph}

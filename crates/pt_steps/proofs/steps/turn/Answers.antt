@@ -1,4 +1,4 @@
-use Rattle.std.proofs.Common.{◌≡◌, ◌+◌, ◌*◌, ◌≤◌, ◌⊎◌, ◌++◌, ℕ, true, false, [], List, Some, length, refl, sym, ap, subst, ◌∙◌, inl, inr, ⊎_elim, arith, vec_len, vec_capacity}
+use Rattle.std.proofs.Common.{◌≡◌, ◌+◌, ◌≤◌, ◌++◌, ℕ, List, Some, length, refl, sym, ap, subst, ◌∙◌, arith, vec_len, vec_capacity}
 use Rattle.pt_types.specs.declared.graph.Graph.{Graph}
 use Rattle.pt_types.specs.declared.firing.OnLink.{OnLink}
 use Rattle.pt_lawful.proofs.Edges.{wired}
@@ -6,13 +6,11 @@ use Rattle.pt_semantics.specs.Closing.{Closes, on_link}
 use Rattle.pt_semantics.specs.Entering.{after_rows, all_due}
 use Rattle.pt_semantics.specs.Posting.{Posts}
 use Rattle.pt_semantics.specs.Paced.{IsClosing}
-use Rattle.pt_semantics.specs.Safe.{NothingSafe}
 use Rattle.pt_semantics.specs.Taking.{Takes}
-use Rattle.pt_semantics.specs.Turn.{IsTurn}
 use Rattle.pt_semantics.specs.Wired.{IsWired}
-use Rattle.pt_offsets.specs.Plans.{AreOffsets, IsAdmitted}
+use Rattle.pt_offsets.specs.Plans.{AreOffsets}
 use Rattle.pt_state.specs.declared.fields.Fields.{Fields}
-use Rattle.pt_state.specs.State.{busy_in, left_in, state_of, IsSound}
+use Rattle.pt_state.specs.State.{busy_in, left_in, state_of}
 use Rattle.pt_post.specs.Posted.{ArePosted}
 use Rattle.pt_take.specs.Taken.{Arrive, NeverTakes}
 use Rattle.pt_steps.specs.declared.claimed.Ending.{Ending}

@@ -1,4 +1,4 @@
-use Rattle.std.proofs.Common.{◌≡◌, ◌+◌, ◌≤◌, drop, length, sym, ap, ◌∙◌, arith, []}
+use Rattle.std.proofs.Common.{◌≡◌, drop, length, ap, arith, []}
 use Rattle.std.proofs.lemmas.List.{drop_all}
 use Rattle.pt_semantics.specs.Entering.{all_due}
 use Rattle.pt_state.specs.State.{left_in}

@@ -1,5 +1,4 @@
-use Rattle.std.proofs.Common.{◌≡◌, ◌+◌, ◌<◌, ◌-◌, length, get_or, Some, None, sym, ap, subst, ◌∙◌, arith}
-use Rattle.pt_lawful.proofs.Edges.{wired}
+use Rattle.std.proofs.Common.{◌≡◌, ◌-◌, length, get_or, sym, ap, subst, ◌∙◌}
 use Rattle.pt_offsets.specs.Plans.{AreOffsets}
 use Rattle.pt_turn.specs.Running.{LastIsLate}
 use Rattle.pt_turn.proofs.Naming.{bound_there, late_named, no_link, no_message}

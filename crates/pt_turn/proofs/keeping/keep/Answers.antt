@@ -5,7 +5,6 @@ use Rattle.pt_types.specs.declared.firing.Task.{Task}
 use Rattle.pt_types.specs.declared.rows.RowAt.{RowAt}
 use Rattle.pt_semantics.specs.Kept.{settled}
 use Rattle.pt_semantics.specs.Turn.{Turn}
-use Rattle.pt_pieces.specs.Lists.{on_last}
 use Rattle.pt_history.specs.Turns.{claiming, entering, fresh, posting, taking}
 use Rattle.pt_steps.specs.Steps.{turn_of}
 use Rattle.pt_turn.proofs.Changing.{begun, changed}

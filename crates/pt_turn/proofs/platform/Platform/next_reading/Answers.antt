@@ -1,6 +1,5 @@
 use Rattle.std.proofs.Common.{◌≡◌, ℕ, Option, Some, false, subst}
 use Rattle.std.specs.Prelude.{MatchOption}
-use Rattle.std.specs.Arc.{arc_value}
 use Rattle.pt_semantics.specs.Paced.{IsNextReading}
 use Rattle.pt_offsets.specs.Plans.{Parts}
 use Rattle.pt_turn.specs.declared.platform.Platform.TheInside.{Inside}

@@ -1,8 +1,7 @@
-use Rattle.std.proofs.Common.{◌≡◌, ◌≤◌, ◌+◌, [], None, List, length, refl, ap, subst, ◌∙◌, sym, arith, vec_len}
+use Rattle.std.proofs.Common.{◌≡◌, ◌≤◌, [], None, List, length, refl, ap, subst, ◌∙◌, sym, arith, vec_len}
 use Rattle.std.specs.Arc.{arc_value}
-use Rattle.pt_types.specs.declared.firing.OnLink.{OnLink}
 use Rattle.pt_semantics.specs.Paced.{IsClosing}
-use Rattle.pt_semantics.specs.Platform.{State, opened}
+use Rattle.pt_semantics.specs.Platform.{opened}
 use Rattle.pt_semantics.specs.Rows.{FitRows}
 use Rattle.pt_semantics.specs.Turn.{Turn}
 use Rattle.pt_ranks.specs.Ranked.{level_of}
@@ -14,7 +13,7 @@ use Rattle.pt_post.specs.Branches.{AreBranches}
 use Rattle.pt_enter.specs.Sensors.{AreSensors}
 use Rattle.pt_state.specs.State.{rows_of, state_of, IsSound}
 use Rattle.pt_turn.specs.Platforms.{messages_of}
-use Rattle.pt_turn.specs.Running.{Ran, last_reading}
+use Rattle.pt_turn.specs.Running.{Ran}
 use Rattle.pt_turn.proofs.platform.Platform.open.Goals as goal
 
 pub invariant_of-result : goal.invariant_of-result

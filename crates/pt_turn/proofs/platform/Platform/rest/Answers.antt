@@ -1,12 +1,11 @@
-use Rattle.std.proofs.Common.{◌≡◌, ◌<◌, ◌≤◌, ℕ, [], List, Option, Some, None, length, max, sym, ap, subst, ◌∙◌, eqb-true, vec_len, arith}
-use Rattle.pt_types.specs.declared.firing.OnLink.{OnLink}
+use Rattle.std.proofs.Common.{◌≡◌, ◌≤◌, ℕ, [], List, Option, Some, None, max, sym, ap, subst, ◌∙◌, eqb-true, vec_len, arith}
 use Rattle.pt_semantics.specs.Kept.{kept_with}
 use Rattle.pt_semantics.specs.Paced.{IsNextReading}
 use Rattle.pt_semantics.specs.Turn.{Turn}
 use Rattle.pt_history.specs.Turns.{fresh}
 use Rattle.pt_turn.specs.declared.fault.TurnFault.{TurnFault}
 use Rattle.pt_turn.specs.declared.platform.Platform.TheInside.{Inside}
-use Rattle.pt_turn.specs.Platforms.{IsPlatform, PlatformView, graph_of, messages_of, raised_to, state_at, view_of}
+use Rattle.pt_turn.specs.Platforms.{IsPlatform, PlatformView, graph_of, state_at, view_of}
 use Rattle.pt_turn.specs.Rested.{HasRested}
 use Rattle.pt_turn.proofs.Again.{IsDone, after, is_again, is_turned}
 use Rattle.pt_turn.proofs.Ends.{no_members}

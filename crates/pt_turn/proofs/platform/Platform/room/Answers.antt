@@ -1,7 +1,5 @@
-use Rattle.std.proofs.Common.{◌≡◌, Option, Some, sym, ap, subst}
-use Rattle.std.specs.Arc.{arc_value}
+use Rattle.std.proofs.Common.{Some, subst}
 use Rattle.pt_offsets.specs.Plans.{Parts}
-use Rattle.pt_turn.specs.declared.room.Room.{Room}
 use Rattle.pt_turn.specs.declared.platform.Platform.TheInside.{Inside}
 use Rattle.pt_turn.specs.Growing.{AreEnough}
 use Rattle.pt_turn.specs.Platforms.{graph_of, raised_to}

@@ -1,17 +1,14 @@
-use Rattle.std.proofs.Common.{◌≡◌, ◌+◌, ◌*◌, ◌≤◌, ◌++◌, ℕ, List, Option, Some, None, length, sym, ap, subst, ◌∙◌, arith, vec_len}
+use Rattle.std.proofs.Common.{◌≡◌, ◌≤◌, ◌++◌, None, length, sym, subst}
 use Rattle.std.specs.Prelude.{MatchOption}
 use Rattle.std.specs.Arc.{arc_value}
-use Rattle.std.proofs.Math.Nat.{mul-le-mul_right}
 use Rattle.pt_ranks.specs.Ranked.{level_of}
 use Rattle.pt_offsets.specs.Plans.{Parts}
-use Rattle.pt_state.specs.State.{IsSound}
 use Rattle.pt_post.specs.Posted.{AreDone}
 use Rattle.pt_post.specs.Branches.{AreBranches}
-use Rattle.pt_enter.specs.Sensors.{AreSensors}
 use Rattle.pt_turn.specs.declared.room.Room.{Room}
 use Rattle.pt_turn.specs.declared.platform.Platform.TheInside.{Inside}
-use Rattle.pt_turn.specs.Making.{CanKeep, IsKept, IsReady}
-use Rattle.pt_turn.specs.Platforms.{IsRoomy, PlatformView, graph_of, level_at, messages_of, raised_to, state_at, view_of}
+use Rattle.pt_turn.specs.Making.{CanKeep, IsReady}
+use Rattle.pt_turn.specs.Platforms.{IsRoomy, PlatformView, graph_of, level_at, messages_of, state_at, view_of}
 use Rattle.pt_turn.specs.Turned.{IsEnough, IsTurned, MayCome, StaysThere}
 use Rattle.pt_turn.proofs.Again.{IsDone, after, is_again, is_done, is_turned}
 use Rattle.pt_turn.proofs.Readiness.{basis_of, both_rooms, can_keep, is_ready}
