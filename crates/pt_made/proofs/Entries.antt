@@ -1,12 +1,12 @@
 -- The entries of the made rows, one actor after another.
-use Rattle.std.proofs.Common.{◌≡◌, ℕ, ◌+◌, ◌<◌, ◌≤◌, ◌==◌, ◌≢◌, zero, suc, slice_get, Some, Bool, true, false, nat_lt, List, [], ◌∷◌, ◌++◌, Option, refl, sym, ap, ap₂, subst, ◌∙◌, arith, length, ◌⊎◌, inl, inr, ⊎_elim, eq-eqb, ne_eqb, if◌then◌else◌}
+use Rattle.std.proofs.Common.{◌≡◌, ℕ, ◌+◌, ◌<◌, ◌≤◌, ◌==◌, ◌≢◌, zero, suc, slice_get, Some, Bool, true, false, nat_lt, List, [], ◌∷◌, ◌++◌, Option, refl, sym, ap, ap₂, ◌∙◌, arith, length, ◌⊎◌, inl, inr, ⊎_elim, eq-eqb, ne_eqb, if◌then◌else◌}
 use Rattle.std.proofs.lemmas.List.{append-nil, append_assoc, length-append}
 use Rattle.std.proofs.lemmas.Bool.Decides.{nat_tests}
 use Rattle.pt_types.specs.declared.rows.Row.{Row}
 use Rattle.pt_sensors.specs.declared.sensor_rows.SensorRows.{SensorRows}
 use Rattle.pt_meaning.specs.Opening.{rows_for}
 use Rattle.pt_recorded.specs.Places.{StandInPlace}
-use Rattle.pt_made.specs.Input.{made_graph, made_rows, sensor_rows}
+use Rattle.pt_made.specs.Input.{made_graph, made_rows}
 
 -- the entries of the first k actors
 pub record AreFirst (n : ℕ) (xs : List SensorRows) (k : ℕ) : Type 0 where

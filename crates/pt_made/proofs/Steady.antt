@@ -10,20 +10,19 @@ use Rattle.pt_types.specs.declared.graph.Graph.{Graph}
 use Rattle.pt_types.specs.declared.graph.Link.{Link}
 use Rattle.pt_types.specs.declared.graph.Unit.{Unit as Part}
 use Rattle.pt_types.specs.declared.kind.Kind.{Kind}
-use Rattle.pt_types.specs.declared.kind.Kind.TheVariants.{Sensor, Every}
+use Rattle.pt_types.specs.declared.kind.Kind.TheVariants.{Every}
 use Rattle.pt_types.specs.declared.rows.Row.{Row}
 use Rattle.pt_types.specs.Ports.{at_port, when}
-use Rattle.pt_semantics.specs.Lists.{Each, IsIn, first_of}
+use Rattle.pt_semantics.specs.Lists.{IsIn, first_of}
 use Rattle.pt_semantics.specs.Edges.{Edge, edges, wires, links, kind_of, of_link, platform_of}
 use Rattle.pt_semantics.specs.Units.{at_input, at_output, groups, input_group, source}
-use Rattle.pt_semantics.specs.Behaviours.{Firing, Firings, Rising, comes_along, firing_at}
-use Rattle.pt_semantics.specs.Bounds.{bound_of}
+use Rattle.pt_semantics.specs.Behaviours.{Firing, Rising, comes_along, firing_at}
 use Rattle.pt_semantics.specs.Counts.{actor_firings, sum_below, unit_firings}
 use Rattle.pt_semantics.specs.Firing.{any_present}
 use Rattle.pt_semantics.specs.History.{claims_of}
 use Rattle.pt_semantics.specs.Linked.{all_claims, all_sent, all_taken}
 use Rattle.pt_semantics.specs.Meaning.{at_time, row_at, start_at}
-use Rattle.pt_semantics.specs.Offsets.{HasOffset, IsFeasible}
+use Rattle.pt_semantics.specs.Offsets.{HasOffset}
 use Rattle.pt_semantics.specs.Parts.{narrowed}
 use Rattle.pt_semantics.specs.Posting.{as_message}
 use Rattle.pt_semantics.specs.Ranks.{AreLevels}
@@ -39,13 +38,13 @@ use Rattle.pt_semantics.proofs.Finish.{SourceKind, source_kind, link_in}
 use Rattle.pt_semantics.proofs.Flows.{flows}
 use Rattle.pt_semantics.proofs.Came.{in_messages}
 use Rattle.pt_semantics.proofs.Longest.{levels_grow}
-use Rattle.pt_semantics.proofs.Lookups.{none_some, same_some, or_else_found, when_found, first_of_found, eight_found, Each-in, IsIn-append, IsIn-append_left, IsIn-append_right}
+use Rattle.pt_semantics.proofs.Lookups.{none_some, or_else_found, when_found, first_of_found, eight_found, Each-in, IsIn-append, IsIn-append_left, IsIn-append_right}
 use Rattle.pt_semantics.proofs.Onward.{Onward, round_onward}
 use Rattle.pt_semantics.proofs.PacedRuns.{run_onward, whole_of}
 use Rattle.pt_semantics.proofs.Steps.{messages_of}
 use Rattle.pt_semantics.proofs.Sums.{sum_le}
 use Rattle.pt_semantics.proofs.Tags.{Before-irrefl, same_tag-true}
-use Rattle.pt_semantics.proofs.Threads.{IsFiring, Threaded}
+use Rattle.pt_semantics.proofs.Threads.{Threaded}
 use Rattle.pt_semantics.proofs.Walks.{Whole}
 use Rattle.pt_semantics.proofs.Words.{firing_at_head, firing_at_tail}
 use Rattle.pt_lawful.proofs.Edges.{wired}

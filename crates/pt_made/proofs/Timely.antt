@@ -1,20 +1,16 @@
 -- Nothing is missed in a paced run over the made input.
-use Rattle.std.proofs.Common.{◌≡◌, ℕ, ◌+◌, ◌<◌, ◌≤◌, ◌&&◌, Bool, true, false, List, [], ◌∷◌, ◌++◌, Option, Some, None, ℤ, pos, negsuc, ◌+ℤ◌, ◌≤ℤ◌, length, slice_get, nat_lt, if◌then◌else◌, arith, refl, sym, ap, subst, ◌∙◌, inl, inr, ⊎_elim}
-use Rattle.std.proofs.lemmas.Bool.{cases_Bool}
+use Rattle.std.proofs.Common.{◌≡◌, ℕ, ◌+◌, ◌<◌, ◌≤◌, ◌&&◌, Bool, true, false, List, [], ◌∷◌, Option, Some, None, ℤ, pos, negsuc, ◌+ℤ◌, ◌≤ℤ◌, nat_lt, if◌then◌else◌, arith, refl, subst}
 use Rattle.std.proofs.lemmas.Int.{ints}
 use Rattle.pt_tags.specs.declared.tag.Tag.{Tag}
-use Rattle.pt_types.specs.declared.firing.Done.{Done}
 use Rattle.pt_types.specs.declared.graph.Graph.{Graph}
 use Rattle.pt_types.specs.declared.graph.Unit.{Unit as Part}
-use Rattle.pt_types.specs.declared.kind.Kind.TheVariants.{Actuator}
 use Rattle.pt_semantics.specs.Lists.{Each, IsIn}
-use Rattle.pt_semantics.specs.Edges.{kind_of}
 use Rattle.pt_semantics.specs.Kept.{kept, kept_from, kept_with, settled}
 use Rattle.pt_semantics.specs.Missed.{IsMissed}
 use Rattle.pt_semantics.specs.Offsets.{HasOffset}
 use Rattle.pt_semantics.specs.Paced.{at_least_zero, paced_by}
 use Rattle.pt_semantics.specs.Ranks.{AreLevels}
-use Rattle.pt_semantics.specs.Rounds.{IsRunInRound, IsTimely, IsWholeRun}
+use Rattle.pt_semantics.specs.Rounds.{IsTimely, IsWholeRun}
 use Rattle.pt_semantics.specs.Turn.{Turn, is_quiet, joined}
 use Rattle.pt_semantics.specs.Units.{unit_of}
 use Rattle.pt_semantics.specs.Visits.{Together}

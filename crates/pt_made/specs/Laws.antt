@@ -1,5 +1,5 @@
 -- What is proved of the made input and of every paced run over it.
-use Rattle.std.specs.Prelude.{◌≤◌, ◌<◌, ℕ, ℤ, Option, slice_index_or}
+use Rattle.std.specs.Prelude.{◌≤◌, ◌<◌, ℕ, ℤ, Option}
 use Rattle.pt_tags.specs.declared.tag.Tag.{Tag}
 use Rattle.pt_types.specs.declared.graph.Unit.{Unit as Part}
 use Rattle.pt_types.specs.Lawful.{IsLawful}

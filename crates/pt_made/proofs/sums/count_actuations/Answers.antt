@@ -1,4 +1,4 @@
-use Rattle.std.proofs.Common.{◌≡◌, ◌∙◌, ◌+◌, ◌<◌, ◌++◌, ◌∷◌, [], ℕ, List, None, Some, suc, sym, ap, arith, length, length-append, take, add-one}
+use Rattle.std.proofs.Common.{◌∙◌, ◌+◌, ◌<◌, ◌∷◌, [], ℕ, List, sym, ap, arith, length, length-append, take, add-one}
 use Rattle.pt_types.specs.declared.firing.ActorFiring.{ActorFiring}
 use Rattle.pt_made.specs.Summary.{actuations, last_of}
 use Rattle.pt_made.proofs.Actuations.{after_none, after_one, last_push}
