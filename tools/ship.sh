@@ -68,7 +68,8 @@ check() {
     [ "$(recorded program)" = "$(sha256_of "$shipped")" ] || fail "$shipped is not the program that $record tells of"
     local toolchain here
     toolchain=$(recorded toolchain)
-    ! here=$(rt version 2>/dev/null) || [ "$here" = "$toolchain" ] ||
+    # Kits of one logic prove the same; what another one builds goes through the examples.
+    ! here=$(rt version 2>/dev/null) || [ "${here#* }" = "${toolchain#* }" ] ||
         fail "$record tells of the toolchain $toolchain, and this is $here: tools/ship.sh ships what this one builds"
     [ "$(recorded sources)" = "$(tools/sources-digest.sh "$toolchain")" ] ||
         fail "$record tells of other sources: tools/ship.sh ships what these build"

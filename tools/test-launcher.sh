@@ -258,6 +258,9 @@ shipped_repository
 start run x
 touch "$place/bin/rt"
 KIT='rattle-kit-2 logic 0' start run x
+expect 'another kit of the same logic runs what is shipped' 'shipped:2 run x' "$(cat "$place/output")"
+touch "$place/bin/rt"
+KIT='rattle-kit-2 logic 1' start run x
 expect 'another toolchain builds' 'words:2 run x' "$(head -n 1 "$place/output")"
 
 shipped_repository
@@ -299,9 +302,9 @@ expect 'check: with the shipped program' dist/ptides "$(cat "$place/repo/examine
 printf '#!/bin/sh\nexit 1\n' >"$place/repo/tools/check-examples.sh"
 ship --check
 expect 'check: another build that answers otherwise' 1 $?
-KIT='rattle-kit-2 logic 0' ship --check
+KIT='rattle-kit-2 logic 1' ship --check
 expect 'check: another toolchain' 1 $?
-expect 'check: another toolchain is named' 1 "$(grep -c 'this is rattle-kit-2 logic 0' "$place/shipping")"
+expect 'check: another toolchain is named' 1 "$(grep -c 'this is rattle-kit-2 logic 1' "$place/shipping")"
 echo 'proved with rattle-kit-2 logic 0' >"$place/repo/README.md"
 ship --check
 expect 'check: a README that names another toolchain' 1 $?
