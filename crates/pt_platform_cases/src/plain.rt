@@ -23,6 +23,8 @@ pub struct Plain {
     states: Vec<i64>,
     reading: Option<u64>,
     claims: u64,
+    /// Whether a message was late: that turn was the platform's last, and nothing is claimed after it.
+    late: bool,
 }
 
 /// Whether one tag or delay is less than another.
@@ -208,6 +210,7 @@ impl Plain {
             states: Vec::new(alloc),
             reading: None,
             claims: 0,
+            late: false,
         };
         plain.begin(graph, platform, rows)?;
         Ok(plain)
@@ -492,7 +495,7 @@ impl Plain {
         Ok(())
     }
 
-    /// What a turn must claim, where its results were posted: none where a message is late.
+    /// What a turn must claim, where its results were posted: none where a message is late or was.
     pub fn turn(
         &mut self,
         alloc: Global,
@@ -504,8 +507,9 @@ impl Plain {
         let mut claimed = Vec::new(alloc);
         self.enter(alloc, graph, reading)?;
         let late = self.take(graph, messages)?;
+        self.late = self.late || late;
         self.reading = Some(reading);
-        if late {
+        if self.late {
             return Ok(claimed);
         }
         for _ in 0..64 {
