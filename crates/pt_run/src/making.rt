@@ -14,7 +14,7 @@ ghost use Rattle.pt_run.specs.Texts.{left_by};
 
 use crate::fault::{Fault, Outcome};
 use crate::notes::{tell, tell_write};
-use crate::output::put_lines;
+use crate::output::put_text;
 use crate::plans::{Unplanned, plan_of};
 use pt_blocks::Blocks;
 use pt_confluence::gather;
@@ -52,6 +52,7 @@ pub fn make<K: Sink, E: Sink>(
     ensures status { result.status ≡ status_of result.fault result.misses }
     ensures ends { EndsMade result.fault (left_by result) number
         (record { before = K.faults out.old; now = K.faults out.new; written_before = K.written out.old; written_now = K.written out.new }) }
+    ensures flushed { result.fault ≡ None → K.flushed out.new }
     ensures notes { Tells result.fault result.misses None
         (record { before = E.faults notes.old; now = E.faults notes.new; written_before = E.written notes.old; written_now = E.written notes.new }) }
 {
@@ -59,7 +60,7 @@ pub fn make<K: Sink, E: Sink>(
         let fault = tell(alloc, notes, Fault::Memory, None);
         return Outcome::refused(alloc, fault);
     };
-    if put_lines(out, summary.as_str().as_bytes()).is_err() {
+    if put_text(out, summary.as_str().as_bytes()).is_err() {
         tell_write(notes);
         return Outcome::stopped(alloc, Fault::Write, platforms);
     }
