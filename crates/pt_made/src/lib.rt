@@ -14,6 +14,3 @@ pub use graphs::made_graph;
 pub use laws::{made_graphs_can_run, made_runs_are_short, made_runs_miss_nothing};
 pub use rows::made_rows;
 pub use sums::summary;
-
-#[cfg(test)]
-mod tests;
