@@ -4,7 +4,8 @@
 //! `turn PLATFORM READING` makes a turn with the results of all that its platform claimed and with the messages that were
 //! sent to it, but for the actors of `hold` and the links of `keep`, up to `free`. `again` does so with all results again
 //! that were handed in before. `seeds N` makes N random graphs, and compares through many turns of each what its platforms
-//! claim with what a plain search by the definition does. Any other line is written as it is. What `stdout` must have was worked out by hand.
+//! claim with what a plain search by the definition does. Any other line is written as it is. What `stdout` must have of the
+//! turns by hand was worked out by hand; of a random graph only `agree` tells something.
 #![tactic(auto)]
 
 mod coming;
@@ -16,6 +17,7 @@ mod plain;
 mod random;
 mod script;
 mod telling;
+mod ways;
 
 use pt_blocks::Blocks;
 use script::Script;
