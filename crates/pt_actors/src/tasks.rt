@@ -69,6 +69,18 @@ impl Tasks {
         }
     }
 
+    /// Appends tasks, each of which takes one place of the room. No memory is taken.
+    pub fn extend(&mut self, more: &[Task])
+        requires { length more.now ≤ self.old.spare }
+        ensures tasks { self.new.tasks ≡ self.old.tasks ++ more.now }
+        ensures spare { self.new.spare + length more.now ≡ self.old.spare }
+    {
+        match self.items.extend_from_slice(more) {
+            Ok(()) => self.room -= more.len(),
+            Err(_) => unreachable!(),
+        }
+    }
+
     /// How many tasks there are.
     pub fn len(&self) -> usize
         ensures { result ≡ length self.now.tasks }

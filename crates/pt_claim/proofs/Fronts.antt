@@ -8,25 +8,20 @@ use Rattle.pt_tags.specs.declared.tag.Tag.{Tag}
 use Rattle.pt_types.specs.declared.firing.Task.{Task}
 use Rattle.pt_types.specs.declared.graph.Graph.{Graph}
 use Rattle.pt_types.specs.declared.graph.Unit.{Unit as Part}
-use Rattle.pt_types.specs.Lawful.{IsLawful}
-use Rattle.pt_types.specs.Groups.{held, actor_at, groups_of}
-use Rattle.pt_semantics.specs.Edges.{kind_of}
 use Rattle.pt_semantics.specs.Lists.{Each, IsIn}
 use Rattle.pt_semantics.specs.Meaning.{Values}
 use Rattle.pt_semantics.specs.Platform.{State}
 use Rattle.pt_semantics.specs.Safe.{IsSafe, NothingSafe}
 use Rattle.pt_semantics.specs.Claiming.{NoLater, after_claim}
-use Rattle.pt_semantics.specs.Units.{groups}
+use Rattle.pt_semantics.specs.Units.{HasEvent}
 use Rattle.pt_semantics.proofs.Candidates.{claims_apart}
 use Rattle.pt_semantics.proofs.Claiming.{event_found}
 use Rattle.pt_semantics.proofs.Lookups.{Each-in, none_some}
 use Rattle.pt_delays.specs.Delays.{IsUnit}
-use Rattle.pt_delays.proofs.Numbering.{groups_held}
 use Rattle.pt_state.specs.declared.fields.Fields.{Fields}
 use Rattle.pt_state.specs.State.{IsSound, busy_in}
 use Rattle.pt_queue.specs.Events.{waiting_in}
 use Rattle.pt_claim.specs.declared.next.SafeUnit.{SafeUnit}
-use Rattle.pt_claim.specs.Safe.{IsSafeAt}
 use Rattle.pt_claim.specs.Fronts.{AreFirst, AreFront, IsAhead, IsAmong, IsInOrder, IsPut, IsSafeUnit, IsTaken, IsNextSafe, StandsBefore}
 use Rattle.pt_claim.proofs.Ordering.{ahead_or, ahead_trans, cut_off, each_drop, each_insert, each_map, each_take, in_drop, in_insert, itself_in, order_insert, order_take, some_behind, take_insert}
 use Rattle.pt_claim.proofs.SafeTags.{same_tags}
@@ -110,7 +105,7 @@ first_put g waits busy r a k tag old new first unit safe put = subst (AreFirst g
         (either_place put.place)
 
 -- a unit that isn't safe changes nothing
-pub first_skip : (g : Graph) (waits : Values) (busy : Part → Option Task) (r a k : ℕ) (cs : List SafeUnit) → AreFirst g waits busy r a k cs → IsSafeAt g waits busy r (record { actor = a; group = k }) None → AreFirst g waits busy r a (k + 1) cs
+pub first_skip : (g : Graph) (waits : Values) (busy : Part → Option Task) (r a k : ℕ) (cs : List SafeUnit) → AreFirst g waits busy r a k cs → ((t : Tag) → IsSafe g waits busy r (record { actor = a; group = k }) t → ⊥) → AreFirst g waits busy r a (k + 1) cs
 first_skip g waits busy r a k cs first none = record {
   in_order = first.in_order;
   safe = first.safe;
@@ -121,69 +116,52 @@ first_skip g waits busy r a k cs first none = record {
       (this_or u a k stands);
 }
 
--- each unit of the graph that stands before the next actor stands before the end of this one
-before_end : (g : Graph) (u : Part) (a k : ℕ) → groups (kind_of g a) ≤ k → IsUnit g u → StandsBefore u (a + 1) 0 → StandsBefore u a k
-before_end g u a k all unit h = ⊎_elim (λ (l : u.actor < a + 1). ⊎_elim (λ (b : u.actor < a). inl b)
-    (λ (e : u.actor ≡ a). let own : u.group < groups (kind_of g a) = subst (λ n. u.group < groups (kind_of g n)) e unit.1 in inr (e, omega arith)) (last u.actor a l))
-    (λ (s : (u.actor ≡ a + 1) × (u.group < 0)). absurd (none u.group s.1)) h
+stands_or : (u : Part) (a k : ℕ) → StandsBefore u a k ⊎ (StandsBefore u a k → ⊥)
+stands_or u a k = ⊎_elim
+    (λ (l : u.actor < a). inl (inl l))
+    (λ (m : a ≤ u.actor). ⊎_elim
+    (λ (e : u.actor ≡ a). ⊎_elim
+    (λ (l : u.group < k). inl (inr (e, l)))
+    (λ (n : k ≤ u.group). inr (λ h. ⊎_elim (λ (l : u.actor < a). omega (arith, l, m)) (λ (s : (u.actor ≡ a) × (u.group < k)). omega (arith, s.1, n)) h))
+    (either u.group k))
+    (λ (l : a < u.actor). inr (λ h. ⊎_elim (λ (x : u.actor < a). omega (arith, x, m)) (λ (s : (u.actor ≡ a) × (u.group < k)). omega (arith, s.0, l)) h))
+    (same_or u.actor a m))
+    (either u.actor a)
   where
-    last : (n m : ℕ) → n < m + 1 → (n < m) ⊎ (n ≡ m)
-    last n m l = grind arith
-
-    none : (n : ℕ) → n < 0 → ⊥
-    none n l = omega arith
-
--- all groups of an actor are done
-pub first_next : (g : Graph) (waits : Values) (busy : Part → Option Task) (r a k : ℕ) (cs : List SafeUnit) → groups (kind_of g a) ≤ k → AreFirst g waits busy r a k cs → AreFirst g waits busy r (a + 1) 0 cs
-first_next g waits busy r a k cs all first = record {
-  in_order = first.in_order;
-  safe = first.safe;
-  stand = each_map (λ (d : SafeUnit). StandsBefore d.unit a k) (λ (d : SafeUnit). StandsBefore d.unit (a + 1) 0) cs (λ d h. ⊎_elim (λ (l : d.unit.actor < a). inl (omega (arith, l))) (λ (s : (d.unit.actor ≡ a) × (d.unit.group < k)). inl (omega (arith, s.0))) h) first.stand;
-  among = λ u t own stands safe. first.among u t own (before_end g u a k all own stands) safe;
-}
-
-pub groups_are : (g : Graph) (a n : ℕ) → IsLawful g → a < length g.actors → n ≡ held (groups_of (actor_at g.actors a).kind) → n ≡ groups (kind_of g a)
-groups_are g a n lawful less is = groups_held g a 0 n lawful less (omega arith) is
-
--- no unit of an actor for which nothing waits is safe
-pub not_safe : (g : Graph) (waits : Values) (busy : Part → Option Task) (r : ℕ) (u : Part) (t : Tag) → ((p : ℕ) (w : Tag) → waits u.actor p w ≡ None) → IsSafe g waits busy r u t → ⊥
-not_safe g waits busy r u t none safe = let found = event_found g waits u t safe.event in none_some found.value (sym (none found.port t) ∙ found.waits_there)
-
--- the actors between for which nothing waits are passed over
-pub first_jump : (g : Graph) (waits : Values) (busy : Part → Option Task) (r a b : ℕ) (cs : List SafeUnit) → a ≤ b → ((c p : ℕ) (t : Tag) → a ≤ c → c < b → waits c p t ≡ None) → AreFirst g waits busy r a 0 cs → AreFirst g waits busy r b 0 cs
-first_jump g waits busy r a b cs le none first = record {
-  in_order = first.in_order;
-  safe = first.safe;
-  stand = each_map (λ (d : SafeUnit). StandsBefore d.unit a 0) (λ (d : SafeUnit). StandsBefore d.unit b 0) cs (λ d h. ⊎_elim (λ (l : d.unit.actor < a). inl (omega (arith, l, le))) (λ (s : (d.unit.actor ≡ a) × (d.unit.group < 0)). absurd (never d.unit.group s.1)) h) first.stand;
-  among = λ u t own stands safe. ⊎_elim
-      (λ (l : u.actor < b). ⊎_elim
-      (λ (m : u.actor < a). first.among u t own (inl m) safe)
-      (λ (m : a ≤ u.actor). absurd (not_safe g waits busy r u t (λ p w. none u.actor p w m l) safe))
-      (either u.actor a))
-      (λ (s : (u.actor ≡ b) × (u.group < 0)). absurd (never u.group s.1))
-      stands;
-}
-  where
-    never : (n : ℕ) → n < 0 → ⊥
-    never n l = omega arith
-
     either : (m n : ℕ) → (m < n) ⊎ (n ≤ m)
     either m n = grind arith
 
--- nothing waits for the actors that are left
-pub first_end : (g : Graph) (waits : Values) (busy : Part → Option Task) (r a : ℕ) (cs : List SafeUnit) → ((c p : ℕ) (t : Tag) → a ≤ c → c < length g.actors → waits c p t ≡ None) → AreFirst g waits busy r a 0 cs → AreFirst g waits busy r (length g.actors) 0 cs
-first_end g waits busy r a cs none first = record {
+    same_or : (m n : ℕ) → n ≤ m → (m ≡ n) ⊎ (n < m)
+    same_or m n l = grind arith
+
+-- units between two places, none of which has an event, are passed over
+pub first_pass : (g : Graph) (waits : Values) (busy : Part → Option Task) (r a k b l : ℕ) (cs : List SafeUnit) → ((x : Part) → StandsBefore x a k → StandsBefore x b l)
+    → ((x : Part) (t : Tag) → IsUnit g x → (StandsBefore x a k → ⊥) → StandsBefore x b l → HasEvent g waits x t → ⊥) → AreFirst g waits busy r a k cs → AreFirst g waits busy r b l cs
+first_pass g waits busy r a k b l cs on none first = record {
+  in_order = first.in_order;
+  safe = first.safe;
+  stand = each_map (λ (d : SafeUnit). StandsBefore d.unit a k) (λ (d : SafeUnit). StandsBefore d.unit b l) cs (λ d h. on d.unit h) first.stand;
+  among = λ u t own stands safe. ⊎_elim
+      (λ (before : StandsBefore u a k). first.among u t own before safe)
+      (λ (not : StandsBefore u a k → ⊥). absurd (none u t own not stands safe.event))
+      (stands_or u a k);
+}
+
+-- at the end all units of the graph stand before
+pub first_end : (g : Graph) (waits : Values) (busy : Part → Option Task) (r a k : ℕ) (cs : List SafeUnit) → ((x : Part) (t : Tag) → IsUnit g x → (StandsBefore x a k → ⊥) → HasEvent g waits x t → ⊥) → AreFirst g waits busy r a k cs → AreFirst g waits busy r (length g.actors) 0 cs
+first_end g waits busy r a k cs none first = record {
   in_order = first.in_order;
   safe = first.safe;
   stand = each_map (IsSafeUnit g waits busy r) (λ (d : SafeUnit). StandsBefore d.unit (length g.actors) 0) cs (λ d h. inl h.is_unit.0) first.safe;
   among = λ u t own stands safe. ⊎_elim
-      (λ (m : u.actor < a). first.among u t own (inl m) safe)
-      (λ (m : a ≤ u.actor). absurd (not_safe g waits busy r u t (λ p w. none u.actor p w m own.0) safe))
-      (either u.actor a);
+      (λ (before : StandsBefore u a k). first.among u t own before safe)
+      (λ (not : StandsBefore u a k → ⊥). absurd (none u t own not safe.event))
+      (stands_or u a k);
 }
-  where
-    either : (m n : ℕ) → (m < n) ⊎ (n ≤ m)
-    either m n = grind arith
+
+-- no unit of an actor for which nothing waits is safe
+pub not_safe : (g : Graph) (waits : Values) (busy : Part → Option Task) (r : ℕ) (u : Part) (t : Tag) → ((p : ℕ) (w : Tag) → waits u.actor p w ≡ None) → IsSafe g waits busy r u t → ⊥
+not_safe g waits busy r u t none safe = let found = event_found g waits u t safe.event in none_some found.value (sym (none found.port t) ∙ found.waits_there)
 
 -- before the first actor there is none
 pub first_none : (g : Graph) (waits : Values) (busy : Part → Option Task) (r : ℕ) (cs : List SafeUnit) → cs ≡ [] → AreFirst g waits busy r 0 0 cs
@@ -198,9 +176,9 @@ first_none g waits busy r cs is = subst (AreFirst g waits busy r 0 0) (sym is) (
     never n l = omega arith
 
 -- what has an event is a unit of the graph
-pub safe_is_unit : (g : Graph) (f : Fields) (r : ℕ) (u : Part) (t : Tag) → IsSound g f → IsSafe g (waiting_in f.queue.events) (busy_in f.open_claims.items) r u t → IsUnit g u
-safe_is_unit g f r u t sound safe =
-    let found = event_found g (waiting_in f.queue.events) u t safe.event in
+pub event_is_unit : (g : Graph) (f : Fields) (u : Part) (t : Tag) → IsSound g f → HasEvent g (waiting_in f.queue.events) u t → IsUnit g u
+event_is_unit g f u t sound event =
+    let found = event_found g (waiting_in f.queue.events) u t event in
     subst (IsUnit g) found.unit (sound.at_units u.actor found.port t found.value found.waits_there)
 
 -- all actors are done
@@ -209,7 +187,7 @@ front_found g f r more cs sound few is first = record {
   in_order = first.in_order;
   safe = first.safe;
   others = λ u t safe.
-      let unit = safe_is_unit g f r u t sound safe in
+      let unit = event_is_unit g f u t sound safe.event in
       ⊎_elim (λ (m : IsIn (record { unit = u; tag = t }) cs). inl m)
       (λ (full : (64 ≤ length cs) × Each (λ (c : SafeUnit). IsAhead c (record { unit = u; tag = t })) cs). inr (is ∙ eq-eqb (length cs) 64 (omega (arith, full.0, few)), full.1))
       (first.among u t unit (inl unit.0) safe);

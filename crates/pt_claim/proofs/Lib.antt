@@ -3,4 +3,4 @@ pub mod Ordering
 pub mod Fronts
 pub mod Making
 pub mod Cut
-pub mod Marks
+pub mod Passing

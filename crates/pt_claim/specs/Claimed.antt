@@ -1,5 +1,5 @@
 -- What claiming does to the fields of a platform.
-use Rattle.std.specs.Prelude.{◌≡◌, ℕ, ◌+◌, ◌≤◌, ◌⊎◌, List, ◌++◌, length, vec_len}
+use Rattle.std.specs.Prelude.{◌≡◌, ℕ, ◌+◌, ◌≤◌, ◌⊎◌, List, ◌++◌, length}
 use Rattle.pt_tags.specs.declared.tag.Tag.{Tag}
 use Rattle.pt_types.specs.declared.graph.Graph.{Graph}
 use Rattle.pt_types.specs.declared.graph.Unit.{Unit as Part}
@@ -39,6 +39,6 @@ pub record AreClaimed (g : Graph) (r most : ℕ) (old new : Fields) (before afte
   pub claims : (taken : List OnLink) → Claims g r (state_of old taken) claimed (state_of new taken)
   pub at_most : length claimed ≤ most
   pub count : new.claims ≡ old.claims + length claimed
-  pub open_claims : vec_len new.open_claims ≡ vec_len old.open_claims + length claimed
+  pub open_claims : new.open_claims.spare + length claimed ≡ old.open_claims.spare
   pub in_all : new.claims ≤ 200000
   pub all_or : NothingSafe g (waiting_in new.queue.events) (busy_in new.open_claims.items) r ⊎ ((most ≤ length claimed) ⊎ (200000 ≤ new.claims))

@@ -13,8 +13,3 @@ use Rattle.pt_state.specs.declared.fields.OpenClaim.{OpenClaim}
 -- an open claim leads to unit u at t or before
 abbrev pub leads_to : (Part → Part → Option Delay) → Part → Tag → OpenClaim → Bool
 leads_to least u t c = reaches (least c.unit u) c.task.tag t
-
--- what waits and is open being given, the tag at which unit u is safe at reading r; absent exactly where it is safe at none
-abbrev pub IsSafeAt : Graph → Values → (Part → Option Task) → ℕ → Part → Option Tag → Type 0
-IsSafeAt g waits busy r u None = (t : Tag) → IsSafe g waits busy r u t → ⊥
-IsSafeAt g waits busy r u (Some t) = IsSafe g waits busy r u t

@@ -15,7 +15,7 @@ use crate::front::Front;
 use crate::next::SafeUnit;
 use pt_delays::Least;
 use pt_offsets::Offsets;
-use pt_state::{Fields, OpenClaim, add_claim};
+use pt_state::{Fields, OpenClaim};
 use pt_types::{Graph, Task, Unit};
 
 /// How many claims a platform makes at most. (This project's own choice.)
@@ -42,15 +42,14 @@ pub fn claim(fields: &mut Fields, graph: &Graph, next: SafeUnit) -> Task
     requires unit { IsUnit graph.now next.unit }
     requires event { HasEvent graph.now (waiting_in fields.old.queue.events) next.unit next.tag }
     requires free { busy_in fields.old.open_claims.items next.unit ≡ None }
-    requires room { vec_len fields.old.open_claims < vec_capacity fields.old.open_claims }
+    requires room { 0 < fields.old.open_claims.spare }
     requires claims { fields.old.claims < 200000 }
     ensures task { IsTaskOf graph.now fields.old next.unit next.tag result }
     ensures after { (taken : Sequence OnLink) → state_of fields.new taken ≡ after_claim graph.now (state_of fields.old taken) next.unit result }
     ensures sound { IsSound graph.now fields.new }
     ensures others { OthersStay fields.old fields.new }
     ensures claims { fields.new.claims ≡ fields.old.claims + 1 }
-    ensures open_claims { vec_len fields.new.open_claims ≡ vec_len fields.old.open_claims + 1 }
-    ensures capacity { vec_capacity fields.old.open_claims ≤ vec_capacity fields.new.open_claims }
+    ensures open_claims { fields.new.open_claims.spare + 1 ≡ fields.old.open_claims.spare }
 {
     let task = Task {
         number: fields.claims,
@@ -59,7 +58,7 @@ pub fn claim(fields: &mut Fields, graph: &Graph, next: SafeUnit) -> Task
         inputs: fields.queue.take(next.unit, next.tag),
         state: state_at(fields.states.as_slice(), next.unit.actor),
     };
-    add_claim(&mut fields.open_claims, open_claim(next.unit, &task));
+    fields.open_claims.add(open_claim(next.unit, &task));
     fields.claims += 1;
     task
 }
@@ -83,12 +82,11 @@ pub fn claims(
     requires least { AreLeast graph.now (least_of least.now) }
     requires offsets { AreOffsets graph.now offsets.now }
     requires claims { fields.old.claims ≤ 200000 }
-    requires room { vec_len fields.old.open_claims + most ≤ vec_capacity fields.old.open_claims }
+    requires room { most ≤ fields.old.open_claims.spare }
     requires tasks { vec_len tasks.old + most ≤ vec_capacity tasks.old }
     ensures claimed { AreClaimed graph.now reading most fields.old fields.new tasks.old.items tasks.new.items }
     ensures sound { IsSound graph.now fields.new }
     ensures others { OthersStay fields.old fields.new }
-    ensures capacity { vec_capacity fields.old.open_claims ≤ vec_capacity fields.new.open_claims }
     ensures tasks { vec_capacity tasks.old ≤ vec_capacity tasks.new }
 {
     if fields.queue.is_empty() {

@@ -1,22 +1,21 @@
 //! The safe units that are claimed first.
 
-ghost use Rattle.std.specs.Prelude.{◌≡◌, ◌<◌, ◌+◌, ◌⊎◌, [], true, false, drop, length};
+ghost use Rattle.std.specs.Prelude.{◌≡◌, ◌<◌, ◌+◌, ◌⊎◌, [], Some, true, false, drop, length};
 ghost use Rattle.pt_types.specs.Lawful.{IsLawful};
-ghost use Rattle.pt_delays.specs.Delays.{AreLeast, least_of};
+ghost use Rattle.pt_delays.specs.Delays.{AreLeast, IsUnit, least_of};
 ghost use Rattle.pt_offsets.specs.Plans.{AreOffsets};
-ghost use Rattle.pt_queue.specs.Events.{waiting_in};
-ghost use Rattle.pt_queue.specs.Marks.{AreMarked};
+ghost use Rattle.pt_queue.specs.Events.{waiting_in, IsLeastTag};
 ghost use Rattle.pt_state.specs.State.{busy_in, IsSound};
 ghost use Rattle.pt_claim.specs.Fronts.{AreFirst, AreFront, IsNextSafe, IsTaken};
 
 use crate::next::{SafeUnit, put};
-use crate::safe::safe_tag_by;
+use crate::safe::is_safe;
 use arrayvec::ArrayVec;
 use pt_delays::Least;
 use pt_offsets::Offsets;
-use pt_queue::Mark;
+use pt_queue::Waiting;
 use pt_state::Fields;
-use pt_types::{Graph, Unit};
+use pt_types::Graph;
 
 /// Safe units that come first, in their order, and how many of them were taken.
 #[derive(Drop)]
@@ -27,90 +26,32 @@ pub struct Front {
     pub more: bool,
 }
 
-/// Puts the safe units of an actor among those that come first.
-fn add_actor(
+/// Puts a unit that has events among those that come first, if it is safe.
+fn add_unit(
     fields: &Fields,
     graph: &Graph,
     least: &Least,
     offsets: &Offsets,
     reading: u64,
-    marks: &[Mark],
-    actor: u32,
+    waiting: Waiting,
     units: &mut ArrayVec<SafeUnit, 64>,
 )
     requires lawful { IsLawful graph.now }
     requires sound { IsSound graph.now fields.now }
     requires least { AreLeast graph.now (least_of least.now) }
     requires offsets { AreOffsets graph.now offsets.now }
-    requires marks { AreMarked least.now fields.now.queue.groups marks.now fields.now.queue.events }
-    requires actor { actor < length graph.now.actors }
-    requires first { AreFirst graph.now (waiting_in fields.now.queue.events) (busy_in fields.now.open_claims.items) reading actor 0 units.old.items }
-    ensures { AreFirst graph.now (waiting_in fields.now.queue.events) (busy_in fields.now.open_claims.items) reading (actor + 1) 0 units.new.items }
+    requires unit { IsUnit graph.now waiting.unit }
+    requires tag { IsLeastTag graph.now (waiting_in fields.now.queue.events) waiting.unit (Some waiting.tag) }
+    requires first { AreFirst graph.now (waiting_in fields.now.queue.events) (busy_in fields.now.open_claims.items) reading waiting.unit.actor waiting.unit.group units.old.items }
+    ensures { AreFirst graph.now (waiting_in fields.now.queue.events) (busy_in fields.now.open_claims.items) reading waiting.unit.actor (waiting.unit.group + 1) units.new.items }
 {
-    for group in 0..graph.groups(actor) {
-        let unit = Unit { actor, group };
-        match safe_tag_by(fields, graph, least, offsets, reading, marks, unit) {
-            None => (),
-            Some(tag) => put(units, SafeUnit { unit, tag }),
-        }
+    let Waiting { unit, tag } = waiting;
+    if is_safe(fields, graph, least, offsets, reading, unit, tag) {
+        put(units, SafeUnit { unit, tag });
     }
 }
 
-/// Puts the safe units that come first into an empty list. The search goes over the actors that have events.
-fn fill_by(
-    fields: &Fields,
-    graph: &Graph,
-    least: &Least,
-    offsets: &Offsets,
-    reading: u64,
-    marks: &[Mark],
-    units: &mut ArrayVec<SafeUnit, 64>,
-)
-    requires lawful { IsLawful graph.now }
-    requires sound { IsSound graph.now fields.now }
-    requires least { AreLeast graph.now (least_of least.now) }
-    requires offsets { AreOffsets graph.now offsets.now }
-    requires marks { AreMarked least.now fields.now.queue.groups marks.now fields.now.queue.events }
-    requires empty { units.old.items ≡ [] }
-    ensures { AreFirst graph.now (waiting_in fields.now.queue.events) (busy_in fields.now.open_claims.items) reading (length graph.now.actors) 0 units.new.items }
-{
-    let mut from = 0;
-    for _ in 0..graph.actors.as_slice().len() {
-        match fields.queue.next_active(from) {
-            None => return,
-            Some(actor) => {
-                add_actor(fields, graph, least, offsets, reading, marks, actor, units);
-                from = actor + 1;
-            }
-        }
-    }
-}
-
-/// The same, after marking whose events lead to each unit.
-fn fill_crowded(
-    fields: &Fields,
-    graph: &Graph,
-    least: &Least,
-    offsets: &Offsets,
-    reading: u64,
-    units: &mut ArrayVec<SafeUnit, 64>,
-)
-    requires lawful { IsLawful graph.now }
-    requires sound { IsSound graph.now fields.now }
-    requires least { AreLeast graph.now (least_of least.now) }
-    requires offsets { AreOffsets graph.now offsets.now }
-    requires empty { units.old.items ≡ [] }
-    ensures { AreFirst graph.now (waiting_in fields.now.queue.events) (busy_in fields.now.open_claims.items) reading (length graph.now.actors) 0 units.new.items }
-{
-    let mut marks = [Mark::Nobody; 2048];
-    if fields.queue.mark(least, &mut marks) {
-        fill_by(fields, graph, least, offsets, reading, &marks, units);
-    } else {
-        fill_by(fields, graph, least, offsets, reading, &[], units);
-    }
-}
-
-/// Puts the safe units that come first in place of others.
+/// Puts the safe units that come first in place of others. The search goes over the units that have events.
 fn fill(
     fields: &Fields,
     graph: &Graph,
@@ -126,10 +67,8 @@ fn fill(
     ensures { AreFirst graph.now (waiting_in fields.now.queue.events) (busy_in fields.now.open_claims.items) reading (length graph.now.actors) 0 units.new.items }
 {
     units.clear();
-    if fields.queue.is_crowded() {
-        fill_crowded(fields, graph, least, offsets, reading, units);
-    } else {
-        fill_by(fields, graph, least, offsets, reading, &[], units);
+    for waiting in fields.queue.waiting() {
+        add_unit(fields, graph, least, offsets, reading, *waiting, units);
     }
 }
 
@@ -202,7 +141,7 @@ impl Front {
 
 /// Of all units that are safe at that reading the one with the least tag, actor and group; `None` exactly where none is safe.
 ///
-/// The reading is in microseconds. The search goes over the actors that have events.
+/// The reading is in microseconds. The search goes over the units that have events.
 pub fn next_safe(
     fields: &Fields,
     graph: &Graph,

@@ -3,9 +3,9 @@
 //! A unit is safe when nothing earlier can still come to it (RTAS 2007): neither a row or a message from outside, which its
 //! paced reading tells, nor anything from what waits or is being fired on the platform, which least delays tell. Safe
 //! units are claimed one by one in the order of tag, actor and group. A claim neither frees nor blocks another unit, so one
-//! search over the actors that have events finds all of them.
+//! search over the units that have events finds all of them.
 //!
-//! Read first: `claims`, then `safe_tag`.
+//! Read first: `claims`, then `is_safe`.
 #![tactic(auto)]
 
 mod claiming;
@@ -16,4 +16,4 @@ mod safe;
 pub use claiming::{claim, claims};
 pub use front::next_safe;
 pub use next::SafeUnit;
-pub use safe::{has_open, safe_tag};
+pub use safe::is_safe;

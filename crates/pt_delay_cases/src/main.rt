@@ -2,6 +2,8 @@
 //!
 //! A line of the output has two units, each as actor and group, and the least delay from the first to the second,
 //! as time and step. An empty line ends each graph. What `stdout` must have was found by hand.
+//!
+//! Where the units before a unit are not exactly those that have a delay to it, it says so.
 #![tactic(auto)]
 
 ghost use Rattle.std.specs.Prelude.{◌<◌, ◌^◌, length};
@@ -67,12 +69,24 @@ fn write_row(table: &mut String, graph: &Graph, least: &Least, from: Unit) -> Re
 }
 
 fn write_pair(table: &mut String, least: &Least, from: Unit, to: Unit) -> Result<(), AllocError> {
-    if let Some(delay) = least.get(from, to) {
+    let delay = least.get(from, to);
+    if let Some(delay) = delay {
         write!(
             table,
             "{}.{} {}.{} {}.{}\n",
             from.actor, from.group, to.actor, to.group, delay.time, delay.step
         )?;
     }
+    if is_before(least, from, to) != delay.is_some() {
+        table.push_str("listed wrongly\n")?;
+    }
     Ok(())
+}
+
+/// Whether `from` is among the units before `to`.
+fn is_before(least: &Least, from: Unit, to: Unit) -> bool {
+    match least.before(to) {
+        Some(units) => units.contains(&from),
+        None => false,
+    }
 }

@@ -8,3 +8,4 @@ pub mod Numbering
 pub mod Reaching
 pub mod Searching
 pub mod Paths
+pub mod Listing

@@ -1,8 +1,9 @@
 -- The numbers of units: each actor's begin where the groups of the one before end.
-use Rattle.std.proofs.Common.{◌≡◌, ◌≢◌, ℕ, ◌+◌, ◌-◌, ◌<◌, ◌≤◌, List, [], ◌∷◌, ◌++◌, map, take, drop, length, slice_index_or, refl, sym, ap, ◌∙◌, arith, ◌⊎◌, inl, inr, ⊎_elim}
+use Rattle.std.proofs.Common.{◌≡◌, true, nat_lt, ◌≢◌, ℕ, ◌+◌, ◌-◌, ◌<◌, ◌≤◌, List, [], ◌∷◌, ◌++◌, map, take, drop, length, slice_index_or, refl, sym, ap, ◌∙◌, arith, ⊎_elim}
 use Rattle.std.specs.Prelude.{sum}
 use Rattle.std.proofs.lemmas.List.{map-append, take_more, take-append-drop, get_or_past, get_or_append_left, get_or-append_right}
 use Rattle.std.proofs.lemmas.Bool.{cases_lt}
+use Rattle.std.proofs.lemmas.Bool.Decides.{nat_tests}
 use Rattle.std.proofs.lemmas.List.Sums.{sum_by-append, sum_by-cons}
 use Rattle.pt_types.specs.declared.graph.Graph.{Graph}
 use Rattle.pt_types.specs.declared.graph.Actor.{Actor}
@@ -14,13 +15,10 @@ use Rattle.pt_types.specs.Lawful.{IsLawful, cell_count}
 use Rattle.pt_semantics.specs.Edges.{kind_of, no_actor}
 use Rattle.pt_semantics.specs.Units.{groups}
 use Rattle.pt_delays.specs.declared.units.Numbers.{Numbers}
-use Rattle.pt_delays.specs.Cells.{number_in}
+use Rattle.pt_delays.specs.Cells.{first_in, number_in}
 use Rattle.pt_delays.specs.Units.{IsUnit}
 use Rattle.pt_delays.specs.Numbered.{AreNumbered}
 use Rattle.pt_delays.proofs.Members.{cases_nat}
-
-abbrev pub first_at : List ℕ → ℕ → ℕ
-first_at firsts i = slice_index_or firsts i 4294967295
 
 -- the cells of the first i actors
 pub cells_until : Graph → ℕ → ℕ
@@ -77,14 +75,14 @@ groups_held g i count n lawful less few is =
 
 -- one actor more is numbered
 module _ (firsts next : List ℕ) (i count : ℕ) (len : length firsts ≡ i) (pushed : next ≡ firsts ++ count ∷ []) where
-  pub first_last : first_at next i ≡ count
-  first_last = ap (λ z. first_at z i) pushed ∙ get_or-append_right firsts (count ∷ []) i i 4294967295 len (omega arith) ∙ ap (λ k. first_at (count ∷ []) k) (let none : i - i ≡ 0 = omega arith in none)
+  pub first_last : first_in next i ≡ count
+  first_last = ap (λ z. first_in z i) pushed ∙ get_or-append_right firsts (count ∷ []) i i 0 len (omega arith) ∙ ap (λ k. first_in (count ∷ []) k) (let none : i - i ≡ 0 = omega arith in none)
 
-  pub first_before : (j : ℕ) → j < i → first_at next j ≡ first_at firsts j
-  first_before j h = ap (λ z. first_at z j) pushed ∙ get_or_append_left firsts (count ∷ []) 4294967295 j (omega arith)
+  pub first_before : (j : ℕ) → j < i → first_in next j ≡ first_in firsts j
+  first_before j h = ap (λ z. first_in z j) pushed ∙ get_or_append_left firsts (count ∷ []) 0 j (omega arith)
 
-  module _ (g : Graph) (ends : (j : ℕ) → j < i → first_at firsts j + groups (kind_of g j) ≤ count) where
-    pub spaced_more : ((j k : ℕ) → j < k → k < i → first_at firsts j + groups (kind_of g j) ≤ first_at firsts k) → (j k : ℕ) → j < k → k < i + 1 → first_at next j + groups (kind_of g j) ≤ first_at next k
+  module _ (g : Graph) (ends : (j : ℕ) → j < i → first_in firsts j + groups (kind_of g j) ≤ count) where
+    pub spaced_more : ((j k : ℕ) → j < k → k < i → first_in firsts j + groups (kind_of g j) ≤ first_in firsts k) → (j k : ℕ) → j < k → k < i + 1 → first_in next j + groups (kind_of g j) ≤ first_in next k
     spaced_more spaced j k less within = ⊎_elim
         (λ (old : k < i).
         let left = first_before j (omega arith) in
@@ -94,12 +92,12 @@ module _ (firsts next : List ℕ) (i count : ℕ) (len : length firsts ≡ i) (p
         (λ (last : i ≤ k).
         let here : k ≡ i = omega arith in
         let left = first_before j (omega arith) in
-        let right : first_at next k ≡ count = ap (first_at next) here ∙ first_last in
+        let right : first_in next k ≡ count = ap (first_in next) here ∙ first_last in
         let was = ends j (omega arith) in
         omega (arith, left, right, was))
         (cases_lt k i)
 
-    pub ends_more : (total : ℕ) → total ≡ count + groups (kind_of g i) → (j : ℕ) → j < i + 1 → first_at next j + groups (kind_of g j) ≤ total
+    pub ends_more : (total : ℕ) → total ≡ count + groups (kind_of g i) → (j : ℕ) → j < i + 1 → first_in next j + groups (kind_of g j) ≤ total
     ends_more total is j within = ⊎_elim
         (λ (old : j < i).
         let left = first_before j old in
@@ -107,7 +105,7 @@ module _ (firsts next : List ℕ) (i count : ℕ) (len : length firsts ≡ i) (p
         omega (arith, left, was))
         (λ (last : i ≤ j).
         let here : j ≡ i = omega arith in
-        let left : first_at next j ≡ count = ap (first_at next) here ∙ first_last in
+        let left : first_in next j ≡ count = ap (first_in next) here ∙ first_last in
         let own : groups (kind_of g j) ≡ groups (kind_of g i) = ap (λ k. groups (kind_of g k)) here in
         omega (arith, left, own))
         (cases_lt j i)
@@ -126,27 +124,47 @@ few_groups g a lawful = ⊎_elim
     omega (arith, one))
     (cases_lt a (length g.actors))
 
-pub numbered : (g : Graph) (n : Numbers) → ((i j : ℕ) → i < j → j < length g.actors → first_at n.firsts.items i + groups (kind_of g i) ≤ first_at n.firsts.items j) → ((i : ℕ) → i < length g.actors → first_at n.firsts.items i + groups (kind_of g i) ≤ n.count) → n.count ≤ 2048 → AreNumbered g n
-numbered g n spaced ends few = record {
-  few = few;
-  below = λ u unit. let end = ends u.actor unit.0 in let group = unit.1 in omega arith;
-  apart = λ u v one other same.
-      let actor : u.actor ≡ v.actor = same_actor u v one other same in
-      let group : u.group ≡ v.group = (let first : first_at n.firsts.items u.actor ≡ first_at n.firsts.items v.actor = ap (first_at n.firsts.items) actor in omega arith) in
-      λ i. record { actor = actor i; group = group i };
-}
-  where
-    not_before : (u v : Part) → IsUnit g u → IsUnit g v → number_in n.firsts.items u ≡ number_in n.firsts.items v → u.actor < v.actor → ⊥
-    not_before u v one other same less = let apart = spaced u.actor v.actor less other.0 in let group = one.1 in omega arith
+-- what the numbers of first units say of the numbers of all
+module _ (g : Graph) (n : Numbers) (spaced : (i j : ℕ) → i < j → j < length g.actors + 1 → first_in n.firsts.items i + groups (kind_of g i) ≤ first_in n.firsts.items j) (last : first_in n.firsts.items (length g.actors) ≡ n.count) (few : n.count ≤ 2048) where
+  number_is : (u : Part) → IsUnit g u → number_in n.firsts.items u ≡ first_in n.firsts.items u.actor + u.group
+  unfolding number_in
+  number_is u (actor, group) =
+      let next = spaced u.actor (u.actor + 1) (omega arith) (omega arith) in
+      let less : nat_lt (first_in n.firsts.items u.actor + u.group) (first_in n.firsts.items (u.actor + 1)) ≡ true = grind (arith, nat_tests) in
+      rw less refl
 
-    same_actor : (u v : Part) → IsUnit g u → IsUnit g v → number_in n.firsts.items u ≡ number_in n.firsts.items v → u.actor ≡ v.actor
-    same_actor u v one other same = ⊎_elim
-        (λ (e : u.actor ≡ v.actor). e)
-        (λ (ne : u.actor ≡ v.actor → ⊥). ⊎_elim
-        (λ (less : u.actor < v.actor). absurd (not_before u v one other same less))
-        (λ (more : v.actor < u.actor). absurd (not_before v u other one (sym same) more))
-        (order u.actor v.actor ne))
-        (cases_nat u.actor v.actor)
-      where
-        order : (a b : ℕ) → (a ≡ b → ⊥) → (a < b) ⊎ (b < a)
-        order a b ne = ⊎_elim (λ (less : a < b). inl less) (λ (more : b ≤ a). inr (let other : a ≢ b = ne in omega arith)) (cases_lt a b)
+  is_below : (u : Part) → IsUnit g u → number_in n.firsts.items u < n.count
+  is_below u unit =
+      let is = number_is u unit in
+      let end = spaced u.actor (length g.actors) unit.0 (omega arith) in
+      let group = unit.1 in
+      omega arith
+
+  not_before : (u v : Part) → IsUnit g u → IsUnit g v → number_in n.firsts.items u ≡ number_in n.firsts.items v → u.actor < v.actor → ⊥
+  not_before u v one other same less =
+      let left = number_is u one in
+      let right = number_is v other in
+      let apart = spaced u.actor v.actor less (let within = other.0 in omega arith) in
+      let group = one.1 in
+      omega arith
+
+  same_actor : (u v : Part) → IsUnit g u → IsUnit g v → number_in n.firsts.items u ≡ number_in n.firsts.items v → u.actor ≡ v.actor
+  same_actor u v one other same = ⊎_elim
+      (λ (e : u.actor ≡ v.actor). e)
+      (λ (ne : u.actor ≢ v.actor). ⊎_elim
+      (λ (less : u.actor < v.actor). absurd (not_before u v one other same less))
+      (λ (more : v.actor ≤ u.actor). absurd (not_before v u other one (sym same) (omega arith)))
+      (cases_lt u.actor v.actor))
+      (cases_nat u.actor v.actor)
+
+  are_apart : (u v : Part) → IsUnit g u → IsUnit g v → number_in n.firsts.items u ≡ number_in n.firsts.items v → u ≡ v
+  are_apart u v one other same =
+      let actor : u.actor ≡ v.actor = same_actor u v one other same in
+      let left = number_is u one in
+      let right = number_is v other in
+      let first : first_in n.firsts.items u.actor ≡ first_in n.firsts.items v.actor = ap (first_in n.firsts.items) actor in
+      let group : u.group ≡ v.group = omega arith in
+      λ i. record { actor = actor i; group = group i }
+
+  pub numbered : AreNumbered g n
+  numbered = record { few = few; below = is_below; apart = are_apart }

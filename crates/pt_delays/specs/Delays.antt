@@ -1,6 +1,6 @@
 -- The least delays between the units of a graph.
 pub use Rattle.pt_delays.specs.Units.{IsUnit}
-use Rattle.std.specs.Prelude.{◌<◌, ◌^◌, ℕ, IfSome, IsSome, List, None, Option, Some}
+use Rattle.std.specs.Prelude.{◌<◌, ◌^◌, IfSome, IsSome, List, None, Option, Some}
 use Rattle.std.specs.List.{Contains}
 use Rattle.pt_tags.specs.declared.tag.Delay.{Delay}
 use Rattle.pt_types.specs.declared.graph.Graph.{Graph}
@@ -27,10 +27,6 @@ AreSmall least = (x a : Part) → IfSome (least x a) (λ (d : Delay). (d.time < 
 abbrev pub least_of : Least → Part → Part → Option Delay
 least_of l x a = delay_at (row_at l.rows.items (number_in l.numbers.firsts.items x)) (number_in l.numbers.firsts.items a)
 
--- the number of a unit in such a table
-abbrev pub number_of : Least → Part → ℕ
-number_of l a = number_in l.numbers.firsts.items a
-
--- the number of each unit to which a path leads from x is one of these
-abbrev pub HasAllAfter : Least → Part → List ℕ → Type 0
-HasAllAfter l x numbers = (a : Part) → IsSome (least_of l x a) → Contains numbers (number_of l a)
+-- each unit from which a path leads to a is one of these
+abbrev pub HasAllBefore : Least → Part → List Part → Type 0
+HasAllBefore l a units = (x : Part) → IsSome (least_of l x a) → Contains units x

@@ -2,8 +2,10 @@
 
 ghost use Rattle.std.specs.Prelude.{◌≡◌, IfOk, IfSome};
 ghost use Rattle.pt_types.specs.Lawful.{IsLawful};
+ghost use Rattle.pt_delays.specs.Before.{AreListed};
 
 use crate::arcs::arcs_by_unit;
+use crate::before::{Before, all_before};
 use crate::row::Row;
 use crate::table::all_rows;
 use crate::units::Numbers;
@@ -18,10 +20,13 @@ pub struct Least {
     numbers: Numbers,
     /// By the numbers of both units.
     rows: Vec<Row>,
+    /// By the number of the unit to which the paths lead.
+    before: Vec<Before>,
+    ghost listed: { AreListed numbers.firsts.items rows.items before.items },
 }
 
 impl Least {
-    ghost use Rattle.pt_delays.specs.Delays.{least_of, number_of, AreLeast, AreSmall, HasAllAfter};
+    ghost use Rattle.pt_delays.specs.Delays.{least_of, AreLeast, AreSmall, HasAllBefore};
 
     /// Finds all least delays of a graph.
     pub(crate) fn new(alloc: Global, graph: &Graph) -> Result<Least, AllocError>
@@ -33,7 +38,12 @@ impl Least {
         let wires = wire_edges(alloc, graph)?;
         let arcs = arcs_by_unit(alloc, graph, &numbers, wires.as_slice())?;
         let rows = all_rows(alloc, arcs.as_slice())?;
-        Ok(Least { numbers, rows })
+        let before = all_before(alloc, &numbers, rows.as_slice())?;
+        Ok(Least {
+            numbers,
+            rows,
+            before,
+        })
     }
 
     /// The least delay over all paths from `x` to `a`; `None` where no path leads from `x` to `a`.
@@ -44,18 +54,11 @@ impl Least {
         row.get(self.numbers.of(a))
     }
 
-    /// The number of a unit in the table.
-    pub fn number(&self, a: Unit) -> usize
-        ensures { result ≡ number_of self.now a }
+    /// The units from which a path leads to `a`, and maybe others; `None` where they are not known (they are more than 256,
+    /// or no memory was left for the list).
+    pub fn before(&self, a: Unit) -> Option<&[Unit]>
+        ensures { IfSome result (λ units. HasAllBefore self.now a units.now) }
     {
-        self.numbers.of(a)
-    }
-
-    /// The numbers of the units to which a path leads from `x`, and maybe others; `None` where they are not known.
-    pub fn after(&self, x: Unit) -> Option<&[u16]>
-        ensures { IfSome result (λ numbers. HasAllAfter self.now x numbers.now) }
-    {
-        let number = self.numbers.of(x);
-        self.rows.get(number)?.places()
+        self.before.get(self.numbers.of(a))?.units()
     }
 }

@@ -7,6 +7,7 @@
 #![tactic(auto)]
 
 mod arcs;
+mod before;
 mod delays;
 mod frontier;
 mod least;

@@ -13,6 +13,7 @@ use std::alloc::{AllocError, Global};
 pub fn all_rows(alloc: Global, arcs: &[Leaving]) -> Result<Vec<Row>, AllocError>
     requires few { length arcs.now ≤ 2048 }
     requires fit { AreFit arcs.now }
+    ensures len { IfOk result (λ rows. length rows.items ≡ length arcs.now) }
     ensures rows { IfOk result (λ rows. (s : ℕ) → s < length arcs.now → IsRow arcs.now s (row_at rows.items s)) }
     ensures small { IfOk result (λ rows. (s : ℕ) → IsSmallRow (row_at rows.items s)) }
 {

@@ -1,8 +1,8 @@
 //! The units of a graph, numbered actor by actor and group by group.
 
-ghost use Rattle.std.specs.Prelude.{◌≡◌, IfOk};
+ghost use Rattle.std.specs.Prelude.{◌≡◌, ◌-◌, ◌+◌, ◌≤◌, IfOk, length};
 ghost use Rattle.pt_types.specs.Lawful.{IsLawful};
-ghost use Rattle.pt_delays.specs.Cells.{number_in};
+ghost use Rattle.pt_delays.specs.Cells.{first_in, number_in};
 
 use pt_types::{Graph, Unit};
 use std::alloc::{AllocError, Global};
@@ -10,7 +10,7 @@ use std::alloc::{AllocError, Global};
 /// A number for each unit, from 0 without a gap.
 #[derive(Drop)]
 pub struct Numbers {
-    /// The number of each actor's first unit.
+    /// The number of each actor's first unit, and then `count`.
     pub firsts: Vec<u32>,
     /// How many units there are.
     pub count: u32,
@@ -22,7 +22,8 @@ impl Numbers {
     /// Numbers the units of a graph.
     pub fn new(alloc: Global, graph: &Graph) -> Result<Numbers, AllocError>
         requires { IsLawful graph.now }
-        ensures { IfOk result (AreNumbered graph.now) }
+        ensures numbered { IfOk result (AreNumbered graph.now) }
+        ensures few { IfOk result (λ numbers. length numbers.firsts.items ≤ 2048) }
     {
         let mut firsts = Vec::new(alloc);
         let mut count = 0;
@@ -30,17 +31,38 @@ impl Numbers {
             firsts.push(count)?;
             count += graph.groups(actor as u32);
         }
+        firsts.push(count)?;
         Ok(Numbers { firsts, count })
     }
 
-    /// The number of a unit. What is no unit has that of some other, or one that no unit has.
+    /// The number of a unit; `u32::MAX`, which no unit has, for what is none.
+    #[tactic(auto, unfolding(crate::specs::Cells::number_in))]
     pub fn of(&self, unit: Unit) -> usize
         ensures { result ≡ number_in self.now.firsts.items unit }
     {
-        let first = match self.firsts.get(unit.actor as usize) {
+        let number = self.first(unit.actor as usize) as usize + unit.group as usize;
+        if number < self.first(unit.actor as usize + 1) as usize {
+            number
+        } else {
+            u32::MAX as usize
+        }
+    }
+
+    /// How many units an actor has.
+    pub fn groups(&self, actor: u32) -> u32
+        ensures { result ≡ first_in self.now.firsts.items (actor + 1) - first_in self.now.firsts.items actor }
+    {
+        self.first(actor as usize + 1)
+            .saturating_sub(self.first(actor as usize))
+    }
+
+    /// The number of an actor's first unit; 0 where there is no such number.
+    fn first(&self, actor: usize) -> u32
+        ensures { result ≡ first_in self.now.firsts.items actor }
+    {
+        match self.firsts.get(actor) {
             Some(first) => *first,
-            None => u32::MAX,
-        };
-        first as usize + unit.group as usize
+            None => 0,
+        }
     }
 }

@@ -65,7 +65,7 @@ fits_extend {X = X} turns more_turns items old new more fits lists spare_items s
 }
 
 -- one turn more
-get_more : {X : Type 0} (lists : List (List X)) (j : ℕ) → get_or (lists ++ [] ∷ []) j [] ≡ get_or lists j []
+pub get_more : {X : Type 0} (lists : List (List X)) (j : ℕ) → get_or (lists ++ [] ∷ []) j [] ≡ get_or lists j []
 get_more [] zero = refl
 get_more [] (suc j) = refl
 get_more (l ∷ lists) zero = refl
@@ -86,7 +86,7 @@ begun_from : (p : Lists) (i n : ℕ) (hs : List Head) (h : Head) → i + length 
 begun_from p i n [] h e = let same : i ≡ n = omega arith in ap (λ t. t ∷ []) (begun_at p i h ∙ ap (λ k. turn_at p k h) same)
 begun_from p i n (x ∷ hs) h e = ap₂ (λ t ts. t ∷ ts) (begun_at p i x) (begun_from p (i + 1) n hs h (omega arith))
 
-past : {X : Type 0} (lists : List (List X)) (n : ℕ) → length lists ≡ n → get_or lists n [] ≡ []
+pub past : {X : Type 0} (lists : List (List X)) (n : ℕ) → length lists ≡ n → get_or lists n [] ≡ []
 past lists n e = get_or_past lists n [] (omega arith)
 
 pub record IsBegun (p q : Lists) : Type 0 where

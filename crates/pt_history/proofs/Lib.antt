@@ -3,3 +3,4 @@ pub mod Gathered
 pub mod Growing
 pub mod Joining
 pub mod Reading
+pub mod Quietness

@@ -5,6 +5,7 @@ use Rattle.std.specs.List.{flat_map}
 use Rattle.std.proofs.lemmas.List.{drop_all, drop_more}
 use Rattle.std.proofs.lemmas.Option.{get_or_from_slice_get, slice_get-get_or}
 use Rattle.pt_semantics.proofs.Lookups.{same_some}
+use Rattle.pt_types.specs.declared.firing.OnLink.{OnLink}
 use Rattle.pt_types.specs.declared.firing.Task.{Task}
 use Rattle.pt_semantics.specs.Turn.{Turn, is_empty, is_quiet}
 use Rattle.pt_history.specs.declared.head.Head.{Head}
@@ -35,31 +36,22 @@ list_of f p lists k hs h list lt is read = ap (option_map f) (get_turn p k hs h 
 pub number_of : (f : Turn → ℕ) (n : Head → ℕ) (p : Lists) (k : ℕ) (hs : List Head) (h : Head) → k < length hs → f (turn_at p k (get_or hs k h)) ≡ n (get_or hs k h) → option_map f (slice_get (turns_from p 0 hs) k) ≡ Some (n (get_or hs k h))
 number_of f n p k hs h lt is = ap (option_map f) (get_turn p k hs h lt) ∙ ap Some is
 
--- all claims
-claims_from : (p : Lists) (i : ℕ) (hs : List Head) → i + length hs ≡ length p.claimed → flat_map (λ (turn : Turn). turn.claimed) (turns_from p i hs) ≡ flat_map (λ (tasks : List Task). tasks) (drop i p.claimed)
-claims_from p i [] e = sym (ap (flat_map (λ (tasks : List Task). tasks)) (drop_all i p.claimed (omega arith)))
-claims_from p i (h ∷ hs) e =
-    ap (λ tasks. get_or p.claimed i [] ++ tasks) (claims_from p (i + 1) hs (omega arith))
-    ∙ sym (ap (flat_map (λ (tasks : List Task). tasks)) (drop_more p.claimed i [] (omega arith)))
+-- the members of one list of all turns
+all_from : {X : Type 0} (f : Turn → List X) (p : Lists) (lists : List (List X)) (i : ℕ) (hs : List Head) → ((k : ℕ) (h : Head) → f (turn_at p k h) ≡ get_or lists k []) → i + length hs ≡ length lists → flat_map f (turns_from p i hs) ≡ flat_map (λ (list : List X). list) (drop i lists)
+all_from {X} f p lists i [] is e = sym (ap (flat_map (λ (list : List X). list)) (drop_all i lists (omega arith)))
+all_from {X} f p lists i (h ∷ hs) is e =
+    ap₂ (λ list more. list ++ more) (is i h) (all_from f p lists (i + 1) hs is (omega arith))
+    ∙ sym (ap (flat_map (λ (list : List X). list)) (drop_more lists i [] (omega arith)))
 
+-- all claims
 pub all_claims : (p : Lists) (hs : List Head) → length p.claimed ≡ length hs → flat_map (λ (turn : Turn). turn.claimed) (turns_from p 0 hs) ≡ flat_map (λ (tasks : List Task). tasks) p.claimed
-all_claims p hs e = claims_from p 0 hs (omega arith)
+all_claims p hs e = all_from (λ (turn : Turn). turn.claimed) p p.claimed 0 hs (λ k h. refl) (omega arith)
+
+-- all messages that were taken
+pub all_messages : (p : Lists) (hs : List Head) → length p.taken ≡ length hs → flat_map (λ (turn : Turn). turn.taken) (turns_from p 0 hs) ≡ flat_map (λ (messages : List OnLink). messages) p.taken
+all_messages p hs e = all_from (λ (turn : Turn). turn.taken) p p.taken 0 hs (λ k h. refl) (omega arith)
 
 -- whether a list is empty, by its length
 pub empty_by_length : {X : Type 0} (xs : List X) → is_empty xs ≡ eqb (length xs) 0
 empty_by_length [] = refl
 empty_by_length (x ∷ xs) = search rules
-
--- whether a turn is quiet, by its five lists
-pub quiet_by : (p : Lists) (k : ℕ) (hs : List Head) (b1 b2 b3 b4 b5 : Bool) → k < length hs
-    → is_empty (get_or p.posted k []) ≡ b1 → is_empty (get_or p.rows k []) ≡ b2 → is_empty (get_or p.taken k []) ≡ b3 → is_empty (get_or p.claimed k []) ≡ b4 → is_empty (get_or p.sent k []) ≡ b5
-    → option_map is_quiet (slice_get (turns_from p 0 hs) k) ≡ Some (b1 && b2 && b3 && b4 && b5)
-quiet_by p k hs b1 b2 b3 b4 b5 lt e1 e2 e3 e4 e5 =
-    ap (option_map is_quiet) (get_turn p k hs no_head lt)
-    ∙ ap Some (ap₂ (λ u v. u && v) (ap₂ (λ u v. u && v) (ap₂ (λ u v. u && v) (ap₂ (λ u v. u && v) e1 e2) e3) e4) e5)
-
--- whether the list of a number is empty
-pub empty_read : {X : Type 0} (lists : List (List X)) (k : ℕ) (b : Bool) → k < length lists → option_map (λ (list : List X). length list == 0) (slice_get lists k) ≡ Some b → is_empty (get_or lists k []) ≡ b
-empty_read {X} lists k b lt read =
-    empty_by_length (get_or lists k [])
-    ∙ same_some (length (get_or lists k []) == 0) b (sym (ap (option_map (λ (list : List X). length list == 0)) (slice_get-get_or lists k [] lt)) ∙ read)

@@ -1,7 +1,7 @@
 -- What always holds of the fields of a history.
 use Rattle.std.specs.Prelude.{◌+◌, ◌≤◌, length, vec_capacity, vec_len}
 use Rattle.pt_history.specs.declared.history.History.TheInside.{Inside}
-use Rattle.pt_history.specs.Keeping.{Fits, Lists, turns_from}
+use Rattle.pt_history.specs.Keeping.{Fits, Lists, TellQuiet, turns_from}
 use Rattle.pt_history.specs.Turns.{RoomyTurns}
 
 -- the five lists of each turn
@@ -12,7 +12,7 @@ lists_of h = record { posted = h.posted.lists; rows = h.rows.lists; taken = h.ta
 abbrev pub roomy_turns : Inside → RoomyTurns
 roomy_turns h = record { turns = turns_from (lists_of h) 0 h.heads.items; room = h.room }
 
--- each turn has its five lists, and the room is there
+-- each turn has its five lists, the room is there, and of the last two turns it is known whether they are quiet
 pub record IsWhole (h : Inside) : Type 0 where
   pub heads : vec_len h.heads + h.room.turns ≤ vec_capacity h.heads
   pub posted : Fits (length h.heads.items) h.room.turns h.room.posted h.posted
@@ -20,3 +20,4 @@ pub record IsWhole (h : Inside) : Type 0 where
   pub taken : Fits (length h.heads.items) h.room.turns h.room.taken h.taken
   pub claimed : Fits (length h.heads.items) h.room.turns h.room.claimed h.claimed
   pub sent : Fits (length h.heads.items) h.room.turns h.room.sent h.sent
+  pub quiet : TellQuiet (lists_of h) (length h.heads.items) h.last_quiet h.before_quiet

@@ -1,6 +1,6 @@
 //! The turns of a platform, one after another.
 
-ghost use Rattle.std.specs.Prelude.{◌≡◌, ◌+◌, ◌-◌, ◌<◌, ◌≤◌, ◌++◌, ◌∷◌, [], MatchOption, OnErr, OnOk, Some, length, option_map, slice_get, take};
+ghost use Rattle.std.specs.Prelude.{◌≡◌, ◌↔◌, ◌+◌, ◌-◌, ◌<◌, ◌≤◌, ◌++◌, ◌∷◌, [], MatchOption, OnErr, OnOk, Some, length, option_map, slice_get, take, true};
 ghost use Rattle.std.specs.List.{flat_map};
 ghost use Rattle.pt_pieces.specs.Lists.{on_last};
 ghost use Rattle.pt_semantics.specs.Turn.{is_quiet};
@@ -26,6 +26,10 @@ pub struct History {
     claimed: Pieces<Task>,
     sent: Pieces<OnLink>,
     room: Room,
+    /// Whether the last turn is quiet; nothing is said where there is none.
+    last_quiet: bool,
+    /// Whether the turn before the last is quiet; nothing is said where there is none.
+    before_quiet: bool,
 }
 
 impl Model for History {
@@ -61,7 +65,16 @@ impl History {
                 claimed: 0,
                 sent: 0,
             },
+            last_quiet: true,
+            before_quiet: true,
         }
+    }
+
+    /// Whether so much room is kept at least.
+    pub fn has_room(&self, room: Room) -> bool
+        ensures { (result ≡ true) ↔ (larger self.now.room room ≡ self.now.room) }
+    {
+        self.room.holds(room)
     }
 
     /// Keeps at least so much room. Where memory runs out all is unchanged.
@@ -70,6 +83,9 @@ impl History {
         ensures room { OnOk result (self.new.room ≡ larger self.old.room room) }
         ensures unchanged { OnErr result (self.new ≡ self.old) }
     {
+        if self.has_room(room) {
+            return Ok(());
+        }
         let room = self.room.or_more(room);
         if self.heads.reserve(room.turns).is_err() {
             return Err(Memory);
@@ -117,6 +133,8 @@ impl History {
         self.taken.begin();
         self.claimed.begin();
         self.sent.begin();
+        self.before_quiet = self.last_quiet;
+        self.last_quiet = true;
     }
 
     /// Puts a run and a quiet turn in the place of the last two turns, which are quiet.
@@ -149,10 +167,10 @@ impl History {
         requires ends { last + 1 ≡ length self.now.turns }
         ensures { MatchOption result (settled self.now.turns ≡ self.now.turns) (λ run. Joins self.now.turns before run) }
     {
-        if !self.is_quiet(before) {
+        if !self.before_quiet {
             return None;
         }
-        if !self.is_quiet(last) {
+        if !self.last_quiet {
             return None;
         }
         let first = self.heads[before];
@@ -167,17 +185,12 @@ impl History {
         }
     }
 
-    /// Whether nothing was posted, entered, taken, claimed or sent in a kept turn.
-    pub fn is_quiet(&self, number: usize) -> bool
-        requires { number < length self.now.turns }
-        ensures { option_map is_quiet (slice_get self.now.turns number) ≡ Some result }
+    /// Whether nothing was posted, entered, taken, claimed or sent in the last turn.
+    pub fn was_quiet(&self) -> bool
+        requires { 0 < length self.now.turns }
+        ensures { option_map is_quiet (slice_get self.now.turns (length self.now.turns - 1)) ≡ Some result }
     {
-        let posted = self.posted.is_empty_at(number);
-        let rows = self.rows.is_empty_at(number);
-        let taken = self.taken.is_empty_at(number);
-        let claimed = self.claimed.is_empty_at(number);
-        let sent = self.sent.is_empty_at(number);
-        posted & rows & taken & claimed & sent
+        self.last_quiet
     }
 
     /// Appends results to those that the last turn posted. No memory is taken.
@@ -189,6 +202,7 @@ impl History {
     {
         self.posted.extend(dones);
         self.room.posted -= dones.len();
+        self.last_quiet &= dones.is_empty();
     }
 
     /// Appends rows to those that entered in the last turn. No memory is taken.
@@ -200,6 +214,7 @@ impl History {
     {
         self.rows.extend(rows);
         self.room.rows -= rows.len();
+        self.last_quiet &= rows.is_empty();
     }
 
     /// Appends messages to those that the last turn took. No memory is taken.
@@ -211,6 +226,7 @@ impl History {
     {
         self.taken.extend(messages);
         self.room.taken -= messages.len();
+        self.last_quiet &= messages.is_empty();
     }
 
     /// Appends tasks to those that the last turn claimed. No memory is taken.
@@ -222,6 +238,7 @@ impl History {
     {
         self.claimed.extend(tasks);
         self.room.claimed -= tasks.len();
+        self.last_quiet &= tasks.is_empty();
     }
 
     /// Appends messages to those that went out after the last turn. No memory is taken.
@@ -233,6 +250,7 @@ impl History {
     {
         self.sent.extend(messages);
         self.room.sent -= messages.len();
+        self.last_quiet &= messages.is_empty();
     }
 
     /// How many turns are kept; a run of quiet ones counts as one.
@@ -288,6 +306,13 @@ impl History {
         ensures { option_map (λ turn. turn.taken) (slice_get self.now.turns number) ≡ Some result.now }
     {
         self.taken.get(number)
+    }
+
+    /// The messages that all kept turns took, in their order.
+    pub fn all_taken(&self) -> &[OnLink]
+        ensures { result.now ≡ flat_map (λ turn. turn.taken) self.now.turns }
+    {
+        self.taken.all()
     }
 
     /// The tasks that a kept turn claimed.

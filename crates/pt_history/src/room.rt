@@ -1,6 +1,6 @@
 //! How much room a history has.
 
-ghost use Rattle.std.specs.Prelude.{◌≡◌};
+ghost use Rattle.std.specs.Prelude.{◌≡◌, ◌↔◌, true};
 ghost use Rattle.pt_history.specs.Turns.{larger};
 
 /// For how many more turns there is room, and for how many more members of each of their lists.
@@ -27,5 +27,17 @@ impl Room {
             claimed: self.claimed.max(other.claimed),
             sent: self.sent.max(other.sent),
         }
+    }
+
+    /// Whether no number of another is greater.
+    pub(crate) fn holds(self, other: Room) -> bool
+        ensures { (result ≡ true) ↔ (larger self other ≡ self) }
+    {
+        other.turns <= self.turns
+            && other.posted <= self.posted
+            && other.rows <= self.rows
+            && other.taken <= self.taken
+            && other.claimed <= self.claimed
+            && other.sent <= self.sent
     }
 }

@@ -1,6 +1,6 @@
 //! A link whose two ends are in one hand.
 
-ghost use Rattle.std.specs.Prelude.{◌≡◌, ◌≤◌, ◌↔◌, ◌++◌, ◌∷◌, [], IfErr, IsErr, IsNone, OnErr, OnOk, length, option_to_list};
+ghost use Rattle.std.specs.Prelude.{◌≡◌, ◌≤◌, ◌↔◌, ◌++◌, ◌∷◌, [], IfErr, IsErr, IsNone, OnErr, OnOk, length, option_map, option_to_list, slice_get};
 
 use pt_tags::Message;
 use std::marker::Model;
@@ -56,6 +56,16 @@ impl Pipe {
         self.places[(self.oldest + self.count) % PLACES] = message;
         self.count += 1;
         Ok(())
+    }
+
+    /// The oldest message, which stays; `None` exactly where there are none.
+    pub fn peek(&self) -> Option<&Message>
+        ensures { option_map (λ message. message.now) result ≡ slice_get self.now 0 }
+    {
+        if self.count == 0 {
+            return None;
+        }
+        Some(&self.places[self.oldest])
     }
 
     /// Removes and gives the oldest message. No memory is taken.

@@ -12,15 +12,17 @@ use Rattle.pt_types.specs.Ports.{when}
 use Rattle.pt_semantics.specs.Lists.{first_of, or_else}
 use Rattle.pt_semantics.specs.Paced.{IsClosing, IsNextReading, IsPaced}
 use Rattle.pt_semantics.specs.Units.{HasEvent}
-use Rattle.pt_semantics.proofs.Claiming.{event_found}
+use Rattle.pt_claim.proofs.Fronts.{event_is_unit}
+use Rattle.pt_claim.proofs.Passing.{nobody, place_in}
 use Rattle.pt_delays.specs.Units.{IsUnit}
-use Rattle.pt_queue.specs.Events.{waiting_in}
+use Rattle.pt_queue.specs.declared.waiting.Waiting.{Waiting}
+use Rattle.pt_queue.specs.Events.{waiting_in, AreWaiting}
 use Rattle.pt_state.specs.declared.fields.Fields.{Fields}
 use Rattle.pt_state.specs.declared.fields.Sensor.{Sensor}
 use Rattle.pt_state.specs.State.{IsSound, busy_in, left_in, rows_left, state_of}
 use Rattle.pt_enter.specs.Sensors.{AreSensors, RiseFrom}
 use Rattle.pt_next.specs.Least.{AtOrIn, Below, IsLeastOf}
-use Rattle.pt_next.specs.Next.{no_sensor, IsPacedOfActor, IsSeenNext}
+use Rattle.pt_next.specs.Next.{no_sensor, IsPacedNext, IsPacedOfSome, IsSeenNext}
 use Rattle.pt_next.proofs.Least.{least_one}
 
 -- rows
@@ -65,12 +67,6 @@ seen_one s rows row b r same lt at is =
     let at_d : d ≡ h.0.seen = h.3 in
     omega (arith, seen, at_d))
 
--- what has an event is a unit of the graph
-event_unit : (g : Graph) (f : Fields) (u : Part) (t : Tag) → IsSound g f → HasEvent g (waiting_in f.queue.events) u t → IsUnit g u
-event_unit g f u t sound event =
-    let found = event_found g (waiting_in f.queue.events) u t event in
-    subst (IsUnit g) found.unit (sound.at_units u.actor found.port t found.value found.waits_there)
-
 -- a platform has one closing reading
 one_closing : (g : Graph) (i c d : ℕ) → IsClosing g i c → IsClosing g i d → c ≤ d
 one_closing g i c d (inl none) other = let zero : c ≡ 0 = none.0 in omega (arith, zero)
@@ -81,7 +77,11 @@ abbrev SeenNext : Fields → ℕ → Type 0
 SeenNext f = Below (length f.sensors.items) (λ i. IsSeenNext (get_or f.sensors.items i no_sensor))
 
 abbrev PacedNext : Graph → Fields → ℕ → Type 0
-PacedNext g f = Below (length g.actors) (IsPacedOfActor g (waiting_in f.queue.events) (busy_in f.open_claims.items))
+PacedNext g f = IsPacedOfSome g (waiting_in f.queue.events) (busy_in f.open_claims.items)
+
+-- the paced reading of the listed unit of that number
+abbrev pub PacedAt : Graph → Fields → List Waiting → ℕ → ℕ → Type 0
+PacedAt g f listed k = IsPacedNext g (waiting_in f.queue.events) (busy_in f.open_claims.items) (get_or listed k nobody).unit
 
 pub next_is : (g : Graph) (f : Fields) (i closing seen r : ℕ) (taken : List OnLink) → IsSound g f → AreSensors g f.sensors.items → IsClosing g i closing → IsLeastOf (AtOrIn closing (SeenNext f)) seen → IsLeastOf (AtOrIn seen (PacedNext g f)) r → IsNextReading g i (state_of f taken) r
 next_is g f i closing seen r taken sound sensors closes first then = (
@@ -90,7 +90,7 @@ next_is g f i closing seen r taken sound sensors closes first then = (
       (λ (at : seen ≡ closing). inr (inr (subst (IsClosing g i) (sym (same ∙ at)) closes)))
       (λ (s : SeenNext f seen). inl ((get_or f.sensors.items s.0 no_sensor).actor, s.2.0, s.2.1, left_at f.sensors.items 0 s.0 sensors.0 s.1 ∙ s.2.2, same ∙ s.2.3))
       first.0)
-      (λ (p : PacedNext g f r). inr (inl (record { actor = p.0; group = p.2.0 }, p.2.2.0, p.2.2.1, p.2.2.2, p.2.2.3, p.2.2.4)))
+      (λ (p : PacedNext g f r). inr (inl (p.0, p.2.0, p.2.1, p.2.2, p.2.3, p.2.4)))
       then.0,
   λ d h. ⊎_elim
       (λ (s : (a : ℕ) × (row : Row) × (rest : List Row) × (left_in f.sensors.items a ≡ row ∷ rest) × (d ≡ row.seen)).
@@ -100,8 +100,8 @@ next_is g f i closing seen r taken sound sensors closes first then = (
       (λ (rest : ((u : Part) × (t : Tag) × HasEvent g (waiting_in f.queue.events) u t × ((w : Tag) → HasEvent g (waiting_in f.queue.events) u w → UpTo t w) × (busy_in f.open_claims.items u ≡ None) × IsPaced g u t d) ⊎ IsClosing g i d).
       ⊎_elim
       (λ (p : (u : Part) × (t : Tag) × HasEvent g (waiting_in f.queue.events) u t × ((w : Tag) → HasEvent g (waiting_in f.queue.events) u w → UpTo t w) × (busy_in f.open_claims.items u ≡ None) × IsPaced g u t d).
-      let unit : IsUnit g p.0 = event_unit g f p.0 p.1 sound p.2 in
-      then.1 d (inr (p.0.actor, unit.0, (p.0.group, unit.1, (p.1, p.2, p.3, p.4, p.5)))))
+      let unit : IsUnit g p.0 = event_is_unit g f p.0 p.1 sound p.2 in
+      then.1 d (inr (p.0, unit, (p.1, p.2, p.3, p.4, p.5))))
       (λ (c : IsClosing g i d). let le : closing ≤ d = one_closing g i closing d closes c in omega (arith, le, below_seen, below_closing))
       rest)
       h,
@@ -112,3 +112,17 @@ next_is g f i closing seen r taken sound sensors closes first then = (
 
     below_closing : seen ≤ closing
     below_closing = first.1 closing (inl refl)
+
+-- of the listed units one has it, or of all units of the graph
+pub listed_is_all : (g : Graph) (f : Fields) (listed : List Waiting) (b r : ℕ) → IsSound g f → AreWaiting g (waiting_in f.queue.events) listed
+    → IsLeastOf (AtOrIn b (Below (length listed) (PacedAt g f listed))) r → IsLeastOf (AtOrIn b (PacedNext g f)) r
+listed_is_all g f listed b r sound are least = (
+  ⊎_elim (λ (same : r ≡ b). inl same)
+      (λ (h : Below (length listed) (PacedAt g f listed) r). inr ((get_or listed h.0 nobody).unit, event_is_unit g f (get_or listed h.0 nobody).unit h.2.0 sound h.2.1, h.2)) least.0,
+  λ d h. ⊎_elim (λ (same : d ≡ b). least.1 d (inl same))
+      (λ (p : PacedNext g f d).
+      let found = are.all p.0 p.2.0 p.2.1 in
+      let at = place_in found.0 listed found.1 in
+      let here : (get_or listed at.0 nobody).unit ≡ p.0 = ap (λ (z : Waiting). z.unit) at.2 ∙ found.2 in
+      least.1 d (inr (at.0, at.1, subst (λ u. IsPacedNext g (waiting_in f.queue.events) (busy_in f.open_claims.items) u d) (sym here) p.2))) h,
+)

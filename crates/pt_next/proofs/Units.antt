@@ -9,13 +9,11 @@ use Rattle.pt_types.specs.declared.graph.Unit.{Unit as Part}
 use Rattle.pt_semantics.specs.Meaning.{Values}
 use Rattle.pt_semantics.specs.Offsets.{HasOffset}
 use Rattle.pt_semantics.specs.Paced.{at_least_zero, paced_by}
-use Rattle.pt_semantics.proofs.Claiming.{event_found}
 use Rattle.pt_semantics.proofs.Least.{paced_meets}
-use Rattle.pt_semantics.proofs.Lookups.{none_some}
 use Rattle.pt_queue.specs.Events.{IsLeastTag}
 use Rattle.pt_claim.proofs.SafeTags.{same_tags, bounds_paced}
 use Rattle.pt_next.specs.Least.{AtOrIn, IsLeastOf}
-use Rattle.pt_next.specs.Next.{IsPacedNext, IsPacedOfActor}
+use Rattle.pt_next.specs.Next.{IsPacedNext}
 use Rattle.pt_next.proofs.Least.{least_one}
 
 -- a number, brought between 0 and b
@@ -30,9 +28,3 @@ paced_one g waits busy u t o b r free least has is =
     (λ d h.
     let same : h.0 ≡ t = same_tags h.0 t (h.2 t least.0) (least.1 h.0 h.1) in
     subst (λ z. paced_by o z ≤ d) same (bounds_paced g u o h.0 d has (paced_meets g u h.0 d d h.4 (omega arith))))
-
--- an actor for which nothing waits has no paced reading
-pub not_paced : (g : Graph) (waits : Values) (busy : Part → Option Task) (a d : ℕ) → ((p : ℕ) (t : Tag) → waits a p t ≡ None) → IsPacedOfActor g waits busy a d → ⊥
-not_paced g waits busy a d none h =
-    let found = event_found g waits (record { actor = a; group = h.0 }) h.2.0 h.2.1 in
-    none_some found.value (sym (none found.port h.2.0) ∙ found.waits_there)

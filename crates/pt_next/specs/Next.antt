@@ -6,12 +6,11 @@ use Rattle.pt_types.specs.declared.graph.Graph.{Graph}
 use Rattle.pt_types.specs.declared.graph.Unit.{Unit as Part}
 use Rattle.pt_types.specs.declared.rows.Row.{Row}
 use Rattle.pt_types.specs.declared.firing.Task.{Task}
-use Rattle.pt_semantics.specs.Edges.{kind_of}
 use Rattle.pt_semantics.specs.Meaning.{Values}
 use Rattle.pt_semantics.specs.Paced.{IsPaced}
-use Rattle.pt_semantics.specs.Units.{HasEvent, groups}
+use Rattle.pt_semantics.specs.Units.{HasEvent}
+use Rattle.pt_delays.specs.Units.{IsUnit}
 use Rattle.pt_state.specs.declared.fields.Sensor.{Sensor}
-use Rattle.pt_next.specs.Least.{Below}
 
 -- what stands for a sensor past the end of a list
 abbrev pub no_sensor : Sensor
@@ -25,6 +24,6 @@ IsSeenNext s c = (row : Row) × (rest : List Row) × (drop s.entered s.rows ≡ 
 abbrev pub IsPacedNext : Graph → Values → (Part → Option Task) → Part → ℕ → Type 0
 IsPacedNext g waits busy u c = (t : Tag) × HasEvent g waits u t × ((w : Tag) → HasEvent g waits u w → UpTo t w) × (busy u ≡ None) × IsPaced g u t c
 
--- that of one of an actor's units
-abbrev pub IsPacedOfActor : Graph → Values → (Part → Option Task) → ℕ → ℕ → Type 0
-IsPacedOfActor g waits busy a = Below (groups (kind_of g a)) (λ k. IsPacedNext g waits busy (record { actor = a; group = k }))
+-- that of some unit of the graph
+abbrev pub IsPacedOfSome : Graph → Values → (Part → Option Task) → ℕ → Type 0
+IsPacedOfSome g waits busy c = (u : Part) × IsUnit g u × IsPacedNext g waits busy u c

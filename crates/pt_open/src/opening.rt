@@ -13,7 +13,7 @@ use crate::starts::starting;
 use crate::states::first_states;
 use pt_offsets::Plan;
 use pt_sensors::SensorRows;
-use pt_state::Fields;
+use pt_state::{Fields, OpenClaims};
 use pt_tags::Memory;
 use std::alloc::Global;
 
@@ -46,7 +46,7 @@ pub fn open_fields(
     };
     Ok(Fields {
         queue,
-        open_claims: Vec::new(alloc),
+        open_claims: OpenClaims::new(alloc),
         states,
         sensors,
         outbox: Vec::new(alloc),

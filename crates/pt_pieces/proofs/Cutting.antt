@@ -1,9 +1,8 @@
 -- Pieces: one more, one item more in the last, and each by its number.
-use Rattle.std.proofs.Common.{◌≡◌, ◌==◌, ℕ, zero, suc, ◌+◌, ◌-◌, ◌<◌, ◌≤◌, List, [], ◌∷◌, ◌++◌, take, drop, length, get_or, set, Some, refl, sym, ap, ap₂, subst, ◌∙◌, arith, length-append}
+use Rattle.std.proofs.Common.{◌≡◌, ℕ, zero, suc, ◌+◌, ◌-◌, ◌<◌, ◌≤◌, List, [], ◌∷◌, ◌++◌, take, drop, length, get_or, set, Some, refl, sym, ap, ap₂, subst, ◌∙◌, arith, length-append}
 use Rattle.std.specs.Prelude.{slice_get}
 use Rattle.std.specs.List.{flat_map}
-use Rattle.std.proofs.lemmas.List.{take-append-le, drop-append-le, take_all, drop_all, drop-take, length-drop, length-take-le}
-use Rattle.std.proofs.lemmas.Bool.Decides.{nat_tests}
+use Rattle.std.proofs.lemmas.List.{take-append-le, drop-append-le, take_all, drop_all, drop-take}
 use Rattle.std.proofs.lemmas.List.Folds.{drop_split}
 use Rattle.std.proofs.Math.Seq.{take-length}
 use Rattle.pt_pieces.specs.Lists.{pieces, Rises, on_last}
@@ -70,13 +69,3 @@ pieces_total from (e ∷ es) xs h = ap (λ l. drop from (take e xs) ++ l) (piece
   where
     joined : {X : Type 0} (from e : ℕ) (xs : List X) → from ≤ e → drop from (take e xs) ++ drop e xs ≡ drop from xs
     joined from e xs le = ap (λ l. l ++ drop e xs) (cut from e xs le) ∙ sym (drop_split xs from e le)
-
--- a part is empty where it ends where it begins
-pub cut_is_empty : {X : Type 0} (xs : List X) (from e : ℕ) → from ≤ e → e ≤ length xs → (length (take (e - from) (drop from xs)) == 0) ≡ (e == from)
-cut_is_empty xs from e rises within =
-    let rest : length (drop from xs) ≡ length xs - from = length-drop from xs in
-    let cut : length (take (e - from) (drop from xs)) ≡ e - from = length-take-le (e - from) (drop from xs) (omega (arith, rest, rises, within)) in
-    ap (λ n. n == 0) cut ∙ none e from rises
-  where
-    none : (m n : ℕ) → n ≤ m → (m - n == 0) ≡ (m == n)
-    none m n le = grind (arith, nat_tests)

@@ -1,6 +1,6 @@
 //! The list of lists.
 
-ghost use Rattle.std.specs.Prelude.{◌≡◌, ◌==◌, ◌+◌, ◌<◌, ◌≤◌, ◌++◌, ◌∷◌, [], OnOk, OnErr, MatchResult, Some, length, max, option_map, slice_get, slice_index, slice_range, vec_len, vec_capacity};
+ghost use Rattle.std.specs.Prelude.{◌≡◌, ◌+◌, ◌<◌, ◌≤◌, ◌++◌, ◌∷◌, [], OnOk, OnErr, MatchResult, Some, length, max, slice_get, slice_index, slice_range, vec_len, vec_capacity};
 ghost use Rattle.std.specs.List.{flat_map};
 ghost use Rattle.pt_pieces.specs.Lists.{on_last};
 
@@ -92,12 +92,11 @@ impl<T: Drop> Pieces<T> {
         self.items.len()
     }
 
-    /// Whether the list at that place, counted from 0, has no items.
-    pub fn is_empty_at(&self, number: usize) -> bool
-        requires { number < length self.now.lists }
-        ensures { option_map (λ list. length list == 0) (slice_get self.now.lists number) ≡ Some result }
+    /// The items of all lists, one list after another.
+    pub fn all(&self) -> &[T]
+        ensures { result.now ≡ flat_map (λ list. list) self.now.lists }
     {
-        self.ends[number] as usize == start_of(self.ends.as_slice(), number)
+        self.items.as_slice()
     }
 
     /// The list at that place, counted from 0.

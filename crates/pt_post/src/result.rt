@@ -12,7 +12,7 @@ ghost use Rattle.pt_post.specs.Sent.{FindsNothing, IsClaimed, SumsFit};
 use crate::branches::Branches;
 use crate::emit::emit;
 use crate::outbox::send;
-use pt_state::{Fields, close_claim, find_claim, set_state};
+use pt_state::{Fields, set_state};
 use pt_types::{Done, Graph};
 
 /// Posts a result, where its task is an open claim, and says whether it was: its claim is closed, the actor's state is
@@ -35,14 +35,14 @@ pub fn post(fields: &mut Fields, graph: &Graph, branches: &Branches, done: &Done
     ensures passed { result ≡ false → fields.new ≡ fields.old }
     ensures events { fields.old.queue.spare + leaving_open graph.now (busy_in fields.new.open_claims.items) graph.now.wires ≤ fields.new.queue.spare + leaving_open graph.now (busy_in fields.old.open_claims.items) graph.now.wires }
     ensures messages { (vec_capacity fields.old.outbox ≤ vec_capacity fields.new.outbox) × (vec_len fields.new.outbox ≤ vec_len fields.old.outbox + length graph.now.links) }
-    ensures open_claims { (vec_capacity fields.new.open_claims ≡ vec_capacity fields.old.open_claims) × (vec_len fields.new.open_claims ≤ vec_len fields.old.open_claims) }
+    ensures open_claims { fields.new.open_claims.spare ≡ fields.old.open_claims.spare }
     ensures frame { (fields.new.sensors ≡ fields.old.sensors) × (fields.new.reading ≡ fields.old.reading) × (fields.new.closed ≡ fields.old.closed) × (fields.new.claims ≡ fields.old.claims) }
     ensures groups { fields.new.queue.groups ≡ fields.old.queue.groups }
 {
-    match find_claim(fields.open_claims.as_slice(), &done.task) {
+    match fields.open_claims.find(&done.task) {
         None => false,
         Some(unit) => {
-            close_claim(&mut fields.open_claims, unit);
+            fields.open_claims.close(unit);
             emit(
                 &mut fields.queue,
                 graph,

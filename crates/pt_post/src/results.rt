@@ -40,7 +40,7 @@ pub fn posts(
     ensures events { fields.old.queue.spare + leaving_open graph.now (busy_in fields.new.open_claims.items) graph.now.wires ≤ fields.new.queue.spare + leaving_open graph.now (busy_in fields.old.open_claims.items) graph.now.wires }
     ensures messages { (vec_capacity fields.old.outbox ≤ vec_capacity fields.new.outbox) × (vec_len fields.new.outbox ≤ vec_len fields.old.outbox + length dones.now * length graph.now.links) }
     ensures kept { (vec_capacity kept.old ≤ vec_capacity kept.new) × (vec_len kept.new ≤ vec_len kept.old + length dones.now) }
-    ensures open_claims { (vec_capacity fields.new.open_claims ≡ vec_capacity fields.old.open_claims) × (vec_len fields.new.open_claims ≤ vec_len fields.old.open_claims) }
+    ensures open_claims { fields.new.open_claims.spare ≡ fields.old.open_claims.spare }
     ensures frame { (fields.new.sensors ≡ fields.old.sensors) × (fields.new.reading ≡ fields.old.reading) × (fields.new.closed ≡ fields.old.closed) × (fields.new.claims ≡ fields.old.claims) }
     ensures groups { fields.new.queue.groups ≡ fields.old.queue.groups }
 {

@@ -6,10 +6,10 @@ use Rattle.pt_tags.specs.declared.tag.Tag.{Tag}
 use Rattle.pt_tags.specs.Tags.{same_tag}
 use Rattle.pt_types.specs.declared.firing.Event.{Event}
 use Rattle.pt_types.specs.Ports.{when}
-use Rattle.pt_semantics.specs.Lists.{Each, IsIn, or_else}
+use Rattle.pt_semantics.specs.Lists.{Each, or_else}
 use Rattle.pt_semantics.specs.Meaning.{added}
 use Rattle.pt_semantics.proofs.Tags.{same_tag-true}
-use Rattle.pt_semantics.proofs.Lookups.{first_of-append, or_else_none, or_else_assoc, Each-append, IsIn-append, IsIn-append_left, IsIn-append_right}
+use Rattle.pt_semantics.proofs.Lookups.{first_of-append, or_else_none, or_else_assoc, Each-append}
 use Rattle.pt_queue.specs.declared.groups.Groups.{Groups}
 use Rattle.pt_queue.specs.Events.{waiting_in, value_in, IsPlaced}
 use Rattle.pt_queue.specs.Lines.{AreInLines, AreKept, IsInLine, all_of, joined_by, line_at, line_of, settled}
@@ -33,10 +33,6 @@ not_in_line table [] n a p t h ne = refl
 not_in_line table (e ∷ es) n a p t h ne =
     let own : line_of e ≡ n = h.0.line in
     ap (λ o. or_else o (waiting_in es a p t)) (elsewhere e a p t (λ x y. ne (omega (arith, x, y, own)))) ∙ not_in_line table es n a p t h.1 ne
-
--- each event stands in its line, where the first has number k
-InFrom : List Groups → ℕ → List (List Event) → Type 0
-InFrom table k lines = (n : ℕ) → Each (IsInLine table (k + n)) (line_at lines n)
 
 next_from : (table : List Groups) (k : ℕ) (line : List Event) (lines : List (List Event)) → ((n : ℕ) → Each (IsInLine table (k + n)) (line_at (line ∷ lines) n)) → (n : ℕ) → Each (IsInLine table (suc k + n)) (line_at lines n)
 next_from table k line lines h n = subst (λ m. Each (IsInLine table m) (line_at lines n)) (shift k n) (h (suc n))
@@ -78,15 +74,6 @@ lines_wait table lines a p t h = flat_at table 0 lines (8 * a + p) a p t (λ n. 
 pub each_all : (P : Event → Type 0) (lines : List (List Event)) → ((n : ℕ) → Each P (line_at lines n)) → Each P (all_of lines)
 each_all P [] h = tt
 each_all P (line ∷ lines) h = Each-append P line (all_of lines) (h 0) (each_all P lines (λ n. h (suc n)))
-
-pub in_all : (lines : List (List Event)) (n : ℕ) (e : Event) → IsIn e (line_at lines n) → IsIn e (all_of lines)
-in_all [] n e h = absurd h
-in_all (line ∷ lines) zero e h = IsIn-append_left e line (all_of lines) h
-in_all (line ∷ lines) (suc n) e h = IsIn-append_right e line (all_of lines) (in_all lines n e h)
-
-pub in_one : (lines : List (List Event)) (e : Event) → IsIn e (all_of lines) → (n : ℕ) × IsIn e (line_at lines n)
-in_one [] e h = absurd h
-in_one (line ∷ lines) e h = ⊎_elim (λ (x : IsIn e line). (0, x)) (λ (y : IsIn e (all_of lines)). let r = in_one lines e y in (suc r.0, r.1)) (IsIn-append e line (all_of lines) h)
 
 each_map : (P Q : Event → Type 0) (xs : List Event) → ((e : Event) → P e → Q e) → Each P xs → Each Q xs
 each_map P Q [] f h = tt
@@ -136,6 +123,13 @@ joined_kept table lines e loose k = record {
   placed = k.placed.1;
 }
 
+pub line_kept : (table : List Groups) (lines : List (List Event)) (e : Event) (loose : List Event) → AreKept table lines loose → IsPlaced table e → AreKept table (joined_by lines e) loose
+line_kept table lines e loose k placed = record {
+  count = length-set lines (line_of e) (line_at lines (line_of e) ++ e ∷ []) ∙ k.count;
+  in_lines = joined_in_lines table lines e k.in_lines placed (has_line table lines e k.count placed);
+  placed = k.placed;
+}
+
 -- loose events wait as they do in their lines
 pub settled_waits : (table : List Groups) (lines : List (List Event)) (loose : List Event) (a p : ℕ) (t : Tag) → AreKept table lines loose → waiting_in (all_of (settled lines loose)) a p t ≡ waiting_in (all_of lines ++ loose) a p t
 settled_waits table lines [] a p t k = ap (λ xs. waiting_in xs a p t) (sym (append-nil (all_of lines)))
@@ -176,7 +170,7 @@ other_order None (Some v) (Some l) h = ⊎_elim (λ (n : Some v ≡ None). absur
 
 pub waits_joined : (table : List Groups) (lines : List (List Event)) (loose : List Event) (e : Event) → AreKept table lines loose → IsPlaced table e → waiting_in (all_of (settled lines loose)) e.actor e.port e.tag ≡ None → waiting_in (all_of (settled (joined_by lines e) loose)) ≡ added (waiting_in (all_of (settled lines loose))) (value_in e)
 waits_joined table lines loose e k placed absent = λ i a p t. (
-    settled_waits table (joined_by lines e) loose a p t (record { count = length-set lines (line_of e) (line_at lines (line_of e) ++ e ∷ []) ∙ k.count; in_lines = joined_in_lines table lines e k.in_lines placed (has_line table lines e k.count placed); placed = k.placed })
+    settled_waits table (joined_by lines e) loose a p t (line_kept table lines e loose k placed)
     ∙ waiting_append (all_of (joined_by lines e)) loose a p t
     ∙ ap (λ o. or_else o (waiting_in loose a p t)) (joined_waits table lines e a p t k.in_lines placed (has_line table lines e k.count placed))
     ∙ other_order (waiting_in (all_of lines) a p t) (value_in e a p t) (waiting_in loose a p t) (free a p t)

@@ -1,7 +1,6 @@
 -- Events of units, the least tag, and what blocks.
-use Rattle.std.proofs.Common.{◌≡◌, ℕ, ◌<◌, ◌==◌, ◌&&◌, ◌||◌, ◌⊎◌, ◌≢◌, ◌↔◌, not, Bool, true, false, List, [], ◌∷◌, Option, Some, None, ℤ, if◌then◌else◌, refl, sym, ap, ap₂, subst, ◌∙◌, inl, inr, ⊎_elim, eqb-true, eq-eqb, ne_eqb, length, arith}
-use Rattle.std.specs.List.{list_any}
-use Rattle.std.proofs.lemmas.Bool.{cases_Bool, and_parts, and_from, false≢true, ltb-true, lt-ltb}
+use Rattle.std.proofs.Common.{◌≡◌, ℕ, ◌==◌, ◌&&◌, ◌⊎◌, ◌≢◌, ◌↔◌, not, Bool, true, false, List, [], ◌∷◌, Option, Some, None, ℤ, if◌then◌else◌, refl, sym, ap, ap₂, subst, ◌∙◌, inl, inr, ⊎_elim, eqb-true, eq-eqb, ne_eqb, length, arith}
+use Rattle.std.proofs.lemmas.Bool.{and_parts, and_from, false≢true}
 use Rattle.pt_tags.specs.declared.tag.Tag.{Tag}
 use Rattle.pt_tags.specs.declared.tag.Delay.{Delay}
 use Rattle.pt_tags.specs.Tags.{same_tag, UpTo, Before, tag_lt, plus}
@@ -17,16 +16,16 @@ use Rattle.pt_semantics.specs.Meaning.{Values}
 use Rattle.pt_semantics.specs.Units.{HasEvent, at_input, same_part}
 use Rattle.pt_semantics.proofs.Tags.{same_tag-true, same_tag-refl, tag_lt-true, tag_lt-from}
 use Rattle.pt_semantics.proofs.Words.{when-true}
-use Rattle.pt_semantics.proofs.Lookups.{first_of_found, when_found, same_some, none_some, Each-in, same_part-true, same_part-refl, same_part_not}
+use Rattle.pt_semantics.proofs.Lookups.{first_of_found, when_found, same_some, none_some, Each-in, same_part-true, same_part-refl}
 use Rattle.pt_semantics.proofs.Claiming.{event_found, has_event}
 use Rattle.pt_semantics.proofs.Least.{past_least}
-use Rattle.pt_delays.specs.Delays.{AreLeast, HasLeast, IsUnit}
+use Rattle.pt_delays.specs.Delays.{HasLeast, IsUnit}
 use Rattle.pt_delays.proofs.Lawful.{ends_are_units}
 use Rattle.pt_queue.specs.declared.groups.Groups.{Groups}
-use Rattle.pt_queue.specs.Groups.{AreGroups, group_in, groups_at}
-use Rattle.pt_queue.specs.Events.{waiting_in, value_in, IsPlaced, IsLeastTag, IsClear, IsBlocked}
-use Rattle.pt_queue.specs.Scans.{is_of, unit_in, has_unit, least_from, sooner_if, sooner, blocks, reaches}
-use Rattle.pt_queue.proofs.Waits.{unit_at, placed_actor}
+use Rattle.pt_queue.specs.Groups.{AreGroups}
+use Rattle.pt_queue.specs.Events.{waiting_in, value_in, IsPlaced, IsLeastTag, IsBlocked}
+use Rattle.pt_queue.specs.Scans.{is_of, unit_in, least_from, sooner_if, sooner, reaches}
+use Rattle.pt_queue.proofs.Waits.{unit_at}
 
 -- an event of a unit at a tag, in the list
 pub record Has (table : List Groups) (xs : List Event) (u : Part) (t : Tag) : Type 0 where
@@ -71,13 +70,6 @@ has_of g table xs e are placed mem =
     let p : IsPlaced table e = Each-in (IsPlaced table) xs placed e mem in
     let w = some_of (λ (y : Event). value_in y e.actor e.port e.tag) xs e e.value mem (when-true (e.actor == e.actor && e.port == e.port && same_tag e.tag e.tag) (Some e.value) (here e)) in
     subst (λ z. HasEvent g (waiting_in xs) z e.tag) (unit_at g table e are p) (has_event g (waiting_in xs) e.actor e.port e.tag w.0 p.port w.1)
-
--- where the group of an event is one of its actor's, the event waits for a unit of the graph, and the other way round
-unit_is : (g : Graph) (table : List Groups) (e : Event) → AreGroups g table → IsPlaced table e → has_unit table e ≡ true → IsUnit g (unit_in table e)
-unit_is g table e are placed h = (placed_actor g table e are placed, subst (λ n. group_in table e.actor e.port < n) (are.counts e.actor) (ltb-true (group_in table e.actor e.port) (groups_at table e.actor).count h))
-
-has_one : (g : Graph) (table : List Groups) (e : Event) → AreGroups g table → IsUnit g (unit_in table e) → has_unit table e ≡ true
-has_one g table e are unit = lt-ltb (group_in table e.actor e.port) (groups_at table e.actor).count (subst (λ n. group_in table e.actor e.port < n) (sym (are.counts e.actor)) unit.1)
 
 -- the least tag so far, over a list
 
@@ -144,6 +136,20 @@ least_over table u best (e ∷ es) = stepping table u best e es (least_from tabl
 of_unit : (table : List Groups) (u : Part) (e : Event) → unit_in table e ≡ u → is_of table u e ≡ true
 of_unit table u e h = subst (λ z. same_part (unit_in table e) z ≡ true) h (same_part-refl (unit_in table e))
 
+-- an event has the least tag, and no event of its unit a lesser one
+pub least_found : (table : List Groups) (xs : List Event) (u : Part) (t : Tag) → least_from table u None xs ≡ Some t → (e : Event) × IsIn e xs × (unit_in table e ≡ u) × (e.tag ≡ t)
+least_found table xs u t h = ⊎_elim
+    (λ (s : None ≡ Some t). absurd (none_some t s))
+    (λ (w : (x : Event) × IsIn x xs × (is_of table u x ≡ true) × (x.tag ≡ t)). (w.0, w.1, same_part-true (unit_in table w.0) u w.2, w.3))
+    (subst (OverAll table u None xs) h (least_over table u None xs)).found
+
+pub least_below : (table : List Groups) (xs : List Event) (e : Event) → IsIn e xs → (t : Tag) × (least_from table (unit_in table e) None xs ≡ Some t) × UpTo t e.tag
+least_below table xs e m = by (least_from table (unit_in table e) None xs) refl
+  where
+    by : (o : Option Tag) → least_from table (unit_in table e) None xs ≡ o → (t : Tag) × (least_from table (unit_in table e) None xs ≡ Some t) × UpTo t e.tag
+    by None h = absurd (false≢true (sym ((subst (OverAll table (unit_in table e) None xs) h (least_over table (unit_in table e) None xs)).1 e m) ∙ of_unit table (unit_in table e) e refl))
+    by (Some t) h = (t, h, (subst (OverAll table (unit_in table e) None xs) h (least_over table (unit_in table e) None xs)).all e m (of_unit table (unit_in table e) e refl))
+
 from_over : (g : Graph) (table : List Groups) (xs : List Event) (u : Part) (r : Option Tag) → AreGroups g table → Each (IsPlaced table) xs → OverAll table u None xs r → IsLeastTag g (waiting_in xs) u r
 from_over g table xs u None are placed k = λ t h. let f = event_of g table xs u t are placed h in false≢true (sym (k.1 f.event f.in_list) ∙ of_unit table u f.event f.unit)
 from_over g table xs u (Some t) are placed k = (
@@ -158,20 +164,11 @@ least_is g table xs u are placed = from_over g table xs u (least_from table u No
 
 -- what blocks
 
-either_false : (b c : Bool) → (b || c) ≡ false → (b ≡ false) × (c ≡ false)
-either_false true c h = absurd (false≢true (sym h))
-either_false false c h = (refl, h)
+not_false : (b : Bool) → not b ≡ true → b ≡ false
+not_false true h = sym h
+not_false false h = refl
 
-none_blocks : (test : Event → Bool) (xs : List Event) → list_any test xs ≡ false → (e : Event) → IsIn e xs → test e ≡ false
-none_blocks test [] h e mem = absurd mem
-none_blocks test (x ∷ xs) h e mem =
-    let parts = either_false (test x) (list_any test xs) h in
-    ⊎_elim (λ (same : e ≡ x). ap test same ∙ parts.0) (λ (rest : IsIn e xs). none_blocks test xs parts.1 e rest) mem
-
-all_pass : (test : Event → Bool) (xs : List Event) → ((e : Event) → IsIn e xs → test e ≡ false) → list_any test xs ≡ false
-all_pass test [] h = refl
-all_pass test (x ∷ xs) h = ap (λ b. b || list_any test xs) (h x (inl refl)) ∙ all_pass test xs (λ e m. h e (inr m))
-
+-- every path from there leads past a tag exactly where the least delay does
 not_true : (b : Bool) → not b ≡ false → b ≡ true
 not_true true h = refl
 not_true false h = absurd (false≢true (sym h))
@@ -184,85 +181,17 @@ pub past_reach : (g : Graph) (x u : Part) (d : Option Delay) (t w : Tag) → Has
 past_reach g x u None t w is h = refl
 past_reach g x u (Some d) t w is h = ap not (tag_lt-from t (plus w d) ((past_least g x u d t w is).1 h))
 
-not_false : (b : Bool) → not b ≡ true → b ≡ false
-not_false true h = sym h
-not_false false h = refl
-
-and_false : (b c : Bool) → (b && c) ≡ false → b ≡ true → c ≡ false
-and_false true c h b = h
-and_false false c h b = absurd (false≢true b)
-
-false_and : (b c : Bool) → (b ≡ true → c ≡ false) → (b && c) ≡ false
-false_and true c h = h refl
-false_and false c h = refl
-
 -- a path leads from another unit alone
-from_unit : (g : Graph) (x u : Part) (path : List Edge) → IsLawful g → x ≢ u → Goes g x path u → IsUnit g x
+pub from_unit : (g : Graph) (x u : Part) (path : List Edge) → IsLawful g → x ≢ u → Goes g x path u → IsUnit g x
 from_unit g x u [] lawful ne go = absurd (ne go)
 from_unit g x u (e ∷ path) lawful ne go = subst (IsUnit g) go.1 (ends_are_units g e lawful go.0).0
 
--- what there is to know of one event: where it waits for another unit, it doesn't block this one exactly where no path
--- leads to it in time
-record AtEvent (g : Graph) (table : List Groups) (least : Part → Part → Option Delay) (u : Part) (t : Tag) (e : Event) : Type 0 where
-  far : blocks table least u t e ≡ false → is_of table u e ≡ false → (path : List Edge) → unit_in table e ≢ u → Goes g (unit_in table e) path u → Before t (plus e.tag (sum_along path))
-  near : (is_of table u e ≡ false → (path : List Edge) → Goes g (unit_in table e) path u → Before t (plus e.tag (sum_along path))) → blocks table least u t e ≡ false
-
-at_event : (g : Graph) (table : List Groups) (least : Part → Part → Option Delay) (u : Part) (t : Tag) (e : Event) → IsLawful g → AreGroups g table → AreLeast g least → IsUnit g u → IsPlaced table e → AtEvent g table least u t e
-at_event g table least u t e lawful are is unit placed = record {
-  far = λ h other path ne go.
-      let own : IsUnit g (unit_in table e) = from_unit g (unit_in table e) u path lawful ne go in
-      let rest = and_false (not (is_of table u e)) (has_unit table e && reaches (least (unit_in table e) u) e.tag t) h (ap not other) in
-      let r = and_false (has_unit table e) (reaches (least (unit_in table e) u) e.tag t) rest (has_one g table e are own) in
-      reach_past g (unit_in table e) u (least (unit_in table e) u) t e.tag (is (unit_in table e) u own unit) r path go;
-  near = λ clear.
-      false_and (not (is_of table u e)) (has_unit table e && reaches (least (unit_in table e) u) e.tag t) (λ away.
-      false_and (has_unit table e) (reaches (least (unit_in table e) u) e.tag t) (λ has.
-      past_reach g (unit_in table e) u (least (unit_in table e) u) t e.tag (is (unit_in table e) u (unit_is g table e are placed has) unit) (clear (not_false (is_of table u e) away))));
-}
-
-pub clear_is : (g : Graph) (table : List Groups) (least : Part → Part → Option Delay) (xs : List Event) (u : Part) (t : Tag) → IsLawful g → AreGroups g table → Each (IsPlaced table) xs → AreLeast g least → IsUnit g u → (list_any (blocks table least u t) xs ≡ false) ↔ IsClear g (waiting_in xs) u t
-clear_is g table least xs u t lawful are placed is unit = (
-  (λ h x w path ne ev go.
-      let f = event_of g table xs x w are placed ev in
-      let one = at_event g table least u t f.event lawful are is unit (Each-in (IsPlaced table) xs placed f.event f.in_list) in
-      let ne2 : unit_in table f.event ≢ u = λ s. ne (sym f.unit ∙ s) in
-      let far = one.far (none_blocks (blocks table least u t) xs h f.event f.in_list) (same_part_not (unit_in table f.event) u ne2) path ne2 (subst (λ z. Goes g z path u) (sym f.unit) go) in
-      subst (λ z. Before t (plus z (sum_along path))) f.tag far),
-  (λ clear. all_pass (blocks table least u t) xs (λ e mem.
-      (at_event g table least u t e lawful are is unit (Each-in (IsPlaced table) xs placed e mem)).near (λ other path go.
-      clear (unit_in table e) e.tag path (λ s. false≢true (sym other ∙ of_unit table u e s)) (has_of g table xs e are placed mem) go))),
-)
-
-one_blocks : (test : Event → Bool) (xs : List Event) → list_any test xs ≡ true → (e : Event) × IsIn e xs × (test e ≡ true)
-one_blocks test [] h = absurd (false≢true h)
-one_blocks test (x ∷ xs) h = ⊎_elim
-    (λ (y : test x ≡ true). (x, inl refl, y))
-    (λ (n : test x ≡ false). let rest = one_blocks test xs (sym (ap (λ b. b || list_any test xs) n) ∙ h) in (rest.0, inr rest.1, rest.2))
-    (cases_Bool (test x))
-
-blocked_by : (g : Graph) (waits : Values) (x u : Part) (t w : Tag) (o : Option Delay) → HasLeast g x u o → reaches o w t ≡ true → x ≢ u → HasEvent g waits x w → IsBlocked g waits u t
+pub blocked_by : (g : Graph) (waits : Values) (x u : Part) (t w : Tag) (o : Option Delay) → HasLeast g x u o → reaches o w t ≡ true → x ≢ u → HasEvent g waits x w → IsBlocked g waits u t
 blocked_by g waits x u t w None is r ne ev = absurd (false≢true r)
 blocked_by g waits x u t w (Some d) is r ne ev = record { unit = x; tag = w; delay = d; other = ne; event = ev; least = is; in_time = up_from (plus w d) t (not_false (tag_lt t (plus w d)) r) }
 
-not_both_ways : (t w : Tag) → Before t w → UpTo w t → ⊥
+pub not_both_ways : (t w : Tag) → Before t w → UpTo w t → ⊥
 not_both_ways t w b up = let less = b.1 up.0 in let most = up.1 b.0 in omega (arith, less, most)
-
-pub blocked_is : (g : Graph) (table : List Groups) (least : Part → Part → Option Delay) (xs : List Event) (u : Part) (t : Tag) → IsLawful g → AreGroups g table → Each (IsPlaced table) xs → AreLeast g least → IsUnit g u → (list_any (blocks table least u t) xs ≡ true) ↔ IsBlocked g (waiting_in xs) u t
-blocked_is g table least xs u t lawful are placed is unit = (
-  (λ h.
-      let f = one_blocks (blocks table least u t) xs h in
-      let one = and_parts (not (is_of table u f.0)) (has_unit table f.0 && reaches (least (unit_in table f.0) u) f.0.tag t) f.2 in
-      let two = and_parts (has_unit table f.0) (reaches (least (unit_in table f.0) u) f.0.tag t) one.1 in
-      let own = unit_is g table f.0 are (Each-in (IsPlaced table) xs placed f.0 f.1) two.0 in
-      blocked_by g (waiting_in xs) (unit_in table f.0) u t f.0.tag (least (unit_in table f.0) u) (is (unit_in table f.0) u own unit) two.1
-      (λ s. false≢true (sym (not_false (is_of table u f.0) one.0) ∙ of_unit table u f.0 s)) (has_of g table xs f.0 are placed f.1)),
-  (λ k. ⊎_elim (λ (y : list_any (blocks table least u t) xs ≡ true). y)
-      (λ (n : list_any (blocks table least u t) xs ≡ false).
-      let clear = (clear_is g table least xs u t lawful are placed is unit).0 n in
-      let before : Before t (plus k.tag k.delay) = subst (λ z. Before t (plus k.tag z)) k.least.along.2 (clear k.unit k.tag k.least.along.0 k.other k.event k.least.along.1) in
-      absurd (not_both_ways t (plus k.tag k.delay) before k.in_time))
-      (cases_Bool (list_any (blocks table least u t) xs))),
-)
 
 -- nothing waits exactly where the list is empty
 pub empty_waits : (xs : List Event) (n : ℕ) (b : Bool) → n ≡ length xs → b ≡ (n == 0) → (b ≡ true) ↔ ((a p : ℕ) (t : Tag) → waiting_in xs a p t ≡ None)

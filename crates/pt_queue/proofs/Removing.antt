@@ -140,10 +140,3 @@ filtered_kept table f lines loose k = record {
   in_lines = λ n. subst (Each (IsInLine table n)) (sym (map_at f lines n)) (each_filter (IsInLine table n) f (line_at lines n) (k.in_lines n));
   placed = each_filter (IsPlaced table) f loose k.placed;
 }
-
--- a line without events stays so
-pub still_empty : (f : Event → Bool) (lines : List (List Event)) (n m : ℕ) → line_at lines m ≡ [] → line_at (slice_set lines n (filter f (line_at lines n))) m ≡ []
-still_empty f lines n m h = ⊎_elim
-    (λ (e : m ≡ n). ap (line_at (slice_set lines n (filter f (line_at lines n)))) e ∙ filtered_at f lines n ∙ ap (filter f) (ap (line_at lines) (sym e) ∙ h))
-    (λ (ne : m ≢ n). get_or-set_other lines n m (filter f (line_at lines n)) [] ne ∙ h)
-    (cases_place m n)

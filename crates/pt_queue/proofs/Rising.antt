@@ -80,13 +80,6 @@ none_taken t (x ∷ xs) e h is b =
 pub not_before : (t : Tag) (xs : List Event) (e : Event) → InOrder xs → Some e ≡ first xs → same_tag e.tag t ≡ false → tag_lt e.tag t ≡ false → filter (λ (x : Event). not (same_tag t x.tag)) xs ≡ xs
 not_before t xs e h is ne nl = none_taken t xs e h is (after t e.tag ne nl)
 
--- the value at the first event's tag, and at one before it
-pub first_value : (t : Tag) (xs : List Event) (e : Event) → Some e ≡ first xs → same_tag e.tag t ≡ true → Some e.value ≡ value_on xs t
-first_value t [] e is k = absurd (none_some e (sym is))
-first_value t (x ∷ xs) e is k =
-    let here : e ≡ x = same_some e x is in
-    ap (λ (y : Event). Some y.value) here ∙ sym (ap (λ b. or_else (when b (Some x.value)) (value_on xs t)) (ap (λ (y : Event). same_tag y.tag t) (sym here) ∙ k))
-
 not_there : (t u : Tag) → Before t u → same_tag u t ≡ false
 not_there t u h = grind arith
 

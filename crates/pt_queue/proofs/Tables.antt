@@ -14,7 +14,7 @@ use Rattle.pt_types.specs.Lawful.{IsLawful, actor_is_lawful}
 use Rattle.pt_semantics.specs.Edges.{kind_of, no_actor}
 use Rattle.pt_semantics.specs.Units.{cell_of, groups, input_group}
 use Rattle.pt_queue.specs.declared.groups.Groups.{Groups}
-use Rattle.pt_queue.specs.Groups.{groups_of, groups_at, one_unit, AreGroups}
+use Rattle.pt_queue.specs.Groups.{groups_of, groups_at, group_in, one_unit, AreGroups}
 
 at_map : (actors : List Actor) (i : ℕ) → slice_index_or (map (λ (a : Actor). groups_of a.kind) actors) i one_unit ≡ groups_of (slice_index_or actors i no_actor).kind
 at_map [] i = refl
@@ -79,3 +79,36 @@ cell_few (n ∷ ns) p = less_step (nat_lt p n) (cell_of ns (p - n)) (length ns) 
 pub input_few : (k : Kind) (p : ℕ) → input_group k p ≤ groups k
 input_few (Lanes cells) p = cell_few cells p
 input_few _ p = omega arith
+
+-- the groups of eight inputs are fewer than nine, and count from 0 on
+
+cell_step : (n c p : ℕ) → 1 ≤ n → c ≤ p - n → (b : Bool) → nat_lt p n ≡ b → cond b 0 (suc c) ≤ p
+cell_step n c p some l true h = omega arith
+cell_step n c p some l false h = let m : n ≤ p = past p n h in omega (arith, m, l, some)
+  where
+    past : (p n : ℕ) → nat_lt p n ≡ false → n ≤ p
+    past p n h = grind arith
+
+cell_below : (cells : List ℕ) (p : ℕ) → list_all (is_among 1 8) cells ≡ true → cell_of cells p ≤ p
+cell_below [] p h = omega arith
+cell_below (n ∷ ns) p h =
+    let two = and_parts (is_among 1 8 n) (list_all (is_among 1 8) ns) h in
+    let one = and_parts (nat_le 1 n) (nat_le n 8) two.0 in
+    cell_step n (cell_of ns (p - n)) p (leb-true 1 n one.0) (cell_below ns (p - n) two.1) (nat_lt p n) refl
+
+input_below : (k : Kind) (p : ℕ) → kind_is_lawful k ≡ true → input_group k p ≤ p
+input_below (Lanes cells) p h =
+    let two = and_parts (is_among 1 8 (length cells) && list_all (is_among 1 8) cells) (nat_le (sum cells) 8) h in
+    cell_below cells p (and_parts (is_among 1 8 (length cells)) (list_all (is_among 1 8) cells) two.0).1
+input_below _ p h = omega arith
+
+below_in : (n : ℕ) (actors : List Actor) (a p : ℕ) → list_all (actor_is_lawful n) actors ≡ true → input_group (slice_index_or actors a no_actor).kind p ≤ p
+below_in n [] a p h = omega arith
+below_in n (x ∷ actors) zero p h = input_below x.kind p (lawful_one n x (and_parts (actor_is_lawful n x) (list_all (actor_is_lawful n) actors) h).0)
+below_in n (x ∷ actors) (suc a) p h = below_in n actors a p (and_parts (actor_is_lawful n x) (list_all (actor_is_lawful n) actors) h).1
+
+pub few_inputs : (g : Graph) (table : List Groups) → IsLawful g → AreGroups g table → (a p : ℕ) → p < 8 → group_in table a p < 8
+few_inputs g table lawful are a p l =
+    let below = below_in (length g.platforms) g.actors a p lawful.actors in
+    let is : group_in table a p ≡ input_group (kind_of g a) p = are.inputs a p l in
+    omega (arith, below, is, l)

@@ -1,5 +1,5 @@
 -- What waits after one event more, and after the events of a unit and a tag are taken.
-use Rattle.std.proofs.Common.{◌≡◌, ℕ, ◌<◌, ◌==◌, ◌&&◌, not, Bool, true, false, cond, length, List, [], ◌∷◌, ◌++◌, Some, None, ℤ, filter, refl, sym, ap, ap₂, ◌∙◌, ⊎_elim, eqb-true, arith}
+use Rattle.std.proofs.Common.{◌≡◌, ℕ, ◌<◌, ◌==◌, ◌&&◌, not, Bool, true, false, cond, length, List, [], ◌∷◌, Some, None, ℤ, filter, refl, sym, ap, ap₂, ◌∙◌, ⊎_elim, eqb-true, arith}
 use Rattle.std.proofs.lemmas.Bool.{cases_Bool, and_parts}
 use Rattle.pt_tags.specs.declared.tag.Tag.{Tag}
 use Rattle.pt_tags.specs.Tags.{same_tag}
@@ -10,19 +10,12 @@ use Rattle.pt_types.specs.Ports.{when}
 use Rattle.pt_semantics.specs.Lists.{or_else, Each}
 use Rattle.pt_semantics.specs.Units.{at_input, same_part}
 use Rattle.pt_semantics.specs.Claiming.{without_unit}
-use Rattle.pt_semantics.specs.Meaning.{added}
 use Rattle.pt_semantics.proofs.Tags.{same_tag-true}
-use Rattle.pt_semantics.proofs.Lookups.{first_of-append, or_else_none, when_or_else, when_none}
+use Rattle.pt_semantics.proofs.Lookups.{when_or_else, when_none}
 use Rattle.pt_queue.specs.declared.groups.Groups.{Groups}
 use Rattle.pt_queue.specs.Groups.{AreGroups}
 use Rattle.pt_queue.specs.Events.{waiting_in, value_in, IsPlaced}
 use Rattle.pt_queue.specs.Scans.{is_at, unit_in}
-
-pub waiting_push : (xs : List Event) (e : Event) → waiting_in (xs ++ e ∷ []) ≡ added (waiting_in xs) (value_in e)
-waiting_push xs e = λ i a p t. at a p t i
-  where
-    at : (a p : ℕ) (t : Tag) → waiting_in (xs ++ e ∷ []) a p t ≡ added (waiting_in xs) (value_in e) a p t
-    at a p t = first_of-append (λ (y : Event). value_in y a p t) xs (e ∷ []) ∙ ap (or_else (waiting_in xs a p t)) (or_else_none (value_in e a p t))
 
 pub placed_actor : (g : Graph) (table : List Groups) (e : Event) → AreGroups g table → IsPlaced table e → e.actor < length g.actors
 placed_actor g table e are placed = let l : length table ≡ length g.actors = are.len in let k : e.actor < length table = placed.actor in omega (arith, l, k)
@@ -61,11 +54,3 @@ at_drop g table u t (e ∷ ys) b p w are placed =
 
 pub waiting_drop : (g : Graph) (table : List Groups) (u : Part) (t : Tag) (xs : List Event) → AreGroups g table → Each (IsPlaced table) xs → waiting_in (filter (λ (e : Event). not (is_at table u t e)) xs) ≡ without_unit g (waiting_in xs) u t
 waiting_drop g table u t xs are placed = λ i b p w. at_drop g table u t xs b p w are placed i
-
-cond_placed : (table : List Groups) (c : Bool) (e : Event) (ys : List Event) → IsPlaced table e → Each (IsPlaced table) ys → Each (IsPlaced table) (cond c (e ∷ ys) ys)
-cond_placed table true e ys p q = (p, q)
-cond_placed table false e ys p q = q
-
-pub placed_filter : (table : List Groups) (test : Event → Bool) (xs : List Event) → Each (IsPlaced table) xs → Each (IsPlaced table) (filter test xs)
-placed_filter table test [] placed = tt
-placed_filter table test (e ∷ xs) placed = cond_placed table (test e) e (filter test xs) placed.0 (placed_filter table test xs placed.1)

@@ -1,5 +1,5 @@
 -- A list of events as what waits at each input.
-use Rattle.std.specs.Prelude.{◌≡◌, ℕ, ℤ, ◌<◌, ◌≤◌, ◌==◌, ◌&&◌, List, Option, Some, None, length, ◌≢◌}
+use Rattle.std.specs.Prelude.{◌≡◌, ℕ, ℤ, ◌<◌, ◌≤◌, ◌==◌, ◌&&◌, List, [], ◌∷◌, Option, Some, None, length, ◌≢◌}
 use Rattle.pt_tags.specs.declared.tag.Tag.{Tag}
 use Rattle.pt_tags.specs.declared.tag.Delay.{Delay}
 use Rattle.pt_tags.specs.Tags.{same_tag, UpTo, Before, plus}
@@ -7,13 +7,14 @@ use Rattle.pt_types.specs.declared.firing.Event.{Event}
 use Rattle.pt_types.specs.declared.graph.Unit.{Unit as Part}
 use Rattle.pt_types.specs.declared.graph.Graph.{Graph}
 use Rattle.pt_types.specs.Ports.{when}
-use Rattle.pt_semantics.specs.Lists.{first_of}
+use Rattle.pt_semantics.specs.Lists.{first_of, Each, IsIn}
 use Rattle.pt_semantics.specs.Edges.{Edge}
 use Rattle.pt_semantics.specs.Ranks.{sum_along}
 use Rattle.pt_semantics.specs.Paths.{Goes, IsLeast}
 use Rattle.pt_semantics.specs.Meaning.{Values}
 use Rattle.pt_semantics.specs.Units.{HasEvent}
 use Rattle.pt_queue.specs.declared.groups.Groups.{Groups}
+use Rattle.pt_queue.specs.declared.waiting.Waiting.{Waiting}
 
 -- a queue as contracts see it: the groups of the actors' inputs, its events, and for how many more there is memory
 pub record Queued : Type 0 where
@@ -47,6 +48,25 @@ IsNextActive waits from (Some b) = (from ≤ b) × IsActive waits b × ((a p : �
 abbrev pub IsLeastTag : Graph → Values → Part → Option Tag → Type 0
 IsLeastTag g waits u None = (t : Tag) → HasEvent g waits u t → ⊥
 IsLeastTag g waits u (Some t) = HasEvent g waits u t × ((w : Tag) → HasEvent g waits u w → UpTo t w)
+
+-- unit u comes before v, by actor and group
+abbrev pub UnitBefore : Part → Part → Type 0
+UnitBefore u v = (u.actor ≤ v.actor) × (v.actor ≤ u.actor → u.group < v.group)
+
+-- units in rising order
+abbrev pub IsRising : List Waiting → Type 0
+IsRising [] = Unit {0}
+IsRising (w ∷ ws) = Each (λ (x : Waiting). UnitBefore w.unit x.unit) ws × IsRising ws
+
+-- a unit is one of these
+abbrev pub IsListed : Part → List Waiting → Type 0
+IsListed u listed = (w : Waiting) × IsIn w listed × (w.unit ≡ u)
+
+-- the units that have events, in rising order of actor and group, each with its least tag
+pub record AreWaiting (g : Graph) (waits : Values) (listed : List Waiting) : Type 0 where
+  pub rising : IsRising listed
+  pub each : Each (λ (w : Waiting). IsLeastTag g waits w.unit (Some w.tag)) listed
+  pub all : (u : Part) (t : Tag) → HasEvent g waits u t → IsListed u listed
 
 -- no event that waits for another unit leads to unit u at t or before
 abbrev pub IsClear : Graph → Values → Part → Tag → Type 0

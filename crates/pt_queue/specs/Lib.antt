@@ -2,4 +2,4 @@ pub mod Groups
 pub mod Events
 pub mod Lines
 pub mod Scans
-pub mod Marks
+pub mod Listed

@@ -1,6 +1,6 @@
 -- The events of each input, one line after another.
-use Rattle.std.specs.Prelude.{◌≡◌, ℕ, ◌+◌, ◌*◌, ◌<◌, ◌≤◌, ◌⊎◌, ◌↔◌, Bool, true, false, List, [], ◌∷◌, ◌++◌, Option, Some, None, ℤ, length, slice_index_or, slice_set}
-use Rattle.std.specs.List.{Contains, flat_map}
+use Rattle.std.specs.Prelude.{◌≡◌, ℕ, ◌+◌, ◌*◌, List, [], ◌∷◌, ◌++◌, Option, Some, None, ℤ, length, slice_index_or, slice_set}
+use Rattle.std.specs.List.{flat_map}
 use Rattle.pt_tags.specs.declared.tag.Tag.{Tag}
 use Rattle.pt_tags.specs.Tags.{same_tag, Before}
 use Rattle.pt_types.specs.declared.firing.Event.{Event}
@@ -53,26 +53,8 @@ pub record IsInLine (table : List Groups) (n : ℕ) (e : Event) : Type 0 where
 abbrev pub AreInLines : List Groups → List (List Event) → Type 0
 AreInLines table lines = (n : ℕ) → Each (IsInLine table n) (line_at lines n)
 
--- numbers rise
-abbrev pub Rises : List ℕ → Type 0
-Rises ns = (j k : ℕ) → j < k → k < length ns → slice_index_or ns j 0 < slice_index_or ns k 0
-
--- of these numbers from `from` on, n is the least, or there are none
-abbrev pub IsFirstFrom : ℕ → List ℕ → Option ℕ → Type 0
-IsFirstFrom from ns None = (m : ℕ) → Contains ns m → m < from
-IsFirstFrom from ns (Some n) = (from ≤ n) × Contains ns n × ((m : ℕ) → Contains ns m → (m < from) ⊎ (n ≤ m))
-
--- the numbers of the lines that have events, in rising order
-pub record AreBusy (lines : List (List Event)) (busy : List ℕ) : Type 0 where
-  pub rising : Rises busy
-  pub exact : (n : ℕ) → Contains busy n ↔ (0 < length (line_at lines n))
-
 -- the parts of a queue: eight lines for each actor, and the events that stand in no line yet
 pub record AreKept (table : List Groups) (lines : List (List Event)) (loose : List Event) : Type 0 where
   pub count : length lines ≡ 8 * length table
   pub in_lines : AreInLines table lines
   pub placed : Each (IsPlaced table) loose
-
--- flags for the eight inputs of an actor: one without a flag has no event
-abbrev pub AreFlagged : List (List Event) → ℕ → List Bool → Type 0
-AreFlagged lines a flags = (p : ℕ) → p < 8 → slice_index_or flags p true ≡ false → line_at lines (8 * a + p) ≡ []

@@ -1,14 +1,13 @@
 -- How a program goes over a list of events.
-use Rattle.std.specs.Prelude.{◌≡◌, ℕ, ◌<◌, ◌≤◌, ◌⊎◌, ◌&&◌, nat_lt, min, Bool, false, not, List, [], ◌∷◌, Option, Some, None, if◌then◌else◌}
+use Rattle.std.specs.Prelude.{◌&&◌, Bool, false, not, List, [], ◌∷◌, Option, Some, None, if◌then◌else◌}
 use Rattle.pt_tags.specs.declared.tag.Tag.{Tag}
 use Rattle.pt_tags.specs.declared.tag.Delay.{Delay}
 use Rattle.pt_tags.specs.Tags.{same_tag, tag_lt, plus}
 use Rattle.pt_types.specs.declared.firing.Event.{Event}
 use Rattle.pt_types.specs.declared.graph.Unit.{Unit as Part}
-use Rattle.pt_semantics.specs.Lists.{Each, IsIn}
 use Rattle.pt_semantics.specs.Units.{same_part}
 use Rattle.pt_queue.specs.declared.groups.Groups.{Groups}
-use Rattle.pt_queue.specs.Groups.{groups_at, group_in}
+use Rattle.pt_queue.specs.Groups.{group_in}
 
 -- the unit that an event waits for
 abbrev pub unit_in : List Groups → Event → Part
@@ -40,25 +39,3 @@ least_from table u best (e ∷ events) = least_from table u (sooner_if (is_of ta
 abbrev pub reaches : Option Delay → Tag → Tag → Bool
 reaches None w t = false
 reaches (Some d) w t = not (tag_lt t (plus w d))
-
--- the group of an event is one of its actor's
-abbrev pub has_unit : List Groups → Event → Bool
-has_unit table e = nat_lt (group_in table e.actor e.port) (groups_at table e.actor).count
-
--- an event waits for another unit, and leads to this one at t or before
-abbrev pub blocks : List Groups → (Part → Part → Option Delay) → Part → Tag → Event → Bool
-blocks table least u t e = not (is_of table u e) && (has_unit table e && reaches (least (unit_in table e) u) e.tag t)
-
--- of these events' actors from `from` on, b is the least, or there are none
-abbrev pub IsNextIn : ℕ → List Event → Option ℕ → Type 0
-IsNextIn from es None = Each (λ (e : Event). e.actor < from) es
-IsNextIn from es (Some b) = (from ≤ b) × ((e : Event) × IsIn e es × (e.actor ≡ b)) × Each (λ (e : Event). (e.actor < from) ⊎ (b ≤ e.actor)) es
-
--- the lesser of the least actor so far and one more
-abbrev pub lesser : Option ℕ → ℕ → Option ℕ
-lesser None a = Some a
-lesser (Some b) a = Some (min b a)
-
--- where that one is from `from` on
-abbrev pub nearer : ℕ → Option ℕ → ℕ → Option ℕ
-nearer from best a = if nat_lt a from then best else lesser best a

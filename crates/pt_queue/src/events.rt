@@ -1,18 +1,25 @@
-//! Events: which unit each waits for, and which it blocks.
+//! Events: which unit each waits for, and where its tag leads.
 
 ghost use Rattle.std.specs.Prelude.{◌≡◌, ◌≤◌, not, filter};
-ghost use Rattle.std.specs.List.{list_any};
 ghost use Rattle.std.specs.VecDeque.{deque_len, deque_capacity};
 ghost use Rattle.pt_tags.specs.Tags.{tag_lt, plus};
-ghost use Rattle.pt_delays.specs.Delays.{least_of};
 ghost use Rattle.pt_queue.specs.Events.{waiting_in};
-ghost use Rattle.pt_queue.specs.Scans.{is_at, is_of, least_from, sooner, reaches, blocks};
+ghost use Rattle.pt_queue.specs.Scans.{is_at, is_of, least_from, sooner, reaches, unit_in};
 
-use crate::groups::{Groups, count_at, group_in};
-use pt_delays::Least;
+use crate::groups::{Groups, group_in};
 use pt_tags::{Delay, Tag};
 use pt_types::{Event, Unit};
 use std::collections::VecDeque;
+
+/// The unit that an event waits for.
+pub fn unit_of(table: &[Groups], event: &Event) -> Unit
+    ensures { result ≡ unit_in table.now event.now }
+{
+    Unit {
+        actor: event.actor,
+        group: group_in(table, event.actor, event.port),
+    }
+}
 
 /// Whether an event waits for a unit.
 fn is_of(table: &[Groups], unit: Unit, event: &Event) -> bool
@@ -34,6 +41,9 @@ pub fn remove(events: &mut VecDeque<Event>, table: &[Groups], unit: Unit, tag: T
     ensures len { deque_len events.new ≤ deque_len events.old }
     ensures capacity { deque_capacity events.new ≡ deque_capacity events.old }
 {
+    if events.is_empty() {
+        return;
+    }
     events.retain(|event| !is_at(table, unit, tag, event));
 }
 
@@ -89,6 +99,12 @@ pub fn value_at(events: &VecDeque<Event>, actor: u32, port: u32, tag: Tag) -> Op
 fn is_before_sum(tag: Tag, from: Tag, delay: Delay) -> bool
     ensures { result ≡ tag_lt tag (plus from delay) }
 {
+    if let (Some(time), Some(step)) = (
+        from.time.checked_add(delay.time),
+        from.step.checked_add(delay.step),
+    ) {
+        return tag.is_before(Tag { time, step });
+    }
     let time = from.time as u128 + delay.time as u128;
     let step = from.step as u128 + delay.step as u128;
     (tag.time as u128) < time || tag.time as u128 == time && (tag.step as u128) < step
@@ -102,44 +118,4 @@ pub fn reaches(delay: Option<Delay>, from: Tag, tag: Tag) -> bool
         None => false,
         Some(delay) => !is_before_sum(tag, from, delay),
     }
-}
-
-/// Whether an event waits for another unit, and leads to this one at the tag or before.
-pub fn blocks(table: &[Groups], least: &Least, unit: Unit, tag: Tag, event: &Event) -> bool
-    ensures { result ≡ blocks table.now (least_of least.now) unit tag event.now }
-{
-    if tag.is_before(event.tag) {
-        return false;
-    }
-    let group = group_in(table, event.actor, event.port);
-    if event.actor == unit.actor && group == unit.group {
-        return false;
-    }
-    if group >= count_at(table, event.actor) {
-        return false;
-    }
-    let from = Unit {
-        actor: event.actor,
-        group,
-    };
-    reaches(least.get(from, unit), event.tag, tag)
-}
-
-/// Whether one of the events does.
-pub fn is_blocked(
-    table: &[Groups],
-    events: &VecDeque<Event>,
-    unit: Unit,
-    tag: Tag,
-    least: &Least,
-) -> bool
-    ensures { result ≡ list_any (blocks table.now (least_of least.now) unit tag) events.now.items }
-{
-    for place in 0..events.len() {
-        let event = events[place];
-        if blocks(table, least, unit, tag, &event) {
-            return true;
-        }
-    }
-    false
 }

@@ -1,6 +1,6 @@
 //! The events of one input, in rising order of tag.
 
-ghost use Rattle.std.specs.Prelude.{◌≡◌, [], ◌∷◌, ◌++◌, true, not, filter, if◌then◌else◌};
+ghost use Rattle.std.specs.Prelude.{◌≡◌, ◌==◌, [], ◌∷◌, ◌++◌, true, length, not, filter, if◌then◌else◌};
 ghost use Rattle.pt_tags.specs.Tags.{same_tag, Before};
 ghost use Rattle.pt_semantics.specs.Lists.{Each};
 ghost use Rattle.pt_queue.specs.Lines.{InOrder, first, value_on};
@@ -44,6 +44,12 @@ impl Line {
         ensures in_order { InOrder self.now }
     {
         self.events.front().copied()
+    }
+
+    pub fn is_empty(&self) -> bool
+        ensures { result ≡ (length self.now == 0) }
+    {
+        self.events.is_empty()
     }
 
     /// The value of the event at a tag.

@@ -1,10 +1,9 @@
-//! The lines of all inputs, and which of them have events.
+//! The lines of all inputs.
 
-ghost use Rattle.std.specs.Prelude.{◌≡◌, ◌<◌, [], not, filter, IfOk, length, replicate, slice_set, if◌then◌else◌};
+ghost use Rattle.std.specs.Prelude.{◌≡◌, ◌<◌, ◌==◌, [], not, filter, IfOk, length, replicate, slice_set, if◌then◌else◌};
 ghost use Rattle.pt_tags.specs.Tags.{same_tag};
-ghost use Rattle.pt_queue.specs.Lines.{InOrder, AreBusy, AreFlagged, first, joined_by, line_at, line_of, value_on};
+ghost use Rattle.pt_queue.specs.Lines.{InOrder, first, joined_by, line_at, line_of, value_on};
 
-use crate::busy::{eight_from, mark, unmark};
 use crate::line::Line;
 use pt_tags::Tag;
 use pt_types::Event;
@@ -15,20 +14,15 @@ use std::marker::Model;
 #[derive(Drop)]
 pub struct Lines {
     lines: Vec<Line>,
-    /// The numbers of the lines that have events, in rising order.
-    busy: Vec<usize>,
 }
 
 impl Model for Lines {
-    ghost use Rattle.std.specs.Prelude.{List, ◌≤◌, length, vec_capacity};
+    ghost use Rattle.std.specs.Prelude.{List};
     ghost use Rattle.pt_types.specs.declared.firing.Event.{Event};
-    ghost use Rattle.pt_queue.specs.Lines.{AreBusy};
 
     ghost Value = { List (List Event) };
 
     ghost view = { λ l. l.lines.items };
-
-    ghost invariant = { λ l. AreBusy l.lines.items l.busy.items × (length l.lines.items ≤ vec_capacity l.busy) };
 }
 
 impl Lines {
@@ -40,8 +34,7 @@ impl Lines {
         for _ in 0..count {
             lines.push(Line::new(alloc))?;
         }
-        let busy = Vec::with_capacity(alloc, count)?;
-        Ok(Lines { lines, busy })
+        Ok(Lines { lines })
     }
 
     /// The event with the least tag in a line.
@@ -55,6 +48,16 @@ impl Lines {
         }
     }
 
+    /// Whether a line has no events.
+    pub fn is_empty(&self, line: usize) -> bool
+        ensures { result ≡ (length (line_at self.now line) == 0) }
+    {
+        match self.lines.get(line) {
+            None => true,
+            Some(line) => line.is_empty(),
+        }
+    }
+
     /// The value of the event at a tag in a line.
     pub fn value(&self, line: usize, tag: Tag) -> Option<i64>
         ensures { result ≡ value_on (line_at self.now line) tag }
@@ -65,20 +68,6 @@ impl Lines {
         }
     }
 
-    /// The numbers of the lines that have events, in rising order.
-    pub fn busy(&self) -> &[usize]
-        ensures { AreBusy self.now result.now }
-    {
-        self.busy.as_slice()
-    }
-
-    /// Flags for the eight inputs of an actor: one without a flag has no event.
-    pub fn flags(&self, actor: u32) -> [bool; 8]
-        ensures { AreFlagged self.now actor result }
-    {
-        eight_from(self.busy.as_slice(), 8 * actor as usize)
-    }
-
     /// Puts an event at the end of its line, and says whether it did: its tag has to be the greatest there, and there has to
     /// be room for it. This takes no memory.
     pub fn push(&mut self, line: usize, event: Event) -> bool
@@ -86,11 +75,7 @@ impl Lines {
         requires there { line < length self.old }
         ensures { self.new ≡ (if result then joined_by self.old event else self.old) }
     {
-        let pushed = self.lines[line].push(event);
-        if pushed {
-            mark(&mut self.busy, line);
-        }
-        pushed
+        self.lines[line].push(event)
     }
 
     /// Makes room for one more event in a line, if there is memory for it.
@@ -118,8 +103,5 @@ impl Lines {
             return;
         }
         self.lines[line].take(tag);
-        if self.lines[line].first().is_none() {
-            unmark(&mut self.busy, line);
-        }
     }
 }

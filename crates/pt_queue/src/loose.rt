@@ -1,12 +1,10 @@
 //! The events that stand in no line yet.
 
-ghost use Rattle.std.specs.Prelude.{◌≡◌, ◌≤◌, ◌<◌, ◌++◌, List, length, if◌then◌else◌};
+ghost use Rattle.std.specs.Prelude.{◌≡◌, ◌≤◌, ◌<◌, List, length, if◌then◌else◌};
 ghost use Rattle.std.specs.VecDeque.{deque_len, deque_capacity};
-ghost use Rattle.pt_types.specs.declared.firing.Event.{Event as Waiting};
 ghost use Rattle.pt_semantics.specs.Lists.{Each};
 ghost use Rattle.pt_queue.specs.declared.groups.Groups.{Groups};
 ghost use Rattle.pt_queue.specs.Lines.{AreKept, first, joined_by, line_of, settled};
-ghost use Rattle.pt_queue.specs.Scans.{IsNextIn, nearer};
 
 use crate::lines::Lines;
 use crate::scan::line_number;
@@ -47,29 +45,4 @@ fn settle_one(lines: &mut Lines, event: Event) -> bool
     let line = line_number(event.actor, event.port);
     lines.grow(line);
     lines.push(line, event)
-}
-
-/// Of two actors from `from` on, the lesser.
-fn nearer(from: u32, best: Option<u32>, actor: u32) -> Option<u32>
-    ensures { result ≡ nearer from best actor }
-{
-    if actor < from {
-        return best;
-    }
-    match best {
-        None => Some(actor),
-        Some(least) => Some(least.min(actor)),
-    }
-}
-
-/// Of the actors from `from` on, the least one so far and of these events.
-pub fn next_in_all(events: &VecDeque<Event>, from: u32, so_far: Option<u32>) -> Option<u32>
-    ensures { (before : List Waiting) → IsNextIn from before so_far → IsNextIn from (before ++ events.now.items) result }
-{
-    let mut best = so_far;
-    for place in 0..events.len() {
-        let event = events[place];
-        best = nearer(from, best, event.actor);
-    }
-    best
 }

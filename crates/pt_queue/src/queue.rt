@@ -10,25 +10,22 @@ ghost use Rattle.pt_semantics.specs.Meaning.{added};
 ghost use Rattle.pt_semantics.specs.Units.{unit_inputs};
 ghost use Rattle.pt_delays.specs.Delays.{AreLeast, IsUnit, least_of};
 ghost use Rattle.pt_queue.specs.Groups.{AreGroups};
-ghost use Rattle.pt_queue.specs.Events.{waiting_in, value_in, IsPlaced, IsLeastTag, IsBlocked, IsClear, IsNextActive};
-ghost use Rattle.pt_queue.specs.Marks.{AreMarked};
+ghost use Rattle.pt_queue.specs.Events.{waiting_in, value_in, AreWaiting, IsPlaced, IsLeastTag, IsBlocked, IsClear, IsNextActive};
 
-use crate::events::remove;
+use crate::blocked::is_blocked;
+use crate::events::{remove, unit_of};
 use crate::groups::{Groups, all_groups};
 use crate::lines::Lines;
-use crate::loose::{next_in_all, settle};
-use crate::marks::{Mark, is_alone, mark_lines};
-use crate::scan::{line_number, next_in_lines, remove_from_lines};
-use crate::whole::{is_none, is_unit_blocked, least_of_unit, values_of};
+use crate::loose::settle;
+use crate::scan::{line_number, remove_from_lines};
+use crate::waiting::{Waiting, lower, next_actor, set, tag_of};
+use crate::whole::{least_of_unit, values_of};
 use pt_delays::Least;
 use pt_tags::{Memory, Tag};
 use pt_types::{Event, Graph, Ports, Unit};
 use std::alloc::Global;
 use std::collections::VecDeque;
 use std::marker::Model;
-
-/// More inputs than these that have events are many.
-const CROWD: usize = 16;
 
 /// The events that wait on a platform.
 ///
@@ -40,6 +37,8 @@ const CROWD: usize = 16;
 #[derive(Drop)]
 pub struct Queue {
     groups: Vec<Groups>,
+    /// The units that have events, with room for all units.
+    waiting: Vec<Waiting>,
     lines: Lines,
     loose: VecDeque<Event>,
     spare: usize,
@@ -49,16 +48,17 @@ pub struct Queue {
 }
 
 impl Model for Queue {
-    ghost use Rattle.std.specs.Prelude.{◌+◌, ◌≤◌};
+    ghost use Rattle.std.specs.Prelude.{◌+◌, ◌≤◌, vec_capacity};
     ghost use Rattle.std.specs.VecDeque.{deque_len, deque_capacity};
     ghost use Rattle.pt_queue.specs.Events.{Queued};
     ghost use Rattle.pt_queue.specs.Lines.{AreKept, all_of, settled};
+    ghost use Rattle.pt_queue.specs.Listed.{AreKnown};
 
     ghost Value = { Queued };
 
     ghost view = { λ q. record { groups = q.groups.items; events = all_of (settled q.lines q.loose.items); spare = q.spare } };
 
-    ghost invariant = { λ q. AreKept q.groups.items q.lines q.loose.items × (q.spare + deque_len q.loose ≤ deque_capacity q.loose) };
+    ghost invariant = { λ q. AreKept q.groups.items q.lines q.loose.items × (q.spare + deque_len q.loose ≤ deque_capacity q.loose) × AreKnown q.groups.items (all_of (settled q.lines q.loose.items)) q.waiting.items (vec_capacity q.waiting) };
 }
 
 impl Queue {
@@ -74,8 +74,12 @@ impl Queue {
         let Ok(lines) = Lines::new(alloc, 8 * groups.len()) else {
             return Err(Memory);
         };
+        let Ok(waiting) = Vec::with_capacity(alloc, 8 * groups.len()) else {
+            return Err(Memory);
+        };
         Ok(Queue {
             groups,
+            waiting,
             lines,
             loose: VecDeque::new(alloc),
             spare: 0,
@@ -117,6 +121,8 @@ impl Queue {
         ensures groups { self.new.groups ≡ self.old.groups }
     {
         self.spare -= 1;
+        let unit = unit_of(self.groups.as_slice(), &event);
+        lower(&mut self.waiting, unit, event.tag);
         let line = line_number(event.actor, event.port);
         if !self.lines.push(line, event) {
             self.short = line;
@@ -131,7 +137,14 @@ impl Queue {
     pub fn least(&self, unit: Unit) -> Option<Tag>
         ensures { (g : Graph) → AreGroups g self.now.groups → IsLeastTag g (waiting_in self.now.events) unit result }
     {
-        least_of_unit(self.groups.as_slice(), &self.lines, &self.loose, unit)
+        tag_of(self.waiting.as_slice(), unit)
+    }
+
+    /// The units that have events, in rising order of actor and group, each with its least tag.
+    pub fn waiting(&self) -> &[Waiting]
+        ensures { (g : Graph) → AreGroups g self.now.groups → AreWaiting g (waiting_in self.now.events) result.now }
+    {
+        self.waiting.as_slice()
     }
 
     /// Takes the events of a tag at a unit's inputs, and gives the values that they have.
@@ -142,10 +155,11 @@ impl Queue {
         ensures groups { self.new.groups ≡ self.old.groups }
     {
         let table = self.groups.as_slice();
-        let flags = self.lines.flags(unit.actor);
-        let inputs = values_of(table, &self.lines, &self.loose, unit, tag, &flags);
-        remove_from_lines(&mut self.lines, table, unit, tag, &flags);
+        let inputs = values_of(table, &self.lines, &self.loose, unit, tag);
+        remove_from_lines(&mut self.lines, table, unit, tag);
         remove(&mut self.loose, table, unit, tag);
+        let least = least_of_unit(table, &self.lines, &self.loose, unit);
+        set(&mut self.waiting, unit, least);
         inputs
     }
 
@@ -159,53 +173,20 @@ impl Queue {
         ensures clear { (g : Graph) → IsLawful g → AreGroups g self.now.groups → AreLeast g (least_of least.now) → IsUnit g unit
             → (result ≡ false) ↔ IsClear g (waiting_in self.now.events) unit tag }
     {
-        is_unit_blocked(
+        is_blocked(
             self.groups.as_slice(),
-            &self.lines,
-            &self.loose,
+            self.waiting.as_slice(),
             unit,
             tag,
             least,
         )
     }
 
-    /// Whether so many inputs have events that a search for blocked units is quicker with marks.
-    pub fn is_crowded(&self) -> bool {
-        self.lines.busy().len() > CROWD
-    }
-
-    /// Counts the unit of each event in at all units that come after it, and says whether those are known.
-    ///
-    /// A mark stands at its unit's number in `least`.
-    pub fn mark(&self, least: &Least, marks: &mut [Mark]) -> bool
-        ensures { result ≡ true → AreMarked least.now self.now.groups marks.new self.now.events }
-    {
-        if !self.loose.is_empty() {
-            return false;
-        }
-        mark_lines(marks, least, self.groups.as_slice(), &self.lines)
-    }
-
-    /// What `blocked` says, known at once where the marks say that no other unit's events lead to this one.
-    pub fn blocked_by(&self, unit: Unit, tag: Tag, least: &Least, marks: &[Mark]) -> bool
-        requires marks { AreMarked least.now self.now.groups marks.now self.now.events }
-        ensures blocked { (g : Graph) → IsLawful g → AreGroups g self.now.groups → AreLeast g (least_of least.now) → IsUnit g unit
-            → (result ≡ true) ↔ IsBlocked g (waiting_in self.now.events) unit tag }
-        ensures clear { (g : Graph) → IsLawful g → AreGroups g self.now.groups → AreLeast g (least_of least.now) → IsUnit g unit
-            → (result ≡ false) ↔ IsClear g (waiting_in self.now.events) unit tag }
-    {
-        if self.loose.is_empty() && is_alone(marks, least.number(unit), unit) {
-            return false;
-        }
-        self.blocked(unit, tag, least)
-    }
-
     /// Of the actors from `from` on, the least one that has an event; `None` exactly where there is none.
     pub fn next_active(&self, from: u32) -> Option<u32>
         ensures { IsNextActive (waiting_in self.now.events) from result }
     {
-        let best = next_in_lines(&self.lines, from);
-        next_in_all(&self.loose, from, best)
+        next_actor(self.waiting.as_slice(), from)
     }
 
     /// How many actors the graph has. Each event stands at one of them, at one of eight inputs.
@@ -220,6 +201,6 @@ impl Queue {
     pub fn is_empty(&self) -> bool
         ensures { (result ≡ true) ↔ ((a p : ℕ) (t : Tag) → waiting_in self.now.events a p t ≡ None) }
     {
-        is_none(&self.lines, &self.loose)
+        self.waiting.is_empty()
     }
 }

@@ -12,13 +12,7 @@ pub fn was_quiet(platform: &Platform) -> bool
     requires begun { 0 < length platform.now.turns }
     ensures { (before : List Turn) (turn : Turn) → platform.now.turns ≡ before ++ turn ∷ [] → result ≡ is_quiet turn }
 {
-    let history = platform.history();
-    let last = history.turns() - 1;
-    history.posted(last).is_empty()
-        && history.rows(last).is_empty()
-        && history.taken(last).is_empty()
-        && history.claimed(last).is_empty()
-        && history.sent(last).is_empty()
+    platform.history().was_quiet()
 }
 
 /// The first platform that has a fault.

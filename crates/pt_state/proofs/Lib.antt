@@ -1,1 +1,1 @@
-pub mod OpenClaims
+pub mod ClaimLists

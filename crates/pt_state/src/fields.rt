@@ -1,5 +1,6 @@
 //! What a platform keeps of its state.
 
+use crate::open_claims::OpenClaims;
 use pt_queue::Queue;
 use pt_tags::List;
 use pt_types::{OnLink, Row, Task, Unit};
@@ -25,8 +26,8 @@ pub struct Sensor {
 pub struct Fields {
     /// The events that wait.
     pub queue: Queue,
-    /// The open claims, at most one of each unit.
-    pub open_claims: Vec<OpenClaim>,
+    /// The claims whose results are not posted yet.
+    pub open_claims: OpenClaims,
     /// The number that each actor of the graph keeps.
     pub states: Vec<i64>,
     /// The platform's sensors, in the order of the graph.

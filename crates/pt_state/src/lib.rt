@@ -6,12 +6,14 @@
 //! Read first: `Fields`, then `specs/State.antt`.
 #![tactic(auto)]
 
-mod claims;
 mod fields;
+mod open_claims;
 mod same;
+mod states;
 #[cfg(test)]
 mod tests;
 
-pub use claims::{add_claim, close_claim, find_claim, set_state};
 pub use fields::{Fields, OpenClaim, Sensor};
+pub use open_claims::OpenClaims;
 pub use same::{same_task, same_unit};
+pub use states::set_state;

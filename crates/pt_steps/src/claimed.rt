@@ -38,12 +38,11 @@ pub fn claim_unless(
 ) -> Ending
     requires sound { IsSound plan.now.graph fields.old }
     requires claims { fields.old.claims ≤ 200000 }
-    requires room { vec_len fields.old.open_claims + most ≤ vec_capacity fields.old.open_claims }
+    requires room { most ≤ fields.old.open_claims.spare }
     requires tasks { vec_len tasks.old + most ≤ vec_capacity tasks.old }
     ensures claimed { HasClaimed plan.now.graph reading most fields.old fields.new tasks.old.items tasks.new.items late result }
     ensures sound { IsSound plan.now.graph fields.new }
     ensures others { OthersStay fields.old fields.new }
-    ensures capacity { vec_capacity fields.old.open_claims ≤ vec_capacity fields.new.open_claims }
     ensures tasks { vec_capacity tasks.old ≤ vec_capacity tasks.new }
 {
     if late {

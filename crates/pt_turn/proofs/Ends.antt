@@ -1,5 +1,5 @@
 -- The ends that were taken.
-use Rattle.std.proofs.Common.{◌≡◌, ℕ, ◌+◌, ◌<◌, ◌≤◌, Bool, true, false, List, [], ◌∷◌, Some, length, suc, get_or, refl, sym, ap, subst, ◌∙◌, arith, inl, inr, ⊎_elim, ◌⊎◌, eqb-true, eq-eqb}
+use Rattle.std.proofs.Common.{◌≡◌, pos, ℕ, ◌+◌, ◌<◌, ◌≤◌, Bool, true, false, List, [], ◌∷◌, Some, length, suc, get_or, refl, sym, ap, subst, ◌∙◌, arith, inl, inr, ⊎_elim, ◌⊎◌, eqb-true, eq-eqb}
 use Rattle.std.specs.List.{cons_option, list_any}
 use Rattle.std.specs.Prelude.{◌==◌, ◌&&◌, ◌||◌, option_map, slice_get}
 use Rattle.std.proofs.lemmas.Bool.{cases_Bool, false≢true, eqb-false}
@@ -16,9 +16,13 @@ use Rattle.pt_semantics.specs.Edges.{platform_of}
 use Rattle.pt_semantics.specs.Lists.{IsIn}
 use Rattle.pt_semantics.specs.Turn.{Turn}
 use Rattle.pt_semantics.proofs.Lookups.{same_some}
-use Rattle.pt_turn.specs.Finished.{HaveEnded, is_end, is_end_on, takes_end}
+use Rattle.pt_turn.specs.Finished.{HaveEnded, is_end, is_end_on}
 use Rattle.pt_turn.specs.Platforms.{messages_of}
 use Rattle.pt_turn.proofs.Leaving.{on_own}
+
+-- a message that stands for none
+abbrev pub no_message : OnLink
+no_message = record { link = 0; message = Event (record { time = 0; step = 0 }) (pos 0) }
 
 -- one message more
 in_one : (b : Bool) (message : Message) (rest : List Message) (more : Bool) → (more ≡ true → IsIn End rest) → (is_end message && b || more) ≡ true → IsIn End (cons_option (when b (Some message)) rest)
@@ -33,24 +37,13 @@ found_one true (Event t v) rest more ih h = ⊎_elim (λ (e : End ≡ Event t v)
 found_one false End rest more ih h = ih h
 found_one false (Event t v) rest more ih h = ih h
 
-end_is_in : (l : ℕ) (xs : List OnLink) → list_any (is_end_on l) xs ≡ true → IsIn End (on_link l xs)
+pub end_is_in : (l : ℕ) (xs : List OnLink) → list_any (is_end_on l) xs ≡ true → IsIn End (on_link l xs)
 end_is_in l [] h = absurd (false≢true h)
 end_is_in l (m ∷ xs) h = in_one (m.link == l) m.message (on_link l xs) (list_any (is_end_on l) xs) (end_is_in l xs) h
 
-end_is_found : (l : ℕ) (xs : List OnLink) → IsIn End (on_link l xs) → list_any (is_end_on l) xs ≡ true
+pub end_is_found : (l : ℕ) (xs : List OnLink) → IsIn End (on_link l xs) → list_any (is_end_on l) xs ≡ true
 end_is_found l [] h = absurd h
 end_is_found l (m ∷ xs) h = found_one (m.link == l) m.message (on_link l xs) (list_any (is_end_on l) xs) (end_is_found l xs) h
-
--- of all kept turns
-all_turns : (l : ℕ) (turns : List Turn) → list_any (is_end_on l) (messages_of turns) ≡ list_any (takes_end l) turns
-all_turns l [] = refl
-all_turns l (x ∷ turns) = list_any-append (is_end_on l) x.taken (messages_of turns) ∙ ap (λ b. list_any (is_end_on l) x.taken || b) (all_turns l turns)
-
-pub end_taken : (l : ℕ) (turns : List Turn) → list_any (takes_end l) turns ≡ true → IsIn End (on_link l (messages_of turns))
-end_taken l turns h = end_is_in l (messages_of turns) (all_turns l turns ∙ h)
-
-pub took_is : (l : ℕ) (turns : List Turn) → IsIn End (on_link l (messages_of turns)) → list_any (takes_end l) turns ≡ true
-took_is l turns h = sym (all_turns l turns) ∙ end_is_found l (messages_of turns) h
 
 -- End was taken on those of the first links that lead to platform i
 abbrev pub HaveEndedBelow : ℕ → Graph → ℕ → List Turn → Type 0
@@ -75,8 +68,8 @@ one_link_more n g i turns d below one k link lt at home =
 pub all_links : (n : ℕ) (g : Graph) (i : ℕ) (turns : List Turn) → length g.links ≤ n → HaveEndedBelow n g i turns → HaveEnded g i turns
 all_links n g i turns le below l link at home = let within : l < length g.links = slice_get_within g.links l link at in below l link (omega (arith, within, le)) at home
 
-pub not_ended : (n : ℕ) (g : Graph) (i : ℕ) (turns : List Turn) (d : Link) → n < length g.links → platform_of g (get_or g.links n d).to ≡ i → list_any (takes_end n) turns ≡ false → HaveEnded g i turns → ⊥
-not_ended n g i turns d lt home none all = false≢true (sym none ∙ took_is n turns (all n (get_or g.links n d) (slice_get-get_or g.links n d lt) home))
+pub not_ended : (n : ℕ) (g : Graph) (i : ℕ) (turns : List Turn) (d : Link) → n < length g.links → platform_of g (get_or g.links n d).to ≡ i → list_any (is_end_on n) (messages_of turns) ≡ false → HaveEnded g i turns → ⊥
+not_ended n g i turns d lt home none all = false≢true (sym none ∙ end_is_found n (messages_of turns) (all n (get_or g.links n d) (slice_get-get_or g.links n d lt) home))
 
 -- an outbox without messages on any link is empty
 pub no_messages : (xs : List OnLink) → ((l : ℕ) → on_link l xs ≡ []) → xs ≡ []
@@ -92,7 +85,3 @@ no_messages (m ∷ xs) h =
 pub no_members : (xs : List OnLink) → length xs ≡ 0 → xs ≡ []
 no_members [] e = refl
 no_members (m ∷ xs) e = absurd (omega (arith, e))
-
--- a turn took what the history tells of it
-pub turn_takes : (l n : ℕ) (turns : List Turn) (taken : List OnLink) (d : Turn) (b : Bool) → n < length turns → option_map (λ (turn : Turn). turn.taken) (slice_get turns n) ≡ Some taken → b ≡ list_any (is_end_on l) taken → takes_end l (get_or turns n d) ≡ b
-turn_takes l n turns taken d b lt at e = ap (list_any (is_end_on l)) (same_some (get_or turns n d).taken taken (sym (ap (option_map (λ (turn : Turn). turn.taken)) (slice_get-get_or turns n d lt)) ∙ at)) ∙ sym e

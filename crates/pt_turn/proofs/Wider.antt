@@ -32,7 +32,7 @@ wider p fields history lists room = record { plan = p.plan; number = p.number; b
 same_state : (old new : Fields) (taken : List OnLink) → AreWider old new → state_of new taken ≡ state_of old taken
 same_state old new taken w = λ i. record {
   waits = ap waiting_in w.events i;
-  busy = ap busy_in w.open_claims.items i;
+  busy = ap busy_in w.open_claims i;
   states = ap (λ v. states_in v.items) w.states i;
   left = ap (λ v. left_in v.items) w.sensors i;
   outbox = λ l. ap (on_link l) w.outbox.items i;
@@ -46,7 +46,7 @@ sound_still : (g : Graph) (old new : Fields) → AreWider old new → IsSound g 
 sound_still g old new w is = record {
   groups = subst (AreGroups g) (sym w.groups) is.groups;
   states = ap (λ v. length v.items) w.states ∙ is.states;
-  open_claims = subst (λ cs. Each (IsOpen g cs) cs) (sym w.open_claims.items) is.open_claims;
+  open_claims = subst (λ cs. Each (IsOpen g cs) cs) (sym w.open_claims) is.open_claims;
   at_units = λ a p t v h. is.at_units a p t v (subst (λ es. waiting_in es a p t ≡ Some v) w.events h);
 }
 
@@ -82,12 +82,12 @@ roomy_still p fields history lists o r f h l roomy =
     let g : Graph = graph_of p in
     let at : raised_to fields.reading r.reading ≡ raised_to p.fields.reading r.reading = ap (λ z. raised_to z r.reading) f.reading in
     let due : count_due g (raised_to fields.reading r.reading) fields ≡ count_due g (raised_to p.fields.reading r.reading) p.fields = ap (λ n. count_due g n fields) at ∙ due_still g (raised_to p.fields.reading r.reading) p.fields fields f in
-    let leaving : leaving_open g (busy_in fields.open_claims.items) g.wires ≡ leaving_open g (busy_in p.fields.open_claims.items) g.wires = ap (λ cs. leaving_open g (busy_in cs) g.wires) f.open_claims.items in
+    let leaving : leaving_open g (busy_in fields.open_claims.items) g.wires ≡ leaving_open g (busy_in p.fields.open_claims.items) g.wires = ap (λ cs. leaving_open g (busy_in cs) g.wires) f.open_claims in
     record {
       fields = record {
         events = omega (arith, leaving, due, roomy.fields.events, f.spare);
         outbox = omega (arith, f.outbox.len, f.outbox.capacity, roomy.fields.outbox);
-        open_claims = omega (arith, f.open_claims.len, f.open_claims.capacity, roomy.fields.open_claims);
+        open_claims = omega (arith, f.claims_spare, roomy.fields.open_claims);
         posted = omega (arith, l.posted.len, l.posted.capacity, roomy.fields.posted);
         rows = omega (arith, due, l.rows.len, l.rows.capacity, roomy.fields.rows);
         taken = omega (arith, l.taken.len, l.taken.capacity, roomy.fields.taken);

@@ -1,6 +1,5 @@
 -- Whether the ends of a platform's incoming links were taken.
 use Rattle.std.specs.Prelude.{◌≡◌, ◌==◌, ◌&&◌, ℕ, Bool, true, false, List, Some, slice_get}
-use Rattle.std.specs.List.{list_any}
 use Rattle.pt_tags.specs.declared.message.Message.{Message}
 use Rattle.pt_tags.specs.declared.message.Message.TheVariants.{Event, End}
 use Rattle.pt_types.specs.declared.graph.Graph.{Graph}
@@ -19,10 +18,6 @@ is_end (Event t v) = false
 
 abbrev pub is_end_on : ℕ → OnLink → Bool
 is_end_on l m = is_end m.message && m.link == l
-
--- whether a turn took it
-abbrev pub takes_end : ℕ → Turn → Bool
-takes_end l turn = list_any (is_end_on l) turn.taken
 
 -- End was taken on each link that leads to platform i
 abbrev pub HaveEnded : Graph → ℕ → List Turn → Type 0

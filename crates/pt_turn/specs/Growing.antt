@@ -20,7 +20,8 @@ pub record AreWider (old new : Fields) : Type 0 where
   pub events : new.queue.events ≡ old.queue.events
   pub groups : new.queue.groups ≡ old.queue.groups
   pub spare : old.queue.spare ≤ new.queue.spare
-  pub open_claims : IsWider old.open_claims new.open_claims
+  pub open_claims : new.open_claims.items ≡ old.open_claims.items
+  pub claims_spare : old.open_claims.spare ≤ new.open_claims.spare
   pub states : new.states ≡ old.states
   pub sensors : new.sensors ≡ old.sensors
   pub outbox : IsWider old.outbox new.outbox
@@ -47,7 +48,7 @@ pub record HistoryIsWider (old new : History) : Type 0 where
 pub record FieldsMeet (needs : Needs) (f : Fields) : Type 0 where
   pub events : needs.events ≤ f.queue.spare
   pub outbox : vec_len f.outbox + needs.messages ≤ vec_capacity f.outbox
-  pub open_claims : vec_len f.open_claims + needs.claimed ≤ vec_capacity f.open_claims
+  pub open_claims : needs.claimed ≤ f.open_claims.spare
 
 -- the lists of a turn,
 pub record ListsMeet (needs : Needs) (lists : Lists) : Type 0 where

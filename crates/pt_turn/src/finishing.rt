@@ -4,7 +4,7 @@ ghost use Rattle.std.specs.Prelude.{◌≡◌, ◌==◌, ◌||◌, ◌↔◌, no
 ghost use Rattle.std.specs.List.{list_any};
 ghost use Rattle.pt_semantics.specs.Edges.{platform_of};
 ghost use Rattle.pt_semantics.specs.Linked.{IsFinished};
-ghost use Rattle.pt_turn.specs.Finished.{HaveEnded, is_end_on, takes_end};
+ghost use Rattle.pt_turn.specs.Finished.{HaveEnded, is_end_on};
 ghost use Rattle.pt_turn.specs.Platforms.{state_at};
 
 use crate::platform::Platform;
@@ -22,19 +22,12 @@ fn is_end_on(message: &OnLink, link: usize) -> bool
     }
 }
 
-/// Whether the end of a link is among these messages.
+/// Whether the end of a link is among these messages. It is looked for from the last one on: ends come last.
 fn has_end(messages: &[OnLink], link: usize) -> bool
     ensures { result ≡ list_any (is_end_on link) messages.now }
 {
-    messages.iter().any(|message| is_end_on(message, link))
-}
-
-/// Whether the end of a link was taken in one of the kept turns.
-fn took_end(history: &History, link: usize) -> bool
-    ensures { result ≡ list_any (takes_end link) history.now.turns }
-{
-    for turn in 0..history.turns() {
-        if has_end(history.taken(turn), link) {
+    for place in (0..messages.len()).rev() {
+        if is_end_on(&messages[place], link) {
             return true;
         }
     }
@@ -56,11 +49,12 @@ fn have_ended(graph: &Graph, number: u32, history: &History) -> bool
     ensures { (result ≡ true) ↔ HaveEnded graph.now number history.now.turns }
 {
     let links = graph.links.as_slice();
+    let taken = history.all_taken();
     for l in 0..links.len() {
         if platform(graph, links[l].to) != number {
             continue;
         }
-        if !took_end(history, l) {
+        if !has_end(taken, l) {
             return false;
         }
     }

@@ -17,6 +17,13 @@ fn place_of(outbox: &[OnLink], link: u32) -> Option<usize>
 }
 
 impl Platform {
+    /// Whether no message is left in any outbox.
+    pub fn sent_all(&self) -> bool
+        ensures { result ≡ (length self.now.outbox == 0) }
+    {
+        self.fields.outbox.is_empty()
+    }
+
     /// The first message of a link's outbox; `None` exactly where the outbox is empty.
     pub fn outgoing(&self, link: u32) -> Option<Message>
         ensures { result ≡ slice_get (on_link link self.now.outbox) 0 }

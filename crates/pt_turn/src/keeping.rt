@@ -1,14 +1,12 @@
 //! What a turn did is kept.
 
-ghost use Rattle.std.specs.Prelude.{◌≡◌, ◌+◌, ◌<◌, ◌≤◌, ◌++◌, length};
+ghost use Rattle.std.specs.Prelude.{◌≡◌, ◌<◌, ◌≤◌, length};
 ghost use Rattle.pt_semantics.specs.Kept.{kept_with};
 ghost use Rattle.pt_steps.specs.Steps.{AreEmpty, turn_of};
 ghost use Rattle.pt_turn.specs.Platforms.{raised_to};
 
-use pt_actors::Tasks;
 use pt_history::History;
 use pt_steps::Lists;
-use pt_types::Task;
 
 /// A reading handed in, raised to the last one, in microseconds.
 pub fn raised_to(last: Option<u64>, reading: u64) -> u64
@@ -40,15 +38,4 @@ pub fn keep(history: &mut History, reading: u64, lists: &mut Lists)
     lists.rows.clear();
     lists.taken.clear();
     lists.claimed.clear();
-}
-
-/// Appends tasks to those that are handed out. No memory is taken.
-pub fn hand_out(claimed: &[Task], tasks: &mut Tasks)
-    requires { length claimed.now ≤ tasks.old.spare }
-    ensures tasks { tasks.new.tasks ≡ tasks.old.tasks ++ claimed.now }
-    ensures spare { tasks.old.spare ≤ tasks.new.spare + length claimed.now }
-{
-    for task in claimed {
-        tasks.push(*task);
-    }
 }

@@ -3,6 +3,7 @@
 //! Read first: `Platform`, then `specs/Platforms.antt` and `specs/Turned.antt`.
 #![tactic(auto)]
 
+mod ahead;
 mod counting;
 mod fault;
 mod finding;

@@ -11,7 +11,7 @@ ghost use Rattle.pt_turn.specs.Platforms.{messages_of};
 
 use crate::fault::TurnFault;
 use crate::finding::fault_of;
-use crate::keeping::{hand_out, keep};
+use crate::keeping::keep;
 use pt_actors::{Done, Tasks};
 use pt_history::History;
 use pt_offsets::Plan;
@@ -56,7 +56,7 @@ pub fn make(
         fields, plan, number, closing, reading, dones, messages, most, lists, branches,
     );
     let fault = fault_of(plan, ending, last, lists.taken.as_slice());
-    hand_out(lists.claimed.as_slice(), tasks);
+    tasks.extend(lists.claimed.as_slice());
     keep(history, reading, lists);
     fault
 }

@@ -3,6 +3,7 @@
 ghost use Rattle.std.specs.Prelude.{◌+◌, ◌≤◌, OnOk, vec_len, vec_capacity};
 ghost use Rattle.pt_turn.specs.Growing.{AreWider, FieldsMeet, HistoryIsWider, HistoryMeets, IsWider, ListsAreWider, ListsMeet};
 
+use crate::ahead::keep_room;
 use pt_history::{History, Room};
 use pt_state::Fields;
 use pt_steps::Lists;
@@ -37,14 +38,7 @@ pub fn make_room(
 {
     widen_fields(fields, needs)?;
     widen_lists(lists, needs)?;
-    history.reserve(Room {
-        turns: 1,
-        posted: needs.posted,
-        rows: needs.rows,
-        taken: needs.taken,
-        claimed: needs.claimed,
-        sent: needs.sent,
-    })
+    widen_history(history, needs)
 }
 
 /// Takes the memory that the queue, the open claims and the outbox need.
@@ -53,7 +47,7 @@ fn widen_fields(fields: &mut Fields, needs: Needs) -> Result<(), Memory>
     ensures met { OnOk result (FieldsMeet needs fields.new) }
 {
     fields.queue.reserve(needs.events)?;
-    widen(&mut fields.open_claims, needs.claimed)?;
+    fields.open_claims.reserve(needs.claimed)?;
     widen(&mut fields.outbox, needs.messages)
 }
 
@@ -66,6 +60,24 @@ fn widen_lists(lists: &mut Lists, needs: Needs) -> Result<(), Memory>
     widen(&mut lists.rows, needs.rows)?;
     widen(&mut lists.taken, needs.taken)?;
     widen(&mut lists.claimed, needs.claimed)
+}
+
+/// Takes the memory that the history needs.
+fn widen_history(history: &mut History, needs: Needs) -> Result<(), Memory>
+    ensures history { HistoryIsWider history.old history.new }
+    ensures met { OnOk result (HistoryMeets needs history.new.room) }
+{
+    keep_room(
+        history,
+        Room {
+            turns: 1,
+            posted: needs.posted,
+            rows: needs.rows,
+            taken: needs.taken,
+            claimed: needs.claimed,
+            sent: needs.sent,
+        },
+    )
 }
 
 /// Takes memory for so many more members.

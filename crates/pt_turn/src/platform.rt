@@ -98,7 +98,7 @@ impl Platform {
     pub fn open_claim(&self, number: usize) -> Option<&Task>
         ensures { option_map (λ task. task.now) result ≡ option_map (λ claim. claim.task) (slice_get self.now.open_claims number) }
     {
-        match self.fields.open_claims.as_slice().get(number) {
+        match self.fields.open_claims.get(number) {
             None => None,
             Some(claim) => Some(&claim.task),
         }

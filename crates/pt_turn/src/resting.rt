@@ -5,6 +5,7 @@ ghost use Rattle.pt_semantics.specs.Paced.{IsNextReading};
 ghost use Rattle.pt_turn.specs.Platforms.{state_at};
 ghost use Rattle.pt_turn.specs.Rested.{HasRested};
 
+use crate::ahead::keep_room;
 use crate::keeping::raised_to;
 use crate::platform::Platform;
 use pt_history::Room;
@@ -52,7 +53,7 @@ impl Platform {
         if next <= reading {
             return Ok(false);
         }
-        self.history.reserve(ONE_TURN)?;
+        keep_room(&mut self.history, ONE_TURN)?;
         self.history.begin(reading);
         self.fields.reading = Some(reading);
         self.room = None;

@@ -1,4 +1,6 @@
 pub mod Ports
+pub mod Apart
+pub mod Together
 pub mod Names
 pub mod Kinds
 pub mod Groups

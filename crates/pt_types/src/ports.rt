@@ -1,14 +1,20 @@
 //! The values at the eight ports of one side of an actor.
 
-ghost use Rattle.std.specs.Prelude.{◌≡◌, ◌<◌, slice_set};
+ghost use Rattle.std.specs.Prelude.{◌≡◌, ◌<◌, is_some, slice_set};
+ghost use Rattle.pt_types.specs.Apart.{or_zero};
 ghost use Rattle.pt_types.specs.Ports.{eight, nothing, at_port, only};
 
 use std::marker::Model;
 
 /// A value or none at each of eight ports, which contracts see as the list of the eight.
+///
+/// The values stand apart from which of them are there: as eight `Option<i64>` they would take 128 bytes in place of 72.
 #[derive(Clone, Copy, Debug, PartialEq, Eq)]
 pub struct Ports {
-    values: [Option<i64>; 8],
+    /// At which ports there is a value.
+    there: [bool; 8],
+    /// The values; 0 where there is none.
+    values: [i64; 8],
 }
 
 impl Model for Ports {
@@ -16,9 +22,16 @@ impl Model for Ports {
 
     ghost Value = { List (Option ℤ) };
 
-    ghost view = { λ p. p.values };
+    ghost use Rattle.pt_types.specs.Apart.{AreApart, are_there, together, values_or_zero};
+    ghost use Rattle.pt_types.specs.Together.{same_there, same_values};
 
-    ghost inverse = { λ values. record { values = values } };
+    ghost view = { λ p. together p.there p.values };
+
+    ghost invariant = { λ p. AreApart p.there p.values };
+
+    ghost inverse = { λ ports. record { there = are_there ports; values = values_or_zero ports } };
+
+    ghost inverse_ok = { λ p h i. record { there = same_there p.there p.values h i; values = same_values p.there p.values h i } };
 }
 
 impl Ports {
@@ -26,29 +39,62 @@ impl Ports {
     pub fn new() -> Ports
         ensures { result ≡ eight nothing }
     {
-        Ports { values: [None; 8] }
+        Ports {
+            there: [false; 8],
+            values: [0; 8],
+        }
     }
 
     /// These values at the eight ports.
     pub fn from_values(values: [Option<i64>; 8]) -> Ports
         ensures { result ≡ values }
     {
-        Ports { values }
+        Ports {
+            there: [
+                is_there(values[0]),
+                is_there(values[1]),
+                is_there(values[2]),
+                is_there(values[3]),
+                is_there(values[4]),
+                is_there(values[5]),
+                is_there(values[6]),
+                is_there(values[7]),
+            ],
+            values: [
+                or_zero(values[0]),
+                or_zero(values[1]),
+                or_zero(values[2]),
+                or_zero(values[3]),
+                or_zero(values[4]),
+                or_zero(values[5]),
+                or_zero(values[6]),
+                or_zero(values[7]),
+            ],
+        }
     }
 
     /// The value at a port; none where there is no such port.
     pub fn get(&self, port: u32) -> Option<i64>
         ensures { result ≡ at_port self.now port }
     {
-        self.values.get(port as usize).copied().unwrap_or(None)
+        let port = port as usize;
+        if port < 8 && self.there[port] {
+            Some(self.values[port])
+        } else {
+            None
+        }
     }
 
     /// This value at port 0, and none at the others.
     pub fn first(value: Option<i64>) -> Ports
         ensures { result ≡ eight (only 0 value) }
     {
-        Ports {
-            values: [value, None, None, None, None, None, None, None],
+        match value {
+            None => Ports::new(),
+            Some(value) => Ports {
+                there: [true, false, false, false, false, false, false, false],
+                values: [value, 0, 0, 0, 0, 0, 0, 0],
+            },
         }
     }
 
@@ -56,18 +102,11 @@ impl Ports {
     pub fn only(port: u32, value: i64) -> Ports
         ensures { result ≡ eight (only port (Some value)) }
     {
-        Ports {
-            values: [
-                only_at(0, port, value),
-                only_at(1, port, value),
-                only_at(2, port, value),
-                only_at(3, port, value),
-                only_at(4, port, value),
-                only_at(5, port, value),
-                only_at(6, port, value),
-                only_at(7, port, value),
-            ],
+        let mut ports = Ports::new();
+        if port < 8 {
+            ports.put(port, value);
         }
+        ports
     }
 
     /// A value at this port, in place of what was there.
@@ -75,20 +114,38 @@ impl Ports {
         requires { port < 8 }
         ensures { self.new ≡ slice_set self.old port (Some value) }
     {
-        self.values[port as usize] = Some(value);
+        self.there[port as usize] = true;
+        self.values[port as usize] = value;
     }
 
     /// The values at the eight ports.
     pub fn values(&self) -> [Option<i64>; 8]
         ensures { result ≡ self.now }
     {
-        self.values
+        let _ = &self.there;
+        [
+            self.get(0),
+            self.get(1),
+            self.get(2),
+            self.get(3),
+            self.get(4),
+            self.get(5),
+            self.get(6),
+            self.get(7),
+        ]
     }
 }
 
-/// The value where the place is the port.
-fn only_at(place: u32, port: u32, value: i64) -> Option<i64>
-    ensures { result ≡ only port (Some value) place }
+/// Whether there is a value.
+fn is_there(value: Option<i64>) -> bool
+    ensures { result ≡ is_some value }
 {
-    if place == port { Some(value) } else { None }
+    value.is_some()
+}
+
+/// A value, or 0 where there is none.
+fn or_zero(value: Option<i64>) -> i64
+    ensures { result ≡ or_zero value }
+{
+    value.unwrap_or(0)
 }

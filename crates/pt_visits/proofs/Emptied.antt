@@ -1,5 +1,5 @@
 -- Messages are taken from the pipes, link by link.
-use Rattle.std.proofs.Common.{◌≡◌, ℕ, ◌+◌, ◌<◌, List, [], ◌∷◌, ◌++◌, Some, length, get_or, map, take, drop, set, sym, ap, ap₂, ◌∙◌, append_assoc, add-one, arith, eq-eqb}
+use Rattle.std.proofs.Common.{◌≡◌, ℕ, ◌+◌, ◌<◌, Bool, true, false, refl, List, [], ◌∷◌, ◌++◌, Some, length, get_or, map, take, drop, set, sym, ap, ap₂, ◌∙◌, append_assoc, add-one, arith, eq-eqb}
 use Rattle.std.specs.Prelude.{slice_get, if◌then◌else◌, ◌==◌}
 use Rattle.std.proofs.lemmas.Bool.{cond-true, cond-false, ne_eqb}
 use Rattle.std.proofs.lemmas.List.{drop_more, drop-set-lt, take_more_set, take_more}
@@ -46,3 +46,26 @@ module _ (g : Graph) (i n : ℕ) (before now : List OnLink) (pipes : List (List 
       ∙ ap (λ (z : List (List Message)). take n pipes ++ z) (emptied_at g i n pipes d lt ∙ ap (λ (z : List Message). z ∷ emptied g i (n + 1) (drop (n + 1) pipes)) (cond-false (leads_to g i (slice_get g.links n)) [] (get_or pipes n d) (leads g i n link at ∙ ne_eqb (platform_of g link.to) i away)))
       ∙ sym (append_assoc (take n pipes) (get_or pipes n d ∷ []) (emptied g i (n + 1) (drop (n + 1) pipes)))
       ∙ ap (λ (z : List (List Message)). z ++ emptied g i (n + 1) (drop (n + 1) pipes)) (sym (take_more pipes n d lt))
+
+-- a link on which nothing waits, wherever it leads
+no_more : (n : ℕ) (b : Bool) → (if b then map (put_on n) [] else []) ≡ []
+no_more n true = refl
+no_more n false = refl
+
+still_none : (b : Bool) → ◌≡◌ {A = List Message} (if b then [] else []) []
+still_none true = refl
+still_none false = refl
+
+pub taken_none : (g : Graph) (i n : ℕ) (before all : List OnLink) (pipes : List (List Message)) (d : List Message) → n < length pipes → get_or pipes n d ≡ [] → all ≡ before ++ arriving g i n (drop n pipes) → all ≡ before ++ arriving g i (n + 1) (drop (n + 1) pipes)
+taken_none g i n before all pipes d lt none is =
+    is
+    ∙ ap (λ (z : List OnLink). before ++ z) (arriving_at g i n pipes d lt
+    ∙ ap (λ (z : List OnLink). z ++ arriving g i (n + 1) (drop (n + 1) pipes)) (ap (λ (ms : List Message). if leads_to g i (slice_get g.links n) then map (put_on n) ms else []) none ∙ no_more n (leads_to g i (slice_get g.links n))))
+
+pub emptied_none : (g : Graph) (i n : ℕ) (all : List (List Message)) (pipes : List (List Message)) (d : List Message) → n < length pipes → get_or pipes n d ≡ [] → all ≡ take n pipes ++ emptied g i n (drop n pipes) → all ≡ take (n + 1) pipes ++ emptied g i (n + 1) (drop (n + 1) pipes)
+emptied_none g i n all pipes d lt none is =
+    is
+    ∙ ap (λ (z : List (List Message)). take n pipes ++ z) (emptied_at g i n pipes d lt
+    ∙ ap (λ (z : List Message). z ∷ emptied g i (n + 1) (drop (n + 1) pipes)) (ap (λ (ms : List Message). if leads_to g i (slice_get g.links n) then [] else ms) none ∙ still_none (leads_to g i (slice_get g.links n)) ∙ sym none))
+    ∙ sym (append_assoc (take n pipes) (get_or pipes n d ∷ []) (emptied g i (n + 1) (drop (n + 1) pipes)))
+    ∙ ap (λ (z : List (List Message)). z ++ emptied g i (n + 1) (drop (n + 1) pipes)) (sym (take_more pipes n d lt))

@@ -258,3 +258,21 @@ pub begun_to : (n : ℕ) (old now : PlatformView) (pipes piped : List (List Mess
 begun_to n old now pipes piped h some =
     let same : length now.turns ≡ length old.turns = ap length h.gone.turns ∙ length-on_last (sending h.sent) old.turns in
     omega (arith, same, some)
+
+-- nothing is pushed where nothing waits
+pub nothing_pushed : (v : PlatformView) (pipes : List (List Message)) → v.outbox ≡ [] → ArePushed v v pipes pipes
+nothing_pushed v pipes none = record {
+  sent = [];
+  gone = sent_none v;
+  pushed = record {
+    count = refl;
+    pipes = λ l pipe at. at ∙ ap Some (sym (append-nil pipe));
+    first = λ l pipe at. sym (ap (λ (ms : List OnLink). take (64 - length pipe) (on_link l ms)) none ∙ none_of (64 - length pipe));
+    nowhere_else = λ l at. refl;
+    by_link = tt;
+  };
+}
+  where
+    none_of : (n : ℕ) → ◌≡◌ {A = List Message} (take n []) []
+    none_of zero = refl
+    none_of (suc n) = refl

@@ -30,6 +30,9 @@ pub fn push_all(platform: &mut Platform, pipes: &mut [Pipe])
     requires few { length pipes.old ≤ 64 }
     ensures { ArePushed platform.old platform.new pipes.old pipes.new }
 {
+    if platform.sent_all() {
+        return;
+    }
     for l in 0..pipes.len() {
         push_from(platform, l as u32, &mut pipes[l]);
     }

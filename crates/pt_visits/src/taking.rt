@@ -46,6 +46,9 @@ pub fn take_all(
 {
     let links = graph.links.as_slice();
     for l in 0..links.len() {
+        if pipes[l].peek().is_none() {
+            continue;
+        }
         if platform(graph, links[l].to) == number {
             take_from(&mut pipes[l], l as u32, taken)?;
         }

@@ -26,7 +26,7 @@ returns-clause-task c =
 
 pub returns-clause-after : goal.returns-clause-after
 returns-clause-after c = λ taken.
-    let busy = c.add_claim.ensures.busy ∙ ap (λ (o : OpenClaim). put_busy (busy_in c.args.fields.now.open_claims.items) o.unit (Some o.task)) c.open_claim.ensures in
+    let busy = c.add.ensures.busy ∙ ap (λ (o : OpenClaim). put_busy (busy_in c.args.fields.now.open_claims.items) o.unit (Some o.task)) c.open_claim.ensures in
     let waits = c.take.ensures.waits c.args.graph.now c.requires.sound.groups in
     λ i. record {
       waits = waits i;
@@ -49,7 +49,7 @@ returns-clause-sound c =
     record {
       groups = subst (AreGroups g) (sym c.take.ensures.groups) c.requires.sound.groups;
       states = c.requires.sound.states;
-      open_claims = c.add_claim.ensures.open_claims g c.requires.sound.open_claims
+      open_claims = c.add.ensures.open_claims g c.requires.sound.open_claims
           (subst (λ (o : OpenClaim). o.unit ≡ unit_of g o.task) (sym c.open_claim.ensures) (sym unit))
           (subst (λ (o : OpenClaim). IsUnit g o.unit) (sym c.open_claim.ensures) c.requires.unit);
       at_units = λ a p t v there. c.requires.sound.at_units a p t v (without_found g old c.args.next.unit c.args.next.tag a p t v (sym (ap (λ f. f a p t) waits) ∙ there)).0;

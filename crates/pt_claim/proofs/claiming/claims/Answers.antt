@@ -29,7 +29,6 @@ loop-preserved c =
     record {
       sound = c.claim-task.ensures.sound;
       opens = omega (arith, c.claim-task.ensures.open_claims, c.loop.invariant.opens);
-      opens_room = omega (arith, c.claim-task.ensures.capacity, c.loop.invariant.opens_room);
       tasks = omega (arith, c.push.ensures.upper_bound, c.loop.invariant.tasks);
       tasks_room = omega (arith, c.push.ensures.capacity, c.loop.invariant.tasks_room);
       bound = omega (arith, c.claim-task.ensures.claims, c.if-fields-ge-MOST_CLAIMS.false);

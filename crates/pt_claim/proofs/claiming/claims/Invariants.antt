@@ -9,8 +9,7 @@ use Rattle.pt_claim.proofs.claiming.claims.Given as goal
 abbrev pub invariant-loop : goal.invariant-loop
 invariant-loop l = record {
   sound : IsSound l.graph l.fields;
-  opens : vec_len l.fields.open_claims ≡ vec_len l.fn.fields.open_claims + l.counter;
-  opens_room : vec_capacity l.fn.fields.open_claims ≤ vec_capacity l.fields.open_claims;
+  opens : l.fields.open_claims.spare + l.counter ≡ l.fn.fields.open_claims.spare;
   tasks : vec_len l.tasks ≤ vec_len l.fn.tasks + l.counter;
   tasks_room : vec_capacity l.fn.tasks ≤ vec_capacity l.tasks;
   bound : l.fields.claims ≤ 200000;

@@ -1,14 +1,12 @@
-use Rattle.std.proofs.Common.{◌≡◌, true, false, ap, sym, ◌∙◌, refl}
+use Rattle.std.proofs.Common.{sym, ◌∙◌, refl}
 use Rattle.std.proofs.lemmas.Bool.{false≢true}
-use Rattle.pt_semantics.specs.Closing.{CanClose}
-use Rattle.pt_state.specs.State.{state_of}
 use Rattle.pt_close.proofs.Ending.{closing_bounds, empty_opens, empty_box}
 use Rattle.pt_close.proofs.closing.can_close.Goals as goal
 
 pub returns-then-not-is_empty-2 : goal.returns-then-not-is_empty-2
 returns-then-not-is_empty-2 c = λ g i taken closing. (
   λ e. absurd (false≢true e),
-  λ can. absurd (false≢true (sym c.if-not-is_empty-2.true ∙ (empty_opens c.args.fields.now.open_claims.items _ c.is_empty-2.result c.args.fields.now.open_claims.ok.0 c.is_empty-2.ensures).1 can.nothing_open)),
+  λ can. absurd (false≢true (sym c.if-not-is_empty-2.true ∙ (empty_opens c.args.fields.now.open_claims.items _ c.is_empty-2.result refl c.is_empty-2.ensures).1 can.nothing_open)),
 )
 
 pub returns : goal.returns
@@ -17,7 +15,7 @@ returns c = λ g i taken closing. (
     was_open = c.if-fields.false;
     bounds = closing_bounds g i c.args.closing c.args.reading closing c.if-reading-closing.false;
     nothing_waits = c.is_empty.ensures.0 c.if-not-is_empty.false;
-    nothing_open = (empty_opens c.args.fields.now.open_claims.items _ c.is_empty-2.result c.args.fields.now.open_claims.ok.0 c.is_empty-2.ensures).0 c.if-not-is_empty-2.false;
+    nothing_open = (empty_opens c.args.fields.now.open_claims.items _ c.is_empty-2.result refl c.is_empty-2.ensures).0 c.if-not-is_empty-2.false;
     nothing_to_send = (empty_box c.args.fields.now.outbox.items _ c.is_empty-3.result c.args.fields.now.outbox.ok.0 c.is_empty-3.ensures).0 e;
   },
   λ can. (empty_box c.args.fields.now.outbox.items _ c.is_empty-3.result c.args.fields.now.outbox.ok.0 c.is_empty-3.ensures).1 can.nothing_to_send,

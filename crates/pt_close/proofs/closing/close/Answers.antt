@@ -1,8 +1,8 @@
-use Rattle.std.proofs.Common.{◌≡◌, true, false, ap, sym, ◌∙◌, refl, inl, inr}
+use Rattle.std.proofs.Common.{true, sym, ◌∙◌, refl, inl, inr}
 use Rattle.std.proofs.lemmas.Bool.{false≢true}
-use Rattle.pt_semantics.specs.Closing.{CanClose, on_link}
+use Rattle.pt_semantics.specs.Closing.{on_link}
 use Rattle.pt_queue.specs.Events.{waiting_in}
-use Rattle.pt_state.specs.State.{state_of, busy_in, states_in, left_in}
+use Rattle.pt_state.specs.State.{busy_in, states_in, left_in}
 use Rattle.pt_close.proofs.closing.close.Goals as goal
 
 pub returns-then-not-can_close-clause-closes : goal.returns-then-not-can_close-clause-closes

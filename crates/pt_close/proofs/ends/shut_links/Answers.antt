@@ -1,4 +1,4 @@
-use Rattle.std.proofs.Common.{List, ◌≡◌, ◌++◌, ◌<◌, ℕ, length, get_or, slice_get, take, ap, ap₂, sym, subst, ◌∙◌, arith, append_assoc, add-one}
+use Rattle.std.proofs.Common.{List, ◌++◌, ◌<◌, length, get_or, slice_get, take, ap, ap₂, sym, subst, ◌∙◌, arith, append_assoc, add-one}
 use Rattle.pt_types.specs.declared.graph.Link.{Link}
 use Rattle.pt_semantics.specs.Edges.{platform_of}
 use Rattle.pt_semantics.specs.Closing.{on_link, end_for}

@@ -21,8 +21,7 @@ loop-done-preserved c =
     let events : c.args.fields.now.queue.spare + leaving_open c.args.graph.now (busy_in c.post.new.fields.open_claims.items) c.args.graph.now.wires ≤ c.post.new.fields.queue.spare + leaving_open c.args.graph.now (busy_in c.args.fields.now.open_claims.items) c.args.graph.now.wires = omega (arith, c.post.ensures.events, c.loop-done.invariant.events) in
     let messages : vec_len c.post.new.fields.outbox ≤ vec_len c.args.fields.now.outbox + (c.loop-done.done-index + 1) * length c.args.graph.now.links = omega (arith, c.post.ensures.messages.1, c.loop-done.invariant.messages) in
     let room : vec_capacity c.args.fields.now.outbox ≤ vec_capacity c.post.new.fields.outbox = omega (arith, c.post.ensures.messages.0, c.loop-done.invariant.messages_room) in
-    let claims : vec_capacity c.post.new.fields.open_claims ≡ vec_capacity c.args.fields.now.open_claims = c.post.ensures.open_claims.0 ∙ c.loop-done.invariant.open_claims in
-    let len : vec_len c.post.new.fields.open_claims ≤ vec_len c.args.fields.now.open_claims = omega (arith, c.post.ensures.open_claims.1, c.loop-done.invariant.open_len) in
+    let claims : c.post.new.fields.open_claims.spare ≡ c.args.fields.now.open_claims.spare = c.post.ensures.open_claims ∙ c.loop-done.invariant.open_claims in
     let frame : (c.post.new.fields.sensors ≡ c.args.fields.now.sensors) × (c.post.new.fields.reading ≡ c.args.fields.now.reading) × (c.post.new.fields.closed ≡ c.args.fields.now.closed) × (c.post.new.fields.claims ≡ c.args.fields.now.claims) = (c.post.ensures.frame.0 ∙ c.loop-done.invariant.frame.0, c.post.ensures.frame.1 ∙ c.loop-done.invariant.frame.1, c.post.ensures.frame.2 ∙ c.loop-done.invariant.frame.2, c.post.ensures.frame.3 ∙ c.loop-done.invariant.frame.3) in
     let groups = c.post.ensures.groups ∙ c.loop-done.invariant.groups in
     elim c.if-post.branch [
@@ -40,7 +39,6 @@ loop-done-preserved c =
             messages = messages;
             messages_room = room;
             open_claims = claims;
-            open_len = len;
             frame = frame;
             groups = groups;
           }
@@ -55,7 +53,6 @@ loop-done-preserved c =
         messages = messages;
         messages_room = room;
         open_claims = claims;
-        open_len = len;
         frame = frame;
         groups = groups;
       }

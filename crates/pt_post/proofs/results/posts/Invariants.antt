@@ -13,8 +13,7 @@ invariant-loop-done l = record {
   events : l.fn.fields.queue.spare + leaving_open l.graph (busy_in l.fields.open_claims.items) l.graph.wires ≤ l.fields.queue.spare + leaving_open l.graph (busy_in l.fn.fields.open_claims.items) l.graph.wires;
   messages : vec_len l.fields.outbox ≤ vec_len l.fn.fields.outbox + l.done-index * length l.graph.links;
   messages_room : vec_capacity l.fn.fields.outbox ≤ vec_capacity l.fields.outbox;
-  open_claims : vec_capacity l.fields.open_claims ≡ vec_capacity l.fn.fields.open_claims;
-  open_len : vec_len l.fields.open_claims ≤ vec_len l.fn.fields.open_claims;
+  open_claims : l.fields.open_claims.spare ≡ l.fn.fields.open_claims.spare;
   frame : (l.fields.sensors ≡ l.fn.fields.sensors) × (l.fields.reading ≡ l.fn.fields.reading) × (l.fields.closed ≡ l.fn.fields.closed) × (l.fields.claims ≡ l.fn.fields.claims);
   groups : l.fields.queue.groups ≡ l.fn.fields.queue.groups;
 }

@@ -10,7 +10,7 @@ use Rattle.pt_queue.proofs.scan.remove_from_line.Goals as goal
 pub returns-then-group_in-unit : goal.returns-then-group_in-unit
 returns-then-group_in-unit c =
     c.take.ensures
-    ∙ ap (λ n. slice_set c.args.lines.now n (filter (λ (e : Event). not (same_tag c.args.tag e.tag)) (line_at c.args.lines.now n))) c.line_number.ensures
+    ∙ ap (λ n. slice_set c.args.lines.now n (filter (λ (e : Event). not (same_tag c.args.tag e.tag)) (line_at c.args.lines.now n))) c.line_number-line.ensures
     ∙ ap (slice_set c.args.lines.now (8 * c.args.unit.actor + c.args.port))
     (unit_line c.args.table.now c.args.unit c.args.port c.args.tag (line_at c.args.lines.now (8 * c.args.unit.actor + c.args.port)) c.requires.port (c.requires.in_lines (8 * c.args.unit.actor + c.args.port))
     (eq-eqb (group_in c.args.table.now c.args.unit.actor c.args.port) c.args.unit.group (sym c.group_in.ensures ∙ c.if-group_in-unit.true)))

@@ -1,7 +1,13 @@
-use Rattle.std.proofs.Common.{◌≡◌, ℕ, length, get_or, subst, arith}
+use Rattle.std.proofs.Common.{◌≡◌, ℕ, length, get_or, sym, subst, ◌∙◌, eqb-true, arith}
 use Rattle.std.proofs.lemmas.Option.{slice_get-get_or}
-use Rattle.pt_visits.proofs.Pushed.{PushesTo, begun_to, everywhere, next_link, none_on, nowhere_yet}
+use Rattle.pt_turn.proofs.Ends.{no_members}
+use Rattle.pt_visits.proofs.Pushed.{PushesTo, begun_to, everywhere, next_link, none_on, nothing_pushed, nowhere_yet}
 use Rattle.pt_visits.proofs.pushing.push_all.Goals as goal
+
+pub returns-then-sent_all : goal.returns-then-sent_all
+returns-then-sent_all c =
+    let none : length c.args.platform.now.outbox ≡ 0 = eqb-true (length c.args.platform.now.outbox) 0 (sym c.sent_all.ensures ∙ c.if-sent_all.true) in
+    nothing_pushed c.args.platform.now c.args.pipes.now (no_members c.args.platform.now.outbox none)
 
 pub loop-l-init : goal.loop-l-init
 loop-l-init c = nowhere_yet c.args.platform.now c.args.pipes.now

@@ -14,9 +14,9 @@ arcs_by_unit-requires c =
     let same = c.as_slice.ensures.value ∙ c.in_ok-wires.ensures in
     record {
       groups = λ a. let few = few_groups c.args.graph.now a c.requires.lawful in omega (arith, few);
-      count = let few = c.in_ok-numbers.ensures.few in omega (arith, few);
-      sources = λ e there. source_below c.args.graph.now c.requires.lawful c.in_ok-numbers.numbers c.in_ok-numbers.ensures e (subst (IsIn e) same there);
-      targets = λ e there. target_below c.args.graph.now c.requires.lawful c.in_ok-numbers.numbers c.in_ok-numbers.ensures e (subst (IsIn e) same there);
+      count = let few = c.in_ok-numbers.ensures.numbered.few in omega (arith, few);
+      sources = λ e there. source_below c.args.graph.now c.requires.lawful c.in_ok-numbers.numbers c.in_ok-numbers.ensures.numbered e (subst (IsIn e) same there);
+      targets = λ e there. target_below c.args.graph.now c.requires.lawful c.in_ok-numbers.numbers c.in_ok-numbers.ensures.numbered e (subst (IsIn e) same there);
     }
 
 -- what leaves each unit, in terms of the graph's wires
@@ -28,10 +28,10 @@ leave g firsts count arcs slice all same is each j less = each j less ∙ ap (λ
 pub all_rows-requires-clause-fit : goal.all_rows-requires-clause-fit
 all_rows-requires-clause-fit c =
     subst AreFit (sym c.as_slice-2.ensures.value)
-    (arcs_fit c.args.graph.now c.requires.lawful c.in_ok-numbers.numbers c.in_ok-numbers.ensures c.in_ok-arcs.arcs.items c.in_ok-arcs.ensures.len (leave c.args.graph.now c.in_ok-numbers.numbers.firsts.items c.in_ok-numbers.numbers.count c.in_ok-arcs.arcs.items c.as_slice.result.now c.in_ok-wires.wires.items c.as_slice.ensures.value c.in_ok-wires.ensures c.in_ok-arcs.ensures.arcs))
+    (arcs_fit c.args.graph.now c.requires.lawful c.in_ok-numbers.numbers c.in_ok-numbers.ensures.numbered c.in_ok-arcs.arcs.items c.in_ok-arcs.ensures.len (leave c.args.graph.now c.in_ok-numbers.numbers.firsts.items c.in_ok-numbers.numbers.count c.in_ok-arcs.arcs.items c.as_slice.result.now c.in_ok-wires.wires.items c.as_slice.ensures.value c.in_ok-wires.ensures c.in_ok-arcs.ensures.arcs))
 
 pub returns-clause-least : goal.returns-clause-least
 returns-clause-least c =
-    are_least c.args.graph.now c.requires.lawful c.in_ok-numbers.numbers c.in_ok-numbers.ensures c.in_ok-arcs.arcs.items c.in_ok-arcs.ensures.len (leave c.args.graph.now c.in_ok-numbers.numbers.firsts.items c.in_ok-numbers.numbers.count c.in_ok-arcs.arcs.items c.as_slice.result.now c.in_ok-wires.wires.items c.as_slice.ensures.value c.in_ok-wires.ensures c.in_ok-arcs.ensures.arcs)
+    are_least c.args.graph.now c.requires.lawful c.in_ok-numbers.numbers c.in_ok-numbers.ensures.numbered c.in_ok-arcs.arcs.items c.in_ok-arcs.ensures.len (leave c.args.graph.now c.in_ok-numbers.numbers.firsts.items c.in_ok-numbers.numbers.count c.in_ok-arcs.arcs.items c.as_slice.result.now c.in_ok-wires.wires.items c.as_slice.ensures.value c.in_ok-wires.ensures c.in_ok-arcs.ensures.arcs)
     c.in_ok-rows.rows.items
     (subst (λ arcs. (s : ℕ) → s < length arcs → IsRow arcs s (row_at c.in_ok-rows.rows.items s)) c.as_slice-2.ensures.value c.in_ok-rows.ensures.rows)

@@ -4,6 +4,7 @@ use Rattle.pt_history.specs.Whole.{lists_of}
 use Rattle.pt_pieces.specs.Lists.{on_last}
 use Rattle.pt_history.specs.Turns.{posting}
 use Rattle.pt_history.proofs.Growing.{fits_extend, posted_last}
+use Rattle.pt_history.proofs.Quietness.{posted_told}
 use Rattle.pt_history.proofs.history.History.post.Goals as goal
 
 pub invariant_of-self : goal.invariant_of-self
@@ -14,6 +15,7 @@ invariant_of-self c = record {
   taken = c.self.invariant.taken;
   claimed = c.self.invariant.claimed;
   sent = c.self.invariant.sent;
+  quiet = posted_told (lists_of c.self.inside) c.extend.new.self.lists c.args.dones.now (length c.self.inside.heads.items) c.self.inside.last_quiet c.self.inside.before_quiet c.is_empty.result c.self.invariant.posted.lists c.extend.ensures.lists c.is_empty.ensures c.self.invariant.quiet;
 }
 
 pub returns-clause-turns : goal.returns-clause-turns

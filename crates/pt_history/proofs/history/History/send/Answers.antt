@@ -4,6 +4,7 @@ use Rattle.pt_history.specs.Whole.{lists_of}
 use Rattle.pt_pieces.specs.Lists.{on_last}
 use Rattle.pt_history.specs.Turns.{sending}
 use Rattle.pt_history.proofs.Growing.{fits_extend, sent_last}
+use Rattle.pt_history.proofs.Quietness.{sent_told}
 use Rattle.pt_history.proofs.history.History.send.Goals as goal
 
 pub invariant_of-self : goal.invariant_of-self
@@ -14,6 +15,7 @@ invariant_of-self c = record {
   taken = c.self.invariant.taken;
   claimed = c.self.invariant.claimed;
   sent = fits_extend (length c.self.inside.heads.items) c.self.inside.room.turns c.self.inside.room.sent c.self.inside.sent c.extend.new.self c.args.messages.now c.self.invariant.sent c.extend.ensures.lists c.extend.ensures.items c.extend.ensures.room;
+  quiet = sent_told (lists_of c.self.inside) c.extend.new.self.lists c.args.messages.now (length c.self.inside.heads.items) c.self.inside.last_quiet c.self.inside.before_quiet c.is_empty.result c.self.invariant.sent.lists c.extend.ensures.lists c.is_empty.ensures c.self.invariant.quiet;
 }
 
 pub returns-clause-turns : goal.returns-clause-turns

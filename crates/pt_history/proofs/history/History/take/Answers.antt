@@ -4,6 +4,7 @@ use Rattle.pt_history.specs.Whole.{lists_of}
 use Rattle.pt_pieces.specs.Lists.{on_last}
 use Rattle.pt_history.specs.Turns.{taking}
 use Rattle.pt_history.proofs.Growing.{fits_extend, taken_last}
+use Rattle.pt_history.proofs.Quietness.{taken_told}
 use Rattle.pt_history.proofs.history.History.take.Goals as goal
 
 pub invariant_of-self : goal.invariant_of-self
@@ -14,6 +15,7 @@ invariant_of-self c = record {
   taken = fits_extend (length c.self.inside.heads.items) c.self.inside.room.turns c.self.inside.room.taken c.self.inside.taken c.extend.new.self c.args.messages.now c.self.invariant.taken c.extend.ensures.lists c.extend.ensures.items c.extend.ensures.room;
   claimed = c.self.invariant.claimed;
   sent = c.self.invariant.sent;
+  quiet = taken_told (lists_of c.self.inside) c.extend.new.self.lists c.args.messages.now (length c.self.inside.heads.items) c.self.inside.last_quiet c.self.inside.before_quiet c.is_empty.result c.self.invariant.taken.lists c.extend.ensures.lists c.is_empty.ensures c.self.invariant.quiet;
 }
 
 pub returns-clause-turns : goal.returns-clause-turns

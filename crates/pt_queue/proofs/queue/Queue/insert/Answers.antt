@@ -1,8 +1,13 @@
-use Rattle.std.proofs.Common.{◌≡◌, ◌<◌, None, length, ap, ap₂, sym, subst, ◌∙◌}
+use Rattle.std.proofs.Common.{◌≡◌, ◌<◌, None, [], ◌∷◌, ◌++◌, vec_capacity, length, ap, ap₂, sym, subst, ◌∙◌, arith}
 use Rattle.pt_semantics.specs.Meaning.{added}
 use Rattle.pt_queue.specs.Events.{waiting_in, value_in, IsPlaced, Queued}
-use Rattle.pt_queue.specs.Lines.{all_of, settled}
-use Rattle.pt_queue.proofs.Flat.{waits_joined, waits_loose}
+use Rattle.pt_queue.specs.Lines.{AreKept, all_of, joined_by, settled}
+use Rattle.pt_queue.specs.Listed.{AreKnown, FitsIn}
+use Rattle.pt_queue.specs.Scans.{unit_in}
+use Rattle.pt_queue.proofs.Changing.{known_fit, known_more}
+use Rattle.pt_queue.proofs.Flat.{line_kept, loose_pushed, waits_joined, waits_loose}
+use Rattle.pt_queue.proofs.Following.{least_joined, least_loose}
+use Rattle.pt_queue.proofs.Known.{unit_fits}
 use Rattle.pt_queue.proofs.queue.Queue.insert.Goals as goal
 
 pub returns-in-Ok-clause-waits : goal.returns-in-Ok-clause-waits
@@ -21,3 +26,41 @@ returns-else-not-push-clause-waits c =
     ap (λ lines. waiting_in (all_of (settled lines c.self.inside.loose.items))) c.if-not-push.ensures
     ∙ waits_joined table c.self.inside.lines c.self.inside.loose.items c.args.event c.self.invariant.0 placed absent
     ∙ ap (λ (v : Queued). added (waiting_in v.events) (value_in c.args.event)) c.self.view_is
+
+pub lower-requires-clause-room : goal.lower-requires-clause-room
+lower-requires-clause-room c = known_fit c.self.inside.groups.items c.self.inside.lines c.self.inside.loose.items c.self.inside.waiting.items (vec_capacity c.self.inside.waiting) c.self.invariant.0 c.self.invariant.2
+
+pub lower-requires-clause-unit : goal.lower-requires-clause-unit
+lower-requires-clause-unit c =
+    let table = c.self.inside.groups.items in
+    let placed : IsPlaced table c.args.event = record { actor = subst (λ (v : Queued). c.args.event.actor < length v.groups) (sym c.self.view_is) c.requires.actor; port = c.requires.port } in
+    subst (FitsIn (vec_capacity c.self.inside.waiting)) (sym (c.unit_of-unit.ensures ∙ ap (λ gs. unit_in gs c.args.event) c.as_slice.ensures.value)) (unit_fits table c.args.event (vec_capacity c.self.inside.waiting) c.self.invariant.2.few c.self.invariant.2.room placed)
+
+pub invariant_of-self : goal.invariant_of-self
+invariant_of-self c =
+    let table = c.self.inside.groups.items in
+    let placed : IsPlaced table c.args.event = record { actor = subst (λ (v : Queued). c.args.event.actor < length v.groups) (sym c.self.view_is) c.requires.actor; port = c.requires.port } in
+    let lines : c.push.new.self ≡ c.self.inside.lines = c.if-not-push.ensures in
+    let loose : c.push_back.new.self.items ≡ c.self.inside.loose.items ++ c.args.event ∷ [] = c.in-Ok.ensures.items in
+    let unit : c.unit_of-unit.result ≡ unit_in table c.args.event = c.unit_of-unit.ensures ∙ ap (λ gs. unit_in gs c.args.event) c.as_slice.ensures.value in (
+      subst (λ ls. AreKept table ls c.push_back.new.self.items) (sym lines) (subst (AreKept table c.self.inside.lines) (sym loose) (loose_pushed table c.self.inside.lines c.self.inside.loose.items c.args.event c.self.invariant.0 placed)),
+      omega (arith, c.push_back.ensures.len, c.push_back.ensures.capacity, c.in-Ok.ensures.len, c.self.invariant.1, c.requires.spare),
+      subst (λ ls. AreKnown table (all_of (settled ls c.push_back.new.self.items)) c.lower.new.listed.items (vec_capacity c.lower.new.listed)) (sym lines)
+          (subst (λ es. AreKnown table (all_of (settled c.self.inside.lines es)) c.lower.new.listed.items (vec_capacity c.lower.new.listed)) (sym loose)
+          (known_more table (all_of (settled c.self.inside.lines c.self.inside.loose.items)) (all_of (settled c.self.inside.lines (c.self.inside.loose.items ++ c.args.event ∷ []))) c.self.inside.waiting.items c.lower.new.listed.items (vec_capacity c.self.inside.waiting) (vec_capacity c.lower.new.listed) c.args.event c.unit_of-unit.result c.self.invariant.2 c.lower.ensures.rises unit c.lower.ensures.tags c.lower.ensures.capacity
+          (least_loose table c.self.inside.lines c.self.inside.loose.items c.args.event c.self.invariant.0 placed))),
+    )
+
+pub invariant_of-self-else-not-push : goal.invariant_of-self-else-not-push
+invariant_of-self-else-not-push c =
+    let table = c.self.inside.groups.items in
+    let placed : IsPlaced table c.args.event = record { actor = subst (λ (v : Queued). c.args.event.actor < length v.groups) (sym c.self.view_is) c.requires.actor; port = c.requires.port } in
+    let lines : c.push.new.self ≡ joined_by c.self.inside.lines c.args.event = c.if-not-push.ensures in
+    let unit : c.unit_of-unit.result ≡ unit_in table c.args.event = c.unit_of-unit.ensures ∙ ap (λ gs. unit_in gs c.args.event) c.as_slice.ensures.value in
+    let kept : AreKept table (joined_by c.self.inside.lines c.args.event) c.self.inside.loose.items = line_kept table c.self.inside.lines c.args.event c.self.inside.loose.items c.self.invariant.0 placed in (
+      subst (λ ls. AreKept table ls c.self.inside.loose.items) (sym lines) kept,
+      omega (arith, c.self.invariant.1, c.requires.spare),
+      subst (λ ls. AreKnown table (all_of (settled ls c.self.inside.loose.items)) c.lower.new.listed.items (vec_capacity c.lower.new.listed)) (sym lines)
+          (known_more table (all_of (settled c.self.inside.lines c.self.inside.loose.items)) (all_of (settled (joined_by c.self.inside.lines c.args.event) c.self.inside.loose.items)) c.self.inside.waiting.items c.lower.new.listed.items (vec_capacity c.self.inside.waiting) (vec_capacity c.lower.new.listed) c.args.event c.unit_of-unit.result c.self.invariant.2 c.lower.ensures.rises unit c.lower.ensures.tags c.lower.ensures.capacity
+          (least_joined table c.self.inside.lines c.self.inside.loose.items c.args.event c.self.invariant.0 placed kept)),
+    )

@@ -1,24 +1,47 @@
-use Rattle.std.proofs.Common.{◌≡◌, ◌++◌, ◌==◌, map, filter, not, ap, ap₂, ◌∙◌, subst, sym, arith}
+use Rattle.std.proofs.Common.{◌≡◌, ◌++◌, ◌==◌, None, vec_capacity, map, filter, not, ap, ap₂, ◌∙◌, subst, sym, arith}
 use Rattle.pt_types.specs.Ports.{eight, when}
 use Rattle.pt_types.specs.declared.firing.Event.{Event}
 use Rattle.pt_semantics.specs.Claiming.{without_unit}
 use Rattle.pt_semantics.specs.Units.{unit_inputs}
 use Rattle.pt_queue.specs.Groups.{AreGroups, group_in}
 use Rattle.pt_queue.specs.Events.{waiting_in, Queued}
-use Rattle.pt_queue.specs.Lines.{AreKept, all_of, settled}
-use Rattle.pt_queue.specs.Scans.{is_at}
-use Rattle.pt_queue.proofs.Removing.{filtered_kept}
+use Rattle.pt_queue.specs.Lines.{AreInLines, all_of, settled}
+use Rattle.pt_queue.specs.Scans.{is_at, least_from}
+use Rattle.pt_queue.proofs.Changing.{known_fit, left_fits, left_kept, left_known}
 use Rattle.pt_queue.proofs.Views.{inputs_whole, removed_waits, view_waits}
 use Rattle.pt_queue.proofs.queue.Queue.take.Goals as goal
+
+pub least_of_unit-least-requires : goal.least_of_unit-least-requires
+least_of_unit-least-requires c =
+    let table = c.self.inside.groups.items in
+    let keep = λ (e : Event). not (is_at table c.args.unit c.args.tag e) in
+    let lines : c.remove_from_lines.new.lines ≡ map (filter keep) c.self.inside.lines = c.remove_from_lines.ensures ∙ ap (λ gs. map (filter (λ (e : Event). not (is_at gs c.args.unit c.args.tag e))) c.self.inside.lines) c.as_slice-table.ensures.value in
+    let loose : c.remove.new.events.items ≡ filter keep c.self.inside.loose.items = c.remove.ensures.left ∙ ap (λ gs. filter (λ (e : Event). not (is_at gs c.args.unit c.args.tag e)) c.self.inside.loose.items) c.as_slice-table.ensures.value in
+    record { in_lines = subst (λ gs. AreInLines gs c.remove_from_lines.new.lines) (sym c.as_slice-table.ensures.value) (left_kept table c.args.unit c.args.tag c.self.inside.lines c.remove_from_lines.new.lines c.self.inside.loose.items c.remove.new.events.items c.self.invariant.0 lines loose).in_lines }
+
+pub set-requires-clause-room : goal.set-requires-clause-room
+set-requires-clause-room c = known_fit c.self.inside.groups.items c.self.inside.lines c.self.inside.loose.items c.self.inside.waiting.items (vec_capacity c.self.inside.waiting) c.self.invariant.0 c.self.invariant.2
+
+pub set-requires-clause-unit : goal.set-requires-clause-unit
+set-requires-clause-unit c =
+    let table = c.self.inside.groups.items in
+    let keep = λ (e : Event). not (is_at table c.args.unit c.args.tag e) in
+    let lines : c.remove_from_lines.new.lines ≡ map (filter keep) c.self.inside.lines = c.remove_from_lines.ensures ∙ ap (λ gs. map (filter (λ (e : Event). not (is_at gs c.args.unit c.args.tag e))) c.self.inside.lines) c.as_slice-table.ensures.value in
+    let loose : c.remove.new.events.items ≡ filter keep c.self.inside.loose.items = c.remove.ensures.left ∙ ap (λ gs. filter (λ (e : Event). not (is_at gs c.args.unit c.args.tag e)) c.self.inside.loose.items) c.as_slice-table.ensures.value in
+    let least : c.least_of_unit-least.result ≡ least_from table c.args.unit None (all_of c.remove_from_lines.new.lines ++ c.remove.new.events.items) = c.least_of_unit-least.ensures ∙ ap (λ gs. least_from gs c.args.unit None (all_of c.remove_from_lines.new.lines ++ c.remove.new.events.items)) c.as_slice-table.ensures.value in
+    left_fits table c.args.unit c.args.tag c.self.inside.lines c.remove_from_lines.new.lines c.self.inside.loose.items c.remove.new.events.items c.self.invariant.0 lines loose c.self.inside.waiting.items (vec_capacity c.self.inside.waiting) c.least_of_unit-least.result c.self.invariant.2 least
 
 pub invariant_of-self : goal.invariant_of-self
 invariant_of-self c =
     let table = c.self.inside.groups.items in
     let keep = λ (e : Event). not (is_at table c.args.unit c.args.tag e) in
     let lines : c.remove_from_lines.new.lines ≡ map (filter keep) c.self.inside.lines = c.remove_from_lines.ensures ∙ ap (λ gs. map (filter (λ (e : Event). not (is_at gs c.args.unit c.args.tag e))) c.self.inside.lines) c.as_slice-table.ensures.value in
-    let loose : c.remove.new.events.items ≡ filter keep c.self.inside.loose.items = c.remove.ensures.left ∙ ap (λ gs. filter (λ (e : Event). not (is_at gs c.args.unit c.args.tag e)) c.self.inside.loose.items) c.as_slice-table.ensures.value in (
-      subst (λ ls. AreKept table ls c.remove.new.events.items) (sym lines) (subst (AreKept table (map (filter keep) c.self.inside.lines)) (sym loose) (filtered_kept table keep c.self.inside.lines c.self.inside.loose.items c.self.invariant.0)),
+    let loose : c.remove.new.events.items ≡ filter keep c.self.inside.loose.items = c.remove.ensures.left ∙ ap (λ gs. filter (λ (e : Event). not (is_at gs c.args.unit c.args.tag e)) c.self.inside.loose.items) c.as_slice-table.ensures.value in
+    let least : c.least_of_unit-least.result ≡ least_from table c.args.unit None (all_of c.remove_from_lines.new.lines ++ c.remove.new.events.items) = c.least_of_unit-least.ensures ∙ ap (λ gs. least_from gs c.args.unit None (all_of c.remove_from_lines.new.lines ++ c.remove.new.events.items)) c.as_slice-table.ensures.value in (
+      left_kept table c.args.unit c.args.tag c.self.inside.lines c.remove_from_lines.new.lines c.self.inside.loose.items c.remove.new.events.items c.self.invariant.0 lines loose,
       omega (arith, c.remove.ensures.len, c.remove.ensures.capacity, c.self.invariant.1),
+      left_known table c.args.unit c.args.tag c.self.inside.lines c.remove_from_lines.new.lines c.self.inside.loose.items c.remove.new.events.items c.self.invariant.0 lines loose
+          c.self.inside.waiting.items c.set.new.listed.items (vec_capacity c.self.inside.waiting) (vec_capacity c.set.new.listed) c.least_of_unit-least.result c.self.invariant.2 c.set.ensures.rises least c.set.ensures.tags c.set.ensures.capacity,
     )
 
 pub returns-clause-inputs : goal.returns-clause-inputs

@@ -1,0 +1,18 @@
+use Rattle.std.proofs.Common.{sym, subst, ◌∙◌}
+use Rattle.std.proofs.lemmas.Bool.{false≢true}
+use Rattle.pt_queue.specs.Events.{waiting_in}
+use Rattle.pt_state.specs.State.{busy_in}
+use Rattle.pt_semantics.specs.Safe.{IsSafe}
+use Rattle.pt_claim.proofs.SafeTags.{only_tag}
+use Rattle.pt_claim.proofs.Fronts.{first_put, first_skip}
+use Rattle.pt_claim.proofs.front.add_unit.Goals as goal
+
+pub returns-then-is_safe : goal.returns-then-is_safe
+returns-then-is_safe c = first_put c.args.graph.now (waiting_in c.args.fields.now.queue.events) (busy_in c.args.fields.now.open_claims.items) c.args.reading c.args.waiting.unit.actor c.args.waiting.unit.group c.args.waiting.tag c.args.units.now.items c.put.new.units.items
+    c.requires.first c.requires.unit (c.is_safe.ensures.0 c.if-is_safe.true) c.put.ensures
+
+pub returns-else-is_safe : goal.returns-else-is_safe
+returns-else-is_safe c = first_skip c.args.graph.now (waiting_in c.args.fields.now.queue.events) (busy_in c.args.fields.now.open_claims.items) c.args.reading c.args.waiting.unit.actor c.args.waiting.unit.group c.args.units.now.items c.requires.first
+    (λ t safe.
+    let same = only_tag c.args.graph.now (waiting_in c.args.fields.now.queue.events) (busy_in c.args.fields.now.open_claims.items) c.args.reading c.args.waiting.unit t c.args.waiting.tag safe c.requires.tag in
+    false≢true (sym c.if-is_safe.false ∙ c.is_safe.ensures.1 (subst (IsSafe c.args.graph.now (waiting_in c.args.fields.now.queue.events) (busy_in c.args.fields.now.open_claims.items) c.args.reading c.args.waiting.unit) same safe)))

@@ -1,0 +1,60 @@
+-- The list of the units that have events.
+use Rattle.std.specs.Prelude.{◌≡◌, ℕ, ◌+◌, ◌*◌, ◌<◌, ◌≤◌, ◌==◌, ◌&&◌, ◌||◌, ◌⊎◌, nat_lt, not, Bool, false, List, [], ◌∷◌, Option, Some, None, length, take, drop, if◌then◌else◌}
+use Rattle.pt_tags.specs.declared.tag.Tag.{Tag}
+use Rattle.pt_tags.specs.declared.tag.Delay.{Delay}
+use Rattle.pt_types.specs.declared.firing.Event.{Event}
+use Rattle.pt_types.specs.declared.graph.Unit.{Unit as Part}
+use Rattle.pt_semantics.specs.Lists.{Each, IsIn}
+use Rattle.pt_semantics.specs.Units.{same_part}
+use Rattle.pt_queue.specs.declared.groups.Groups.{Groups}
+use Rattle.pt_queue.specs.declared.waiting.Waiting.{Waiting}
+use Rattle.pt_queue.specs.Groups.{groups_at, group_in}
+use Rattle.pt_queue.specs.Events.{IsRising, UnitBefore}
+use Rattle.pt_queue.specs.Scans.{least_from, reaches}
+
+-- u comes before v by actor and group, as a test
+abbrev pub unit_lt : Part → Part → Bool
+unit_lt u v = nat_lt u.actor v.actor || (u.actor == v.actor) && nat_lt u.group v.group
+
+-- so many listed units come before u, and the others do not
+pub record IsPlace (u : Part) (listed : List Waiting) (n : ℕ) : Type 0 where
+  pub within : n ≤ length listed
+  pub before : Each (λ (w : Waiting). UnitBefore w.unit u) (take n listed)
+  pub behind : Each (λ (w : Waiting). UnitBefore w.unit u → ⊥) (drop n listed)
+
+-- the tag with which a unit is listed
+abbrev pub tag_of : List Waiting → Part → Option Tag
+tag_of [] u = None
+tag_of (w ∷ ws) u = if same_part w.unit u then Some w.tag else tag_of ws u
+
+-- a unit is one of eight of an actor, where there are n such units of all actors
+abbrev pub FitsIn : ℕ → Part → Type 0
+FitsIn n u = (u.group < 8) × (8 * u.actor + 8 ≤ n)
+
+-- the units that these events wait for are listed in rising order, each with its least tag
+pub record AreListed (table : List Groups) (events : List Event) (listed : List Waiting) : Type 0 where
+  pub rising : IsRising listed
+  pub tags : (u : Part) → tag_of listed u ≡ least_from table u None events
+
+-- so it is, and there is room for eight units of each actor, as which the table has its inputs
+pub record AreKnown (table : List Groups) (events : List Event) (listed : List Waiting) (capacity : ℕ) : Type 0 where
+  pub units : AreListed table events listed
+  pub room : 8 * length table ≤ capacity
+  pub few : (a p : ℕ) → p < 8 → group_in table a p < 8
+
+-- of the actors from `from` on of which units are listed, b is the least, or there are none
+abbrev pub IsNextOf : ℕ → List Waiting → Option ℕ → Type 0
+IsNextOf from ws None = Each (λ (w : Waiting). w.unit.actor < from) ws
+IsNextOf from ws (Some b) = (from ≤ b) × ((w : Waiting) × IsIn w ws × (w.unit.actor ≡ b)) × Each (λ (w : Waiting). (w.unit.actor < from) ⊎ (b ≤ w.unit.actor)) ws
+
+-- a listed unit isn't this one, and its least tag leads to this one at t or before
+abbrev pub holds_up : List Groups → (Part → Part → Option Delay) → Part → Tag → Waiting → Bool
+holds_up table least u t w = not (same_part w.unit u) && (reaches (least w.unit u) w.tag t && nat_lt w.unit.group (groups_at table w.unit.actor).count)
+
+-- the same of a unit and the tag with which it is listed, where it is
+abbrev pub tag_holds_up : List Groups → (Part → Part → Option Delay) → Part → Tag → Part → Option Tag → Bool
+tag_holds_up table least u t x None = false
+tag_holds_up table least u t x (Some w) = holds_up table least u t (record { unit = x; tag = w })
+
+abbrev pub unit_holds_up : List Groups → (Part → Part → Option Delay) → Part → Tag → List Waiting → Part → Bool
+unit_holds_up table least u t listed x = tag_holds_up table least u t x (tag_of listed x)

@@ -1,0 +1,165 @@
+//! The units that have events, each with its least tag.
+
+ghost use Rattle.std.specs.Prelude.{◌≡◌, ◌≤◌, None, Some, IsSome, if◌then◌else◌, vec_capacity};
+ghost use Rattle.pt_types.specs.declared.graph.Unit.{Unit as Part};
+ghost use Rattle.pt_semantics.specs.Lists.{Each};
+ghost use Rattle.pt_semantics.specs.Units.{same_part};
+ghost use Rattle.pt_queue.specs.Events.{IsRising};
+ghost use Rattle.pt_queue.specs.Listed.{FitsIn, IsNextOf, IsPlace, tag_of, unit_lt};
+ghost use Rattle.pt_queue.specs.Scans.{sooner};
+
+use pt_tags::Tag;
+use pt_types::Unit;
+
+/// A unit that has events, and the least tag of these.
+#[derive(Clone, Copy, Debug, PartialEq, Eq)]
+pub struct Waiting {
+    pub unit: Unit,
+    pub tag: Tag,
+}
+
+/// Whether a unit comes before another, by actor and group.
+fn is_before(a: Unit, b: Unit) -> bool
+    ensures { result ≡ unit_lt a b }
+{
+    a.actor < b.actor || a.actor == b.actor && a.group < b.group
+}
+
+/// How many of the listed units come before one.
+fn place_of(listed: &[Waiting], unit: Unit) -> usize
+    requires { IsRising listed.now }
+    ensures { IsPlace unit listed.now result }
+{
+    listed.partition_point(
+        |other: &Waiting| -> bool
+            ensures { result ≡ unit_lt other.now.unit unit }
+        { is_before(other.unit, unit) },
+    )
+}
+
+/// The tag of a unit, where it stands at its place.
+fn tag_at(listed: &[Waiting], place: usize, unit: Unit) -> Option<Tag>
+    requires rises { IsRising listed.now }
+    requires place { IsPlace unit listed.now place }
+    ensures { result ≡ tag_of listed.now unit }
+{
+    match listed.get(place) {
+        None => None,
+        Some(other) => {
+            if other.unit == unit {
+                Some(other.tag)
+            } else {
+                None
+            }
+        }
+    }
+}
+
+/// The tag of a unit, where it is listed.
+pub fn tag_of(listed: &[Waiting], unit: Unit) -> Option<Tag>
+    requires { IsRising listed.now }
+    ensures { result ≡ tag_of listed.now unit }
+{
+    tag_at(listed, place_of(listed, unit), unit)
+}
+
+/// Of the actors from `from` on, the least one of which a unit is listed.
+pub fn next_actor(listed: &[Waiting], from: u32) -> Option<u32>
+    requires { IsRising listed.now }
+    ensures { IsNextOf from listed.now result }
+{
+    let first = Unit {
+        actor: from,
+        group: 0,
+    };
+    match listed.get(place_of(listed, first)) {
+        None => None,
+        Some(next) => Some(next.unit.actor),
+    }
+}
+
+/// Lists a unit at its place, with a tag. This takes no memory.
+fn put(listed: &mut Vec<Waiting>, place: usize, unit: Unit, tag: Tag)
+    requires rises { IsRising listed.old.items }
+    requires place { IsPlace unit listed.old.items place }
+    requires room { Each (λ w. FitsIn (vec_capacity listed.old) w.unit) listed.old.items }
+    requires unit { FitsIn (vec_capacity listed.old) unit }
+    ensures rises { IsRising listed.new.items }
+    ensures tags { (x : Part) → tag_of listed.new.items x ≡ (if same_part unit x then Some tag else tag_of listed.old.items x) }
+    ensures capacity { vec_capacity listed.old ≤ vec_capacity listed.new }
+{
+    let next = Waiting { unit, tag };
+    if tag_at(listed.as_slice(), place, unit).is_some() {
+        listed[place] = next;
+        return;
+    }
+    match listed.insert(place, next) {
+        Ok(()) => (),
+        Err(_) => unreachable!(),
+    }
+}
+
+/// The lesser of a tag and the least one so far.
+fn earlier(so_far: Option<Tag>, tag: Tag) -> Tag
+    ensures { Some result ≡ sooner so_far tag }
+{
+    match so_far {
+        None => tag,
+        Some(least) => { if tag.is_before(least) { tag } else { least } }
+    }
+}
+
+/// Lists a unit with a tag, or lowers its tag to that one. This takes no memory.
+pub fn lower(listed: &mut Vec<Waiting>, unit: Unit, tag: Tag)
+    requires rises { IsRising listed.old.items }
+    requires room { Each (λ w. FitsIn (vec_capacity listed.old) w.unit) listed.old.items }
+    requires unit { FitsIn (vec_capacity listed.old) unit }
+    ensures rises { IsRising listed.new.items }
+    ensures tags { (x : Part) → tag_of listed.new.items x ≡ (if same_part unit x then sooner (tag_of listed.old.items unit) tag else tag_of listed.old.items x) }
+    ensures capacity { vec_capacity listed.old ≤ vec_capacity listed.new }
+{
+    let place = place_of(listed.as_slice(), unit);
+    let so_far = tag_at(listed.as_slice(), place, unit);
+    put(listed, place, unit, earlier(so_far, tag));
+}
+
+/// Lists a unit with a tag. This takes no memory.
+fn list(listed: &mut Vec<Waiting>, unit: Unit, tag: Tag)
+    requires rises { IsRising listed.old.items }
+    requires room { Each (λ w. FitsIn (vec_capacity listed.old) w.unit) listed.old.items }
+    requires unit { FitsIn (vec_capacity listed.old) unit }
+    ensures rises { IsRising listed.new.items }
+    ensures tags { (x : Part) → tag_of listed.new.items x ≡ (if same_part unit x then Some tag else tag_of listed.old.items x) }
+    ensures capacity { vec_capacity listed.old ≤ vec_capacity listed.new }
+{
+    let place = place_of(listed.as_slice(), unit);
+    put(listed, place, unit, tag);
+}
+
+/// Lists a unit no longer.
+fn unlist(listed: &mut Vec<Waiting>, unit: Unit)
+    requires rises { IsRising listed.old.items }
+    ensures rises { IsRising listed.new.items }
+    ensures tags { (x : Part) → tag_of listed.new.items x ≡ (if same_part unit x then None else tag_of listed.old.items x) }
+    ensures capacity { vec_capacity listed.old ≤ vec_capacity listed.new }
+{
+    let place = place_of(listed.as_slice(), unit);
+    if tag_at(listed.as_slice(), place, unit).is_some() {
+        listed.remove(place);
+    }
+}
+
+/// Lists a unit with a tag, or no longer. This takes no memory.
+pub fn set(listed: &mut Vec<Waiting>, unit: Unit, tag: Option<Tag>)
+    requires rises { IsRising listed.old.items }
+    requires room { Each (λ w. FitsIn (vec_capacity listed.old) w.unit) listed.old.items }
+    requires unit { IsSome tag → FitsIn (vec_capacity listed.old) unit }
+    ensures rises { IsRising listed.new.items }
+    ensures tags { (x : Part) → tag_of listed.new.items x ≡ (if same_part unit x then tag else tag_of listed.old.items x) }
+    ensures capacity { vec_capacity listed.old ≤ vec_capacity listed.new }
+{
+    match tag {
+        None => unlist(listed, unit),
+        Some(tag) => list(listed, unit, tag),
+    }
+}

@@ -1,0 +1,15 @@
+-- The open claims of a platform.
+use Rattle.std.specs.Prelude.{◌≡◌, ℕ, true, List, [], ◌∷◌}
+use Rattle.pt_semantics.specs.Lists.{Each}
+use Rattle.pt_state.specs.declared.fields.OpenClaim.{OpenClaim}
+use Rattle.pt_state.specs.Others.{is_other}
+
+-- open claims as contracts see them: the claims in their order, and for how many more there is memory
+pub record Unposted : Type 0 where
+  pub items : List OpenClaim
+  pub spare : ℕ
+
+-- no two of the claims are of one unit
+abbrev pub AreApart : List OpenClaim → Type 0
+AreApart [] = Unit {0}
+AreApart (c ∷ cs) = Each (λ (o : OpenClaim). is_other c.unit o ≡ true) cs × AreApart cs

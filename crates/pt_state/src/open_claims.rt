@@ -1,0 +1,165 @@
+//! The open claims.
+
+ghost use Rattle.std.specs.Prelude.{◌≡◌, ◌+◌, ◌<◌, ◌≤◌, ◌==◌, ◌++◌, ◌∷◌, [], None, Some, filter, length, IfOk, OnOk, OnErr, option_map, slice_get};
+ghost use Rattle.std.specs.Option.{is_some};
+ghost use Rattle.pt_types.specs.declared.graph.Graph.{Graph};
+ghost use Rattle.pt_semantics.specs.Lists.{Each};
+ghost use Rattle.pt_semantics.specs.Platform.{put_busy};
+ghost use Rattle.pt_semantics.specs.Units.{unit_of};
+ghost use Rattle.pt_delays.specs.Units.{IsUnit};
+ghost use Rattle.pt_state.specs.Others.{is_other, IsPlaceOf};
+ghost use Rattle.pt_state.specs.State.{busy_in, IsOpen, IsFound};
+
+use crate::fields::OpenClaim;
+use crate::same::{same_task, same_unit};
+use pt_tags::Memory;
+use pt_types::{Task, Unit};
+use std::alloc::Global;
+use std::collections::VecDeque;
+use std::marker::Model;
+
+/// The open claims of a platform in the order in which they were made, at most one of each unit.
+///
+/// Contracts see the list of the claims, and `spare`: for how many more there is memory. Results mostly come in the order
+/// of their claims, so that the one that closes stands first.
+#[derive(Drop)]
+pub struct OpenClaims {
+    claims: VecDeque<OpenClaim>,
+    spare: usize,
+}
+
+impl Model for OpenClaims {
+    ghost use Rattle.std.specs.Prelude.{◌+◌, ◌≤◌};
+    ghost use Rattle.std.specs.VecDeque.{deque_len, deque_capacity};
+    ghost use Rattle.pt_state.specs.Unposted.{Unposted, AreApart};
+
+    ghost Value = { Unposted };
+
+    ghost view = { λ o. record { items = o.claims.items; spare = o.spare } };
+
+    ghost invariant = { λ o. AreApart o.claims.items × (o.spare + deque_len o.claims ≤ deque_capacity o.claims) };
+}
+
+/// Where the open claim of a unit stands; `None` exactly where it has none.
+fn place_of(claims: &VecDeque<OpenClaim>, unit: Unit) -> Option<usize>
+    ensures { IsPlaceOf claims.now.items unit result }
+{
+    for place in 0..claims.len() {
+        if same_unit(claims[place].unit, unit) {
+            return Some(place);
+        }
+    }
+    None
+}
+
+impl OpenClaims {
+    /// No open claims.
+    pub fn new(alloc: Global) -> OpenClaims
+        ensures items { result.items ≡ [] }
+        ensures spare { result.spare ≡ 0 }
+    {
+        OpenClaims {
+            claims: VecDeque::new(alloc),
+            spare: 0,
+        }
+    }
+
+    /// Makes sure that there is memory for `count` more claims at least; a refusal leaves all unchanged.
+    pub fn reserve(&mut self, count: usize) -> Result<(), Memory>
+        ensures spare { OnOk result (count ≤ self.new.spare) }
+        ensures no_less { self.old.spare ≤ self.new.spare }
+        ensures items { self.new.items ≡ self.old.items }
+        ensures refused { OnErr result (self.new ≡ self.old) }
+    {
+        if self.spare >= count {
+            return Ok(());
+        }
+        match self.claims.reserve(count) {
+            Ok(()) => {
+                self.spare = count;
+                Ok(())
+            }
+            Err(_) => Err(Memory),
+        }
+    }
+
+    /// Puts in the open claim of a unit that has none. This takes no memory.
+    pub fn add(&mut self, claim: OpenClaim)
+        requires spare { 0 < self.old.spare }
+        requires free { busy_in self.old.items claim.unit ≡ None }
+        ensures items { self.new.items ≡ self.old.items ++ claim ∷ [] }
+        ensures busy { busy_in self.new.items ≡ put_busy (busy_in self.old.items) claim.unit (Some claim.task) }
+        ensures open_claims { (g : Graph) → Each (IsOpen g self.old.items) self.old.items → claim.unit ≡ unit_of g claim.task → IsUnit g claim.unit
+            → Each (IsOpen g self.new.items) self.new.items }
+        ensures spare { self.new.spare + 1 ≡ self.old.spare }
+    {
+        self.spare -= 1;
+        match self.claims.push_back(claim) {
+            Ok(()) => (),
+            Err(_) => unreachable!(),
+        }
+    }
+
+    /// Removes the open claim of a unit, where it has one. This is quick where it stands first.
+    pub fn close(&mut self, unit: Unit)
+        ensures items { self.new.items ≡ filter (is_other unit) self.old.items }
+        ensures busy { busy_in self.new.items ≡ put_busy (busy_in self.old.items) unit None }
+        ensures open_claims { (g : Graph) → Each (IsOpen g self.old.items) self.old.items → Each (IsOpen g self.new.items) self.new.items }
+        ensures spare { self.new.spare ≡ self.old.spare }
+    {
+        match place_of(&self.claims, unit) {
+            None => (),
+            Some(place) => {
+                self.claims.remove(place);
+            }
+        }
+    }
+
+    /// The unit of the open claim that is this task; `None` exactly where no open claim is.
+    pub fn find(&self, task: &Task) -> Option<Unit>
+        ensures { IsFound self.now.items task.now result }
+    {
+        for place in 0..self.claims.len() {
+            let claim = &self.claims[place];
+            if same_task(&claim.task, task) {
+                return Some(claim.unit);
+            }
+        }
+        None
+    }
+
+    /// Whether a unit has an open claim.
+    pub fn has(&self, unit: Unit) -> bool
+        ensures { result ≡ is_some (busy_in self.now.items unit) }
+    {
+        place_of(&self.claims, unit).is_some()
+    }
+
+    /// How many claims are open.
+    pub fn len(&self) -> usize
+        ensures { result ≡ length self.now.items }
+    {
+        self.claims.len()
+    }
+
+    /// Whether no claim is open.
+    pub fn is_empty(&self) -> bool
+        ensures { result ≡ (length self.now.items == 0) }
+    {
+        self.claims.is_empty()
+    }
+
+    /// The open claim of that number, in the order in which they were made, from 0.
+    pub fn get(&self, number: usize) -> Option<&OpenClaim>
+        ensures { option_map (λ claim. claim.now) result ≡ slice_get self.now.items number }
+    {
+        self.claims.get(number)
+    }
+
+    /// All open claims in their order, in two parts.
+    pub fn as_slices(&self) -> (&[OpenClaim], &[OpenClaim])
+        ensures { result.0.now ++ result.1.now ≡ self.now.items }
+    {
+        self.claims.as_slices()
+    }
+}

@@ -1,0 +1,52 @@
+//! Memory of a history that is taken ahead.
+
+ghost use Rattle.std.specs.Prelude.{◌≡◌, ◌≤◌, OnErr, OnOk};
+ghost use Rattle.pt_history.specs.Turns.{larger};
+ghost use Rattle.pt_turn.specs.Growing.{HistoryIsWider};
+
+use pt_history::{History, Room};
+use pt_tags::Memory;
+
+/// For how many more turns, or members of a list, memory is taken beside twice of what is asked. So some 60 turns go by
+/// before memory is taken again, and a history has at most some 50 kilobytes more than it needs.
+const AHEAD: usize = 64;
+
+/// Nothing for nothing, and else more than is asked.
+fn more(asked: usize) -> usize
+    ensures { asked ≤ result }
+{
+    if asked == 0 {
+        return 0;
+    }
+    asked.saturating_mul(2).saturating_add(AHEAD)
+}
+
+/// Room for what is asked, and for turns after it.
+fn ahead(asked: Room) -> Room
+    ensures { larger result asked ≡ result }
+{
+    Room {
+        turns: more(asked.turns),
+        posted: more(asked.posted),
+        rows: more(asked.rows),
+        taken: more(asked.taken),
+        claimed: more(asked.claimed),
+        sent: more(asked.sent),
+    }
+}
+
+/// Keeps at least so much room in a history. Where there is less, memory is taken for turns after this one too, so that
+/// most turns take none; where memory runs out for those, for this one alone.
+pub fn keep_room(history: &mut History, room: Room) -> Result<(), Memory>
+    ensures wider { HistoryIsWider history.old history.new }
+    ensures met { OnOk result (larger history.new.room room ≡ history.new.room) }
+    ensures refused { OnErr result (history.new ≡ history.old) }
+{
+    if history.has_room(room) {
+        return Ok(());
+    }
+    if history.reserve(ahead(room)).is_ok() {
+        return Ok(());
+    }
+    history.reserve(room)
+}

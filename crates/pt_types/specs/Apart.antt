@@ -1,0 +1,30 @@
+-- Values kept apart from which of them are there.
+use Rattle.std.specs.Prelude.{◌≡◌, Bool, true, false, List, [], ◌∷◌, Option, None, Some, ℤ, pos, map, is_some}
+use Rattle.pt_types.specs.Ports.{when}
+
+-- a value, or 0 where there is none
+abbrev pub or_zero : Option ℤ → ℤ
+or_zero None = pos 0
+or_zero (Some v) = v
+
+-- which are there
+abbrev pub are_there : List (Option ℤ) → List Bool
+are_there ports = map is_some ports
+
+-- the values, with 0 where there is none
+abbrev pub values_or_zero : List (Option ℤ) → List ℤ
+values_or_zero ports = map or_zero ports
+
+-- both together again
+abbrev pub together : List Bool → List ℤ → List (Option ℤ)
+together [] vs = []
+together (t ∷ ts) [] = []
+together (t ∷ ts) (v ∷ vs) = when t (Some v) ∷ together ts vs
+
+-- as many of the one as of the other, and 0 where no value is there
+abbrev pub AreApart : List Bool → List ℤ → Type 0
+AreApart [] [] = Unit {0}
+AreApart [] (v ∷ vs) = ⊥
+AreApart (t ∷ ts) [] = ⊥
+AreApart (true ∷ ts) (v ∷ vs) = AreApart ts vs
+AreApart (false ∷ ts) (v ∷ vs) = (v ≡ pos 0) × AreApart ts vs
