@@ -150,7 +150,7 @@ reaches_some : (d : Option Delay) (w t : Tag) → reaches d w t ≡ true → IsS
 reaches_some None w t h = absurd (false≢true h)
 reaches_some (Some d) w t h = refl
 
-listed_holds : (table : List Groups) (least : Part → Part → Option Delay) (u : Part) (t : Tag) (ws : List Waiting) (x : Part) (o : Option Tag) → tag_of ws x ≡ o → tag_holds_up table least u t x o ≡ true → list_any (holds_up table least u t) ws ≡ true
+pub listed_holds : (table : List Groups) (least : Part → Part → Option Delay) (u : Part) (t : Tag) (ws : List Waiting) (x : Part) (o : Option Tag) → tag_of ws x ≡ o → tag_holds_up table least u t x o ≡ true → list_any (holds_up table least u t) ws ≡ true
 listed_holds table least u t ws x None is h = absurd (false≢true h)
 listed_holds table least u t ws x (Some s) is h =
     let w = in_tag ws x s is in

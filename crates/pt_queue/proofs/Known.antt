@@ -12,8 +12,8 @@ use Rattle.pt_semantics.proofs.Lookups.{Each-from, Each-in, first_of_none, same_
 use Rattle.pt_queue.specs.declared.groups.Groups.{Groups}
 use Rattle.pt_queue.specs.declared.waiting.Waiting.{Waiting}
 use Rattle.pt_queue.specs.Groups.{AreGroups, group_in}
-use Rattle.pt_queue.specs.Events.{AreWaiting, IsLeastTag, IsListed, IsNextActive, IsPlaced, IsRising, UnitBefore, value_in, waiting_in}
-use Rattle.pt_queue.specs.Listed.{AreListed, FitsIn, IsNextOf, IsPlace, tag_of}
+use Rattle.pt_queue.specs.Events.{AreWaiting, IsLeastTag, IsListed, IsPlaced, IsRising, UnitBefore, value_in, waiting_in}
+use Rattle.pt_queue.specs.Listed.{AreListed, FitsIn, IsPlace, tag_of}
 use Rattle.pt_queue.specs.Scans.{is_of, least_from, sooner, sooner_if, unit_in}
 use Rattle.pt_queue.proofs.Found.{least_below, least_found, least_is, some_waits}
 use Rattle.pt_queue.proofs.Listing.{each_map, in_tag, tag_in}
@@ -84,62 +84,6 @@ listed_less table events new ws vs unit o are rises is tags least = record {
       tags u ∙ ap (λ b. if b then o else tag_of ws u) n ∙ are.tags u ∙ sym (least u n))
       (cases_Bool (same_part unit u));
 }
-
--- the next actor that has an event
-pub next_is : (table : List Groups) (events : List Event) (ws : List Waiting) (from : ℕ) (r : Option ℕ) → AreListed table events ws → IsNextOf from ws r → IsNextActive (waiting_in events) from r
-next_is table events ws from None are h = λ a p t l. first_of_none (λ (e : Event). value_in e a p t) events (λ e m. away e a p t (λ same.
-    let w = listed_of table events ws e are m in
-    let less : w.0.unit.actor < from = Each-in (λ (x : Waiting). x.unit.actor < from) ws h w.0 w.1 in
-    let actor : w.0.unit.actor ≡ e.actor = ap (λ (u : Part). u.actor) w.2 in
-    omega (arith, less, actor, same, l)))
-next_is table events ws from (Some b) are h =
-    let e = event_in table events ws h.1.0 are h.1.1 in
-    let at : e.0.actor ≡ b = ap (λ (u : Part). u.actor) e.2 ∙ h.1.2 in (
-      h.0,
-      (let v = some_waits events e.0 e.1 in (e.0.port, e.0.tag, v.0, subst (λ a. waiting_in events a e.0.port e.0.tag ≡ Some v.0) at v.1)),
-      (λ a p t l k. first_of_none (λ (x : Event). value_in x a p t) events (λ x m. away x a p t (λ same.
-          let w = listed_of table events ws x are m in
-          let actor : w.0.unit.actor ≡ x.actor = ap (λ (u : Part). u.actor) w.2 in
-          ⊎_elim (λ (less : w.0.unit.actor < from). omega (arith, less, actor, same, l)) (λ (more : b ≤ w.0.unit.actor). omega (arith, more, actor, same, k)) (Each-in (λ (x : Waiting). (x.unit.actor < from) ⊎ (b ≤ x.unit.actor)) ws h.2 w.0 w.1)))),
-    )
-
--- the next listed actor stands at the place of its first unit
-not_before : (u : Part) (from : ℕ) → (UnitBefore u (record { actor = from; group = 0 }) → ⊥) → from ≤ u.actor
-not_before u from h = ⊎_elim (λ (l : u.actor < from). absurd (h (omega (arith, l), λ k. absurd (omega (arith, l, k))))) (λ (m : from ≤ u.actor). m) (either u.actor from)
-  where
-    either : (m n : ℕ) → (m < n) ⊎ (n ≤ m)
-    either m n = grind arith
-
-before_first : (u : Part) (from : ℕ) → UnitBefore u (record { actor = from; group = 0 }) → u.actor < from
-before_first u from h = plain u.actor u.group from h
-  where
-    plain : (a g n : ℕ) → (a ≤ n) × (n ≤ a → g < 0) → a < n
-    plain a g n h = grind arith
-
-pub none_next : (from : ℕ) (ws : List Waiting) (n : ℕ) → IsPlace (record { actor = from; group = 0 }) ws n → length ws ≤ n → IsNextOf from ws None
-none_next from ws n p l = all ws n p.before l
-  where
-    all : (ws : List Waiting) (n : ℕ) → Each (λ (w : Waiting). UnitBefore w.unit (record { actor = from; group = 0 })) (take n ws) → length ws ≤ n → Each (λ (w : Waiting). w.unit.actor < from) ws
-    all [] n h l = tt
-    all (w ∷ ws) zero h l = absurd (omega (arith, l))
-    all (w ∷ ws) (suc n) h l = (before_first w.unit from h.0, all ws n h.1 (omega (arith, l)))
-
-pub some_next : (from : ℕ) (ws : List Waiting) (n : ℕ) (w : Waiting) → IsRising ws → IsPlace (record { actor = from; group = 0 }) ws n → n < length ws → w ≡ get_or ws n w → IsNextOf from ws (Some w.unit.actor)
-some_next from ws n w rises p l is = at ws n rises p.before p.behind l is
-  where
-    at : (ws : List Waiting) (n : ℕ) → IsRising ws → Each (λ (x : Waiting). UnitBefore x.unit (record { actor = from; group = 0 })) (take n ws) → Each (λ (x : Waiting). UnitBefore x.unit (record { actor = from; group = 0 }) → ⊥) (drop n ws) → n < length ws → w ≡ get_or ws n w → IsNextOf from ws (Some w.unit.actor)
-    at [] n r before behind l is = absurd (omega (arith, l))
-    at (x ∷ ws) zero r before behind l is = (
-      subst (λ (z : Waiting). from ≤ z.unit.actor) (sym is) (not_before x.unit from behind.0),
-      (x, inl refl, ap (λ (z : Waiting). z.unit.actor) (sym is)),
-      (
-        inr (subst (λ (z : Waiting). z.unit.actor ≤ x.unit.actor) (sym is) (omega arith)),
-        each_map (λ (y : Waiting). UnitBefore x.unit y.unit) (λ (y : Waiting). (y.unit.actor < from) ⊎ (w.unit.actor ≤ y.unit.actor)) ws (λ y b. inr (subst (λ (z : Waiting). z.unit.actor ≤ y.unit.actor) (sym is) b.0)) r.0,
-      ),
-    )
-    at (x ∷ ws) (suc n) r before behind l is =
-        let rest = at ws n r.1 before.1 behind (omega (arith, l)) is in
-        (rest.0, (rest.1.0, inr rest.1.1, rest.1.2), (inl (before_first x.unit from before.0), rest.2))
 
 -- a list without units is that of no events
 pub none_listed : (table : List Groups) (events : List Event) (ws : List Waiting) → AreListed table events ws → (length ws == 0) ≡ (length events == 0)

@@ -35,15 +35,6 @@ pub record IsPlaced (table : List Groups) (e : Event) : Type 0 where
   pub actor : e.actor < length table
   pub port : e.port < 8
 
--- something waits for an actor
-abbrev pub IsActive : Values → ℕ → Type 0
-IsActive waits a = (p : ℕ) × (t : Tag) × (v : ℤ) × (waits a p t ≡ Some v)
-
--- of the actors from `from` on, b is the least for which something waits, or nothing waits for them
-abbrev pub IsNextActive : Values → ℕ → Option ℕ → Type 0
-IsNextActive waits from None = (a p : ℕ) (t : Tag) → from ≤ a → waits a p t ≡ None
-IsNextActive waits from (Some b) = (from ≤ b) × IsActive waits b × ((a p : ℕ) (t : Tag) → from ≤ a → a < b → waits a p t ≡ None)
-
 -- t is the least tag at which a unit has an event, or the unit has none
 abbrev pub IsLeastTag : Graph → Values → Part → Option Tag → Type 0
 IsLeastTag g waits u None = (t : Tag) → HasEvent g waits u t → ⊥

@@ -42,11 +42,6 @@ pub record AreKnown (table : List Groups) (events : List Event) (listed : List W
   pub room : 8 * length table ≤ capacity
   pub few : (a p : ℕ) → p < 8 → group_in table a p < 8
 
--- of the actors from `from` on of which units are listed, b is the least, or there are none
-abbrev pub IsNextOf : ℕ → List Waiting → Option ℕ → Type 0
-IsNextOf from ws None = Each (λ (w : Waiting). w.unit.actor < from) ws
-IsNextOf from ws (Some b) = (from ≤ b) × ((w : Waiting) × IsIn w ws × (w.unit.actor ≡ b)) × Each (λ (w : Waiting). (w.unit.actor < from) ⊎ (b ≤ w.unit.actor)) ws
-
 -- a listed unit isn't this one, and its least tag leads to this one at t or before
 abbrev pub holds_up : List Groups → (Part → Part → Option Delay) → Part → Tag → Waiting → Bool
 holds_up table least u t w = not (same_part w.unit u) && (reaches (least w.unit u) w.tag t && nat_lt w.unit.group (groups_at table w.unit.actor).count)

@@ -1,6 +1,6 @@
 //! Which listed units lead to another in time.
 
-ghost use Rattle.std.specs.Prelude.{◌≡◌};
+ghost use Rattle.std.specs.Prelude.{◌≡◌, true, is_some};
 ghost use Rattle.std.specs.List.{list_any};
 ghost use Rattle.pt_delays.specs.Delays.{least_of};
 ghost use Rattle.pt_queue.specs.Events.{IsRising};
@@ -8,6 +8,7 @@ ghost use Rattle.pt_queue.specs.Listed.{holds_up, unit_holds_up};
 
 use crate::events::reaches;
 use crate::groups::{Groups, count_at};
+use crate::holders::Holders;
 use crate::waiting::{Waiting, tag_of};
 use pt_delays::Least;
 use pt_tags::Tag;
@@ -26,22 +27,22 @@ fn holds_up(table: &[Groups], least: &Least, unit: Unit, tag: Tag, other: &Waiti
         && other.unit.group < count_at(table, other.unit.actor)
 }
 
-/// Whether one of the listed units does.
-fn is_blocked_by_listed(
+/// One of the listed units that does.
+fn holder_listed(
     table: &[Groups],
     listed: &[Waiting],
     unit: Unit,
     tag: Tag,
     least: &Least,
-) -> bool
-    ensures { result ≡ list_any (holds_up table.now (least_of least.now) unit tag) listed.now }
+) -> Option<Unit>
+    ensures { is_some result ≡ list_any (holds_up table.now (least_of least.now) unit tag) listed.now }
 {
     for other in listed {
         if holds_up(table, least, unit, tag, other) {
-            return true;
+            return Some(other.unit);
         }
     }
-    false
+    None
 }
 
 /// Whether a unit is listed, and holds up another one.
@@ -71,37 +72,81 @@ fn unit_holds_up(
     }
 }
 
-/// Whether one of these units does.
-fn is_blocked_by(
+/// One of these units that does.
+fn holder_among(
     table: &[Groups],
     listed: &[Waiting],
     unit: Unit,
     tag: Tag,
     least: &Least,
     others: &[Unit],
-) -> bool
+) -> Option<Unit>
     requires rises { IsRising listed.now }
-    ensures { result ≡ list_any (unit_holds_up table.now (least_of least.now) unit tag listed.now) others.now }
+    ensures { is_some result ≡ list_any (unit_holds_up table.now (least_of least.now) unit tag listed.now) others.now }
 {
     for other in others {
         if unit_holds_up(table, listed, unit, tag, least, *other) {
-            return true;
+            return Some(*other);
         }
     }
-    false
+    None
+}
+
+/// One of the listed units that holds up another one; `None` exactly where none does.
+///
+/// The search goes over the units from which a path leads there, where these are known and fewer than the listed ones.
+fn holder(table: &[Groups], listed: &[Waiting], unit: Unit, tag: Tag, least: &Least) -> Option<Unit>
+    requires rises { IsRising listed.now }
+    ensures { is_some result ≡ list_any (holds_up table.now (least_of least.now) unit tag) listed.now }
+{
+    if let Some(others) = least.before(unit) {
+        if others.len() < listed.len() {
+            return holder_among(table, listed, unit, tag, least, others);
+        }
+    }
+    holder_listed(table, listed, unit, tag, least)
+}
+
+/// Whether the unit that held up another one when that was last looked at does so still.
+fn is_held_still(
+    table: &[Groups],
+    listed: &[Waiting],
+    holders: &Holders,
+    unit: Unit,
+    tag: Tag,
+    least: &Least,
+) -> bool
+    requires rises { IsRising listed.now }
+    ensures { result ≡ true → list_any (holds_up table.now (least_of least.now) unit tag) listed.now ≡ true }
+{
+    match holders.of(unit) {
+        None => false,
+        Some(last) => unit_holds_up(table, listed, unit, tag, least, last),
+    }
 }
 
 /// Whether one of the listed units holds up another one.
 ///
-/// The search goes over the units from which a path leads there, where these are known and fewer than the listed ones.
-pub fn is_blocked(table: &[Groups], listed: &[Waiting], unit: Unit, tag: Tag, least: &Least) -> bool
+/// The one that did when that unit was last looked at is asked first, and which does so now is kept.
+pub fn is_blocked(
+    table: &[Groups],
+    listed: &[Waiting],
+    holders: &Holders,
+    unit: Unit,
+    tag: Tag,
+    least: &Least,
+) -> bool
     requires rises { IsRising listed.now }
     ensures { result ≡ list_any (holds_up table.now (least_of least.now) unit tag) listed.now }
 {
-    if let Some(others) = least.before(unit) {
-        if others.len() < listed.len() {
-            return is_blocked_by(table, listed, unit, tag, least, others);
+    if is_held_still(table, listed, holders, unit, tag, least) {
+        return true;
+    }
+    match holder(table, listed, unit, tag, least) {
+        None => false,
+        Some(holder) => {
+            holders.keep(unit, holder);
+            true
         }
     }
-    is_blocked_by_listed(table, listed, unit, tag, least)
 }

@@ -95,19 +95,17 @@ pub fn value_at(events: &VecDeque<Event>, actor: u32, port: u32, tag: Tag) -> Op
     None
 }
 
-/// Whether a tag is before the sum of another and a delay, which 64 bits need not hold.
+/// Whether a tag is before the sum of another and a delay. A sum that 64 bits cannot hold is past each tag of that time.
 fn is_before_sum(tag: Tag, from: Tag, delay: Delay) -> bool
     ensures { result ≡ tag_lt tag (plus from delay) }
 {
-    if let (Some(time), Some(step)) = (
-        from.time.checked_add(delay.time),
-        from.step.checked_add(delay.step),
-    ) {
-        return tag.is_before(Tag { time, step });
+    let Some(time) = from.time.checked_add(delay.time) else {
+        return true;
+    };
+    match from.step.checked_add(delay.step) {
+        None => tag.time <= time,
+        Some(step) => tag.is_before(Tag { time, step }),
     }
-    let time = from.time as u128 + delay.time as u128;
-    let step = from.step as u128 + delay.step as u128;
-    (tag.time as u128) < time || tag.time as u128 == time && (tag.step as u128) < step
 }
 
 /// Whether an event at `from` leads to `tag` or before, along a path of that delay.

@@ -1,8 +1,9 @@
 //! The events that wait on a platform, taken unit by unit.
 //!
 //! The queue keeps a line of events for each input of each actor, in rising order of tag, and a table of the groups of every
-//! actor's inputs. It keeps the units that have events too, each with its least tag. Its contracts speak of what waits at each input and tag alone, so that they hold of any other way to keep
-//! the events.
+//! actor's inputs. It keeps the units that have events too, each with its least tag, and for each unit the one that held it up when it
+//! was last looked at. Its contracts speak of what waits at each input and tag alone, so that they hold of any other way to
+//! keep the events.
 //!
 //! Read first: `Queue`, then `specs/Events.antt`.
 #![tactic(auto)]
@@ -10,6 +11,7 @@
 mod blocked;
 mod events;
 mod groups;
+mod holders;
 mod line;
 mod lines;
 mod loose;

@@ -10,15 +10,16 @@ ghost use Rattle.pt_semantics.specs.Meaning.{added};
 ghost use Rattle.pt_semantics.specs.Units.{unit_inputs};
 ghost use Rattle.pt_delays.specs.Delays.{AreLeast, IsUnit, least_of};
 ghost use Rattle.pt_queue.specs.Groups.{AreGroups};
-ghost use Rattle.pt_queue.specs.Events.{waiting_in, value_in, AreWaiting, IsPlaced, IsLeastTag, IsBlocked, IsClear, IsNextActive};
+ghost use Rattle.pt_queue.specs.Events.{waiting_in, value_in, AreWaiting, IsPlaced, IsLeastTag, IsBlocked, IsClear};
 
 use crate::blocked::is_blocked;
 use crate::events::{remove, unit_of};
 use crate::groups::{Groups, all_groups};
+use crate::holders::Holders;
 use crate::lines::Lines;
 use crate::loose::settle;
 use crate::scan::{line_number, remove_from_lines};
-use crate::waiting::{Waiting, lower, next_actor, set, tag_of};
+use crate::waiting::{Waiting, lower, set, tag_of};
 use crate::whole::{least_of_unit, values_of};
 use pt_delays::Least;
 use pt_tags::{Memory, Tag};
@@ -39,6 +40,7 @@ pub struct Queue {
     groups: Vec<Groups>,
     /// The units that have events, with room for all units.
     waiting: Vec<Waiting>,
+    holders: Holders,
     lines: Lines,
     loose: VecDeque<Event>,
     spare: usize,
@@ -77,9 +79,13 @@ impl Queue {
         let Ok(waiting) = Vec::with_capacity(alloc, 8 * groups.len()) else {
             return Err(Memory);
         };
+        let Ok(holders) = Holders::new(alloc, 8 * groups.len()) else {
+            return Err(Memory);
+        };
         Ok(Queue {
             groups,
             waiting,
+            holders,
             lines,
             loose: VecDeque::new(alloc),
             spare: 0,
@@ -176,17 +182,11 @@ impl Queue {
         is_blocked(
             self.groups.as_slice(),
             self.waiting.as_slice(),
+            &self.holders,
             unit,
             tag,
             least,
         )
-    }
-
-    /// Of the actors from `from` on, the least one that has an event; `None` exactly where there is none.
-    pub fn next_active(&self, from: u32) -> Option<u32>
-        ensures { IsNextActive (waiting_in self.now.events) from result }
-    {
-        next_actor(self.waiting.as_slice(), from)
     }
 
     /// How many actors the graph has. Each event stands at one of them, at one of eight inputs.

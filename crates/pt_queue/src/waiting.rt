@@ -5,7 +5,7 @@ ghost use Rattle.pt_types.specs.declared.graph.Unit.{Unit as Part};
 ghost use Rattle.pt_semantics.specs.Lists.{Each};
 ghost use Rattle.pt_semantics.specs.Units.{same_part};
 ghost use Rattle.pt_queue.specs.Events.{IsRising};
-ghost use Rattle.pt_queue.specs.Listed.{FitsIn, IsNextOf, IsPlace, tag_of, unit_lt};
+ghost use Rattle.pt_queue.specs.Listed.{FitsIn, IsPlace, tag_of, unit_lt};
 ghost use Rattle.pt_queue.specs.Scans.{sooner};
 
 use pt_tags::Tag;
@@ -61,21 +61,6 @@ pub fn tag_of(listed: &[Waiting], unit: Unit) -> Option<Tag>
     ensures { result ≡ tag_of listed.now unit }
 {
     tag_at(listed, place_of(listed, unit), unit)
-}
-
-/// Of the actors from `from` on, the least one of which a unit is listed.
-pub fn next_actor(listed: &[Waiting], from: u32) -> Option<u32>
-    requires { IsRising listed.now }
-    ensures { IsNextOf from listed.now result }
-{
-    let first = Unit {
-        actor: from,
-        group: 0,
-    };
-    match listed.get(place_of(listed, first)) {
-        None => None,
-        Some(next) => Some(next.unit.actor),
-    }
 }
 
 /// Lists a unit at its place, with a tag. This takes no memory.

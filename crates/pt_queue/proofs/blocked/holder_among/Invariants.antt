@@ -2,7 +2,7 @@ use Rattle.std.proofs.Common.{◌≡◌, drop}
 use Rattle.std.specs.List.{list_any}
 use Rattle.pt_delays.specs.Delays.{least_of}
 use Rattle.pt_queue.specs.Listed.{unit_holds_up}
-use Rattle.pt_queue.proofs.blocked.is_blocked_by.Given as goal
+use Rattle.pt_queue.proofs.blocked.holder_among.Given as goal
 
 abbrev pub invariant-loop-other : goal.invariant-loop-other
 invariant-loop-other l = list_any (unit_holds_up l.table (least_of l.least) l.unit l.tag l.listed) (drop l.other-index l.others) ≡ list_any (unit_holds_up l.table (least_of l.least) l.unit l.tag l.listed) l.others

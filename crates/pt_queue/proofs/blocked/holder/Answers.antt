@@ -1,9 +1,9 @@
 use Rattle.std.proofs.Common.{◌∙◌}
 use Rattle.pt_delays.specs.Delays.{least_of}
 use Rattle.pt_queue.proofs.Holding.{any_before}
-use Rattle.pt_queue.proofs.blocked.is_blocked.Goals as goal
+use Rattle.pt_queue.proofs.blocked.holder.Goals as goal
 
 pub returns-then-others-listed : goal.returns-then-others-listed
 returns-then-others-listed c =
-    c.is_blocked_by.ensures
+    c.holder_among.ensures
     ∙ any_before c.args.table.now (least_of c.args.least.now) c.args.unit c.args.tag c.args.listed.now c.in-Some.others.now c.requires.rises c.in-Some.ensures
