@@ -9,7 +9,8 @@ ghost use Rattle.pt_queue.specs.Groups.{AreGroups};
 ghost use Rattle.pt_queue.specs.Events.{waiting_in, value_in};
 ghost use Rattle.pt_queue_cases.specs.Times.{AreFewer, AreWithin, NothingWaits};
 
-use pt_queue::Queue;
+use pt_delays::Least;
+use pt_queue::{Queue, Waiting};
 use pt_tags::Tag;
 use pt_types::{Event, Graph, Ports, Unit};
 use std::alloc::AllocError;
@@ -25,6 +26,7 @@ pub struct Times {
 pub fn stays_same(
     queue: &mut Queue,
     graph: &Graph,
+    least: &Least,
     events: &mut Vec<Event>,
 ) -> Result<bool, AllocError>
     requires groups { AreGroups graph.now queue.old.groups }
@@ -39,7 +41,7 @@ pub fn stays_same(
     for _ in 0..2_000_u64 {
         die = thrown(die);
         times = step(queue, graph, events, times, die)?;
-        if !is_same(queue, events.as_slice()) {
+        if !is_same(queue, events.as_slice(), least) {
             return Ok(false);
         }
     }
@@ -177,32 +179,39 @@ fn least_in(events: &[Event], unit: Unit) -> Option<Tag> {
     least
 }
 
-fn next_in(events: &[Event], from: u32) -> Option<u32> {
-    let mut next = None;
+/// Whether an event of another unit leads to this one at the tag or before. (No delay of the lanes has a step.)
+fn is_blocked_in(events: &[Event], unit: Unit, tag: Tag, least: &Least) -> bool {
     for event in events {
-        if event.actor >= from && next.is_none_or(|actor| event.actor < actor) {
-            next = Some(event.actor);
+        let other = unit_of(event);
+        if let Some(delay) = least.get(other, unit) {
+            if other != unit && event.tag.time.saturating_add(delay.time) <= tag.time {
+                return true;
+            }
         }
     }
-    next
+    false
 }
 
 /// Whether the queue and the list say the same.
-fn is_same(queue: &Queue, events: &[Event]) -> bool {
-    for actor in 0..6 {
-        if !is_same_at(queue, events, actor) {
-            return false;
-        }
-    }
-    queue.is_empty() == events.is_empty()
-}
-
-fn is_same_at(queue: &Queue, events: &[Event], actor: u32) -> bool {
-    for group in 0..2 {
-        let unit = Unit { actor, group };
+fn is_same(queue: &Queue, events: &[Event], least: &Least) -> bool {
+    let mut listed = 0;
+    for number in 0..12 {
+        let unit = Unit {
+            actor: number / 2,
+            group: number % 2,
+        };
         if queue.least(unit) != least_in(events, unit) {
             return false;
         }
+        if let Some(tag) = least_in(events, unit) {
+            if queue.waiting().get(listed) != Some(&Waiting { unit, tag }) {
+                return false;
+            }
+            if queue.blocked(unit, tag, least) != is_blocked_in(events, unit, tag, least) {
+                return false;
+            }
+            listed += 1;
+        }
     }
-    queue.next_active(actor) == next_in(events, actor)
+    queue.waiting().len() == listed && queue.is_empty() == events.is_empty()
 }

@@ -51,12 +51,17 @@ fn answers(alloc: Global, text: &str, blocks: &Blocks) -> Result<String, AllocEr
     fill(&mut queue);
     let mut text = String::new(alloc);
     write_answers(&mut text, &mut queue, &least)?;
-    write_same(alloc, &mut text, &graph)?;
+    write_same(alloc, &mut text, &graph, &least)?;
     Ok(text)
 }
 
 /// Writes whether another queue of the graph says what a plain list of its events does.
-fn write_same(alloc: Global, text: &mut String, graph: &Graph) -> Result<(), AllocError>
+fn write_same(
+    alloc: Global,
+    text: &mut String,
+    graph: &Graph,
+    least: &Least,
+) -> Result<(), AllocError>
     requires lawful { IsLawful graph.now }
 {
     let Ok(queue) = Queue::new(alloc, graph) else {
@@ -67,7 +72,7 @@ fn write_same(alloc: Global, text: &mut String, graph: &Graph) -> Result<(), All
         return text.push_str("few actors\n");
     }
     let mut events = Vec::new(alloc);
-    let same = stays_same(&mut queue, graph, &mut events)?;
+    let same = stays_same(&mut queue, graph, least, &mut events)?;
     text.push_str(if same { "the same\n" } else { "not the same\n" })
 }
 
