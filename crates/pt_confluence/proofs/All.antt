@@ -4,6 +4,7 @@ use Rattle.std.specs.List.{filter_map, flat_map}
 use Rattle.std.proofs.Math.Path.{fun_ext}
 use Rattle.std.proofs.lemmas.List.{take_more}
 use Rattle.std.proofs.lemmas.List.Elements.{filter_map-append}
+use Rattle.pt_types.specs.declared.firing.ActorFiring.{ActorFiring}
 use Rattle.pt_types.specs.declared.graph.Graph.{Graph}
 use Rattle.pt_types.specs.declared.graph.Unit.{Unit as Part}
 use Rattle.pt_types.specs.declared.rows.Row.{Row}
@@ -12,20 +13,22 @@ use Rattle.pt_semantics.specs.Behaviours.{Behaves, Everywhere}
 use Rattle.pt_semantics.specs.Edges.{platform_of}
 use Rattle.pt_semantics.specs.History.{IsLegal, Legal, claims_of, of_unit}
 use Rattle.pt_semantics.specs.Linked.{IsFinished, all_claims}
-use Rattle.pt_semantics.specs.Meaning.{opening}
+use Rattle.pt_semantics.specs.Meaning.{IsMeaning, opening}
 use Rattle.pt_semantics.specs.Platform.{State, opened}
 use Rattle.pt_semantics.specs.Turn.{Turn}
 use Rattle.pt_semantics.specs.Wired.{IsWired}
+use Rattle.pt_semantics.proofs.ByActor.{by_actor}
+use Rattle.pt_semantics.proofs.Confluent.{confluence}
 use Rattle.pt_semantics.proofs.Finish.{histories_behave}
 use Rattle.pt_semantics.proofs.Home.{home_holds}
 use Rattle.pt_semantics.proofs.Longest.{levels_grow}
 use Rattle.pt_semantics.proofs.Lookups.{none_some, same_some}
 use Rattle.pt_lawful.proofs.Edges.{wired}
-use Rattle.pt_ranks.specs.Ranked.{level_of}
+use Rattle.pt_ranks.specs.Ranked.{level_of, rank_of}
 use Rattle.pt_offsets.specs.Plans.{IsAdmitted, Parts}
 use Rattle.pt_turn.specs.Platforms.{PlatformView, rows_at, state_at}
 use Rattle.pt_platforms.specs.All.{histories_of}
-use Rattle.pt_confluence.specs.Gathered.{AreLegal, HaveFinished, IsItsHistory, tasks_of}
+use Rattle.pt_confluence.specs.Gathered.{AreClaimed, AreLegal, HaveFinished, IsItsHistory, tasks_of}
 
 pub legal_none : AreLegal []
 legal_none i v h = absurd (none_some v h)
@@ -146,3 +149,10 @@ module _ (plan : Parts) (rows : ℕ → List Row) (platforms : List PlatformView
       all_claims_are g u platforms
       ∙ one_of (λ (w : PlatformView). claims_of g w.turns u) platforms (platform_of g u.actor) v there (λ i w at ne. elsewhere u i w at ne)
       ∙ ap (λ ts. claims_of g ts u) (history_at (platform_of g u.actor) v there)
+
+  -- and where the firings are the meaning, it is theirs
+  pub claimed_of : (xs : List ActorFiring) → IsMeaning g (rank_of plan.ranks) rows xs → AreClaimed plan platforms xs
+  claimed_of xs meaning = record {
+    units = confluence g level (rank_of plan.ranks) rows (histories_of platforms) ends xs is_wired admitted.levels admitted.ranks run.fit legal_at finished_at run.linked meaning;
+    actors = by_actor g level (rank_of plan.ranks) rows (histories_of platforms) ends xs is_wired admitted.levels admitted.ranks run.fit legal_at finished_at run.linked meaning;
+  }

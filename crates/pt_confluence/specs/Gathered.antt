@@ -2,10 +2,12 @@
 use Rattle.std.specs.Prelude.{◌≡◌, [], ℕ, List, Some, flat_map, slice_get}
 use Rattle.pt_types.specs.declared.firing.ActorFiring.{ActorFiring}
 use Rattle.pt_types.specs.declared.firing.Task.{Task}
+use Rattle.pt_types.specs.declared.graph.Unit.{Unit as Part}
 use Rattle.pt_types.specs.declared.rows.Row.{Row}
 use Rattle.pt_semantics.specs.History.{IsLegal}
-use Rattle.pt_semantics.specs.Linked.{AreLinked, IsFinished}
+use Rattle.pt_semantics.specs.Linked.{AreLinked, IsFinished, all_claims}
 use Rattle.pt_semantics.specs.Meaning.{IsMeaning}
+use Rattle.pt_semantics.specs.Parts.{AreTheFirings, parts}
 use Rattle.pt_semantics.specs.Rows.{FitRows}
 use Rattle.pt_semantics.specs.Tables.{tables_text}
 use Rattle.pt_semantics.specs.Turn.{Turn}
@@ -20,6 +22,12 @@ pub record HaveFinished (plan : Parts) (rows : ℕ → List Row) (platforms : Li
   pub fit : FitRows plan.graph rows
   pub finished : (i : ℕ) (v : PlatformView) → slice_get platforms i ≡ Some v → IsFinished plan.graph i (state_at v)
   pub linked : AreLinked plan.graph (histories_of platforms)
+
+-- these firings are what was claimed: each unit's claims are, in order, its parts of them, with the same tags, inputs, states
+-- and outputs; and each claim is a part of one of its actor's firings, and each input of a firing is claimed
+pub record AreClaimed (plan : Parts) (platforms : List PlatformView) (firings : List ActorFiring) : Type 0 where
+  pub units : (u : Part) → all_claims plan.graph (histories_of platforms) u ≡ parts plan.graph firings u
+  pub actors : AreTheFirings plan.graph (all_claims plan.graph (histories_of platforms)) firings
 
 -- this is the text of the tables of the meaning
 pub record AreTables (plan : Parts) (rows : ℕ → List Row) (text : List ℕ) : Type 0 where

@@ -7,7 +7,7 @@ ghost use Rattle.pt_types.specs.declared.firing.Task.{Task};
 ghost use Rattle.pt_types.specs.declared.rows.Row.{Row};
 ghost use Rattle.pt_semantics.specs.Meaning.{IsMeaning};
 ghost use Rattle.pt_ranks.specs.Ranked.{rank_of};
-ghost use Rattle.pt_confluence.specs.Gathered.{AreLegal, HaveFinished, tasks_of};
+ghost use Rattle.pt_confluence.specs.Gathered.{AreClaimed, AreLegal, HaveFinished, tasks_of};
 ghost use Rattle.pt_confluence.specs.Joined.{joined, whole};
 ghost use Rattle.pt_confluence.specs.Moments.{moment_cmp, moment_of};
 
@@ -27,7 +27,8 @@ use std::alloc::Global;
 /// The tasks are brought into the order of the meaning as references, and those of one actor and tag, which are the
 /// units of lanes, are joined to one firing.
 pub fn gather(alloc: Global, plan: &Plan, platforms: &[Platform]) -> Result<Firings, Memory>
-    ensures { IfOk result (λ firings. (rows : ℕ → List Row) → HaveFinished plan.now rows platforms.now → IsMeaning plan.now.graph (rank_of plan.now.ranks) rows firings) }
+    ensures meaning { IfOk result (λ firings. (rows : ℕ → List Row) → HaveFinished plan.now rows platforms.now → IsMeaning plan.now.graph (rank_of plan.now.ranks) rows firings) }
+    ensures claimed { IfOk result (λ firings. (rows : ℕ → List Row) → HaveFinished plan.now rows platforms.now → AreClaimed plan.now platforms.now firings) }
 {
     let mut tasks = all_tasks(alloc, platforms)?;
     sort(plan.ranks(), &mut tasks);

@@ -10,7 +10,7 @@ use Rattle.pt_recorded.specs.Asked.{Contents}
 use Rattle.pt_runs.specs.Agreeing.{TellsSensors}
 use Rattle.pt_runs.proofs.Agreeing.{finished_agree, runs_agree as left_agree}
 use Rattle.pt_run.specs.Agreeing.{RunsAgree}
-use Rattle.pt_run.specs.Headline.{IsRun, Leaves}
+use Rattle.pt_run.specs.Written.{IsRun, Leaves}
 
 -- a file that is told defines one graph
 same_ok : (g h : Graph) → ◌≡◌ {A = Result Graph GraphFault} (Ok g) (Ok h) → g ≡ h

@@ -43,7 +43,7 @@ use Rattle.pt_run.specs.declared.fault.Fault.TheVariants as fault
 use Rattle.pt_run.specs.declared.words.Command.TheVariants.{Run}
 use Rattle.pt_run.specs.Causes.{CauseOf, RunsLong, Writing}
 use Rattle.pt_run.specs.Complete.{CanRun, FitsClaims, IsComplete, StatusIsMeant}
-use Rattle.pt_run.specs.Headline.{GraphWith, Leaves}
+use Rattle.pt_run.specs.Written.{GraphWith, Leaves}
 use Rattle.pt_run.specs.Statuses.{status_of}
 use Rattle.pt_run.specs.Texts.{EndsBy}
 use Rattle.pt_run.specs.Making.{Ends}

@@ -18,7 +18,7 @@ use Rattle.pt_run.specs.declared.fault.Outcome.{Outcome}
 use Rattle.pt_run.specs.declared.words.Command.{Command}
 use Rattle.pt_run.specs.declared.words.Command.TheVariants.{Run, Check, Meaning}
 use Rattle.pt_run.specs.Faults.{fault_of_graph}
-use Rattle.pt_run.specs.Headline.{Leaves, Writes, nothing}
+use Rattle.pt_run.specs.Written.{Leaves, Writes, nothing}
 use Rattle.pt_run.specs.Causes.{CauseOf, CauseOfGraph, CauseOfMeaning, CauseOfRun, CauseOfText, IsCause, Writing}
 use Rattle.pt_run.specs.Texts.{Answers, AsksBy, AsksFor, AsksInOrder, EndsBy, EndsOver, PutBy, files_for, left_by}
 

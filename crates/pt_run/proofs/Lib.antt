@@ -5,3 +5,5 @@ pub mod Planned
 pub mod Complete
 pub mod Agreeing
 pub mod Made
+pub mod Headline
+pub mod CauseTable

@@ -30,7 +30,7 @@ use Rattle.pt_run.specs.declared.words.Command.{Command}
 use Rattle.pt_run.specs.Telling.{Tells, TellsBy}
 use Rattle.pt_run.specs.declared.words.Command.TheVariants.{Check, Meaning, Run}
 use Rattle.pt_run.specs.Faults.{fault_of_offset, fault_of_rows}
-use Rattle.pt_run.specs.Headline.{IsChecked, IsMeant, IsRun as IsRunOf, Leaves, Writes, nothing}
+use Rattle.pt_run.specs.Written.{IsChecked, IsMeant, IsRun as IsRunOf, Leaves, Writes, nothing}
 use Rattle.pt_run.specs.Causes.{CauseOf, CauseOfMeaning, RunsLong, Writing}
 use Rattle.pt_run.specs.Texts.{CauseOfPlan, CheckFails, EndsOver, EndsPlan, IsStopped, MeaningFails, OrMemory, WroteRun, left_by}
 

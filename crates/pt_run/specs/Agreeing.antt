@@ -7,7 +7,7 @@ use Rattle.pt_platforms.specs.All.{histories_of}
 use Rattle.pt_recorded.specs.Asked.{Contents}
 use Rattle.pt_runs.specs.Agreeing.{TellsSensors}
 use Rattle.pt_run.specs.declared.words.Command.TheVariants.{Run}
-use Rattle.pt_run.specs.Headline.{Leaves, Ran}
+use Rattle.pt_run.specs.Written.{Leaves, Ran}
 
 -- the source tells the graph file of that name and, where it defines a graph, the file of each sensor
 pub record TellsAll (tells : Contents) (blocks : List Named) (name : List ℕ) : Type 0 where

@@ -18,7 +18,7 @@ use Rattle.pt_run.specs.declared.fault.Fault.{Fault}
 use Rattle.pt_run.specs.declared.fault.Fault.TheVariants as fault
 use Rattle.pt_run.specs.declared.words.Command.{Command}
 use Rattle.pt_run.specs.declared.words.Command.TheVariants.{Run, Check, Meaning}
-use Rattle.pt_run.specs.Headline.{GraphWith, IsTooLong, Leaves, WrotePart, nothing}
+use Rattle.pt_run.specs.Written.{GraphWith, IsTooLong, Leaves, WrotePart, nothing}
 
 -- why the graph file of that name gave no graph
 abbrev pub CauseOfGraph : Fault → Contents → List Named → List ℕ → Reading → Type 0

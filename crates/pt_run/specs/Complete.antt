@@ -18,7 +18,7 @@ use Rattle.pt_recorded.specs.Recorded.{AllPass, AreRows}
 use Rattle.pt_runs.specs.Agreeing.{TellsSensors}
 use Rattle.pt_run.specs.declared.words.Command.TheVariants.{Run}
 use Rattle.pt_run.specs.Causes.{Writing}
-use Rattle.pt_run.specs.Headline.{Means}
+use Rattle.pt_run.specs.Written.{Means}
 use Rattle.pt_run.specs.Words.{Order, over}
 
 -- the source tells a program that can run: the graph file of that name defines this graph, which is admitted, each sensor's

@@ -1,102 +1,82 @@
--- What a command must write.
-use Rattle.std.specs.Prelude.{◌≡◌, ◌≤◌, ◌*◌, [], ℕ, ℤ, Bool, List, length, Option, Ok, IfSome}
-use Rattle.pt_io.specs.Causes.{Appends, AppendsPart}
+-- The headline: what a run writes, what it keeps, at which readings, and why it ends with status 4.
+use Rattle.std.specs.Prelude.{◌≡◌, ◌⊎◌, ◌++◌, ℕ, Bool, List, Option, Ok, Some, IfSome, slice_get}
+use Rattle.pt_io.specs.Causes.{Appends}
 use Rattle.pt_types.specs.declared.graph.Graph.{Graph}
 use Rattle.pt_types.specs.declared.rows.Row.{Row}
+use Rattle.pt_types.specs.declared.firing.ActorFiring.{ActorFiring}
 use Rattle.pt_blocks.specs.declared.blocks.Named.{Named}
 use Rattle.pt_graph.specs.GraphOf.{graph_of}
-use Rattle.pt_semantics.specs.Cycles.{NoFreeCycle}
-use Rattle.pt_semantics.specs.Ranks.{AreRanks}
-use Rattle.pt_semantics.specs.Meaning.{ActorFiring, IsMeaning, IsLonger}
+use Rattle.pt_semantics.specs.History.{LegalOnTime}
+use Rattle.pt_semantics.specs.Linked.{AreLinked, AreMatched, IsFinished}
+use Rattle.pt_semantics.specs.Lists.{Each}
+use Rattle.pt_semantics.specs.Meaning.{IsMeaning}
+use Rattle.pt_semantics.specs.Platform.{opened}
 use Rattle.pt_semantics.specs.Tables.{tables_text}
-use Rattle.pt_semantics.specs.Offsets.{IsFeasible}
-use Rattle.pt_history.specs.declared.miss.Miss.{Miss}
-use Rattle.pt_turn.specs.Platforms.{PlatformView}
-use Rattle.pt_offsets.specs.Plans.{Parts}
-use Rattle.pt_offsets.specs.Margins.{HasActorOffset, HasMargin}
-use Rattle.pt_margins.specs.Text.{margins_text}
+use Rattle.pt_ends.specs.Schedule.{IsOnSchedule}
+use Rattle.pt_ranks.specs.Ranked.{level_of, rank_of}
+use Rattle.pt_offsets.specs.Plans.{IsAdmitted, Parts}
+use Rattle.pt_turn.specs.Platforms.{PlatformView, state_at}
+use Rattle.pt_platforms.specs.All.{AreAll, histories_of}
+use Rattle.pt_rounds.specs.HaveRun.{IsAfter}
+use Rattle.pt_recorded.specs.declared.fault.LateRows.TheVariants.{Refused}
 use Rattle.pt_recorded.specs.Asked.{Contents}
 use Rattle.pt_recorded.specs.Places.{of_run}
-use Rattle.pt_recorded.specs.Recorded.{AreRows}
-use Rattle.pt_runs.specs.Runs.{IsFinishedRun}
-use Rattle.pt_run.specs.declared.words.Command.{Command}
-use Rattle.pt_run.specs.declared.words.Command.TheVariants.{Run, Check, Meaning}
+use Rattle.pt_recorded.specs.Recorded.{AllPass, AreRows, SensorLate}
+use Rattle.pt_runs.specs.Runs.{log_if}
+use Rattle.pt_run.specs.declared.fault.Fault.{Fault}
+use Rattle.pt_run.specs.declared.fault.Fault.TheVariants.{LateRow}
+use Rattle.pt_run.specs.declared.words.Command.TheVariants.{Run}
+use Rattle.pt_run.specs.Causes.{Writing}
+use Rattle.pt_run.specs.Words.{Order, over}
+use Rattle.pt_run.specs.Written.{GraphWith, Leaves, nothing}
 
--- the graph file of that name defines a graph of which a fact holds
-abbrev pub GraphWith : Contents → List Named → List ℕ → (Graph → Type 0) → Type 0
-GraphWith tells blocks name Fact = (g : Graph) × IfSome (tells name) (λ bytes. graph_of blocks bytes ≡ Ok g) × Fact g
-
--- what a call leaves besides what it wrote: the missed entries and the platforms of a run
-pub record Leaves : Type 0 where
-  pub misses : List Miss
-  pub platforms : List PlatformView
-
-abbrev pub nothing : Leaves
-nothing = record { misses = []; platforms = [] }
-
--- the firings are the meaning of a graph and these rows
-pub record Means (g : Graph) (rows : ℕ → List Row) (firings : List ActorFiring) : Type 0 where
-  pub rank : ℕ → ℕ
-  pub ranks : AreRanks g rank
-  pub meaning : IsMeaning g rank (of_run g rows) firings
-
--- the meaning of a graph and these rows has more firings than that
-pub record IsTooLong (g : Graph) (rows : ℕ → List Row) (most : ℕ) : Type 0 where
-  pub rank : ℕ → ℕ
-  pub ranks : AreRanks g rank
-  pub longer : IsLonger g rank (of_run g rows) most
-
--- the text is that of the tables of the meaning of a graph and these rows, of whose firings a fact holds
-pub record IsTables (g : Graph) (rows : ℕ → List Row) (Fact : List ActorFiring → Type 0) (text : List ℕ) : Type 0 where
-  pub firings : List ActorFiring
-  pub means : Means g rows firings
-  pub fact : Fact firings
-  pub tables : text ≡ tables_text g firings
-
--- no more actors fire than that for each platform
-abbrev pub FitOnAll : Graph → List ActorFiring → Type 0
-FitOnAll g firings = length firings ≤ 200000 * length g.platforms
-
--- what a run of this graph must write and leave
-pub record IsRun (tells : Contents) (g : Graph) (log : Bool) (left : Leaves) (text : List ℕ) : Type 0 where
+-- the file of that name defines an admitted graph, its sensors' files have rows, of which none is late, and a fact holds of
+-- the plan of the graph and of the rows up to its horizon
+pub record RunWith (tells : Contents) (blocks : List Named) (name : List ℕ) (Fact : Parts → (ℕ → List Row) → Type 0) : Type 0 where
   pub plan : Parts
-  pub graph : plan.graph ≡ g
-  pub finished : IsFinishedRun tells plan log left.platforms left.misses text
-
--- what `meaning` must write for this graph: the same tables, whatever the bounds of its sensors
-pub record IsMeant (tells : Contents) (g : Graph) (text : List ℕ) : Type 0 where
+  pub file : IfSome (tells name) (λ bytes. graph_of blocks bytes ≡ Ok plan.graph)
+  pub admitted : IsAdmitted plan
   pub rows : ℕ → List Row
-  pub sensors : AreRows tells g rows
-  pub tables : IsTables g rows (FitOnAll g) text
+  pub sensors : AreRows tells plan.graph rows
+  pub in_time : AllPass Refused plan.graph rows
+  pub fact : Fact plan (of_run plan.graph rows)
 
--- what `check` must write for this graph, whose senders can all send in time: the offset and the margin of each actor
-pub record IsChecked (g : Graph) (text : List ℕ) : Type 0 where
-  pub feasible : IsFeasible g
-  pub offset : ℕ → Option ℤ
-  pub margin : ℕ → Option ℤ
-  pub offsets : (a : ℕ) → HasActorOffset g a (offset a)
-  pub margins : (a : ℕ) → HasMargin g a (margin a)
-  pub lines : text ≡ margins_text g offset margin
+-- the bytes written are the tables of the meaning and, where asked, the log of the platforms
+pub record WroteMeaning (plan : Parts) (rows : ℕ → List Row) (log : Bool) (platforms : List PlatformView) (w : Writing) : Type 0 where
+  pub firings : List ActorFiring
+  pub meaning : IsMeaning plan.graph (rank_of plan.ranks) rows firings
+  pub text : Appends w.written_before w.written_now (tables_text plan.graph firings ++ log_if log plan.graph platforms)
 
--- what a command must write for a graph without a free cycle, and what it leaves
-abbrev pub WritesText : Command → Contents → Graph → Leaves → List ℕ → Type 0
-WritesText (Run workers log) tells g left text = IsRun tells g log left text
-WritesText Check tells g left text = (left ≡ nothing) × IsChecked g text
-WritesText Meaning tells g left text = (left ≡ nothing) × IsMeant tells g text
+-- of each of these platforms a fact holds, and of its number
+abbrev pub EachOf : List PlatformView → (ℕ → PlatformView → Type 0) → Type 0
+EachOf platforms Fact = (i : ℕ) (v : PlatformView) → slice_get platforms i ≡ Some v → Fact i v
 
--- what a command must write for a graph, which has no free cycle
-abbrev pub Writes : Command → Contents → Graph → Leaves → List ℕ → Type 0
-Writes command tells g left text = NoFreeCycle g × WritesText command tells g left text
+-- the platforms are all of the graph, opened with these rows; each has a legal history, without a late message, that leads to
+-- its state; what was taken was sent; and but where one had too much to claim, all that was sent was taken and all are finished
+pub record KeptAll (plan : Parts) (rows : ℕ → List Row) (platforms : List PlatformView) (Ended : Type 0) : Type 0 where
+  pub all : AreAll plan rows platforms
+  pub legal : EachOf platforms (λ i v. LegalOnTime plan.graph (level_of plan.ranks) i (opened plan.graph i rows) v.turns (state_at v))
+  pub matched : AreMatched plan.graph (histories_of platforms)
+  pub linked : Ended → AreLinked plan.graph (histories_of platforms)
+  pub finished : Ended → EachOf platforms (λ i v. IsFinished plan.graph i (state_at v))
 
--- what it must write for the graph file of that name
-abbrev pub Ran : Command → Contents → List Named → List ℕ → Leaves → List ℕ → Type 0
-Ran command tells blocks name left text = GraphWith tells blocks name (λ g. Writes command tells g left text)
+-- the kept turns are those of the paced rounds, and each claim is made at exactly the paced reading of its unit and tag
+pub record ReadPaced (plan : Parts) (rows : ℕ → List Row) (platforms : List PlatformView) : Type 0 where
+  pub rounds : IsAfter plan rows (level_of plan.ranks) platforms
+  pub on_schedule : EachOf platforms (λ i v. Each (IsOnSchedule plan.graph) v.turns)
 
--- the bytes that were told grew by that text
-abbrev pub Wrote : Command → Contents → List Named → List ℕ → Leaves → Option (List ℕ) → Option (List ℕ) → Type 0
-Wrote command tells blocks name left before now = (text : List ℕ) × Ran command tells blocks name left text × Appends before now text
+-- a run that wrote what it must, or would have but for a failed write
+abbrev pub IsEnded : ℕ → Type 0
+IsEnded status = (status ≡ 0) ⊎ ((status ≡ 5) ⊎ (status ≡ 8))
 
--- they grew by a prefix of it, and no missed entry is told
-abbrev pub WrotePart : Command → Contents → List Named → List ℕ → Leaves → Option (List ℕ) → Option (List ℕ) → Type 0
-WrotePart command tells blocks name left before now =
-    (left.misses ≡ []) × (misses : List Miss) × (text : List ℕ) × Ran command tells blocks name (record left { misses = misses }) text × AppendsPart before now text
+-- a run over the graph file of that name
+pub record Headline (status : ℕ) (outcome : Option Fault) (left : Leaves) (log : Bool) (tells : Contents) (blocks : List Named) (name : List ℕ) (w : Writing) : Type 0 where
+  pub written : (status ≡ 0) ⊎ (status ≡ 5) → RunWith tells blocks name (λ plan rows. WroteMeaning plan rows log left.platforms w)
+  pub kept : IsEnded status ⊎ (status ≡ 6) → RunWith tells blocks name (λ plan rows. KeptAll plan rows left.platforms (IsEnded status))
+  pub readings : IsEnded status ⊎ (status ≡ 6) → RunWith tells blocks name (λ plan rows. ReadPaced plan rows left.platforms)
+  pub late : status ≡ 4 → (actor row seen limit : ℕ) × (outcome ≡ Some (LateRow actor row seen limit)) × GraphWith tells blocks name (λ g. SensorLate tells g actor row seen limit)
+  pub nothing_else : (IsEnded status ⊎ (status ≡ 6) → ⊥) → left ≡ nothing
+
+-- so does each run that the words ask for
+abbrev pub IsHeadline : ℕ → Option Fault → Leaves → Option Order → Contents → List Named → Writing → Type 0
+IsHeadline status outcome left order tells blocks w = (workers : ℕ) (log : Bool) (name : List ℕ) → order ≡ Some (over (Run workers log) name) → Headline status outcome left log tells blocks name w

@@ -1,7 +1,7 @@
 pub mod Statuses
 pub mod Words
 pub mod Faults
-pub mod Headline
+pub mod Written
 pub mod Agreeing
 pub mod Causes
 pub mod Complete
@@ -10,3 +10,5 @@ pub mod Notes
 pub mod Telling
 pub mod Making
 pub mod Asking
+pub mod Headline
+pub mod CauseTable

@@ -16,7 +16,7 @@ use Rattle.pt_made.specs.Summary.{summary}
 use Rattle.pt_run.specs.declared.fault.Fault.{Fault}
 use Rattle.pt_run.specs.declared.fault.Fault.TheVariants as fault
 use Rattle.pt_run.specs.Causes.{Writing}
-use Rattle.pt_run.specs.Headline.{Leaves, nothing}
+use Rattle.pt_run.specs.Written.{Leaves, nothing}
 use Rattle.pt_run.specs.Telling.{Tells, TellsBy}
 use Rattle.pt_run.specs.Texts.{AsksBy, EndsBy}
 use Rattle.pt_run.specs.Words.{Order, over, make}

@@ -10,7 +10,7 @@ use Rattle.pt_run.specs.declared.fault.Fault.{Fault}
 use Rattle.pt_run.specs.declared.fault.Fault.TheVariants as fault
 use Rattle.pt_run.specs.declared.words.Command.{Command}
 use Rattle.pt_run.specs.Causes.{Writing}
-use Rattle.pt_run.specs.Headline.{GraphWith}
+use Rattle.pt_run.specs.Written.{GraphWith}
 use Rattle.pt_run.specs.Notes.{note_line}
 
 -- the notes of a call: the line of its fault, or a line for each missed entry

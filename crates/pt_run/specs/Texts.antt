@@ -23,7 +23,7 @@ use Rattle.pt_run.specs.declared.fault.Outcome.{Outcome}
 use Rattle.pt_run.specs.Faults.{fault_of_rows}
 use Rattle.pt_run.specs.declared.words.Command.{Command}
 use Rattle.pt_run.specs.declared.words.Command.TheVariants.{Check}
-use Rattle.pt_run.specs.Headline.{GraphWith, Leaves, Writes, Wrote, nothing}
+use Rattle.pt_run.specs.Written.{GraphWith, Leaves, Writes, Wrote, nothing}
 use Rattle.pt_run.specs.Causes.{CauseOf, CauseOfCheck, CauseOfMeaning, IsCause, IsTooLongForAll, Writing}
 
 -- of the files of a graph a command asks for those of the sensors, and `check` for none

@@ -1,7 +1,7 @@
 //! How a call ends.
 
 ghost use Rattle.std.specs.Prelude.{◌≡◌, [], None, Some};
-ghost use Rattle.pt_run.specs.Headline.{nothing};
+ghost use Rattle.pt_run.specs.Written.{nothing};
 ghost use Rattle.pt_run.specs.Statuses.{status_of, status_of_fault};
 ghost use Rattle.pt_run.specs.Texts.{left_by};
 ghost use Rattle.pt_run.specs.Faults.{fault_of_cycle, fault_of_graph, fault_of_offset, fault_of_rows};

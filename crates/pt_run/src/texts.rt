@@ -9,7 +9,7 @@ ghost use Rattle.pt_ranks.specs.Ranked.{rank_of};
 ghost use Rattle.pt_recorded.specs.Asked.{AsksFiles, Contents, Reading};
 ghost use Rattle.pt_run.specs.declared.words.Command.TheVariants.{Check, Meaning};
 ghost use Rattle.pt_run.specs.Causes.{CauseOf};
-ghost use Rattle.pt_run.specs.Headline.{FitOnAll, IsChecked, IsMeant, IsTables, Writes, nothing};
+ghost use Rattle.pt_run.specs.Written.{FitOnAll, IsChecked, IsMeant, IsTables, Writes, nothing};
 ghost use Rattle.pt_run.specs.Texts.{CheckFails, MeaningFails, MeaningTablesFail};
 
 use crate::fault::{Fault, fault_of_cycle, fault_of_offset, fault_of_rows};

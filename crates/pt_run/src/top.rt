@@ -2,7 +2,9 @@
 
 ghost use Rattle.std.specs.Prelude.{◌≡◌, None, Some};
 ghost use Rattle.pt_types.specs.Lawful.{IsLawful};
+ghost use Rattle.pt_run.specs.CauseTable.{CauseTable};
 ghost use Rattle.pt_run.specs.Complete.{IsComplete};
+ghost use Rattle.pt_run.specs.Headline.{IsHeadline};
 ghost use Rattle.pt_run.specs.Statuses.{status_of};
 ghost use Rattle.pt_run.specs.Words.{order_of};
 ghost use Rattle.pt_run.specs.Making.{AsksOf, Ends, TellsOf};
@@ -25,9 +27,9 @@ use std::alloc::Global;
 /// Runs the command of these words, those after the program's name: `run GRAPH`, `check GRAPH`, `meaning GRAPH` or
 /// `make NUMBER`.
 ///
-/// Files are asked of the source by name; `make` asks for none. The text goes to `out`, line by line; where the call ends otherwise, one
-/// line on `notes` says why, and where a run missed something, one line for each missed entry says what. Actors may name
-/// these blocks.
+/// Files are asked of the source by name; `make` asks for none. The text goes to `out`, line by line; where the call ends
+/// otherwise, one line on `notes` says why, and where a run missed something, one line for each missed entry says what.
+/// Actors may name these blocks.
 pub fn ptides<S: Source, K: Sink, E: Sink>(
     alloc: Global,
     words: &[String],
@@ -40,7 +42,15 @@ pub fn ptides<S: Source, K: Sink, E: Sink>(
     // The source was asked for the graph file, then for the files of its sensors in order, and for nothing else.
     ensures asks { AsksOf (order_of words.now) (S.tells source.old) blocks.now.listed.items
         (record { asked_before = S.asked source.old; asked_now = S.asked source.new; before = S.faults source.old; now = S.faults source.new }) }
-    // What was written and what is left, and why the call ended otherwise: by cases in `EndsBy` and `EndsMade`.
+    // The headline: what a run has written, what it keeps, at which readings, and why it ended with status 4.
+    ensures headline { IsHeadline result.status result.fault (left_by result) (order_of words.now) (S.tells source.old) blocks.now.listed.items
+        (record { before = K.faults out.old; now = K.faults out.new; written_before = K.written out.old; written_now = K.written out.new }) }
+    // Why the call ended so: one field for each answer.
+    ensures causes { CauseTable result.status result.fault (left_by result) (order_of words.now) (S.tells source.old) blocks.now.listed.items
+        (record { asked_before = S.asked source.old; asked_now = S.asked source.new; before = S.faults source.old; now = S.faults source.new })
+        (record { before = K.faults out.old; now = K.faults out.new; written_before = K.written out.old; written_now = K.written out.new }) }
+    // All of it, for every command: what was written and what is left, and why the call ended otherwise, by cases in `EndsBy`
+    // and `EndsMade`.
     ensures ends { Ends result.fault (left_by result) (order_of words.now) (S.tells source.old) blocks.now.listed.items
         (record { asked_before = S.asked source.old; asked_now = S.asked source.new; before = S.faults source.old; now = S.faults source.new })
         (record { before = K.faults out.old; now = K.faults out.new; written_before = K.written out.old; written_now = K.written out.new }) }

@@ -32,7 +32,8 @@ pub struct Lists {
 /// Makes a turn of platform `number` at a reading that is at least the last, with these results and messages, and claims
 /// `most` units at most. What it did is in `lists`, which were empty before; the result says whether a turn may follow.
 ///
-/// `closing` is the closing reading of the platform, and `branches` are those of the plan's graph. Readings are microseconds. No memory is taken.
+/// `closing` is the closing reading of the platform, and `branches` are those of the plan's graph. Readings are microseconds.
+/// No memory is taken.
 pub fn turn(
     fields: &mut Fields,
     plan: &Plan,

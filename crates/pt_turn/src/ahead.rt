@@ -7,8 +7,8 @@ ghost use Rattle.pt_turn.specs.Growing.{HistoryIsWider};
 use pt_history::{History, Room};
 use pt_tags::Memory;
 
-/// For how many more turns, or members of a list, memory is taken beside twice of what is asked. So some 60 turns go by
-/// before memory is taken again, and a history has at most some 50 kilobytes more than it needs.
+/// For how many more turns, or members of a list, memory is taken beside twice what is asked: so memory is taken again
+/// after 66 turns that each ask for little, or 3 that each ask for 64 claims.
 const AHEAD: usize = 64;
 
 /// Nothing for nothing, and else more than is asked.

@@ -62,8 +62,8 @@ fn have_ended(graph: &Graph, number: u32, history: &History) -> bool
 }
 
 impl Platform {
-    /// Whether it is finished: it is closed, all messages went out, and `End` was taken on each incoming link. The kept
-    /// turns are gone through only where it is closed and all messages went out.
+    /// Whether it is finished: it is closed, all messages went out, and `End` was taken on each incoming link. The
+    /// messages that were taken are gone through only where it is closed and all messages went out.
     pub fn finished(&self) -> bool
         ensures { (result ≡ true) ↔ IsFinished self.now.plan.graph self.now.number (state_at self.now) }
     {

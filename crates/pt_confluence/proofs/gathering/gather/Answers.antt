@@ -8,13 +8,14 @@ use Rattle.pt_types.specs.declared.graph.Graph.{Graph}
 use Rattle.pt_ranks.specs.Ranked.{rank_of}
 use Rattle.pt_confluence.specs.Gathered.{tasks_of}
 use Rattle.pt_confluence.specs.Joined.{joined, whole}
+use Rattle.pt_confluence.proofs.All.{claimed_of}
 use Rattle.pt_confluence.proofs.Ordering.{AreOrdered}
 use Rattle.pt_confluence.proofs.Sorting.{sorted_tasks}
 use Rattle.pt_confluence.proofs.Tables.{meaning_is}
 use Rattle.pt_confluence.proofs.gathering.gather.Goals as goal
 
-pub returns : goal.returns
-returns c =
+pub returns-clause-meaning : goal.returns-clause-meaning
+returns-clause-meaning c =
     let sorted : AreOrdered (rank_of c.args.plan.now.ranks) (map (λ (task : Bor Task). task.now) c.in_ok-tasks.tasks.items) (map (λ (task : Bor Task). task.now) c.sort.new.tasks.items) =
     subst (λ (r : Ranks). AreOrdered (rank_of r) (map (λ (task : Bor Task). task.now) c.in_ok-tasks.tasks.items) (map (λ (task : Bor Task). task.now) c.sort.new.tasks.items)) c.ranks.ensures.value
     (sorted_tasks (λ (task : Bor Task). task.now) (rank_of c.ranks.result.now) c.in_ok-tasks.tasks.items c.sort.new.tasks.items c.sort.ensures.permutation c.sort.ensures.sorted) in
@@ -24,3 +25,6 @@ returns c =
     subst (IsMeaning c.args.plan.now.graph (rank_of c.args.plan.now.ranks) rows)
     (ap₂ (λ (g : Graph) (ts : List (Bor Task)). map (whole g) (joined (map (λ (task : Bor Task). task.now) ts))) (sym c.graph.ensures.value) (sym c.as_slice.ensures.value) ∙ sym is)
     (meaning_is c.args.plan.now rows c.args.platforms.now c.graph.ensures.admitted run c.in_ok-tasks.ensures.legal (map (λ (task : Bor Task). task.now) c.sort.new.tasks.items) ordered)) c.join.ensures
+
+pub returns-clause-claimed : goal.returns-clause-claimed
+returns-clause-claimed c = IfOk-weaker c.join.result _ _ (λ firings is rows run. claimed_of c.args.plan.now rows c.args.platforms.now c.graph.ensures.admitted run c.in_ok-tasks.ensures.legal firings (is rows run)) (returns-clause-meaning c)

@@ -1,5 +1,5 @@
 use Rattle.std.proofs.Common.{◌∙◌, ap}
-use Rattle.pt_run.specs.Headline.{Leaves}
+use Rattle.pt_run.specs.Written.{Leaves}
 use Rattle.pt_run.proofs.Made.{tells_nothing}
 use Rattle.pt_run.proofs.making.make.Goals as goal
 

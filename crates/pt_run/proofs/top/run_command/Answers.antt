@@ -2,7 +2,7 @@ use Rattle.std.specs.Prelude.{string_bytes}
 use Rattle.pt_recorded.specs.Asked.{Reading}
 use Rattle.pt_run.specs.declared.words.Command.TheVariants.{Check, Meaning}
 use Rattle.pt_run.specs.Causes.{CauseOf, Writing}
-use Rattle.pt_run.specs.Headline.{Writes, nothing}
+use Rattle.pt_run.specs.Written.{Writes, nothing}
 use Rattle.std.proofs.Common.{[]}
 use Rattle.pt_run.proofs.Ending.{ends_answer, err_at, ok_at}
 use Rattle.pt_run.proofs.top.run_command.Goals as goal

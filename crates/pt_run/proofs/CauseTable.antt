@@ -1,0 +1,196 @@
+-- Each answer has its cause.
+use Rattle.std.proofs.Common.{◌≡◌, ◌≢◌, ℕ, List, [], ◌∷◌, Option, Some, None, Err, IfSome, ℤ, refl, sym, ap, subst, ◌∙◌, arith}
+use Rattle.std.specs.Prelude.{◌↔◌, flat_map}
+use Rattle.pt_io.specs.Causes.{Rose}
+use Rattle.pt_types.specs.declared.graph.Graph.{Graph}
+use Rattle.pt_blocks.specs.declared.blocks.Named.{Named}
+use Rattle.pt_graph_text.specs.declared.fault.GraphFault.{GraphFault}
+use Rattle.pt_graph.specs.GraphOf.{graph_of}
+use Rattle.pt_history.specs.declared.miss.Miss.{Miss}
+use Rattle.pt_ranks.specs.Ranked.{IsFreeCycle}
+use Rattle.pt_offsets.specs.Margins.{IsFirstInfeasible}
+use Rattle.pt_sensors.specs.declared.fault.RowFault.{RowFault}
+use Rattle.pt_semantics.specs.Cycles.{NoFreeCycle}
+use Rattle.pt_monitors.specs.Platforms.{missed_by}
+use Rattle.pt_recorded.specs.Asked.{Contents, ReadFails, Reading}
+use Rattle.pt_recorded.specs.Recorded.{SensorFails, SensorLate, SensorUnread}
+use Rattle.pt_run.specs.declared.fault.Fault.{Fault}
+use Rattle.pt_run.specs.declared.fault.Fault.TheVariants as fault
+use Rattle.pt_run.specs.declared.words.Command.{Command}
+use Rattle.pt_run.specs.declared.words.Command.TheVariants.{Run, Check, Meaning}
+use Rattle.pt_run.specs.Causes.{CauseOfText, MeansLong, RunsLong, Writing}
+use Rattle.pt_run.specs.CauseTable.{CauseTable, OfRows, OverFile, OverGraph}
+use Rattle.pt_run.specs.Making.{Ends}
+use Rattle.pt_run.specs.Statuses.{status_of, status_of_fault}
+use Rattle.pt_run.specs.Words.{Order, over, make}
+use Rattle.pt_run.specs.Written.{Leaves, WritesText}
+
+-- the status of a fault is not 5
+not_missed : (f : Fault) → status_of_fault f ≡ 5 → ⊥
+not_missed fault.Usage e = omega (arith, e)
+not_missed (fault.Graph f) e = omega (arith, e)
+not_missed (fault.Cycle actors) e = omega (arith, e)
+not_missed (fault.Infeasible send offset slack) e = omega (arith, e)
+not_missed (fault.Sensor actor f) e = omega (arith, e)
+not_missed (fault.LateRow actor row seen limit) e = omega (arith, e)
+not_missed (fault.Long platform) e = omega (arith, e)
+not_missed (fault.Read sensor) e = omega (arith, e)
+not_missed fault.Write e = omega (arith, e)
+not_missed fault.Memory e = omega (arith, e)
+
+none_misses : (o : Option Fault) (misses : List Miss) → status_of o misses ≡ 5 → (o ≡ None) × (misses ≢ [])
+none_misses None [] e = absurd (omega (arith, e))
+none_misses None (m ∷ ms) e = (refl, λ h. absurd cc)
+none_misses (Some f) misses e = absurd (not_missed f e)
+
+is_missed : (misses : List Miss) → misses ≢ [] → status_of None misses ≡ 5
+is_missed [] h = absurd (h refl)
+is_missed (m ∷ ms) h = refl
+
+module _ (left : Leaves) (tells : Contents) (blocks : List Named) (r : Reading) (w : Writing) where
+  usage : (order : Option Order) → Ends (Some fault.Usage) left order tells blocks r w → order ≡ None
+  usage None k = refl
+  usage (Some (over command name)) k = absurd k
+  usage (Some (make n workers)) k = absurd k
+
+  graph_unread : (order : Option Order) → Ends (Some (fault.Read None)) left order tells blocks r w → OverFile order (λ name. ReadFails [] name r)
+  graph_unread None k = absurd (let e = k.0 in cc)
+  graph_unread (Some (over command name)) k = k.0
+  graph_unread (Some (make n workers)) k = absurd k
+
+  graph : (f : GraphFault) (order : Option Order) → Ends (Some (fault.Graph f)) left order tells blocks r w → OverFile order (λ name. IfSome (tells name) (λ bytes. graph_of blocks bytes ≡ Err f))
+  graph f None k = absurd (let e = k.0 in cc)
+  graph f (Some (over command name)) k = k.0
+  graph f (Some (make n workers)) k = absurd k
+
+  cycle : (actors : List ℕ) (order : Option Order) → Ends (Some (fault.Cycle actors)) left order tells blocks r w → OverGraph order tells blocks (λ command name g. IsFreeCycle g actors)
+  cycle actors None k = absurd (let e = k.0 in cc)
+  cycle actors (Some (over command name)) (k, same) = (k.0, k.1, k.2.0)
+  cycle actors (Some (make n workers)) k = absurd k
+
+  infeasible : (send : ℕ) (offset : ℤ) (slack : ℕ) (order : Option Order) → Ends (Some (fault.Infeasible send offset slack)) left order tells blocks r w → OverGraph order tells blocks (λ command name g. NoFreeCycle g × IsFirstInfeasible g send offset slack)
+  infeasible send offset slack None k = absurd (let e = k.0 in cc)
+  infeasible send offset slack (Some (over command name)) (k, same) = (k.0, k.1, k.2.0, of command k.0 k.2.1)
+    where
+      of : (c : Command) (g : Graph) → CauseOfText c (fault.Infeasible send offset slack) left tells g (name ∷ []) r → IsFirstInfeasible g send offset slack
+      of (Run workers log) g h = h.0
+      of Check g h = h.0
+      of Meaning g h = absurd h.0
+  infeasible send offset slack (Some (make n workers)) k = absurd k
+
+  sensor_unread : (actor : ℕ) (order : Option Order) → Ends (Some (fault.Read (Some actor))) left order tells blocks r w → OverGraph order tells blocks (λ command name g. OfRows command (λ late. SensorUnread late tells g actor (name ∷ []) r))
+  sensor_unread actor None k = absurd (let e = k.0 in cc)
+  sensor_unread actor (Some (over command name)) (k, same) = (k.0, k.1, of command k.0 k.2.1)
+    where
+      of : (c : Command) (g : Graph) → CauseOfText c (fault.Read (Some actor)) left tells g (name ∷ []) r → OfRows c (λ late. SensorUnread late tells g actor (name ∷ []) r)
+      of (Run workers log) g h = h.1.0
+      of Check g h = absurd h.0
+      of Meaning g h = h.0
+  sensor_unread actor (Some (make n workers)) k = absurd k
+
+  sensor : (actor : ℕ) (f : RowFault) (order : Option Order) → Ends (Some (fault.Sensor actor f)) left order tells blocks r w → OverGraph order tells blocks (λ command name g. OfRows command (λ late. SensorFails late tells g actor f))
+  sensor actor f None k = absurd (let e = k.0 in cc)
+  sensor actor f (Some (over command name)) (k, same) = (k.0, k.1, of command k.0 k.2.1)
+    where
+      of : (c : Command) (g : Graph) → CauseOfText c (fault.Sensor actor f) left tells g (name ∷ []) r → OfRows c (λ late. SensorFails late tells g actor f)
+      of (Run workers log) g h = h.1.0
+      of Check g h = absurd h.0
+      of Meaning g h = h.0
+  sensor actor f (Some (make n workers)) k = absurd k
+
+  late_row : (actor row seen limit : ℕ) (order : Option Order) → Ends (Some (fault.LateRow actor row seen limit)) left order tells blocks r w → OverGraph order tells blocks (λ command name g. SensorLate tells g actor row seen limit)
+  late_row actor row seen limit None k = absurd (let e = k.0 in cc)
+  late_row actor row seen limit (Some (over command name)) (k, same) = (k.0, k.1, of command k.0 k.2.1)
+    where
+      of : (c : Command) (g : Graph) → CauseOfText c (fault.LateRow actor row seen limit) left tells g (name ∷ []) r → SensorLate tells g actor row seen limit
+      of (Run workers log) g h = h.1.0
+      of Check g h = absurd h.0
+      of Meaning g h = absurd h.0
+  late_row actor row seen limit (Some (make n workers)) k = absurd k
+
+  long : (platform : ℕ) (order : Option Order) → Ends (Some (fault.Long (Some platform))) left order tells blocks r w → OverGraph order tells blocks (λ command name g. RunsLong tells g left platform)
+  long platform None k = absurd (let e = k.0 in cc)
+  long platform (Some (over command name)) (k, same) = (k.0, k.1, of command k.0 k.2.1)
+    where
+      of : (c : Command) (g : Graph) → CauseOfText c (fault.Long (Some platform)) left tells g (name ∷ []) r → RunsLong tells g left platform
+      of (Run workers log) g h = h
+      of Check g h = absurd h.0
+      of Meaning g h = absurd h.0
+  long platform (Some (make n workers)) k = absurd k
+
+  long_meaning : (order : Option Order) → Ends (Some (fault.Long None)) left order tells blocks r w → OverGraph order tells blocks (λ command name g. MeansLong tells g)
+  long_meaning None k = absurd (let e = k.0 in cc)
+  long_meaning (Some (over command name)) (k, same) = (k.0, k.1, of command k.0 k.2.1)
+    where
+      of : (c : Command) (g : Graph) → CauseOfText c (fault.Long None) left tells g (name ∷ []) r → MeansLong tells g
+      of (Run workers log) g h = absurd h
+      of Check g h = absurd h.0
+      of Meaning g h = h.0
+  long_meaning (Some (make n workers)) k = absurd k
+
+  write : (order : Option Order) → Ends (Some fault.Write) left order tells blocks r w → Rose w.before w.now
+  write None k = absurd (let e = k.0 in cc)
+  write (Some (over command name)) k = k.0
+  write (Some (make n workers)) k = k.0
+
+  unwritten : (f : Fault) (order : Option Order) → f ≢ fault.Write → Ends (Some f) left order tells blocks r w → w.written_now ≡ w.written_before
+  unwritten fault.Memory None no k = k.1
+  unwritten fault.Usage None no k = k.2
+  unwritten (fault.Graph f) None no k = k.2
+  unwritten (fault.Cycle actors) None no k = k.2
+  unwritten (fault.Infeasible send offset slack) None no k = k.2
+  unwritten (fault.Sensor actor f) None no k = k.2
+  unwritten (fault.LateRow actor row seen limit) None no k = k.2
+  unwritten (fault.Long platform) None no k = k.2
+  unwritten (fault.Read sensor) None no k = k.2
+  unwritten fault.Write order no k = absurd (no refl)
+  unwritten fault.Memory (Some (over command name)) no k = k.1
+  unwritten fault.Usage (Some (over command name)) no k = absurd k
+  unwritten (fault.Graph f) (Some (over command name)) no k = k.2
+  unwritten (fault.Cycle actors) (Some (over command name)) no k = k.1
+  unwritten (fault.Infeasible send offset slack) (Some (over command name)) no k = k.1
+  unwritten (fault.Sensor actor f) (Some (over command name)) no k = k.1
+  unwritten (fault.LateRow actor row seen limit) (Some (over command name)) no k = k.1
+  unwritten (fault.Long platform) (Some (over command name)) no k = k.1
+  unwritten (fault.Read None) (Some (over command name)) no k = k.2
+  unwritten (fault.Read (Some actor)) (Some (over command name)) no k = k.1
+  unwritten fault.Memory (Some (make n workers)) no k = k.1
+  unwritten fault.Usage (Some (make n workers)) no k = absurd k
+  unwritten (fault.Graph f) (Some (make n workers)) no k = absurd k
+  unwritten (fault.Cycle actors) (Some (make n workers)) no k = absurd k
+  unwritten (fault.Infeasible send offset slack) (Some (make n workers)) no k = absurd k
+  unwritten (fault.Sensor actor f) (Some (make n workers)) no k = absurd k
+  unwritten (fault.LateRow actor row seen limit) (Some (make n workers)) no k = absurd k
+  unwritten (fault.Long platform) (Some (make n workers)) no k = absurd k
+  unwritten (fault.Read sensor) (Some (make n workers)) no k = absurd k
+
+  missed_are : (order : Option Order) → Ends None left order tells blocks r w → left.misses ≡ flat_map missed_by left.platforms
+  missed_are None k = absurd (let e = k.0 in cc)
+  missed_are (Some (over command name)) (text, (g, file, (free, writes)), appends) = of command writes
+    where
+      of : (c : Command) → WritesText c tells g left text → left.misses ≡ flat_map missed_by left.platforms
+      of (Run workers log) run = run.finished.missed
+      of Check h = ap (λ (l : Leaves). l.misses) h.0 ∙ sym (ap (λ (l : Leaves). flat_map missed_by l.platforms) h.0)
+      of Meaning h = ap (λ (l : Leaves). l.misses) h.0 ∙ sym (ap (λ (l : Leaves). flat_map missed_by l.platforms) h.0)
+  missed_are (Some (make n workers)) (none, text, run, appends) = none ∙ sym run.none_missed
+
+pub caused : (status : ℕ) (o : Option Fault) (left : Leaves) (order : Option Order) (tells : Contents) (blocks : List Named) (r : Reading) (w : Writing) → status ≡ status_of o left.misses → Ends o left order tells blocks r w → CauseTable status o left order tells blocks r w
+caused status o left order tells blocks r w is ends = record {
+  usage = λ e. usage left tells blocks r w order (by fault.Usage e);
+  graph_unread = λ e. graph_unread left tells blocks r w order (by (fault.Read None) e);
+  graph = λ f e. graph left tells blocks r w f order (by (fault.Graph f) e);
+  cycle = λ actors e. cycle left tells blocks r w actors order (by (fault.Cycle actors) e);
+  infeasible = λ send offset slack e. infeasible left tells blocks r w send offset slack order (by (fault.Infeasible send offset slack) e);
+  sensor_unread = λ actor e. sensor_unread left tells blocks r w actor order (by (fault.Read (Some actor)) e);
+  sensor = λ actor f e. sensor left tells blocks r w actor f order (by (fault.Sensor actor f) e);
+  late_row = λ actor row seen limit e. late_row left tells blocks r w actor row seen limit order (by (fault.LateRow actor row seen limit) e);
+  long = λ platform e. long left tells blocks r w platform order (by (fault.Long (Some platform)) e);
+  long_meaning = λ e. long_meaning left tells blocks r w order (by (fault.Long None) e);
+  write = λ e. write left tells blocks r w order (by fault.Write e);
+  unwritten = λ f e no. unwritten left tells blocks r w f order no (by f e);
+  missed = (λ five. none_misses o left.misses (sym is ∙ five), λ h. is ∙ ap (λ z. status_of z left.misses) h.0 ∙ is_missed left.misses h.1);
+  missed_are = λ e. missed_are left tells blocks r w order (subst (λ z. Ends z left order tells blocks r w) e ends);
+}
+  where
+    by : (f : Fault) → o ≡ Some f → Ends (Some f) left order tells blocks r w
+    by f e = subst (λ z. Ends z left order tells blocks r w) e ends

@@ -1,0 +1,102 @@
+-- What a command must write.
+use Rattle.std.specs.Prelude.{◌≡◌, ◌≤◌, ◌*◌, [], ℕ, ℤ, Bool, List, length, Option, Ok, IfSome}
+use Rattle.pt_io.specs.Causes.{Appends, AppendsPart}
+use Rattle.pt_types.specs.declared.graph.Graph.{Graph}
+use Rattle.pt_types.specs.declared.rows.Row.{Row}
+use Rattle.pt_blocks.specs.declared.blocks.Named.{Named}
+use Rattle.pt_graph.specs.GraphOf.{graph_of}
+use Rattle.pt_semantics.specs.Cycles.{NoFreeCycle}
+use Rattle.pt_semantics.specs.Ranks.{AreRanks}
+use Rattle.pt_semantics.specs.Meaning.{ActorFiring, IsMeaning, IsLonger}
+use Rattle.pt_semantics.specs.Tables.{tables_text}
+use Rattle.pt_semantics.specs.Offsets.{IsFeasible}
+use Rattle.pt_history.specs.declared.miss.Miss.{Miss}
+use Rattle.pt_turn.specs.Platforms.{PlatformView}
+use Rattle.pt_offsets.specs.Plans.{Parts}
+use Rattle.pt_offsets.specs.Margins.{HasActorOffset, HasMargin}
+use Rattle.pt_margins.specs.Text.{margins_text}
+use Rattle.pt_recorded.specs.Asked.{Contents}
+use Rattle.pt_recorded.specs.Places.{of_run}
+use Rattle.pt_recorded.specs.Recorded.{AreRows}
+use Rattle.pt_runs.specs.Runs.{IsFinishedRun}
+use Rattle.pt_run.specs.declared.words.Command.{Command}
+use Rattle.pt_run.specs.declared.words.Command.TheVariants.{Run, Check, Meaning}
+
+-- the graph file of that name defines a graph of which a fact holds
+abbrev pub GraphWith : Contents → List Named → List ℕ → (Graph → Type 0) → Type 0
+GraphWith tells blocks name Fact = (g : Graph) × IfSome (tells name) (λ bytes. graph_of blocks bytes ≡ Ok g) × Fact g
+
+-- what a call leaves besides what it wrote: the missed entries and the platforms of a run
+pub record Leaves : Type 0 where
+  pub misses : List Miss
+  pub platforms : List PlatformView
+
+abbrev pub nothing : Leaves
+nothing = record { misses = []; platforms = [] }
+
+-- the firings are the meaning of a graph and these rows
+pub record Means (g : Graph) (rows : ℕ → List Row) (firings : List ActorFiring) : Type 0 where
+  pub rank : ℕ → ℕ
+  pub ranks : AreRanks g rank
+  pub meaning : IsMeaning g rank (of_run g rows) firings
+
+-- the meaning of a graph and these rows has more firings than that
+pub record IsTooLong (g : Graph) (rows : ℕ → List Row) (most : ℕ) : Type 0 where
+  pub rank : ℕ → ℕ
+  pub ranks : AreRanks g rank
+  pub longer : IsLonger g rank (of_run g rows) most
+
+-- the text is that of the tables of the meaning of a graph and these rows, of whose firings a fact holds
+pub record IsTables (g : Graph) (rows : ℕ → List Row) (Fact : List ActorFiring → Type 0) (text : List ℕ) : Type 0 where
+  pub firings : List ActorFiring
+  pub means : Means g rows firings
+  pub fact : Fact firings
+  pub tables : text ≡ tables_text g firings
+
+-- no more actors fire than that for each platform
+abbrev pub FitOnAll : Graph → List ActorFiring → Type 0
+FitOnAll g firings = length firings ≤ 200000 * length g.platforms
+
+-- what a run of this graph must write and leave
+pub record IsRun (tells : Contents) (g : Graph) (log : Bool) (left : Leaves) (text : List ℕ) : Type 0 where
+  pub plan : Parts
+  pub graph : plan.graph ≡ g
+  pub finished : IsFinishedRun tells plan log left.platforms left.misses text
+
+-- what `meaning` must write for this graph: the same tables, whatever the bounds of its sensors
+pub record IsMeant (tells : Contents) (g : Graph) (text : List ℕ) : Type 0 where
+  pub rows : ℕ → List Row
+  pub sensors : AreRows tells g rows
+  pub tables : IsTables g rows (FitOnAll g) text
+
+-- what `check` must write for this graph, whose senders can all send in time: the offset and the margin of each actor
+pub record IsChecked (g : Graph) (text : List ℕ) : Type 0 where
+  pub feasible : IsFeasible g
+  pub offset : ℕ → Option ℤ
+  pub margin : ℕ → Option ℤ
+  pub offsets : (a : ℕ) → HasActorOffset g a (offset a)
+  pub margins : (a : ℕ) → HasMargin g a (margin a)
+  pub lines : text ≡ margins_text g offset margin
+
+-- what a command must write for a graph without a free cycle, and what it leaves
+abbrev pub WritesText : Command → Contents → Graph → Leaves → List ℕ → Type 0
+WritesText (Run workers log) tells g left text = IsRun tells g log left text
+WritesText Check tells g left text = (left ≡ nothing) × IsChecked g text
+WritesText Meaning tells g left text = (left ≡ nothing) × IsMeant tells g text
+
+-- what a command must write for a graph, which has no free cycle
+abbrev pub Writes : Command → Contents → Graph → Leaves → List ℕ → Type 0
+Writes command tells g left text = NoFreeCycle g × WritesText command tells g left text
+
+-- what it must write for the graph file of that name
+abbrev pub Ran : Command → Contents → List Named → List ℕ → Leaves → List ℕ → Type 0
+Ran command tells blocks name left text = GraphWith tells blocks name (λ g. Writes command tells g left text)
+
+-- the bytes that were told grew by that text
+abbrev pub Wrote : Command → Contents → List Named → List ℕ → Leaves → Option (List ℕ) → Option (List ℕ) → Type 0
+Wrote command tells blocks name left before now = (text : List ℕ) × Ran command tells blocks name left text × Appends before now text
+
+-- they grew by a prefix of it, and no missed entry is told
+abbrev pub WrotePart : Command → Contents → List Named → List ℕ → Leaves → Option (List ℕ) → Option (List ℕ) → Type 0
+WrotePart command tells blocks name left before now =
+    (left.misses ≡ []) × (misses : List Miss) × (text : List ℕ) × Ran command tells blocks name (record left { misses = misses }) text × AppendsPart before now text
