@@ -34,7 +34,7 @@ not_missed (fault.Infeasible send offset slack) e = omega (arith, e)
 not_missed (fault.Sensor actor f) e = omega (arith, e)
 not_missed (fault.LateRow actor row seen limit) e = omega (arith, e)
 not_missed (fault.Long platform) e = omega (arith, e)
-not_missed (fault.Read sensor) e = omega (arith, e)
+not_missed (fault.Read file) e = omega (arith, e)
 not_missed fault.Write e = omega (arith, e)
 not_missed fault.Memory e = omega (arith, e)
 
@@ -70,7 +70,7 @@ module _ (left : Leaves) (tells : Contents) (blocks : List Named) (r : Reading) 
 
   infeasible : (send : ℕ) (offset : ℤ) (slack : ℕ) (order : Option Order) → Ends (Some (fault.Infeasible send offset slack)) left order tells blocks r w → OverGraph order tells blocks (λ command name g. NoFreeCycle g × IsFirstInfeasible g send offset slack)
   infeasible send offset slack None k = absurd (let e = k.0 in cc)
-  infeasible send offset slack (Some (over command name)) (k, same) = (k.0, k.1, k.2.0, of command k.0 k.2.1)
+  infeasible send offset slack (Some (over command name)) (k, same) = (k.0, k.1, (k.2.0, of command k.0 k.2.1))
     where
       of : (c : Command) (g : Graph) → CauseOfText c (fault.Infeasible send offset slack) left tells g (name ∷ []) r → IsFirstInfeasible g send offset slack
       of (Run workers log) g h = h.0
@@ -83,7 +83,7 @@ module _ (left : Leaves) (tells : Contents) (blocks : List Named) (r : Reading) 
   sensor_unread actor (Some (over command name)) (k, same) = (k.0, k.1, of command k.0 k.2.1)
     where
       of : (c : Command) (g : Graph) → CauseOfText c (fault.Read (Some actor)) left tells g (name ∷ []) r → OfRows c (λ late. SensorUnread late tells g actor (name ∷ []) r)
-      of (Run workers log) g h = h.1.0
+      of (Run workers log) g h = h.1
       of Check g h = absurd h.0
       of Meaning g h = h.0
   sensor_unread actor (Some (make n workers)) k = absurd k
@@ -93,7 +93,7 @@ module _ (left : Leaves) (tells : Contents) (blocks : List Named) (r : Reading) 
   sensor actor f (Some (over command name)) (k, same) = (k.0, k.1, of command k.0 k.2.1)
     where
       of : (c : Command) (g : Graph) → CauseOfText c (fault.Sensor actor f) left tells g (name ∷ []) r → OfRows c (λ late. SensorFails late tells g actor f)
-      of (Run workers log) g h = h.1.0
+      of (Run workers log) g h = h.1
       of Check g h = absurd h.0
       of Meaning g h = h.0
   sensor actor f (Some (make n workers)) k = absurd k
@@ -103,7 +103,7 @@ module _ (left : Leaves) (tells : Contents) (blocks : List Named) (r : Reading) 
   late_row actor row seen limit (Some (over command name)) (k, same) = (k.0, k.1, of command k.0 k.2.1)
     where
       of : (c : Command) (g : Graph) → CauseOfText c (fault.LateRow actor row seen limit) left tells g (name ∷ []) r → SensorLate tells g actor row seen limit
-      of (Run workers log) g h = h.1.0
+      of (Run workers log) g h = h.1
       of Check g h = absurd h.0
       of Meaning g h = absurd h.0
   late_row actor row seen limit (Some (make n workers)) k = absurd k
@@ -134,35 +134,35 @@ module _ (left : Leaves) (tells : Contents) (blocks : List Named) (r : Reading) 
   write (Some (make n workers)) k = k.0
 
   unwritten : (f : Fault) (order : Option Order) → f ≢ fault.Write → Ends (Some f) left order tells blocks r w → w.written_now ≡ w.written_before
-  unwritten fault.Memory None no k = k.1
-  unwritten fault.Usage None no k = k.2
-  unwritten (fault.Graph f) None no k = k.2
-  unwritten (fault.Cycle actors) None no k = k.2
-  unwritten (fault.Infeasible send offset slack) None no k = k.2
-  unwritten (fault.Sensor actor f) None no k = k.2
-  unwritten (fault.LateRow actor row seen limit) None no k = k.2
-  unwritten (fault.Long platform) None no k = k.2
-  unwritten (fault.Read sensor) None no k = k.2
-  unwritten fault.Write order no k = absurd (no refl)
-  unwritten fault.Memory (Some (over command name)) no k = k.1
-  unwritten fault.Usage (Some (over command name)) no k = absurd k
-  unwritten (fault.Graph f) (Some (over command name)) no k = k.2
-  unwritten (fault.Cycle actors) (Some (over command name)) no k = k.1
-  unwritten (fault.Infeasible send offset slack) (Some (over command name)) no k = k.1
-  unwritten (fault.Sensor actor f) (Some (over command name)) no k = k.1
-  unwritten (fault.LateRow actor row seen limit) (Some (over command name)) no k = k.1
-  unwritten (fault.Long platform) (Some (over command name)) no k = k.1
-  unwritten (fault.Read None) (Some (over command name)) no k = k.2
-  unwritten (fault.Read (Some actor)) (Some (over command name)) no k = k.1
-  unwritten fault.Memory (Some (make n workers)) no k = k.1
-  unwritten fault.Usage (Some (make n workers)) no k = absurd k
-  unwritten (fault.Graph f) (Some (make n workers)) no k = absurd k
-  unwritten (fault.Cycle actors) (Some (make n workers)) no k = absurd k
-  unwritten (fault.Infeasible send offset slack) (Some (make n workers)) no k = absurd k
-  unwritten (fault.Sensor actor f) (Some (make n workers)) no k = absurd k
-  unwritten (fault.LateRow actor row seen limit) (Some (make n workers)) no k = absurd k
-  unwritten (fault.Long platform) (Some (make n workers)) no k = absurd k
-  unwritten (fault.Read sensor) (Some (make n workers)) no k = absurd k
+  unwritten fault.Memory None never k = k.1
+  unwritten fault.Usage None never k = k.2
+  unwritten (fault.Graph f) None never k = k.2
+  unwritten (fault.Cycle actors) None never k = k.2
+  unwritten (fault.Infeasible send offset slack) None never k = k.2
+  unwritten (fault.Sensor actor f) None never k = k.2
+  unwritten (fault.LateRow actor row seen limit) None never k = k.2
+  unwritten (fault.Long platform) None never k = k.2
+  unwritten (fault.Read file) None never k = k.2
+  unwritten fault.Write order never k = absurd (never refl)
+  unwritten fault.Memory (Some (over command name)) never k = k.1
+  unwritten fault.Usage (Some (over command name)) never k = absurd k
+  unwritten (fault.Graph f) (Some (over command name)) never k = k.2
+  unwritten (fault.Cycle actors) (Some (over command name)) never k = k.1
+  unwritten (fault.Infeasible send offset slack) (Some (over command name)) never k = k.1
+  unwritten (fault.Sensor actor f) (Some (over command name)) never k = k.1
+  unwritten (fault.LateRow actor row seen limit) (Some (over command name)) never k = k.1
+  unwritten (fault.Long platform) (Some (over command name)) never k = k.1
+  unwritten (fault.Read None) (Some (over command name)) never k = k.2
+  unwritten (fault.Read (Some actor)) (Some (over command name)) never k = k.1
+  unwritten fault.Memory (Some (make n workers)) never k = k.1
+  unwritten fault.Usage (Some (make n workers)) never k = absurd k
+  unwritten (fault.Graph f) (Some (make n workers)) never k = absurd k
+  unwritten (fault.Cycle actors) (Some (make n workers)) never k = absurd k
+  unwritten (fault.Infeasible send offset slack) (Some (make n workers)) never k = absurd k
+  unwritten (fault.Sensor actor f) (Some (make n workers)) never k = absurd k
+  unwritten (fault.LateRow actor row seen limit) (Some (make n workers)) never k = absurd k
+  unwritten (fault.Long platform) (Some (make n workers)) never k = absurd k
+  unwritten (fault.Read file) (Some (make n workers)) never k = absurd k
 
   missed_are : (order : Option Order) → Ends None left order tells blocks r w → left.misses ≡ flat_map missed_by left.platforms
   missed_are None k = absurd (let e = k.0 in cc)
@@ -187,7 +187,7 @@ caused status o left order tells blocks r w is ends = record {
   long = λ platform e. long left tells blocks r w platform order (by (fault.Long (Some platform)) e);
   long_meaning = λ e. long_meaning left tells blocks r w order (by (fault.Long None) e);
   write = λ e. write left tells blocks r w order (by fault.Write e);
-  unwritten = λ f e no. unwritten left tells blocks r w f order no (by f e);
+  unwritten = λ f e never. unwritten left tells blocks r w f order never (by f e);
   missed = (λ five. none_misses o left.misses (sym is ∙ five), λ h. is ∙ ap (λ z. status_of z left.misses) h.0 ∙ is_missed left.misses h.1);
   missed_are = λ e. missed_are left tells blocks r w order (subst (λ z. Ends z left order tells blocks r w) e ends);
 }

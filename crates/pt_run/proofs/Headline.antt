@@ -35,7 +35,7 @@ module _ (tells : Contents) (blocks : List Named) (name : List ℕ) (g : Graph) 
     fact = fact;
   }
 
-  -- what it keeps, where no platform had too much to claim
+  -- what it keeps, where never platform had too much to claim
   keeps : (Ended : Type 0) → HasRun tells plan left.platforms None → RunWith tells blocks name (λ plan rows. KeptAll plan rows left.platforms Ended)
   keeps Ended run = over_plan None run (λ plan rows. KeptAll plan rows left.platforms Ended) (record {
     all = run.kept.all;
@@ -47,18 +47,18 @@ module _ (tells : Contents) (blocks : List Named) (name : List ℕ) (g : Graph) 
 
   -- and where one had
   keeps_long : (Ended : Type 0) (platform : ℕ) → (Ended → ⊥) → HasRun tells plan left.platforms (Some platform) → RunWith tells blocks name (λ plan rows. KeptAll plan rows left.platforms Ended)
-  keeps_long Ended platform no run = over_plan (Some platform) run (λ plan rows. KeptAll plan rows left.platforms Ended) (record {
+  keeps_long Ended platform never run = over_plan (Some platform) run (λ plan rows. KeptAll plan rows left.platforms Ended) (record {
     all = run.kept.all;
     legal = run.kept.none_late;
     matched = run.kept.matched;
-    linked = λ e. absurd (no e);
-    finished = λ e. absurd (no e);
+    linked = λ e. absurd (never e);
+    finished = λ e. absurd (never e);
   })
 
   reads : (end : Option ℕ) → HasRun tells plan left.platforms end → RunWith tells blocks name (λ plan rows. ReadPaced plan rows left.platforms)
   reads end run = over_plan end run (λ plan rows. ReadPaced plan rows left.platforms) (record { rounds = run.kept.after; on_schedule = run.kept.on_schedule })
 
--- a status that a fault has, and no other
+-- a status that a fault has, and never other
 none_ended : (n : ℕ) → (n ≡ 0 → ⊥) → (n ≡ 5 → ⊥) → (n ≡ 8 → ⊥) → (n ≡ 6 → ⊥) → (IsEnded n ⊎ (n ≡ 6)) → ⊥
 none_ended n a b c d (inl (inl e)) = a e
 none_ended n a b c d (inl (inr (inl e))) = b e
@@ -102,14 +102,14 @@ module _ (left : Leaves) (workers : ℕ) (log : Bool) (tells : Contents) (blocks
         kept = λ e. keeps tells blocks name g file run.plan run.graph left (IsEnded status) run.finished.run;
         readings = λ e. reads tells blocks name g file run.plan run.graph left None run.finished.run;
         late = λ e. absurd (ended.1 e);
-        nothing_else = λ no. absurd (no (inl ended.0));
+        nothing_else = λ never. absurd (never (inl ended.0));
       }
-  by_outcome status (Some fault.Write) r is (rose, (none, (misses, text, (g, file, (free, run)), part))) = record {
+  by_outcome status (Some fault.Write) r is (rose, (none, misses, text, (g, file, (free, run)), part)) = record {
     written = λ e. absurd (not_zero e);
     kept = λ e. keeps tells blocks name g file run.plan run.graph left (IsEnded status) run.finished.run;
     readings = λ e. reads tells blocks name g file run.plan run.graph left None run.finished.run;
     late = λ e. absurd (omega (arith, is, e));
-    nothing_else = λ no. absurd (no (inl (inr (inr is))));
+    nothing_else = λ never. absurd (never (inl (inr (inr is))));
   }
     where
       not_zero : (status ≡ 0) ⊎ (status ≡ 5) → ⊥
@@ -120,7 +120,7 @@ module _ (left : Leaves) (workers : ℕ) (log : Bool) (tells : Contents) (blocks
     kept = λ e. keeps_long tells blocks name g file long.plan long.graph left (IsEnded status) platform not_ended long.run;
     readings = λ e. reads tells blocks name g file long.plan long.graph left (Some platform) long.run;
     late = λ e. absurd (omega (arith, is, e));
-    nothing_else = λ no. absurd (no (inr is));
+    nothing_else = λ never. absurd (never (inr is));
   }
     where
       not_zero : (status ≡ 0) ⊎ (status ≡ 5) → ⊥

@@ -12,5 +12,5 @@ returns-in-Ok-summary g c =
     let counted : c.len.result ≡ length (flat_map missed_by c.in_ok-platforms.platforms.items) = search rules in
     made_run c.args.number c.requires (arc_value c.in-Ok.plan) (ap (λ (p : Parts). p.graph) shared ∙ c.in_ok-plan.ensures.graph) (subst IsAdmitted (sym shared) c.in_ok-plan.ensures.admitted)
     c.in_ok-platforms.platforms.items c.in_ok-firings.firings c.len.result (string_bytes c.in-Ok-summary.summary) c.in_ok-platforms.ensures
-    (gathered_as (arc_value c.in-Ok.plan) c.deref.result.now c.in_ok-platforms.platforms.items c.as_slice-2.result.now c.in_ok-firings.firings c.deref.ensures c.as_slice-2.ensures.value c.in_ok-firings.ensures)
+    (gathered_as (arc_value c.in-Ok.plan) c.deref.result.now c.in_ok-platforms.platforms.items c.as_slice-2.result.now c.in_ok-firings.firings c.deref.ensures c.as_slice-2.ensures.value c.in_ok-firings.ensures.meaning)
     counted c.in-Ok-summary.ensures
