@@ -50,18 +50,18 @@ use Rattle.pt_run.specs.Making.{Ends}
 use Rattle.pt_run.specs.Words.{Order}
 
 -- what a file defines that is told is one
-agrees : {R : Type 0} (read : List ℕ → R) (told : Option (List ℕ)) (bytes : List ℕ) (o p : R) → told ≡ Some bytes → IfSome told (λ bytes. read bytes ≡ o) → IfSome told (λ bytes. read bytes ≡ p) → o ≡ p
+pub agrees : {R : Type 0} (read : List ℕ → R) (told : Option (List ℕ)) (bytes : List ℕ) (o p : R) → told ≡ Some bytes → IfSome told (λ bytes. read bytes ≡ o) → IfSome told (λ bytes. read bytes ≡ p) → o ≡ p
 agrees read None bytes o p e h k = absurd (none_some bytes e)
 agrees read (Some b) bytes o p e h k = sym h ∙ k
 
-same_ok : {X E : Type 0} (x y : X) → ◌≡◌ {A = Result X E} (Ok x) (Ok y) → x ≡ y
+pub same_ok : {X E : Type 0} (x y : X) → ◌≡◌ {A = Result X E} (Ok x) (Ok y) → x ≡ y
 same_ok x y e = cc
 
-ok_err : {X E : Type 0} (x : X) (f : E) → ◌≡◌ {A = Result X E} (Ok x) (Err f) → ⊥
+pub ok_err : {X E : Type 0} (x : X) (f : E) → ◌≡◌ {A = Result X E} (Ok x) (Err f) → ⊥
 ok_err x f e = cc
 
 -- a sender that can't send in time is in no graph in which all can
-too_late : (g : Graph) (send slack : ℕ) (offset : ℤ) → IsFeasible g → IsFirstInfeasible g send offset slack → ⊥
+pub too_late : (g : Graph) (send slack : ℕ) (offset : ℤ) → IsFeasible g → IsFirstInfeasible g send offset slack → ⊥
 too_late g send slack offset feasible h =
     let o = h.infeasible.offset_is.some in
     late o.1 (sum_along o.2).time slack offset o.4 (feasible send slack o.0 o.1 o.2 h.infeasible.sends o.3) h.infeasible.late

@@ -7,3 +7,4 @@ pub mod Agreeing
 pub mod Made
 pub mod Headline
 pub mod CauseTable
+pub mod Exact

@@ -12,3 +12,4 @@ pub mod Making
 pub mod Asking
 pub mod Headline
 pub mod CauseTable
+pub mod Exact

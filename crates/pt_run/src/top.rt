@@ -4,6 +4,7 @@ ghost use Rattle.std.specs.Prelude.{◌≡◌, None, Some};
 ghost use Rattle.pt_types.specs.Lawful.{IsLawful};
 ghost use Rattle.pt_run.specs.CauseTable.{CauseTable};
 ghost use Rattle.pt_run.specs.Complete.{IsComplete};
+ghost use Rattle.pt_run.specs.Exact.{IsExact};
 ghost use Rattle.pt_run.specs.Headline.{IsHeadline};
 ghost use Rattle.pt_run.specs.Statuses.{status_of};
 ghost use Rattle.pt_run.specs.Words.{order_of};
@@ -49,6 +50,9 @@ pub fn ptides<S: Source, K: Sink, E: Sink>(
     ensures causes { CauseTable result.status result.fault (left_by result) (order_of words.now) (S.tells source.old) blocks.now.listed.items
         (record { asked_before = S.asked source.old; asked_now = S.asked source.new; before = S.faults source.old; now = S.faults source.new })
         (record { before = K.faults out.old; now = K.faults out.new; written_before = K.written out.old; written_now = K.written out.new }) }
+    // And so it ends wherever the words and the files have that cause and none before it: one field for each answer that
+    // they tell.
+    ensures exact { IsExact result.fault (order_of words.now) (S.tells source.old) blocks.now.listed.items }
     // All of it, for every command: what was written and what is left, and why the call ended otherwise, by cases in `EndsBy`
     // and `EndsMade`.
     ensures ends { Ends result.fault (left_by result) (order_of words.now) (S.tells source.old) blocks.now.listed.items

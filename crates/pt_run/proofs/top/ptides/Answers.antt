@@ -5,6 +5,7 @@ use Rattle.pt_run.specs.Texts.{left_by}
 use Rattle.pt_run.specs.Words.{order_of}
 use Rattle.pt_run.proofs.CauseTable.{caused}
 use Rattle.pt_run.proofs.Complete.{complete}
+use Rattle.pt_run.proofs.Exact.{exact}
 use Rattle.pt_run.proofs.Headline.{headline}
 use Rattle.pt_run.proofs.top.ptides.Goals as goal
 
@@ -31,3 +32,11 @@ returns-clause-causes g c =
     let r : Reading = record { asked_before = g.S.Source.asked c.args.source.now; asked_now = g.S.Source.asked c.run_words.new.source; before = g.S.Source.faults c.args.source.now; now = g.S.Source.faults c.run_words.new.source } in
     let w : Writing = record { before = g.K.Sink.faults c.args.out.now; now = g.K.Sink.faults c.run_words.new.out; written_before = g.K.Sink.written c.args.out.now; written_now = g.K.Sink.written c.run_words.new.out } in
     caused c.run_words.result.status c.run_words.result.fault (left_by c.run_words.result) (order_of c.args.words.now) tells blocks r w c.run_words.ensures.status c.run_words.ensures.ends
+
+pub returns-clause-exact : goal.returns-clause-exact
+returns-clause-exact g c =
+    let tells = g.S.Source.tells c.args.source.now in
+    let blocks = c.args.blocks.now.listed.items in
+    let r : Reading = record { asked_before = g.S.Source.asked c.args.source.now; asked_now = g.S.Source.asked c.run_words.new.source; before = g.S.Source.faults c.args.source.now; now = g.S.Source.faults c.run_words.new.source } in
+    let w : Writing = record { before = g.K.Sink.faults c.args.out.now; now = g.K.Sink.faults c.run_words.new.out; written_before = g.K.Sink.written c.args.out.now; written_now = g.K.Sink.written c.run_words.new.out } in
+    exact c.run_words.result.fault (left_by c.run_words.result) (order_of c.args.words.now) tells blocks r w c.run_words.ensures.ends

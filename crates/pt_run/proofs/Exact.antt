@@ -1,0 +1,425 @@
+-- Where a cause is there, and none before it, its answer comes.
+use Rattle.std.proofs.Common.{◌≡◌, ◌≢◌, ℕ, ◌+◌, ◌*◌, ◌<◌, ◌≤◌, ◌⊎◌, Bool, List, [], ◌∷◌, Option, Some, None, Result, Ok, Err, IfSome, ℤ, pos, ◌+ℤ◌, ◌≤ℤ◌, ◌<ℤ◌, length, slice_get, refl, sym, ap, ap₂, subst, ◌∙◌, arith, inl, inr, ⊎_elim}
+use Rattle.std.proofs.lemmas.Bool.{cases_lt}
+use Rattle.std.proofs.lemmas.Int.{ints}
+use Rattle.pt_tags.specs.declared.tag.Tag.{Tag}
+use Rattle.pt_types.specs.declared.graph.Graph.{Graph}
+use Rattle.pt_types.specs.declared.graph.Unit.{Unit as Part}
+use Rattle.pt_types.specs.declared.kind.Kind.{Kind}
+use Rattle.pt_types.specs.declared.kind.Kind.TheVariants.{Send, Sensor}
+use Rattle.pt_types.specs.declared.firing.ActorFiring.{ActorFiring}
+use Rattle.pt_types.specs.declared.rows.Row.{Row}
+use Rattle.pt_blocks.specs.declared.blocks.Named.{Named}
+use Rattle.pt_graph_text.specs.declared.fault.GraphFault.{GraphFault}
+use Rattle.pt_graph.specs.GraphOf.{graph_of}
+use Rattle.pt_ranks.specs.Ranked.{IsFreeCycle}
+use Rattle.pt_offsets.specs.Margins.{IsFirstInfeasible}
+use Rattle.pt_offsets.specs.Plans.{Parts}
+use Rattle.pt_sensors.specs.declared.fault.RowFault.{RowFault}
+use Rattle.pt_sensors.specs.Late.{late_row}
+use Rattle.pt_sensors.specs.RowsOf.{rows_of}
+use Rattle.pt_semantics.specs.Cycles.{NoFreeCycle}
+use Rattle.pt_semantics.specs.Edges.{kind_of}
+use Rattle.pt_semantics.specs.Firing.{any_present, fired}
+use Rattle.pt_semantics.specs.Meaning.{Fires, IsLonger, IsMeaning, Runs, Steps, World, after_firing, at_start, waiting}
+use Rattle.pt_semantics.specs.Offsets.{IsFeasible, IsOffset}
+use Rattle.pt_semantics.specs.Units.{at_output}
+use Rattle.pt_semantics.proofs.Acyclic.{ranks_are_one}
+use Rattle.pt_semantics.proofs.Lookups.{eight_found, none_some, same_some}
+use Rattle.pt_turn.specs.Platforms.{PlatformView}
+use Rattle.pt_recorded.specs.declared.fault.LateRows.{LateRows}
+use Rattle.pt_recorded.specs.declared.fault.LateRows.TheVariants.{Refused, Taken}
+use Rattle.pt_recorded.specs.Asked.{Contents, Reading}
+use Rattle.pt_recorded.specs.Places.{of_run}
+use Rattle.pt_recorded.specs.Recorded.{AllPass, AreRows, HaveRows, InTime, IsLateRow, RowsOfKind, SensorFails, SensorLate}
+use Rattle.pt_runs.specs.Agreeing.{TellsSensors}
+use Rattle.pt_runs.specs.Runs.{HasRun}
+use Rattle.pt_runs.proofs.Agreeing.{rows_are_one}
+use Rattle.pt_run.specs.declared.fault.Fault.{Fault}
+use Rattle.pt_run.specs.declared.fault.Fault.TheVariants as fault
+use Rattle.pt_run.specs.declared.words.Command.{Command}
+use Rattle.pt_run.specs.declared.words.Command.TheVariants.{Run, Check, Meaning}
+use Rattle.pt_run.specs.Causes.{CauseOf, CauseOfCheck, CauseOfMeaning, CauseOfRun, CauseOfText, IsTooLongForAll, Writing}
+use Rattle.pt_run.specs.CauseTable.{OfRows}
+use Rattle.pt_run.specs.Exact.{Defines, IsExact, WantsGraph, WantsMemory, WantsRows}
+use Rattle.pt_run.specs.Making.{Ends}
+use Rattle.pt_run.specs.Texts.{EndsBy}
+use Rattle.pt_run.specs.Words.{Order}
+use Rattle.pt_run.specs.Written.{GraphWith, IsMeant, Leaves, Writes}
+use Rattle.pt_run.proofs.Complete.{agrees, ok_err, same_ok, too_late}
+
+same_err : {X E : Type 0} (x y : E) → ◌≡◌ {A = Result X E} (Err x) (Err y) → x ≡ y
+same_err x y e = cc
+
+-- neither of two numbers is less
+neither_less : (a b : ℕ) → (a < b → ⊥) → (b < a → ⊥) → a ≡ b
+neither_less a b not_less none = ⊎_elim (λ (l : a < b). absurd (not_less l)) (λ (ge : b ≤ a). ⊎_elim (λ (l : b < a). absurd (none l)) (λ (le : a ≤ b). omega (arith, ge, le)) (cases_lt b a)) (cases_lt a b)
+
+-- there is one first sender that can't send in time, with one offset and slack
+one_offset : (g : Graph) (u : Part) (o p : ℤ) → IsOffset g u o → IsOffset g u p → o ≡ p
+one_offset g u o p h k =
+    let (s, b, path, feeds, is) = h.some in
+    let (t, c, other, feeds2, is2) = k.some in
+    same o p (subst (λ z. z ≤ℤ p) is (k.greatest s b path feeds)) (subst (λ z. z ≤ℤ o) is2 (h.greatest t c other feeds2))
+  where
+    same : (x y : ℤ) → x ≤ℤ y → y ≤ℤ x → x ≡ y
+    same x y a b = omega (arith, ints)
+
+same_send : (slack other : ℕ) → Send slack ≡ Send other → slack ≡ other
+same_send slack other e = cc
+
+not_before : (g : Graph) (send other slack slack2 : ℕ) (offset offset2 : ℤ) → IsFirstInfeasible g send offset slack → IsFirstInfeasible g other offset2 slack2 → send < other → ⊥
+not_before g send other slack slack2 offset offset2 h k l = clash slack offset (k.first send l slack offset h.infeasible.sends h.infeasible.offset_is) h.infeasible.late
+  where
+    clash : (s : ℕ) (o : ℤ) → (o +ℤ pos 1) ≤ℤ pos s → pos s <ℤ (o +ℤ pos 1) → ⊥
+    clash s o le lt = omega (arith, ints)
+
+one_infeasible : (g : Graph) (send other slack slack2 : ℕ) (offset offset2 : ℤ) → IsFirstInfeasible g send offset slack → IsFirstInfeasible g other offset2 slack2 → fault.Infeasible other offset2 slack2 ≡ fault.Infeasible send offset slack
+one_infeasible g send other slack slack2 offset offset2 h k =
+    let same : other ≡ send = neither_less other send (not_before g other send slack2 slack offset2 offset k h) (not_before g send other slack slack2 offset offset2 h k) in
+    let slacks : slack2 ≡ slack = same_send slack2 slack (sym k.infeasible.sends ∙ ap (kind_of g) same ∙ h.infeasible.sends) in
+    let offsets : offset2 ≡ offset = one_offset g (at_output g send 0) offset2 offset (subst (λ z. IsOffset g (at_output g z 0) offset2) same k.infeasible.offset_is) h.infeasible.offset_is in
+    λ i. fault.Infeasible (same i) (offsets i) (slacks i)
+
+-- a list of rows has one first late row
+one_late_row : (rows : List Row) (until bound row row2 seen seen2 limit limit2 : ℕ) → IsLateRow rows until bound row seen limit → IsLateRow rows until bound row2 seen2 limit2 → (row ≡ row2) × (seen ≡ seen2) × (limit ≡ limit2)
+one_late_row rows until bound row row2 seen seen2 limit limit2 h k =
+    let same : row ≡ row2 = same_some row row2 (sym h.first ∙ k.first) in
+    let index : h.there.0 ≡ k.there.0 = drop_one h.there.0 k.there.0 (sym h.there.1 ∙ same ∙ k.there.1) in
+    let it : h.it ≡ k.it = same_some h.it k.it (sym h.there.2 ∙ ap (slice_get rows) index ∙ k.there.2) in
+    (same, h.seen_then ∙ ap (λ (z : Row). z.seen) it ∙ sym k.seen_then, h.by ∙ ap (λ (z : Row). z.time + bound) it ∙ sym k.by)
+  where
+    drop_one : (i j : ℕ) → i + 1 ≡ j + 1 → i ≡ j
+    drop_one i j e = omega (arith, e)
+
+-- each actor has its rows, and none is refused
+abbrev AllHave : LateRows → Contents → Graph → Type 0
+AllHave late tells g = (rows : ℕ → List Row) × AreRows tells g rows × AllPass late g rows
+
+same_sensor : (file file2 : List ℕ) (bound bound2 : ℕ) → Sensor file bound ≡ Sensor file2 bound2 → (file ≡ file2) × (bound ≡ bound2)
+same_sensor file file2 bound bound2 e = (cc, cc)
+
+-- over files that are told one sensor at most is the first that gives no rows
+module _ (tells : Contents) (g : Graph) (told : TellsSensors tells g) where
+  fails_rows : (late : LateRows) (actor : ℕ) (f : RowFault) (rows : List Row) → SensorFails late tells g actor f → RowsOfKind tells (kind_of g actor) rows → ⊥
+  fails_rows late actor f rows h are =
+      let (bytes, is) = told actor h.file h.bound h.sensor in
+      ok_err rows f (agrees rows_of (tells h.file) bytes (Ok rows) (Err f) is (subst (λ (k : Kind). RowsOfKind tells k rows) h.sensor are) h.fails)
+
+  late_rows : (actor row seen limit : ℕ) (rows : List Row) → SensorLate tells g actor row seen limit → RowsOfKind tells (kind_of g actor) rows → InTime g.until (kind_of g actor) rows → ⊥
+  late_rows actor row seen limit rows h are in_time =
+      let (bytes, is) = told actor h.file h.bound h.sensor in
+      let same : rows ≡ h.rows = same_ok {E = RowFault} rows h.rows (agrees rows_of (tells h.file) bytes (Ok rows) (Ok h.rows) is (subst (λ (k : Kind). RowsOfKind tells k rows) h.sensor are) h.read) in
+      let passes : late_row h.bound g.until rows ≡ None = subst (λ (k : Kind). InTime g.until k rows) h.sensor in_time in
+      none_some row (sym passes ∙ ap (late_row h.bound g.until) same ∙ h.is_late.first)
+
+  -- the rows of a sensor, of which one is late
+  rows_there : (actor row seen limit : ℕ) (h : SensorLate tells g actor row seen limit) → RowsOfKind tells (kind_of g actor) h.rows
+  rows_there actor row seen limit h = subst (λ (k : Kind). RowsOfKind tells k h.rows) (sym h.sensor) h.read
+
+  fails_earlier : (late : LateRows) (actor n : ℕ) (f : RowFault) → SensorFails late tells g actor f → HaveRows late tells g n → actor < n → ⊥
+  fails_earlier late actor n f h have l = let (rows, are, passes) = have actor l in fails_rows late actor f rows h are
+
+  late_earlier : (actor n row seen limit : ℕ) → SensorLate tells g actor row seen limit → HaveRows Refused tells g n → actor < n → ⊥
+  late_earlier actor n row seen limit h have l = let (rows, are, passes) = have actor l in late_rows actor row seen limit rows h are passes
+
+  one_fails : (late : LateRows) (actor other : ℕ) (f e : RowFault) → SensorFails late tells g actor f → SensorFails late tells g other e → fault.Sensor other e ≡ fault.Sensor actor f
+  one_fails late actor other f e h k =
+      let same : other ≡ actor = neither_less other actor (fails_earlier late other actor e k h.earlier) (fails_earlier late actor other f h k.earlier) in
+      let moved : SensorFails late tells g actor e = subst (λ z. SensorFails late tells g z e) same k in
+      let files = same_sensor moved.file h.file moved.bound h.bound (sym moved.sensor ∙ h.sensor) in
+      let (bytes, is) = told actor h.file h.bound h.sensor in
+      let faults : e ≡ f = same_err {X = List Row} e f (agrees rows_of (tells h.file) bytes (Err e) (Err f) is (subst (λ z. IfSome (tells z) (λ bytes. rows_of bytes ≡ Err e)) files.0 moved.fails) h.fails) in
+      λ i. fault.Sensor (same i) (faults i)
+
+  fails_late : (actor other row seen limit : ℕ) (f : RowFault) → SensorFails Refused tells g actor f → SensorLate tells g other row seen limit → ⊥
+  fails_late actor other row seen limit f h k =
+      let same : other ≡ actor = neither_less other actor (late_earlier other actor row seen limit k h.earlier) (fails_earlier Refused actor other f h k.earlier) in
+      let moved : SensorLate tells g actor row seen limit = subst (λ z. SensorLate tells g z row seen limit) same k in
+      fails_rows Refused actor f moved.rows h (rows_there actor row seen limit moved)
+
+  one_late : (actor other row row2 seen seen2 limit limit2 : ℕ) → SensorLate tells g actor row seen limit → SensorLate tells g other row2 seen2 limit2 → fault.LateRow other row2 seen2 limit2 ≡ fault.LateRow actor row seen limit
+  one_late actor other row row2 seen seen2 limit limit2 h k =
+      let same : other ≡ actor = neither_less other actor (late_earlier other actor row2 seen2 limit2 k h.earlier) (late_earlier actor other row seen limit h k.earlier) in
+      let moved : SensorLate tells g actor row2 seen2 limit2 = subst (λ z. SensorLate tells g z row2 seen2 limit2) same k in
+      let files = same_sensor moved.file h.file moved.bound h.bound (sym moved.sensor ∙ h.sensor) in
+      let (bytes, is) = told actor h.file h.bound h.sensor in
+      let rows : moved.rows ≡ h.rows = same_ok {E = RowFault} moved.rows h.rows (agrees rows_of (tells h.file) bytes (Ok moved.rows) (Ok h.rows) is (subst (λ z. IfSome (tells z) (λ bytes. rows_of bytes ≡ Ok moved.rows)) files.0 moved.read) h.read) in
+      let is_late : IsLateRow h.rows g.until h.bound row2 seen2 limit2 = subst (λ b. IsLateRow h.rows g.until b row2 seen2 limit2) files.1 (subst (λ rs. IsLateRow rs g.until moved.bound row2 seen2 limit2) rows moved.is_late) in
+      let parts = one_late_row h.rows g.until h.bound row2 row seen2 seen limit2 limit is_late h.is_late in
+      λ i. fault.LateRow (same i) (parts.0 i) (parts.1 i) (parts.2 i)
+
+  -- where all sensors give rows none is such
+  fails_all : (late : LateRows) (actor : ℕ) (f : RowFault) → SensorFails late tells g actor f → AllHave late tells g → ⊥
+  fails_all late actor f h (rows, are, pass) = fails_rows late actor f (rows actor) h (are actor)
+
+  late_all : (actor row seen limit : ℕ) → SensorLate tells g actor row seen limit → AllHave Refused tells g → ⊥
+  late_all actor row seen limit h (rows, are, pass) = late_rows actor row seen limit (rows actor) h (are actor) (pass actor)
+
+-- a world makes one firing
+module _ (g : Graph) (rank : ℕ → ℕ) where
+  waits_for : (w : World) (x : ActorFiring) → Fires g rank w x → (p : ℕ) × (v : ℤ) × (w.waits x.actor p x.tag ≡ Some v)
+  waits_for w x f = let at = eight_found (λ p. w.waits x.actor p x.tag) (ap any_present (sym f.inputs) ∙ f.present) in (at.0, at.1, at.3)
+
+  both_first : (t u : Tag) (a b ra rb : ℕ) →
+      ((t.time ≤ u.time) × (u.time ≤ t.time → (t.step ≤ u.step) × (u.step ≤ t.step → (ra ≤ rb) × (rb ≤ ra → a ≤ b)))) →
+      ((u.time ≤ t.time) × (t.time ≤ u.time → (u.step ≤ t.step) × (t.step ≤ u.step → (rb ≤ ra) × (ra ≤ rb → b ≤ a)))) →
+      (t.time ≡ u.time) × (t.step ≡ u.step) × (a ≡ b)
+  both_first t u a b ra rb h k = (grind arith, grind arith, grind arith)
+
+  same_firing : (w : World) (x y : ActorFiring) → Fires g rank w x → Fires g rank w y → x ≡ y
+  same_firing w x y f h =
+      let at_x = waits_for w x f in
+      let at_y = waits_for w y h in
+      let keys = both_first x.tag y.tag x.actor y.actor (rank x.actor) (rank y.actor) (f.first y.actor at_y.0 y.tag at_y.1 at_y.2) (h.first x.actor at_x.0 x.tag at_x.1 at_x.2) in
+      let tag : x.tag ≡ y.tag = λ i. record { time = keys.0 i; step = keys.1 i } in
+      let actor : x.actor ≡ y.actor = keys.2 in
+      let inputs : x.inputs ≡ y.inputs = f.inputs ∙ ap₂ (λ a t. waiting w.waits a t) actor tag ∙ sym h.inputs in
+      let before : x.before ≡ y.before = f.before ∙ ap w.states actor ∙ sym h.before in
+      let after : x.after ≡ y.after = f.after ∙ (λ i. (fired (kind_of g (actor i)) (before i) (inputs i)).state) ∙ sym h.after in
+      let outputs : x.outputs ≡ y.outputs = f.outputs ∙ (λ i. (fired (kind_of g (actor i)) (before i) (inputs i)).outputs) ∙ sym h.outputs in
+      λ i. record { actor = actor i; tag = tag i; inputs = inputs i; before = before i; after = after i; outputs = outputs i }
+
+  -- after as many firings as end with nothing that waits, or more, nothing waits
+  ended : (xs ys : List ActorFiring) (w v : World) → Runs g rank w xs → Steps g rank w ys v → length xs ≤ length ys → (a p : ℕ) (t : Tag) (x : ℤ) → v.waits a p t ≡ Some x → ⊥
+  ended [] [] w v runs same le a p t x waits = none_some x (sym (runs a p t) ∙ ap (λ (z : World). z.waits a p t) same ∙ waits)
+  ended [] (y ∷ ys) w v runs (f, steps) le a p t x waits = let at = waits_for w y f in none_some at.1 (sym (runs y.actor at.0 y.tag) ∙ at.2)
+  ended (z ∷ xs) [] w v runs same le a p t x waits = absurd (omega (arith, le))
+  ended (z ∷ xs) (y ∷ ys) w v (h, runs) (f, steps) le a p t x waits =
+      ended xs ys (after_firing g w z) v runs (subst (λ q. Steps g rank (after_firing g w q) ys v) (same_firing w y z f h) steps) (omega (arith, le)) a p t x waits
+
+  not_longer : (rows : ℕ → List Row) (xs : List ActorFiring) (most : ℕ) → IsMeaning g rank rows xs → length xs ≤ most → IsLonger g rank rows most → ⊥
+  not_longer rows xs most meaning le h =
+      ended xs h.firings (at_start g rows) h.world meaning h.steps (subst (λ n. length xs ≤ n) (sym h.count) le) h.more.0 h.more.1 h.more.2 h.more.3 h.more.4
+
+-- a meaning whose tables are written is not too long
+meant_long : (tells : Contents) (g : Graph) (text : List ℕ) (rows : ℕ → List Row) → TellsSensors tells g → AreRows tells g rows → IsMeant tells g text → IsTooLongForAll g rows → ⊥
+meant_long tells g text rows told are meant too_long =
+    let means = meant.tables.means in
+    let meaning : IsMeaning g means.rank (of_run g rows) meant.tables.firings = subst (λ rs. IsMeaning g means.rank (of_run g rs) meant.tables.firings) (rows_are_one tells g meant.rows rows told meant.sensors are) means.meaning in
+    not_longer g too_long.rank (of_run g rows) meant.tables.firings (200000 * length g.platforms)
+    (subst (λ rank. IsMeaning g rank (of_run g rows) meant.tables.firings) (ranks_are_one g means.rank too_long.rank means.ranks too_long.ranks) meaning)
+    meant.tables.fact too_long.longer
+
+-- a graph has no cycle that takes no time, and but for `meaning` each sender can send in time
+abbrev IsFit : Command → Graph → Type 0
+IsFit command g = NoFreeCycle g × (command ≢ Meaning → IsFeasible g)
+
+-- what an answer tells of the graph
+data Answer (command : Command) (tells : Contents) (g : Graph) (outcome : Option Fault) : Type 0 where
+  memory : outcome ≡ Some fault.Memory → Answer command tells g outcome
+  graph_unread : outcome ≡ Some (fault.Read None) → Answer command tells g outcome
+  cyclic : (actors : List ℕ) → outcome ≡ Some (fault.Cycle actors) → IsFreeCycle g actors → Answer command tells g outcome
+  slow : (send : ℕ) (offset : ℤ) (slack : ℕ) → outcome ≡ Some (fault.Infeasible send offset slack) → NoFreeCycle g → command ≢ Meaning → IsFirstInfeasible g send offset slack → Answer command tells g outcome
+  unread : (actor : ℕ) → outcome ≡ Some (fault.Read (Some actor)) → IsFit command g → Answer command tells g outcome
+  wrong : (actor : ℕ) (f : RowFault) → outcome ≡ Some (fault.Sensor actor f) → IsFit command g → OfRows command (λ late. SensorFails late tells g actor f) → Answer command tells g outcome
+  tardy : (actor row seen limit : ℕ) → outcome ≡ Some (fault.LateRow actor row seen limit) → IsFit command g → OfRows command (λ late. (late ≡ Refused) × SensorLate tells g actor row seen limit) → Answer command tells g outcome
+  long : outcome ≡ Some (fault.Long None) → IsFit command g → OfRows command (λ late. AllHave late tells g) → Answer command tells g outcome
+  whole : IsFit command g → (command ≢ Check → OfRows command (λ late. AllHave late tells g)) → (command ≡ Meaning → (text : List ℕ) × IsMeant tells g text) → Answer command tells g outcome
+
+run_meaning : (workers : ℕ) (log : Bool) → Run workers log ≡ Meaning → ⊥
+run_meaning workers log e = cc
+
+run_check : (workers : ℕ) (log : Bool) → Run workers log ≡ Check → ⊥
+run_check workers log e = cc
+
+check_meaning : Check ≡ Meaning → ⊥
+check_meaning e = cc
+
+meaning_check : Meaning ≡ Check → ⊥
+meaning_check e = cc
+
+taken_refused : Taken ≡ Refused → ⊥
+taken_refused e = cc
+
+-- a fault over a graph
+module _ (left : Leaves) (tells : Contents) (g : Graph) (others : List (List ℕ)) (r : Reading) where
+  run_kept : (workers : ℕ) (log : Bool) (plan : Parts) (platforms : List PlatformView) (stop : Option ℕ) (outcome : Option Fault) → NoFreeCycle g → plan.graph ≡ g → HasRun tells plan platforms stop → Answer (Run workers log) tells g outcome
+  run_kept workers log plan platforms stop outcome free same run =
+      whole (free, λ e. subst IsFeasible same run.admitted.feasible) (λ e. subst (λ z. AllHave Refused tells z) same (run.rows, run.sensors, run.in_time)) (λ e. absurd (run_meaning workers log e))
+
+  by_run : (workers : ℕ) (log : Bool) (f : Fault) → NoFreeCycle g → CauseOfRun f left tells g others r → Answer (Run workers log) tells g (Some f)
+  by_run workers log (fault.Infeasible send offset slack) free h = slow send offset slack refl free (run_meaning workers log) h.0
+  by_run workers log (fault.Read (Some actor)) free h = unread actor refl (free, λ e. h.0)
+  by_run workers log (fault.Sensor actor f) free h = wrong actor f refl (free, λ e. h.0) h.1
+  by_run workers log (fault.LateRow actor row seen limit) free h = tardy actor row seen limit refl (free, λ e. h.0) (refl, h.1)
+  by_run workers log (fault.Long (Some platform)) free h = run_kept workers log h.plan left.platforms (Some platform) (Some (fault.Long (Some platform))) free h.graph h.run
+  by_run workers log f free h = absurd h
+
+  by_check : (f : Fault) → NoFreeCycle g → CauseOfCheck f g → Answer Check tells g (Some f)
+  by_check (fault.Infeasible send offset slack) free h = slow send offset slack refl free check_meaning h
+  by_check f free h = absurd h
+
+  by_meaning : (f : Fault) → NoFreeCycle g → CauseOfMeaning f tells g others r → Answer Meaning tells g (Some f)
+  by_meaning (fault.Read (Some actor)) free h = unread actor refl (free, λ e. absurd (e refl))
+  by_meaning (fault.Sensor actor f) free h = wrong actor f refl (free, λ e. absurd (e refl)) h
+  by_meaning (fault.Long None) free h = long refl (free, λ e. absurd (e refl)) (h.rows, h.sensors, λ a. tt)
+  by_meaning f free h = absurd h
+
+  by_text : (command : Command) (f : Fault) → NoFreeCycle g → CauseOfText command f left tells g others r → Answer command tells g (Some f)
+  by_text (Run workers log) f free h = by_run workers log f free h
+  by_text Check f free h = by_check f free h.0
+  by_text Meaning f free h = by_meaning f free h.0
+
+  by_cause : (command : Command) (f : Fault) → CauseOf command f left tells g others r → Answer command tells g (Some f)
+  by_cause command (fault.Cycle actors) h = cyclic actors refl h.0
+  by_cause command fault.Memory h = memory refl
+  by_cause command f h = by_text command f h.0 h.1
+
+  wrote : (command : Command) (l : Leaves) (text : List ℕ) (outcome : Option Fault) → Writes command tells g l text → Answer command tells g outcome
+  wrote (Run workers log) l text outcome (free, run) = run_kept workers log run.plan l.platforms None outcome free run.graph run.finished.run
+  wrote Check l text outcome (free, (none, checked)) = whole (free, λ e. checked.feasible) (λ e. absurd (e refl)) (λ e. absurd (check_meaning e))
+  wrote Meaning l text outcome (free, (none, meant)) = whole (free, λ e. absurd (e refl)) (λ e. (meant.rows, meant.sensors, λ a. tt)) (λ e. (text, meant))
+
+-- over a graph file that is told
+module _ (tells : Contents) (blocks : List Named) (name bytes : List ℕ) (told : tells name ≡ Some bytes) (left : Leaves) (r : Reading) (w : Writing) where
+  defines : (d : Result Graph GraphFault) → graph_of blocks bytes ≡ d → IfSome (tells name) (λ bytes. graph_of blocks bytes ≡ d)
+  defines d is = subst (λ z. IfSome z (λ bytes. graph_of blocks bytes ≡ d)) (sym told) is
+
+  one_defined : (d e : Result Graph GraphFault) → graph_of blocks bytes ≡ d → IfSome (tells name) (λ bytes. graph_of blocks bytes ≡ e) → d ≡ e
+  one_defined d e is other = agrees (graph_of blocks) (tells name) bytes d e told (defines d is) other
+
+  answer : (command : Command) (g : Graph) (outcome : Option Fault) → graph_of blocks bytes ≡ Ok g → EndsBy outcome left (Some (command, name)) tells blocks r w → Answer command tells g outcome
+  answer command g outcome is ends = by_outcome outcome ends
+    where
+      this_graph : (h : Graph) → IfSome (tells name) (λ bytes. graph_of blocks bytes ≡ Ok h) → h ≡ g
+      this_graph h other = sym (same_ok {E = GraphFault} g h (one_defined (Ok g) (Ok h) is other))
+
+      wrote_here : (o : Option Fault) (l : Leaves) (text : List ℕ) (h : Graph) → IfSome (tells name) (λ bytes. graph_of blocks bytes ≡ Ok h) → Writes command tells h l text → Answer command tells g o
+      wrote_here o l text h file writes = wrote left tells g (name ∷ []) r command l text o (subst (λ z. Writes command tells z l text) (this_graph h file) writes)
+
+      fails_here : (f : Fault) → GraphWith tells blocks name (λ h. CauseOf command f left tells h (name ∷ []) r) → Answer command tells g (Some f)
+      fails_here f (h, file, cause) = by_cause left tells g (name ∷ []) r command f (subst (λ z. CauseOf command f left tells z (name ∷ []) r) (this_graph h file) cause)
+
+      by_outcome : (o : Option Fault) → EndsBy o left (Some (command, name)) tells blocks r w → Answer command tells g o
+      by_outcome None (text, (h, file, writes), appends) = wrote_here None left text h file writes
+      by_outcome (Some fault.Write) (rose, (none, misses, text, (h, file, writes), part)) = wrote_here (Some fault.Write) (record left { misses = misses }) text h file writes
+      by_outcome (Some fault.Usage) k = absurd k
+      by_outcome (Some (fault.Graph f)) k = absurd (ok_err g f (one_defined (Ok g) (Err f) is k.0))
+      by_outcome (Some (fault.Read None)) k = graph_unread refl
+      by_outcome (Some fault.Memory) k = memory refl
+      by_outcome (Some f) k = fails_here f k.0
+
+  -- a file with a fault
+  refused : (command : Command) (f : GraphFault) (outcome : Option Fault) → graph_of blocks bytes ≡ Err f → EndsBy outcome left (Some (command, name)) tells blocks r w → (outcome ≡ Some (fault.Graph f)) ⊎ WantsGraph outcome
+  refused command f outcome is ends = by_outcome outcome ends
+    where
+      no_graph : (h : Graph) → IfSome (tells name) (λ bytes. graph_of blocks bytes ≡ Ok h) → ⊥
+      no_graph h other = ok_err h f (sym (one_defined (Err f) (Ok h) is other))
+
+      by_outcome : (o : Option Fault) → EndsBy o left (Some (command, name)) tells blocks r w → (o ≡ Some (fault.Graph f)) ⊎ WantsGraph o
+      by_outcome None (text, (h, file, writes), appends) = absurd (no_graph h file)
+      by_outcome (Some fault.Write) (rose, (none, misses, text, (h, file, writes), part)) = absurd (no_graph h file)
+      by_outcome (Some fault.Usage) k = absurd k
+      by_outcome (Some (fault.Graph e)) k = inl (ap (λ z. Some (fault.Graph z)) (sym (same_err {X = Graph} f e (one_defined (Err f) (Err e) is k.0))))
+      by_outcome (Some (fault.Read None)) k = inr (inr refl)
+      by_outcome (Some fault.Memory) k = inr (inl refl)
+      by_outcome (Some e) k = absurd (no_graph k.0.0 k.0.1)
+
+-- the words are no command
+usage : (left : Leaves) (tells : Contents) (blocks : List Named) (r : Reading) (w : Writing) (outcome : Option Fault) → Ends outcome left None tells blocks r w → (outcome ≡ Some fault.Usage) ⊎ WantsMemory outcome
+usage left tells blocks r w (Some fault.Memory) k = inr refl
+usage left tells blocks r w None k = inl k.0
+usage left tells blocks r w (Some f) k = inl k.0
+
+-- two facts of the rows that a command reads
+both : (command : Command) (A B : LateRows → Type 0) (C : Type 0) → ((late : LateRows) → A late → B late → C) → OfRows command A → OfRows command B → C
+both (Run workers log) A B C h a b = h Refused a b
+both Meaning A B C h a b = h Taken a b
+both Check A B C h a b = absurd a
+
+reads_rows : (command : Command) (A : LateRows → Type 0) → OfRows command A → command ≢ Check
+reads_rows (Run workers log) A a e = run_check workers log e
+reads_rows Meaning A a e = meaning_check e
+reads_rows Check A a e = a
+
+-- by what the answer tells
+module _ (tells : Contents) (g : Graph) (outcome : Option Fault) where
+  cycle : (command : Command) → (NoFreeCycle g → ⊥) → Answer command tells g outcome → ((actors : List ℕ) × IsFreeCycle g actors × (outcome ≡ Some (fault.Cycle actors))) ⊎ WantsGraph outcome
+  cycle command never (memory is) = inr (inl is)
+  cycle command never (graph_unread is) = inr (inr is)
+  cycle command never (cyclic actors is h) = inl (actors, h, is)
+  cycle command never (slow send offset slack is free judges h) = absurd (never free)
+  cycle command never (unread actor is fit) = absurd (never fit.0)
+  cycle command never (wrong actor f is fit h) = absurd (never fit.0)
+  cycle command never (tardy actor row seen limit is fit h) = absurd (never fit.0)
+  cycle command never (long is fit h) = absurd (never fit.0)
+  cycle command never (whole fit rows meant) = absurd (never fit.0)
+
+  module _ (free : NoFreeCycle g) where
+    infeasible : (command : Command) (send : ℕ) (offset : ℤ) (slack : ℕ) → command ≢ Meaning → IsFirstInfeasible g send offset slack → Answer command tells g outcome → (outcome ≡ Some (fault.Infeasible send offset slack)) ⊎ WantsGraph outcome
+    infeasible command send offset slack judges first a = by_answer a
+      where
+        unfit : IsFit command g → ⊥
+        unfit fit = too_late g send slack offset (fit.1 judges) first
+
+        by_answer : Answer command tells g outcome → (outcome ≡ Some (fault.Infeasible send offset slack)) ⊎ WantsGraph outcome
+        by_answer (memory is) = inr (inl is)
+        by_answer (graph_unread is) = inr (inr is)
+        by_answer (cyclic actors is h) = absurd (free h.first h.edge h.path h.cycle h.free)
+        by_answer (slow other offset2 slack2 is free2 judges2 h) = inl (is ∙ ap Some (one_infeasible g send other slack slack2 offset offset2 first h))
+        by_answer (unread actor is fit) = absurd (unfit fit)
+        by_answer (wrong actor f is fit h) = absurd (unfit fit)
+        by_answer (tardy actor row seen limit is fit h) = absurd (unfit fit)
+        by_answer (long is fit h) = absurd (unfit fit)
+        by_answer (whole fit rows meant) = absurd (unfit fit)
+
+    module _ (told : TellsSensors tells g) where
+      sensor : (command : Command) (actor : ℕ) (f : RowFault) → (command ≢ Meaning → IsFeasible g) → OfRows command (λ late. SensorFails late tells g actor f) → Answer command tells g outcome → (outcome ≡ Some (fault.Sensor actor f)) ⊎ WantsRows outcome
+      sensor command actor f feasible fails a = by_answer a
+        where
+          have_rows : OfRows command (λ late. AllHave late tells g) → ⊥
+          have_rows all = both command (λ late. SensorFails late tells g actor f) (λ late. AllHave late tells g) ⊥ (λ late h k. fails_all tells g told late actor f h k) fails all
+
+          by_answer : Answer command tells g outcome → (outcome ≡ Some (fault.Sensor actor f)) ⊎ WantsRows outcome
+          by_answer (memory is) = inr (inl (inl is))
+          by_answer (graph_unread is) = inr (inl (inr is))
+          by_answer (cyclic actors is h) = absurd (free h.first h.edge h.path h.cycle h.free)
+          by_answer (slow send offset slack is free2 judges h) = absurd (too_late g send slack offset (feasible judges) h)
+          by_answer (unread other is fit) = inr (inr (other, is))
+          by_answer (wrong other e is fit h) =
+              inl (is ∙ ap Some (both command (λ late. SensorFails late tells g actor f) (λ late. SensorFails late tells g other e) (fault.Sensor other e ≡ fault.Sensor actor f) (λ late p q. one_fails tells g told late actor other f e p q) fails h))
+          by_answer (tardy other row seen limit is fit h) =
+              absurd (both command (λ late. SensorFails late tells g actor f) (λ late. (late ≡ Refused) × SensorLate tells g other row seen limit) ⊥
+              (λ late p q. fails_late tells g told actor other row seen limit f (subst (λ l. SensorFails l tells g actor f) q.0 p) q.1) fails h)
+          by_answer (long is fit h) = absurd (have_rows h)
+          by_answer (whole fit rows meant) = absurd (have_rows (rows (reads_rows command (λ late. SensorFails late tells g actor f) fails)))
+
+      first_late : (workers : ℕ) (log : Bool) (actor row seen limit : ℕ) → IsFeasible g → SensorLate tells g actor row seen limit → Answer (Run workers log) tells g outcome → (outcome ≡ Some (fault.LateRow actor row seen limit)) ⊎ WantsRows outcome
+      first_late workers log actor row seen limit feasible late (memory is) = inr (inl (inl is))
+      first_late workers log actor row seen limit feasible late (graph_unread is) = inr (inl (inr is))
+      first_late workers log actor row seen limit feasible late (cyclic actors is h) = absurd (free h.first h.edge h.path h.cycle h.free)
+      first_late workers log actor row seen limit feasible late (slow send offset slack is free2 judges h) = absurd (too_late g send slack offset feasible h)
+      first_late workers log actor row seen limit feasible late (unread other is fit) = inr (inr (other, is))
+      first_late workers log actor row seen limit feasible late (wrong other f is fit h) = absurd (fails_late tells g told other actor row seen limit f h late)
+      first_late workers log actor row seen limit feasible late (tardy other row2 seen2 limit2 is fit h) = inl (is ∙ ap Some (one_late tells g told actor other row row2 seen seen2 limit limit2 late h.1))
+      first_late workers log actor row seen limit feasible late (long is fit h) = absurd (late_all tells g told actor row seen limit late h)
+      first_late workers log actor row seen limit feasible late (whole fit rows meant) = absurd (late_all tells g told actor row seen limit late (rows (run_check workers log)))
+
+      long_meaning : (rows : ℕ → List Row) → AreRows tells g rows → IsTooLongForAll g rows → Answer Meaning tells g outcome → (outcome ≡ Some (fault.Long None)) ⊎ WantsRows outcome
+      long_meaning rows are too_long (memory is) = inr (inl (inl is))
+      long_meaning rows are too_long (graph_unread is) = inr (inl (inr is))
+      long_meaning rows are too_long (cyclic actors is h) = absurd (free h.first h.edge h.path h.cycle h.free)
+      long_meaning rows are too_long (slow send offset slack is free2 judges h) = absurd (judges refl)
+      long_meaning rows are too_long (unread other is fit) = inr (inr (other, is))
+      long_meaning rows are too_long (wrong other f is fit h) = absurd (fails_rows tells g told Taken other f (rows other) h (are other))
+      long_meaning rows are too_long (tardy other row seen limit is fit h) = absurd (taken_refused h.0)
+      long_meaning rows are too_long (long is fit h) = inl is
+      long_meaning rows are too_long (whole fit had meant) = let (text, all) = meant refl in absurd (meant_long tells g text rows told are all too_long)
+
+pub exact : (o : Option Fault) (left : Leaves) (order : Option Order) (tells : Contents) (blocks : List Named) (r : Reading) (w : Writing) → Ends o left order tells blocks r w → IsExact o order tells blocks
+exact o left order tells blocks r w ends = record {
+  usage = λ none. usage left tells blocks r w o (subst (λ z. Ends o left z tells blocks r w) none ends);
+  graph = λ command f d. refused tells blocks d.name d.bytes d.told left r w command f o d.defines (by_words command (Err f) d);
+  cycle = λ command g d never. cycle tells g o command never (over_graph command g d);
+  infeasible = λ command g send offset slack judges d free first. infeasible tells g o free command send offset slack judges first (over_graph command g d);
+  sensor = λ command g actor f reads fails. sensor tells g o reads.no_free_cycle reads.files command actor f reads.feasible fails (over_graph command g reads.graph);
+  late_row = λ workers log g actor row seen limit reads late. first_late tells g o reads.no_free_cycle reads.files workers log actor row seen limit (reads.feasible (run_meaning workers log)) late (over_graph (Run workers log) g reads.graph);
+  long_meaning = λ g rows reads are too_long. long_meaning tells g o reads.no_free_cycle reads.files rows are too_long (over_graph Meaning g reads.graph);
+}
+  where
+    by_words : (command : Command) (defined : Result Graph GraphFault) (d : Defines order tells blocks command defined) → EndsBy o left (Some (command, d.name)) tells blocks r w
+    by_words command defined d = subst (λ z. Ends o left z tells blocks r w) d.words ends
+
+    over_graph : (command : Command) (g : Graph) → Defines order tells blocks command (Ok g) → Answer command tells g o
+    over_graph command g d = answer tells blocks d.name d.bytes d.told left r w command g o d.defines (by_words command (Ok g) d)
