@@ -35,7 +35,7 @@ module _ (tells : Contents) (blocks : List Named) (name : List ℕ) (g : Graph) 
     fact = fact;
   }
 
-  -- what it keeps, where never platform had too much to claim
+  -- what it keeps, where no platform had too much to claim
   keeps : (Ended : Type 0) → HasRun tells plan left.platforms None → RunWith tells blocks name (λ plan rows. KeptAll plan rows left.platforms Ended)
   keeps Ended run = over_plan None run (λ plan rows. KeptAll plan rows left.platforms Ended) (record {
     all = run.kept.all;
@@ -58,7 +58,7 @@ module _ (tells : Contents) (blocks : List Named) (name : List ℕ) (g : Graph) 
   reads : (end : Option ℕ) → HasRun tells plan left.platforms end → RunWith tells blocks name (λ plan rows. ReadPaced plan rows left.platforms)
   reads end run = over_plan end run (λ plan rows. ReadPaced plan rows left.platforms) (record { rounds = run.kept.after; on_schedule = run.kept.on_schedule })
 
--- a status that a fault has, and never other
+-- a status that a fault has, and no other
 none_ended : (n : ℕ) → (n ≡ 0 → ⊥) → (n ≡ 5 → ⊥) → (n ≡ 8 → ⊥) → (n ≡ 6 → ⊥) → (IsEnded n ⊎ (n ≡ 6)) → ⊥
 none_ended n a b c d (inl (inl e)) = a e
 none_ended n a b c d (inl (inr (inl e))) = b e
