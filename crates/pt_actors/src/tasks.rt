@@ -1,6 +1,6 @@
 //! A list of tasks with room that was taken before.
 
-ghost use Rattle.std.specs.Prelude.{◌≡◌, ◌+◌, ◌<◌, ◌≤◌, [], ◌∷◌, ◌++◌, ◌==◌, length, slice_get, OnOk, OnErr, option_map};
+ghost use Rattle.std.specs.Prelude.{◌≡◌, ◌+◌, ◌<◌, ◌≤◌, [], ◌∷◌, ◌++◌, ◌==◌, length, slice_get, IsOk, OnOk, OnErr, option_map};
 ghost use Rattle.pt_actors.specs.Room.{Roomy};
 
 use pt_tags::Memory;
@@ -44,6 +44,7 @@ impl Tasks {
         ensures spare { OnOk result (n ≤ self.new.spare) }
         ensures kept { self.old.spare ≤ self.new.spare }
         ensures unchanged { OnErr result (self.new ≡ self.old) }
+        ensures there { n ≤ self.old.spare → IsOk result × (self.new ≡ self.old) }
     {
         if self.room >= n {
             return Ok(());

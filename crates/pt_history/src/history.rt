@@ -1,6 +1,6 @@
 //! The turns of a platform, one after another.
 
-ghost use Rattle.std.specs.Prelude.{◌≡◌, ◌↔◌, ◌+◌, ◌-◌, ◌<◌, ◌≤◌, ◌++◌, ◌∷◌, [], MatchOption, OnErr, OnOk, Some, length, option_map, slice_get, take, true};
+ghost use Rattle.std.specs.Prelude.{◌≡◌, ◌↔◌, ◌+◌, ◌-◌, ◌<◌, ◌≤◌, ◌++◌, ◌∷◌, [], IsOk, MatchOption, OnErr, OnOk, Some, length, option_map, slice_get, take, true};
 ghost use Rattle.std.specs.List.{flat_map};
 ghost use Rattle.pt_pieces.specs.Lists.{on_last};
 ghost use Rattle.pt_semantics.specs.Turn.{is_quiet};
@@ -82,6 +82,7 @@ impl History {
         ensures turns { self.new.turns ≡ self.old.turns }
         ensures room { OnOk result (self.new.room ≡ larger self.old.room room) }
         ensures unchanged { OnErr result (self.new ≡ self.old) }
+        ensures there { larger self.old.room room ≡ self.old.room → IsOk result × (self.new ≡ self.old) }
     {
         if self.has_room(room) {
             return Ok(());

@@ -1,6 +1,6 @@
 //! The list of lists.
 
-ghost use Rattle.std.specs.Prelude.{◌≡◌, ◌+◌, ◌<◌, ◌≤◌, ◌++◌, ◌∷◌, [], OnOk, OnErr, MatchResult, Some, length, max, slice_get, slice_index, slice_range, vec_len, vec_capacity};
+ghost use Rattle.std.specs.Prelude.{◌≡◌, ◌+◌, ◌<◌, ◌≤◌, ◌++◌, ◌∷◌, [], IsOk, OnOk, OnErr, MatchResult, Some, length, max, slice_get, slice_index, slice_range, vec_len, vec_capacity};
 ghost use Rattle.std.specs.List.{flat_map};
 ghost use Rattle.pt_pieces.specs.Lists.{on_last};
 
@@ -54,6 +54,7 @@ impl<T: Drop> Pieces<T> {
         ensures items { OnOk result (self.new.spare_items ≡ max self.old.spare_items items) }
         ensures room { OnOk result (self.new.spare_lists ≡ max self.old.spare_lists lists) }
         ensures unchanged { OnErr result (self.new ≡ self.old) }
+        ensures there { items ≤ self.old.spare_items → lists ≤ self.old.spare_lists → IsOk result × (self.new ≡ self.old) }
     {
         if items >= MOST_ITEMS - self.items.len() {
             return Err(Memory);
@@ -157,6 +158,7 @@ fn widened<T>(items: &mut Vec<T>, spare: usize, wanted: usize) -> Result<usize, 
     requires { vec_len items.old + spare ≤ vec_capacity items.old }
     ensures items { items.new.items ≡ items.old.items }
     ensures room { MatchResult result (λ room. (room ≡ max spare wanted) × (vec_len items.new + room ≤ vec_capacity items.new)) (λ _. vec_len items.new + spare ≤ vec_capacity items.new) }
+    ensures there { wanted ≤ spare → IsOk result }
 {
     if spare >= wanted {
         return Ok(spare);

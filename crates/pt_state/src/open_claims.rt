@@ -1,6 +1,6 @@
 //! The open claims.
 
-ghost use Rattle.std.specs.Prelude.{◌≡◌, ◌+◌, ◌<◌, ◌≤◌, ◌==◌, ◌++◌, ◌∷◌, [], None, Some, filter, length, IfOk, OnOk, OnErr, option_map, slice_get};
+ghost use Rattle.std.specs.Prelude.{◌≡◌, ◌+◌, ◌<◌, ◌≤◌, ◌==◌, ◌++◌, ◌∷◌, [], None, Some, filter, length, IfOk, IsOk, OnOk, OnErr, option_map, slice_get};
 ghost use Rattle.std.specs.Option.{is_some};
 ghost use Rattle.pt_types.specs.declared.graph.Graph.{Graph};
 ghost use Rattle.pt_semantics.specs.Lists.{Each};
@@ -70,6 +70,7 @@ impl OpenClaims {
         ensures no_less { self.old.spare ≤ self.new.spare }
         ensures items { self.new.items ≡ self.old.items }
         ensures refused { OnErr result (self.new ≡ self.old) }
+        ensures there { count ≤ self.old.spare → IsOk result × (self.new ≡ self.old) }
     {
         if self.spare >= count {
             return Ok(());

@@ -1,5 +1,5 @@
 -- More memory for the same platform.
-use Rattle.std.specs.Prelude.{◌≡◌, ℕ, ◌+◌, ◌*◌, ◌≤◌, Vec, length, vec_len, vec_capacity}
+use Rattle.std.specs.Prelude.{◌≡◌, ℕ, ◌+◌, ◌-◌, ◌*◌, ◌^◌, ◌==◌, ◌≤◌, if◌then◌else◌, Vec, length, min, vec_len, vec_capacity}
 use Rattle.pt_types.specs.declared.graph.Graph.{Graph}
 use Rattle.pt_history.specs.declared.history.History.{History}
 use Rattle.pt_history.specs.declared.room.Room.{Room as HistoryRoom}
@@ -43,6 +43,21 @@ pub record HistoryIsWider (old new : History) : Type 0 where
   pub taken : old.room.taken ≤ new.room.taken
   pub claimed : old.room.claimed ≤ new.room.claimed
   pub sent : old.room.sent ≤ new.room.sent
+
+-- nothing for nothing, and else twice of what is asked and 64 more, as far as 64 bits hold it
+unfoldable pub more_than : ℕ → ℕ
+more_than n = if n == 0 then 0 else min (2 * n + 64) (2 ^ 64 - 1)
+
+-- so much room for each number of a room
+abbrev pub ahead_of : HistoryRoom → HistoryRoom
+ahead_of room = record {
+  turns = more_than room.turns;
+  posted = more_than room.posted;
+  rows = more_than room.rows;
+  taken = more_than room.taken;
+  claimed = more_than room.claimed;
+  sent = more_than room.sent;
+}
 
 -- there is memory for all that is needed: in the fields,
 pub record FieldsMeet (needs : Needs) (f : Fields) : Type 0 where

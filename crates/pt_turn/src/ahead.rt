@@ -1,8 +1,8 @@
 //! Memory of a history that is taken ahead.
 
-ghost use Rattle.std.specs.Prelude.{◌≡◌, ◌≤◌, OnErr, OnOk};
+ghost use Rattle.std.specs.Prelude.{◌≡◌, ◌≤◌, ◌⊎◌, IsOk, OnErr, OnOk};
 ghost use Rattle.pt_history.specs.Turns.{larger};
-ghost use Rattle.pt_turn.specs.Growing.{HistoryIsWider};
+ghost use Rattle.pt_turn.specs.Growing.{HistoryIsWider, ahead_of, more_than};
 
 use pt_history::{History, Room};
 use pt_tags::Memory;
@@ -12,8 +12,10 @@ use pt_tags::Memory;
 const AHEAD: usize = 64;
 
 /// Nothing for nothing, and else more than is asked.
+#[tactic(auto, unfolding(crate::specs::Growing::more_than))]
 fn more(asked: usize) -> usize
-    ensures { asked ≤ result }
+    ensures enough { asked ≤ result }
+    ensures is { result ≡ more_than asked }
 {
     if asked == 0 {
         return 0;
@@ -23,7 +25,8 @@ fn more(asked: usize) -> usize
 
 /// Room for what is asked, and for turns after it.
 fn ahead(asked: Room) -> Room
-    ensures { larger result asked ≡ result }
+    ensures enough { larger result asked ≡ result }
+    ensures is { result ≡ ahead_of asked }
 {
     Room {
         turns: more(asked.turns),
@@ -40,6 +43,8 @@ fn ahead(asked: Room) -> Room
 pub fn keep_room(history: &mut History, room: Room) -> Result<(), Memory>
     ensures wider { HistoryIsWider history.old history.new }
     ensures met { OnOk result (larger history.new.room room ≡ history.new.room) }
+    ensures there { larger history.old.room room ≡ history.old.room → IsOk result × (history.new ≡ history.old) }
+    ensures room { OnOk result ((history.new.room ≡ larger history.old.room room) ⊎ (history.new.room ≡ larger history.old.room (ahead_of room))) }
     ensures refused { OnErr result (history.new ≡ history.old) }
 {
     if history.has_room(room) {

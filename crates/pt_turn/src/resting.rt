@@ -3,7 +3,7 @@
 ghost use Rattle.std.specs.Prelude.{◌≡◌, None, IfOk, OnErr, true, false};
 ghost use Rattle.pt_semantics.specs.Paced.{IsNextReading};
 ghost use Rattle.pt_turn.specs.Platforms.{state_at};
-ghost use Rattle.pt_turn.specs.Rested.{HasRested};
+ghost use Rattle.pt_turn.specs.Rested.{HasRested, IsAwake};
 
 use crate::ahead::keep_room;
 use crate::keeping::raised_to;
@@ -43,6 +43,7 @@ impl Platform {
         requires no_fault { self.old.fault ≡ None }
         ensures rested { IfOk result (λ rested. rested ≡ true → HasRested self.old self.new reading) }
         ensures awake { IfOk result (λ rested. rested ≡ false → self.new ≡ self.old) }
+        ensures why { IfOk result (λ rested. rested ≡ false → IsAwake self.old reading) }
         ensures refused { OnErr result (self.new ≡ self.old) }
     {
         if !self.fields.outbox.is_empty() {
