@@ -30,7 +30,7 @@ fn table(alloc: Global, text: &str, blocks: &Blocks) -> Result<String, AllocErro
     let mut table = String::new(alloc);
     match read_graph(alloc, text.as_bytes(), blocks) {
         Ok(graph) => match least_delays(alloc, &graph) {
-            Ok(least) => write_rows(&mut table, &graph, &least)?,
+            Ok(least) => write_rows(&mut table, &graph, &least.with_before(alloc))?,
             Err(_) => table.push_str("no memory\n")?,
         },
         Err(_) => table.push_str("no graph\n")?,

@@ -1,6 +1,6 @@
 //! The table of least delays.
 
-ghost use Rattle.std.specs.Prelude.{◌≡◌, IfOk, IfSome};
+ghost use Rattle.std.specs.Prelude.{◌≡◌, ◌≤◌, IfOk, IfSome, length};
 ghost use Rattle.pt_types.specs.Lawful.{IsLawful};
 ghost use Rattle.pt_delays.specs.Before.{AreListed};
 
@@ -20,9 +20,10 @@ pub struct Least {
     numbers: Numbers,
     /// By the numbers of both units.
     rows: Vec<Row>,
-    /// By the number of the unit to which the paths lead.
+    /// By the number of the unit to which the paths lead; empty where none are listed.
     before: Vec<Before>,
     ghost listed: { AreListed numbers.firsts.items rows.items before.items },
+    ghost few: { (length numbers.firsts.items ≤ 2048) × (length rows.items ≤ 2048) },
 }
 
 impl Least {
@@ -38,12 +39,28 @@ impl Least {
         let wires = wire_edges(alloc, graph)?;
         let arcs = arcs_by_unit(alloc, graph, &numbers, wires.as_slice())?;
         let rows = all_rows(alloc, arcs.as_slice())?;
-        let before = all_before(alloc, &numbers, rows.as_slice())?;
         Ok(Least {
             numbers,
             rows,
-            before,
+            before: Vec::new(alloc),
         })
+    }
+
+    /// The same delays, with the units from which a path leads to each one listed, as far as memory suffices.
+    pub fn with_before(self, alloc: Global) -> Least
+        ensures { least_of result ≡ least_of self }
+    {
+        let Least {
+            numbers,
+            rows,
+            before,
+        } = self;
+        let before = all_before(alloc, &numbers, rows.as_slice()).unwrap_or(before);
+        Least {
+            numbers,
+            rows,
+            before,
+        }
     }
 
     /// The least delay over all paths from `x` to `a`; `None` where no path leads from `x` to `a`.
@@ -54,8 +71,8 @@ impl Least {
         row.get(self.numbers.of(a))
     }
 
-    /// The units from which a path leads to `a`, and maybe others; `None` where they are not known (they are more than 256,
-    /// or no memory was left for the list).
+    /// The units from which a path leads to `a`, and maybe others; `None` where they are not known (they were not listed, are
+    /// more than 256, or no memory was left for the list).
     pub fn before(&self, a: Unit) -> Option<&[Unit]>
         ensures { IfSome result (λ units. HasAllBefore self.now a units.now) }
     {

@@ -56,6 +56,7 @@ fn plan_of(alloc: Global, text: &str, blocks: &Blocks) -> Option<Plan> {
     let Ok(offsets) = offsets_of(alloc, &graph, &least) else {
         return None;
     };
+    let least = least.with_before(alloc);
     Some(Plan::new(graph, least, ranks, offsets))
 }
 

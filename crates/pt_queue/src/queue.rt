@@ -1,6 +1,6 @@
 //! The queue of a platform.
 
-ghost use Rattle.std.specs.Prelude.{◌≡◌, ◌↔◌, ℕ, ◌+◌, ◌<◌, ◌≤◌, true, false, None, [], length, IfOk, OnOk, OnErr};
+ghost use Rattle.std.specs.Prelude.{◌≡◌, ◌↔◌, ℕ, ◌+◌, ◌<◌, ◌≤◌, true, false, None, [], length, IfOk, IsOk, OnOk, OnErr};
 ghost use Rattle.pt_tags.specs.declared.tag.Tag.{Tag};
 ghost use Rattle.pt_types.specs.declared.graph.Graph.{Graph};
 ghost use Rattle.pt_types.specs.Lawful.{IsLawful};
@@ -100,6 +100,7 @@ impl Queue {
         ensures events { self.new.events ≡ self.old.events }
         ensures groups { self.new.groups ≡ self.old.groups }
         ensures refused { OnErr result (self.new ≡ self.old) }
+        ensures there { count ≤ self.old.spare → IsOk result }
     {
         settle(&mut self.lines, &mut self.loose);
         self.lines.widen(self.short);

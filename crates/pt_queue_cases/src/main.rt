@@ -38,6 +38,7 @@ fn answers(alloc: Global, text: &str, blocks: &Blocks) -> Result<String, AllocEr
     let Ok(least) = least_delays(alloc, &graph) else {
         return Err(AllocError);
     };
+    let least = least.with_before(alloc);
     let Ok(queue) = Queue::new(alloc, &graph) else {
         return Err(AllocError);
     };

@@ -40,7 +40,10 @@ pub fn plan_of(alloc: Global, graph: Graph) -> Result<Plan, Unplanned>
         return Err(Unplanned { graph, fault });
     };
     match offsets_of(alloc, &graph, &least) {
-        Ok(offsets) => Ok(Plan::new(graph, least, ranks, offsets)),
+        Ok(offsets) => {
+            let least = least.with_before(alloc);
+            Ok(Plan::new(graph, least, ranks, offsets))
+        }
         Err(fault) => {
             let fault = fault_of_offset(fault);
             Err(Unplanned { graph, fault })
