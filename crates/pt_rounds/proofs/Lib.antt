@@ -1,4 +1,5 @@
 pub mod Agreeing
+pub mod Changed
 pub mod Few
 pub mod Leasts
 pub mod Listed

@@ -1,5 +1,5 @@
 -- The lemma of one visit among all platforms.
-use Rattle.std.proofs.Common.{◌≡◌, ℕ, zero, suc, ◌-◌, ◌<◌, ◌≤◌, ◌^◌, ◌⊎◌, ◌≢◌, ◌==◌, if◌then◌else◌, Bool, true, false, cond, List, [], ◌∷◌, ◌++◌, Option, Some, None, length, length-set, set, take, slice_get, refl, sym, ap, subst, ◌∙◌, arith, inl, inr, ⊎_elim, append-nil, eq-eqb, eqb-true, nat_le}
+use Rattle.std.proofs.Common.{◌≡◌, ℕ, ◌-◌, ◌<◌, ◌≤◌, ◌^◌, ◌⊎◌, ◌≢◌, ◌==◌, if◌then◌else◌, Bool, true, false, cond, List, [], ◌∷◌, ◌++◌, Option, Some, None, length, length-set, set, take, slice_get, refl, sym, ap, subst, ◌∙◌, arith, ⊎_elim, append-nil, eq-eqb, eqb-true, nat_le}
 use Rattle.std.proofs.Math.Path.{fun_ext}
 use Rattle.std.proofs.Math.Seq.{take-nil}
 use Rattle.std.proofs.lemmas.Bool.{cases_Bool, cond-true, cond-false, false≢true, ne_eqb}
@@ -48,6 +48,7 @@ use Rattle.pt_platforms.specs.All.{AreAll, AreReady}
 use Rattle.pt_visits.specs.Pipes.{arriving, emptied, leads_to}
 use Rattle.pt_visits.specs.Visited.{IsVisited}
 use Rattle.pt_rounds.specs.Shown.{AreOpen, AreResults, AreShown, is_fault}
+use Rattle.pt_rounds.proofs.Changed.{set_cases, set_elsewhere, set_here}
 use Rattle.pt_rounds.proofs.Piping.{both_parts, by_link, held, held_emptied, held_none, held_pushed, held_some, in_arriving, lead_of, leads_elsewhere, leads_there, length-emptied, on_arriving, there_or_not}
 use Rattle.pt_rounds.proofs.Opening.{all_posted, claims_open, none_open, numbers_rise, takes_busy, tasks_of}
 
@@ -62,26 +63,6 @@ order_front (x ∷ xs) ys h = (each_front (ComesAfter x) xs ys h.0, order_front 
 
 orderly_front : (g : Graph) (level : ℕ → ℕ) (link : Link) (xs ys : List Message) → IsOrderly g level link (xs ++ ys) → IsOrderly g level link xs
 orderly_front g level link xs ys h = (order_front xs ys h.0, each_front (FitsStep g.until (length g.actors) (level link.to)) xs ys h.1)
-
--- a list with one member changed
-set_here : {X : Type 0} (xs : List X) (i : ℕ) (x old : X) → slice_get xs i ≡ Some old → slice_get (set xs i x) i ≡ Some x
-set_here [] i x old e = absurd (none_some old e)
-set_here (y ∷ xs) zero x old e = refl
-set_here (y ∷ xs) (suc i) x old e = set_here xs i x old e
-
-set_elsewhere : {X : Type 0} (xs : List X) (i j : ℕ) (x : X) → j ≢ i → slice_get (set xs i x) j ≡ slice_get xs j
-set_elsewhere [] i j x ne = refl
-set_elsewhere (y ∷ xs) zero zero x ne = absurd (ne refl)
-set_elsewhere (y ∷ xs) zero (suc j) x ne = refl
-set_elsewhere (y ∷ xs) (suc i) zero x ne = refl
-set_elsewhere (y ∷ xs) (suc i) (suc j) x ne = set_elsewhere xs i j x (λ e. ne (ap suc e))
-
-set_cases : {X : Type 0} (xs : List X) (i j : ℕ) (new old x : X) → slice_get xs i ≡ Some old → slice_get (set xs i new) j ≡ Some x → ((j ≡ i) × (x ≡ new)) ⊎ ((j ≢ i) × (slice_get xs j ≡ Some x))
-set_cases xs i j new old x there at =
-    ⊎_elim
-    (λ (here : j ≡ i). inl (here, same_some x new (sym (subst (λ n. slice_get (set xs i new) n ≡ Some x) here at) ∙ set_here xs i new old there)))
-    (λ (other : j ≢ i). inr (other, sym (set_elsewhere xs i j new other) ∙ at))
-    (cases_same j i)
 
 -- a reading that is no sooner than the last one stays
 raised_same : (last : Option ℕ) (c : ℕ) → ((p : ℕ) → last ≡ Some p → p ≤ c) → raised_to last c ≡ c

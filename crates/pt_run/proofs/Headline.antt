@@ -65,6 +65,22 @@ none_ended n a b c d (inl (inr (inl e))) = b e
 none_ended n a b c d (inl (inr (inr e))) = c e
 none_ended n a b c d (inr e) = d e
 
+-- a status at which nothing is left, and no row is late
+abbrev IsOther : ℕ → Type 0
+IsOther n = (n ≡ 0 → ⊥) × (n ≡ 5 → ⊥) × (n ≡ 8 → ⊥) × (n ≡ 6 → ⊥) × (n ≡ 4 → ⊥)
+
+two : IsOther 2
+two = ((λ e. omega (arith, e)), (λ e. omega (arith, e)), (λ e. omega (arith, e)), (λ e. omega (arith, e)), (λ e. omega (arith, e)))
+
+three : IsOther 3
+three = ((λ e. omega (arith, e)), (λ e. omega (arith, e)), (λ e. omega (arith, e)), (λ e. omega (arith, e)), (λ e. omega (arith, e)))
+
+seven : IsOther 7
+seven = ((λ e. omega (arith, e)), (λ e. omega (arith, e)), (λ e. omega (arith, e)), (λ e. omega (arith, e)), (λ e. omega (arith, e)))
+
+nine : IsOther 9
+nine = ((λ e. omega (arith, e)), (λ e. omega (arith, e)), (λ e. omega (arith, e)), (λ e. omega (arith, e)), (λ e. omega (arith, e)))
+
 module _ (left : Leaves) (workers : ℕ) (log : Bool) (tells : Contents) (blocks : List Named) (name : List ℕ) (w : Writing) where
   -- a status at which nothing is left
   refused : (status : ℕ) (o : Option Fault) → (status ≡ 0 → ⊥) → (status ≡ 5 → ⊥) → (status ≡ 8 → ⊥) → (status ≡ 6 → ⊥) → left ≡ nothing →
@@ -83,8 +99,8 @@ module _ (left : Leaves) (workers : ℕ) (log : Bool) (tells : Contents) (blocks
       either (inr e) = inr (inl e)
 
   -- a fault of a status that is none of these
-  other : (n : ℕ) (status : ℕ) (o : Option Fault) → status ≡ n → (n ≡ 0 → ⊥) → (n ≡ 5 → ⊥) → (n ≡ 8 → ⊥) → (n ≡ 6 → ⊥) → (n ≡ 4 → ⊥) → left ≡ nothing → Headline status o left log tells blocks name w
-  other n status o is a b c d l none = refused status o (λ e. a (sym is ∙ e)) (λ e. b (sym is ∙ e)) (λ e. c (sym is ∙ e)) (λ e. d (sym is ∙ e)) none (λ e. absurd (l (sym is ∙ e)))
+  other : (n status : ℕ) (o : Option Fault) → status ≡ n → IsOther n → left ≡ nothing → Headline status o left log tells blocks name w
+  other n status o is h none = refused status o (λ e. h.0 (sym is ∙ e)) (λ e. h.1 (sym is ∙ e)) (λ e. h.2 (sym is ∙ e)) (λ e. h.3 (sym is ∙ e)) none (λ e. absurd (h.4 (sym is ∙ e)))
 
   -- all was written
   done : (status : ℕ) (misses : List Miss) → left.misses ≡ misses → status ≡ status_of None misses → (IsEnded status × (status ≡ 4 → ⊥))
@@ -134,13 +150,13 @@ module _ (left : Leaves) (workers : ℕ) (log : Bool) (tells : Contents) (blocks
   by_outcome status (Some (fault.LateRow actor row seen limit)) r is ((g, file, (free, cause)), same) = refused status (Some (fault.LateRow actor row seen limit)) (λ e. omega (arith, is, e)) (λ e. omega (arith, is, e)) (λ e. omega (arith, is, e)) (λ e. omega (arith, is, e)) cause.2 (λ e. (actor, row, seen, limit, refl, (g, file, cause.1)))
   by_outcome status (Some (fault.Long None)) r is ((g, file, (free, cause)), same) = absurd cause
   by_outcome status (Some fault.Usage) r is k = absurd k
-  by_outcome status (Some (fault.Graph f)) r is k = other 2 status (Some (fault.Graph f)) is (λ e. omega (arith, e)) (λ e. omega (arith, e)) (λ e. omega (arith, e)) (λ e. omega (arith, e)) (λ e. omega (arith, e)) k.1
-  by_outcome status (Some (fault.Cycle actors)) r is ((g, file, cause), same) = other 2 status (Some (fault.Cycle actors)) is (λ e. omega (arith, e)) (λ e. omega (arith, e)) (λ e. omega (arith, e)) (λ e. omega (arith, e)) (λ e. omega (arith, e)) cause.1
-  by_outcome status (Some (fault.Infeasible send offset slack)) r is ((g, file, (free, cause)), same) = other 2 status (Some (fault.Infeasible send offset slack)) is (λ e. omega (arith, e)) (λ e. omega (arith, e)) (λ e. omega (arith, e)) (λ e. omega (arith, e)) (λ e. omega (arith, e)) cause.1
-  by_outcome status (Some (fault.Sensor actor f)) r is ((g, file, (free, cause)), same) = other 3 status (Some (fault.Sensor actor f)) is (λ e. omega (arith, e)) (λ e. omega (arith, e)) (λ e. omega (arith, e)) (λ e. omega (arith, e)) (λ e. omega (arith, e)) cause.2
-  by_outcome status (Some (fault.Read None)) r is k = other 7 status (Some (fault.Read None)) is (λ e. omega (arith, e)) (λ e. omega (arith, e)) (λ e. omega (arith, e)) (λ e. omega (arith, e)) (λ e. omega (arith, e)) k.1
-  by_outcome status (Some (fault.Read (Some actor))) r is ((g, file, (free, cause)), same) = other 7 status (Some (fault.Read (Some actor))) is (λ e. omega (arith, e)) (λ e. omega (arith, e)) (λ e. omega (arith, e)) (λ e. omega (arith, e)) (λ e. omega (arith, e)) cause.2
-  by_outcome status (Some fault.Memory) r is k = other 9 status (Some fault.Memory) is (λ e. omega (arith, e)) (λ e. omega (arith, e)) (λ e. omega (arith, e)) (λ e. omega (arith, e)) (λ e. omega (arith, e)) k.0
+  by_outcome status (Some (fault.Graph f)) r is k = other 2 status (Some (fault.Graph f)) is two k.1
+  by_outcome status (Some (fault.Cycle actors)) r is ((g, file, cause), same) = other 2 status (Some (fault.Cycle actors)) is two cause.1
+  by_outcome status (Some (fault.Infeasible send offset slack)) r is ((g, file, (free, cause)), same) = other 2 status (Some (fault.Infeasible send offset slack)) is two cause.1
+  by_outcome status (Some (fault.Sensor actor f)) r is ((g, file, (free, cause)), same) = other 3 status (Some (fault.Sensor actor f)) is three cause.2
+  by_outcome status (Some (fault.Read None)) r is k = other 7 status (Some (fault.Read None)) is seven k.1
+  by_outcome status (Some (fault.Read (Some actor))) r is ((g, file, (free, cause)), same) = other 7 status (Some (fault.Read (Some actor))) is seven cause.2
+  by_outcome status (Some fault.Memory) r is k = other 9 status (Some fault.Memory) is nine k.0
 
 pub headline : (status : ℕ) (o : Option Fault) (left : Leaves) (order : Option Order) (tells : Contents) (blocks : List Named) (r : Reading) (w : Writing) → status ≡ status_of o left.misses → Ends o left order tells blocks r w → IsHeadline status o left order tells blocks w
 headline status o left order tells blocks r w is ends workers log name words =
