@@ -1,8 +1,8 @@
--- Sums over a number that fit their types.
+-- Weighted sums that fit their types.
 use Rattle.std.specs.Prelude.{ℤ, pos, ◌+ℤ◌, ◌≤ℤ◌, int_div, FitsSigned}
 use Rattle.std.specs.Int.{w64, w128}
 
--- 128 bits hold the sum of x and y, and 64 bits what it is over den
+-- the sum of x and y fits in 128 bits, and the sum divided by den in 64 bits
 pub record HasMean (x y den : ℤ) : Type 0 where
   pub sum : FitsSigned w128 (x +ℤ y)
   pub positive : pos 1 ≤ℤ den

@@ -1,4 +1,4 @@
--- A list of tasks, and for how many more there is room.
+-- A list of tasks, and the number of tasks that it has room for.
 use Rattle.std.specs.Prelude.{ℕ, List}
 use Rattle.pt_types.specs.declared.firing.Task.{Task}
 

@@ -1,17 +1,17 @@
-//! Arithmetic that stops at the ends of 64 bits.
+//! Arithmetic that saturates at the ends of 64 bits.
 
 ghost use Rattle.std.specs.Prelude.{◌≡◌, ◌+ℤ◌, ◌-ℤ◌, ◌*ℤ◌, ◌≤ℤ◌, pos, int_div};
 ghost use Rattle.pt_semantics.specs.Firing.{or_zero};
 ghost use Rattle.pt_semantics.specs.Laws.{nearest};
 
-/// A value; 0 where it is absent.
+/// The value, or 0 if it is absent.
 pub(crate) fn or_zero(value: Option<i64>) -> i64
     ensures { result ≡ or_zero value }
 {
     value.unwrap_or(0)
 }
 
-/// The nearest number that an `i64` holds.
+/// The nearest number that fits in an `i64`.
 pub(crate) fn nearest(x: i128) -> i64
     ensures { result ≡ nearest x }
 {
@@ -38,7 +38,7 @@ pub(crate) fn difference(a: i64, b: i64) -> i64
     a.saturating_sub(b)
 }
 
-/// A value times `num` over `den`, cut toward zero.
+/// A value times `num`, divided by `den` and cut toward zero.
 pub(crate) fn scaled(a: i64, num: i64, den: i64) -> i64
     requires { pos 1 ≤ℤ den }
     ensures { result ≡ nearest (int_div (a *ℤ num) den) }
@@ -46,7 +46,7 @@ pub(crate) fn scaled(a: i64, num: i64, den: i64) -> i64
     nearest(quotient(product(a, num), i128::from(den)))
 }
 
-/// The product of two values, which 128 bits hold.
+/// The product of two values; it fits in 128 bits.
 pub(crate) fn product(a: i64, b: i64) -> i128
     ensures { result ≡ a *ℤ b }
 {

@@ -1,14 +1,14 @@
-//! A task and what its firing gave.
+//! A task and the result of its firing.
 
 ghost use Rattle.std.specs.Prelude.{◌≡◌};
 
 use pt_types::{Done as Record, Fired, Task};
 use std::marker::Model;
 
-/// A task and what its firing gave, which contracts see as the plain record of both.
+/// A task and the result of its firing. Contracts see the plain record of both.
 ///
-/// Only `fire` makes one, so none can be made up. Its clauses say what stands in it; that the kind was the one of
-/// the task's actor is for the caller to say, who knows the graph.
+/// Only `fire` makes one, so the result is that of `fire`: its clauses say what it is for the kind it was given. That this
+/// is the kind of the task's actor is up to the caller, who has the graph.
 #[derive(Clone, Copy, Debug, PartialEq, Eq)]
 pub struct Done {
     both: Record,
@@ -25,7 +25,7 @@ impl Model for Done {
 }
 
 impl Done {
-    /// A task and what its firing gave.
+    /// A task with the result of its firing.
     pub(crate) fn new(task: Task, fired: Fired) -> Done
         ensures task { result.task ≡ task }
         ensures fired { result.fired ≡ fired }
@@ -42,21 +42,21 @@ impl Done {
         &self.both.task
     }
 
-    /// What its firing gave.
+    /// The result of its firing.
     pub fn fired(&self) -> &Fired
         ensures { result.now ≡ self.now.fired }
     {
         &self.both.fired
     }
 
-    /// The plain record of both, where it stands.
+    /// The plain record of both, by reference.
     pub fn as_record(&self) -> &Record
         ensures { result.now ≡ self.now }
     {
         &self.both
     }
 
-    /// The plain record of both.
+    /// A copy of the plain record of both.
     pub fn record(&self) -> Record
         ensures { result ≡ self.now }
     {

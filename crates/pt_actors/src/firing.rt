@@ -1,4 +1,4 @@
-//! What a firing gives, for each kind of actor.
+//! The result of a firing, for each kind of actor.
 
 ghost use Rattle.std.specs.Prelude.{◌≡◌, IsTrue, [], Some, ◌*ℤ◌, ◌+ℤ◌, ◌≤ℤ◌, int_div, int_lt, pos};
 ghost use Rattle.pt_types.specs.Kinds.{kind_is_lawful};
@@ -13,10 +13,10 @@ use crate::stored::block_value;
 use pt_blocks::Blocks;
 use pt_types::{Fired, Kind, Ports, Task};
 
-/// Fires a task's actor, which is of this kind, and records what that gave.
+/// Fires a task's actor, which is of this kind, and gives the task with the result.
 ///
-/// A block, and a guard of a machine's row, calls the stored function where the block of its number has its law,
-/// and else takes the law's own value; both are the same.
+/// A block and the guard of a machine's row call the stored function, if the block with their number has their law; else
+/// they compute the law's value. Both give the same value.
 pub fn fire(blocks: &Blocks, kind: &Kind, task: &Task) -> Done
     requires { IsTrue (kind_is_lawful kind.now) }
     ensures task { result.task ≡ task.now }
@@ -26,7 +26,7 @@ pub fn fire(blocks: &Blocks, kind: &Kind, task: &Task) -> Done
     Done::new(*task, fired)
 }
 
-/// The state and the outputs after a firing in this state on these inputs; a block gives its law's own value.
+/// The state and the outputs of a firing with this state and these inputs. Stored functions are not called.
 ///
 /// An actor reacts to all its inputs of one tag together (RTAS 2007). What each kind does is this project's own
 /// choice.
@@ -37,7 +37,7 @@ pub fn fire_kind(kind: &Kind, state: i64, inputs: &Ports) -> Fired
     fired(None, kind, state, inputs)
 }
 
-/// What a firing gives, with the functions of these blocks where there are some.
+/// The result of a firing; stored functions are called if `blocks` is given.
 fn fired(blocks: Option<&Blocks>, kind: &Kind, state: i64, inputs: &Ports) -> Fired
     requires { IsTrue (kind_is_lawful kind.now) }
     ensures { result ≡ fired kind.now state inputs.now }
@@ -87,7 +87,7 @@ fn gives(state: i64, value: Option<i64>) -> Fired
     }
 }
 
-/// This state, which is given at output 0 too.
+/// This state, and the same value at output 0.
 fn gives_state(state: i64) -> Fired
     ensures { result ≡ gives state (Some state) }
 {
@@ -122,7 +122,7 @@ fn above(a: Option<i64>, limit: i64) -> Option<i64>
     }
 }
 
-/// Keeps what came at input 0, and gives it where something came at input 1.
+/// Stores the value of input 0, and gives the stored value if input 1 has one.
 fn latch(state: i64, inputs: &Ports) -> Fired
     ensures { result ≡ fired Kind.Latch state inputs.now }
 {
@@ -134,7 +134,7 @@ fn latch(state: i64, inputs: &Ports) -> Fired
     gives(kept, shown)
 }
 
-/// Gives its count, and starts again through its hidden output 1.
+/// Gives its count, and starts the next period through its hidden output 1.
 fn begin(state: i64) -> Fired
     ensures { result ≡ fired (Kind.Every 0 0) state [] }
 {

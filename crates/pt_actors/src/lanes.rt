@@ -1,4 +1,4 @@
-//! The cells of a lane actor, and the values that are there.
+//! The outputs of lanes, and lists of optional values.
 
 ghost use Rattle.std.specs.Prelude.{◌≡◌, ◌≤◌, Some, length, slice_index};
 ghost use Rattle.pt_types.specs.Ports.{eight, when};
@@ -9,7 +9,7 @@ ghost use Rattle.pt_semantics.specs.Firing.{any_present, identity, lane_outputs,
 use crate::arithmetic::{nearest, or_zero};
 use pt_types::Ports;
 
-/// The first value that is there.
+/// The first value that is present.
 pub(crate) fn lowest(values: &[Option<i64>]) -> Option<i64>
     ensures { result ≡ first_of identity values.now }
 {
@@ -21,7 +21,7 @@ pub(crate) fn lowest(values: &[Option<i64>]) -> Option<i64>
     None
 }
 
-/// The sum of the values of a cell that are there; none where none is.
+/// The sum of the values of a cell that are present; `None` if none is.
 fn cell_value(values: &[Option<i64>]) -> Option<i64>
     requires { length values.now ≤ 8 }
     ensures { result ≡ when (any_present values.now) (Some (nearest (present_sum values.now))) }
@@ -33,7 +33,7 @@ fn cell_value(values: &[Option<i64>]) -> Option<i64>
     }
 }
 
-/// Whether a value is there.
+/// Whether a value is present.
 fn has_value(values: &[Option<i64>]) -> bool
     ensures { result ≡ any_present values.now }
 {
@@ -45,7 +45,7 @@ fn has_value(values: &[Option<i64>]) -> bool
     false
 }
 
-/// The sum of the values that are there.
+/// The sum of the values that are present.
 fn total(values: &[Option<i64>]) -> i128
     requires { length values.now ≤ 8 }
     ensures { result ≡ present_sum values.now }
@@ -57,7 +57,7 @@ fn total(values: &[Option<i64>]) -> i128
     total
 }
 
-/// The outputs of cells: each gives the sum of its inputs that are there.
+/// The outputs of the cells: each gives the sum of its inputs that are present.
 pub(crate) fn lanes(cells: &[u32], inputs: &Ports) -> Ports
     ensures { result ≡ eight (lane_outputs cells.now inputs.now) }
 {
@@ -72,7 +72,7 @@ pub(crate) fn lanes(cells: &[u32], inputs: &Ports) -> Ports
     Ports::from_values(outputs)
 }
 
-/// How many inputs a cell has; none where there is no such cell.
+/// The number of inputs of a cell; 0 if there is no such cell.
 fn size_of(cells: &[u32], cell: usize) -> usize
     ensures { result ≡ slice_index cells.now cell }
 {

@@ -1,4 +1,4 @@
-//! What a law makes of two values.
+//! The values of laws.
 
 ghost use Rattle.std.specs.Prelude.{◌≡◌, IsTrue, ◌+ℤ◌, ◌-ℤ◌, ◌*ℤ◌, ◌≤ℤ◌, pos, int_div, int_le, nat_abs, if◌then◌else◌};
 ghost use Rattle.pt_types.specs.Kinds.{law_in_range};
@@ -8,7 +8,7 @@ ghost use Rattle.pt_actors.specs.Means.{HasMean};
 use crate::arithmetic::{difference, product, quotient};
 use pt_types::Law;
 
-/// The value of a law for a and b, as a block without a stored function gives it, and as a guard tests it.
+/// The value of a law for a and b. It is the value of a block with this law, and a guard holds if it is greater than 0.
 pub fn law_value(law: Law, a: i64, b: i64) -> i64
     requires { IsTrue (law_in_range law) }
     ensures { result ≡ law_value law a b }
@@ -22,7 +22,7 @@ pub fn law_value(law: Law, a: i64, b: i64) -> i64
     }
 }
 
-/// A value brought between two limits.
+/// A value, raised to `low` or lowered to `high` if it is outside.
 fn middle(low: i64, high: i64, a: i64) -> i64
     ensures { result ≡ law_value (Law.Middle low high) a a }
 {
@@ -35,7 +35,7 @@ fn middle(low: i64, high: i64, a: i64) -> i64
     }
 }
 
-/// 0 where both values are at most `width` apart, and else their difference.
+/// 0 if both values are at most `width` apart, else their difference.
 fn deadband(width: i64, a: i64, b: i64) -> i64
     requires { pos 0 ≤ℤ width }
     ensures { result ≡ (if int_le (pos (nat_abs (a -ℤ b))) width then pos 0 else nearest (a -ℤ b)) }
@@ -47,7 +47,7 @@ fn deadband(width: i64, a: i64, b: i64) -> i64
     }
 }
 
-/// The mean of two values, of which the first weighs `num` and the second the rest of `den`; cut toward zero.
+/// The weighted mean of two values, cut toward zero; the first has weight `num` of `den`, the second the rest.
 fn weighted(num: i64, den: i64, a: i64, b: i64) -> i64
     requires num { pos 0 ≤ℤ num }
     requires rest { num ≤ℤ den }
@@ -57,7 +57,7 @@ fn weighted(num: i64, den: i64, a: i64, b: i64) -> i64
     mean(product(a, num), product(b, rest(den, num)), den)
 }
 
-/// What of `den` is left beside `num`.
+/// The rest of `den` without `num`.
 fn rest(den: i64, num: i64) -> i64
     requires num { pos 0 ≤ℤ num }
     requires rest { num ≤ℤ den }
@@ -66,7 +66,7 @@ fn rest(den: i64, num: i64) -> i64
     den - num
 }
 
-/// A sum over a number, which 64 bits hold.
+/// A sum divided by a number; the result fits in 64 bits.
 fn mean(x: i128, y: i128, den: i64) -> i64
     requires { HasMean x y den }
     ensures { result ≡ int_div (x +ℤ y) den }

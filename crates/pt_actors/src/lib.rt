@@ -1,7 +1,7 @@
-//! What actors do: the firing of every kind, and the tasks whose firings are recorded.
+//! What actors do: how each kind fires, and the tasks with their results.
 //!
-//! What a firing gives is `fired` in `specs/Firing.antt` of pt_semantics, and the value of a block or a guard is
-//! `law_value` in its `specs/Laws.antt`. All arithmetic on values is on 64 bits and saturates.
+//! The result of a firing is `fired` in `specs/Firing.antt` of pt_semantics; the value of a block or a guard is
+//! `law_value` in its `specs/Laws.antt`. Values are 64-bit numbers, and arithmetic on them saturates.
 //!
 //! Read first: `fire`.
 #![tactic(auto)]
@@ -20,6 +20,3 @@ pub use firing::{fire, fire_kind};
 pub use law::law_value;
 pub use pt_types::{Fired, Ports as Inputs, Task};
 pub use tasks::Tasks;
-
-#[cfg(test)]
-mod tests;

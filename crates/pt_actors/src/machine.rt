@@ -13,7 +13,7 @@ use crate::stored::block_value;
 use pt_blocks::Blocks;
 use pt_types::{Fired, Law, MachineRow, Ports};
 
-/// What a machine does in a state for a value: its first row that fits, or nothing.
+/// The result of a machine's step for a state and a value: that of the first row that fits, or no change and no output.
 pub(crate) fn machine(blocks: Option<&Blocks>, rows: &[MachineRow], state: i64, a: i64) -> Fired
     requires { All (λ (row : MachineRow). IsTrue (guard_is_lawful row.guard)) rows.now }
     ensures { result ≡ machine_step state (first_of (row_fits state a) rows.now) }
@@ -48,7 +48,7 @@ fn fitting_row(
     None
 }
 
-/// Whether a row is of that state, its range has the value, and its guard holds.
+/// Whether a row fits: it is for this state, its range has the value, and its guard holds.
 fn row_fits(blocks: Option<&Blocks>, row: &MachineRow, state: i64, a: i64) -> bool
     requires { IsTrue (guard_is_lawful row.now.guard) }
     ensures { when result (Some row.now) ≡ row_fits state a row.now }
@@ -56,14 +56,14 @@ fn row_fits(blocks: Option<&Blocks>, row: &MachineRow, state: i64, a: i64) -> bo
     is_for(row, state, a) && guard_holds(blocks, row.guard, a, state)
 }
 
-/// Whether a row is of that state and its range has the value.
+/// Whether a row is for this state and its range has the value.
 fn is_for(row: &MachineRow, state: i64, a: i64) -> bool
     ensures { result ≡ (int_eq row.now.state state && int_le row.now.low a && int_le a row.now.high) }
 {
     row.state == state && row.low <= a && a <= row.high
 }
 
-/// Whether a row may be taken: its guard's law makes more than 0 of the value and the state.
+/// Whether a guard holds: its law gives more than 0 for the value and the state. A row without a guard can always be taken.
 fn guard_holds(blocks: Option<&Blocks>, guard: Option<(u32, Law)>, a: i64, state: i64) -> bool
     requires { IsTrue (guard_is_lawful guard) }
     ensures { result ≡ guard_holds guard a state }
@@ -74,7 +74,7 @@ fn guard_holds(blocks: Option<&Blocks>, guard: Option<(u32, Law)>, a: i64, state
     }
 }
 
-/// The output of a row.
+/// The outputs of a row.
 fn emitted(emit: Option<(u32, i64)>) -> Ports
     ensures { result ≡ eight (emitted_by emit) }
 {

@@ -8,7 +8,7 @@ use crate::law::law_value;
 use pt_blocks::{Blocks, Function};
 use pt_types::Law;
 
-/// The value of the block of that number and law for a and b: what its stored function gives, if there is one.
+/// The value of the block with this number and law for a and b, from its stored function if there is one.
 pub(crate) fn block_value(blocks: Option<&Blocks>, number: u32, law: Law, a: i64, b: i64) -> i64
     requires { IsTrue (law_in_range law) }
     ensures { result ≡ law_value law a b }
@@ -22,7 +22,7 @@ pub(crate) fn block_value(blocks: Option<&Blocks>, number: u32, law: Law, a: i64
     }
 }
 
-/// What a function gives, where it has that law, and else what the law itself makes.
+/// The value from a function if it has this law, and else from the law itself.
 fn value_by(function: &Function, law: Law, a: i64, b: i64) -> i64
     requires { IsTrue (law_in_range law) }
     ensures { result ≡ law_value law a b }
@@ -34,7 +34,7 @@ fn value_by(function: &Function, law: Law, a: i64, b: i64) -> i64
     }
 }
 
-/// Whether two laws are the same, with their numbers.
+/// Whether two laws are the same, with the same parameters.
 fn is_same(a: Law, b: Law) -> bool
     ensures { IsTrue result → a ≡ b }
 {

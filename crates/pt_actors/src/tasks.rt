@@ -1,4 +1,4 @@
-//! A list of tasks with room that was taken before.
+//! A list of tasks with reserved room.
 
 ghost use Rattle.std.specs.Prelude.{◌≡◌, ◌+◌, ◌<◌, ◌≤◌, [], ◌∷◌, ◌++◌, ◌==◌, length, slice_get, IsOk, OnOk, OnErr, option_map};
 ghost use Rattle.pt_actors.specs.Room.{Roomy};
@@ -8,7 +8,7 @@ use pt_types::Task;
 use std::alloc::Global;
 use std::marker::Model;
 
-/// A list of tasks, and for how many more room is kept: contracts see `tasks` and `spare`.
+/// A list of tasks, with reserved room for more. Contracts see `tasks` and `spare`, the number of tasks that still fit.
 #[derive(Drop)]
 pub struct Tasks {
     items: Vec<Task>,
@@ -27,7 +27,7 @@ impl Model for Tasks {
 }
 
 impl Tasks {
-    /// No tasks, and no room.
+    /// An empty list without room.
     pub fn new(alloc: Global) -> Tasks
         ensures tasks { result.tasks ≡ [] }
         ensures spare { result.spare ≡ 0 }
@@ -38,7 +38,7 @@ impl Tasks {
         }
     }
 
-    /// Keeps room for at least `n` more tasks. Where memory runs out all is unchanged.
+    /// Reserves room for at least `n` more tasks. If memory runs out, nothing is changed.
     pub fn reserve(&mut self, n: usize) -> Result<(), Memory>
         ensures tasks { self.new.tasks ≡ self.old.tasks }
         ensures spare { OnOk result (n ≤ self.new.spare) }
@@ -49,16 +49,12 @@ impl Tasks {
         if self.room >= n {
             return Ok(());
         }
-        match self.items.reserve(n) {
-            Ok(()) => {
-                self.room = n;
-                Ok(())
-            }
-            Err(_) => Err(Memory),
-        }
+        self.items.reserve(n)?;
+        self.room = n;
+        Ok(())
     }
 
-    /// Appends a task, which takes one place of the room. No memory is taken.
+    /// Appends a task, which uses one place of the room. It takes no memory.
     pub fn push(&mut self, task: Task)
         requires { 0 < self.old.spare }
         ensures tasks { self.new.tasks ≡ self.old.tasks ++ task ∷ [] }
@@ -70,7 +66,7 @@ impl Tasks {
         }
     }
 
-    /// Appends tasks, each of which takes one place of the room. No memory is taken.
+    /// Appends tasks, each of which uses one place of the room. It takes no memory.
     pub fn extend(&mut self, more: &[Task])
         requires { length more.now ≤ self.old.spare }
         ensures tasks { self.new.tasks ≡ self.old.tasks ++ more.now }
@@ -82,21 +78,21 @@ impl Tasks {
         }
     }
 
-    /// How many tasks there are.
+    /// The number of tasks.
     pub fn len(&self) -> usize
         ensures { result ≡ length self.now.tasks }
     {
         self.items.len()
     }
 
-    /// Whether there are none.
+    /// Whether there are no tasks.
     pub fn is_empty(&self) -> bool
         ensures { result ≡ (length self.now.tasks == 0) }
     {
         self.items.is_empty()
     }
 
-    /// The task at that place, counted from 0; `None` exactly where there is none.
+    /// The task at an index, from 0; `None` if there is none.
     pub fn get(&self, i: usize) -> Option<&Task>
         ensures { option_map (λ t. t.now) result ≡ slice_get self.now.tasks i }
     {
@@ -110,7 +106,7 @@ impl Tasks {
         self.items.as_slice()
     }
 
-    /// Takes all tasks out; their places become room.
+    /// Removes all tasks; their places become room.
     pub fn clear(&mut self)
         ensures tasks { self.new.tasks ≡ [] }
         ensures spare { self.new.spare ≡ self.old.spare + length self.old.tasks }

@@ -10,27 +10,27 @@ use Rattle.pt_types.specs.Kinds.{law_in_range}
 abbrev pub named : List ℕ → Law → Named
 named name law = record { name = name; law = law }
 
--- the number of the block of that name
+-- the number of the block with this name
 abbrev pub find_block : List Named → List ℕ → Option ℕ
 find_block blocks name = position (λ (b : Named). bytes_eq b.name name) blocks
 
--- a block has that name
+-- there is a block with this name
 abbrev pub has_block : List Named → List ℕ → Bool
 has_block blocks name = list_any (λ (b : Named). bytes_eq b.name name) blocks
 
--- the law and the name of the block of that number
+-- the law of the block with this number, and its name
 abbrev pub law_at : List Named → ℕ → Option Law
 law_at blocks n = option_map (λ (b : Named). b.law) (slice_get blocks n)
 
 abbrev pub name_at : List Named → ℕ → Option (List ℕ)
 name_at blocks n = option_map (λ (b : Named). b.name) (slice_get blocks n)
 
--- at most 64, whose laws are in range
+-- at most 64 blocks, with laws in range
 abbrev pub AreBlocks : List Named → Type 0
 AreBlocks blocks = (length blocks ≤ 64) × (list_all (λ (b : Named). law_in_range b.law) blocks ≡ true)
 
--- what adding a block of that name answers: Repeated exactly where a block has the name, Full exactly where there are
--- 64 and none has it
+-- what adding a block with this name gives: Repeated exactly if a
+-- block has the name, Full exactly if there are 64 and none has it
 abbrev pub Refuses : List Named → List ℕ → Result ⊤ BlockFault → Type 0
 Refuses blocks name (Ok done) = (has_block blocks name ≡ false) × (length blocks < 64)
 Refuses blocks name (Err fault.Memory) = (has_block blocks name ≡ false) × (length blocks < 64)

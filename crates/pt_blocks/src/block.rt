@@ -1,4 +1,4 @@
-//! A stored function beside its law.
+//! A stored function with its law.
 
 ghost use Rattle.std.specs.Prelude.{◌≡◌, ℤ, string_bytes, true};
 ghost use Rattle.pt_semantics.specs.Laws.{law_value};
@@ -7,7 +7,7 @@ ghost use Rattle.pt_types.specs.Kinds.{law_in_range};
 use pt_tags::Name;
 use pt_types::Law;
 
-/// A function that may always be called and gives the value of the law beside it.
+/// A function that can always be called, and gives the value of its law.
 #[derive(Drop)]
 pub struct Function {
     run: fn(i64, i64) -> i64,
@@ -18,7 +18,7 @@ pub struct Function {
 }
 
 impl Function {
-    /// What it computes.
+    /// The law that it computes.
     pub fn law(&self) -> Law
         ensures law { result ≡ self.now.law }
         ensures in_range { law_in_range self.now.law ≡ true }
@@ -26,7 +26,7 @@ impl Function {
         self.law
     }
 
-    /// What it gives for a and b.
+    /// The law's value for a and b.
     pub fn call(&self, a: i64, b: i64) -> i64
         ensures { result ≡ law_value self.now.law a b }
     {
@@ -34,7 +34,7 @@ impl Function {
     }
 }
 
-/// A stored function and the name by which graphs call it.
+/// A stored function, and the name that graphs use for it.
 #[derive(Drop)]
 pub struct Block {
     pub name: Name,
@@ -42,7 +42,7 @@ pub struct Block {
 }
 
 impl Block {
-    /// The block of this function, which gives the law's value for all numbers.
+    /// The block with this function, which has to give the law's value for all numbers.
     pub fn new(name: String, run: fn(i64, i64) -> i64, law: Law) -> Block
         requires callable { IsAlwaysCallable run }
         requires lawful { (a b r : ℤ) → post run a b r → r ≡ law_value law a b }

@@ -1,6 +1,6 @@
-//! The blocks that graphs may name.
+//! The blocks that graphs may use.
 
-ghost use Rattle.std.specs.Prelude.{◌≡◌, ◌≤◌, vec_len, true};
+ghost use Rattle.std.specs.Prelude.{◌≡◌, ◌≤◌};
 ghost use Rattle.pt_blocks.specs.Blocks.{AreBlocks};
 
 use crate::block::{Block, Function};
@@ -13,11 +13,11 @@ const MOST_BLOCKS: usize = 64;
 /// Why a block was not added.
 #[derive(Clone, Copy, Debug, PartialEq, Eq)]
 pub enum BlockFault {
-    /// Memory ran out.
+    /// Out of memory.
     Memory,
-    /// A block has that name already.
+    /// There is a block with that name.
     Repeated,
-    /// There are 64 blocks, none of that name.
+    /// There are 64 blocks, and none has that name.
     Full,
 }
 
@@ -28,7 +28,7 @@ pub struct Named {
     pub law: Law,
 }
 
-/// At most 64 blocks, numbered from 0. Contracts see the names and laws, `listed`.
+/// At most 64 blocks, numbered from 0. Contracts see the list of their names and laws, `listed`.
 #[derive(Drop)]
 pub struct Blocks {
     listed: Vec<Named>,
@@ -37,7 +37,7 @@ pub struct Blocks {
 }
 
 impl Blocks {
-    ghost use Rattle.std.specs.Prelude.{◌≡◌, ◌++◌, ◌∷◌, [], ◌<◌, length, OnOk, OnErr, MatchBool, option_map, slice_get};
+    ghost use Rattle.std.specs.Prelude.{◌≡◌, ◌++◌, ◌∷◌, [], ◌<◌, length, OnOk, OnErr, MatchBool, option_map};
     ghost use Rattle.pt_blocks.specs.Blocks.{find_block, has_block, law_at, name_at, AreBlocks, Refuses, named};
 
     /// No blocks.
@@ -50,7 +50,7 @@ impl Blocks {
         }
     }
 
-    /// The number of the block of that name; `None` exactly where there is none.
+    /// The number of the block with this name; `None` if there is none.
     pub fn find(&self, name: &str) -> Option<u32>
         ensures number { result ≡ find_block self.now.listed.items name.now }
         ensures blocks { AreBlocks self.now.listed.items }
@@ -69,7 +69,7 @@ impl Blocks {
         listed.iter().position(|b| b.name.as_str() == name)
     }
 
-    /// The law of the block of that number; `None` exactly where there is none.
+    /// The law of the block with this number; `None` if there is none.
     pub fn law(&self, number: u32) -> Option<Law>
         ensures { result ≡ law_at self.now.listed.items number }
     {
@@ -79,7 +79,7 @@ impl Blocks {
             .map(|block| block.law)
     }
 
-    /// The name of the block of that number; `None` exactly where there is none.
+    /// The name of the block with this number; `None` if there is none.
     pub fn name(&self, number: u32) -> Option<&str>
         ensures { option_map (λ s. s.now) result ≡ name_at self.now.listed.items number }
     {
@@ -89,7 +89,7 @@ impl Blocks {
             .map(|block| block.name.as_str())
     }
 
-    /// The names and laws of all blocks, each at its number.
+    /// The names and laws of all blocks, in the order of their numbers.
     pub fn listed(&self) -> &[Named]
         ensures list { result.now ≡ self.now.listed.items }
         ensures blocks { AreBlocks self.now.listed.items }
@@ -97,7 +97,7 @@ impl Blocks {
         self.listed.as_slice()
     }
 
-    /// How many blocks there are.
+    /// The number of blocks.
     pub fn len(&self) -> usize
         ensures len { result ≡ length self.now.listed.items }
         ensures blocks { AreBlocks self.now.listed.items }
@@ -105,12 +105,12 @@ impl Blocks {
         self.listed.as_slice().len()
     }
 
-    /// The stored function of the block of that number, of which its law tells what it gives.
+    /// The stored function of the block with this number; `None` if there is none. It computes the block's law.
     pub fn get(&self, number: u32) -> Option<&Function> {
         self.stored.as_slice().get(number as usize)
     }
 
-    /// Adds a block, which gets the next number. After a refusal the names and laws are unchanged.
+    /// Adds a block; it gets the next number. After a fault the names and laws are unchanged.
     pub fn add(&mut self, block: Block) -> Result<(), BlockFault>
         ensures added { OnOk result (self.new.listed.items ≡ self.old.listed.items ++ named block.name block.function.law ∷ []) }
         ensures unchanged { OnErr result (self.new.listed.items ≡ self.old.listed.items) }

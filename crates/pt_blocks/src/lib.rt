@@ -1,7 +1,7 @@
-//! Stored functions, each beside the law that says what it computes.
+//! Stored functions, each with the law that it computes.
 //!
-//! A graph names a block, and the reader of graphs puts the block's number and law into it. Firing calls the
-//! stored function; its type keeps that it gives the law's value, so who calls it needs to know the law alone.
+//! A graph names a block. The reader of graphs puts the block's number and law into the graph. When the actor fires, the
+//! stored function is called; its type guarantees the law's value, so callers need to know the law alone.
 //!
 //! Read first: `Block`, then `Blocks`.
 #![tactic(auto)]

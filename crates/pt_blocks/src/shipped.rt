@@ -1,24 +1,24 @@
-//! The functions of the blocks that the program hands in.
+//! The functions of the blocks that the program offers.
 
 ghost use Rattle.std.specs.Prelude.{◌≡◌, pos, negsuc};
 ghost use Rattle.pt_semantics.specs.Laws.{law_value};
 ghost use Rattle.pt_types.specs.declared.kind.Law.TheVariants.{Least, Greatest, Middle, Deadband};
 
-/// The smaller of both.
+/// The lesser of a and b.
 pub fn least(a: i64, b: i64) -> i64
     ensures { result ≡ law_value Least a b }
 {
     a.min(b)
 }
 
-/// The greater of both.
+/// The greater of a and b.
 pub fn greatest(a: i64, b: i64) -> i64
     ensures { result ≡ law_value Greatest a b }
 {
     a.max(b)
 }
 
-/// a, brought between -100 and 100.
+/// a, raised to -100 or lowered to 100 if it is outside.
 pub fn clip100(a: i64, b: i64) -> i64
     ensures { result ≡ law_value (Middle (negsuc 99) (pos 100)) a b }
 {
@@ -31,7 +31,7 @@ pub fn clip100(a: i64, b: i64) -> i64
     }
 }
 
-/// 0 where a and b are at most 5 apart, else a less b.
+/// 0 if a and b are at most 5 apart, else a minus b.
 pub fn dead5(a: i64, b: i64) -> i64
     ensures { result ≡ law_value (Deadband (pos 5)) a b }
 {

@@ -1,0 +1,14 @@
+pub mod Cells
+pub mod Units
+pub mod Numbered
+pub mod Before
+pub mod Waits
+pub mod Arcs
+pub mod Delays
+pub mod Wiring
+pub mod Incoming
+pub mod Places
+pub mod Ranked
+pub mod Ranking
+pub mod Rings
+pub mod Branches

@@ -1,18 +1,17 @@
-//! Least delays and ranks.
+//! Least delays, ranks and levels.
 
 ghost use Rattle.std.specs.Prelude.{IfOk, IfErr};
 ghost use Rattle.pt_types.specs.Lawful.{IsLawful};
 ghost use Rattle.pt_semantics.specs.Ranks.{AreLevels, AreRanks};
-ghost use Rattle.pt_delays.specs.Delays.{least_of, AreLeast, AreSmall};
-ghost use Rattle.pt_ranks.specs.Ranked.{level_of, rank_of, CauseOfCycle};
+ghost use Rattle.pt_causality.specs.Delays.{least_of, AreLeast, AreSmall};
+ghost use Rattle.pt_causality.specs.Ranked.{level_of, rank_of, CauseOfCycle};
 
-use pt_delays::{Least, least_delays};
-use pt_ranks::{CycleFault, Ranks, ranks_of};
+use crate::{CycleFault, Least, Ranks, least_delays, ranks_of};
 use pt_types::Graph;
 use std::alloc::Global;
 
-/// The least delay between any two units of a graph and the rank and the level of each actor, or a cycle that takes no
-/// time, of which the first actor has the least number.
+/// The least delay between any two units of a graph, and the rank and the level of each actor; or a cycle that takes no
+/// time, from its actor with the least number on.
 pub fn causality(alloc: Global, graph: &Graph) -> Result<(Least, Ranks), CycleFault>
     requires lawful { IsLawful graph.now }
     ensures least { IfOk result (λ both. AreLeast graph.now (least_of both.0)) }

@@ -12,16 +12,17 @@ use Rattle.pt_queue.specs.Events.{waiting_in}
 use Rattle.pt_state.specs.declared.fields.Fields.{Fields}
 use Rattle.pt_state.specs.State.{busy_in, state_of}
 use Rattle.pt_claim.specs.Claimed.{AreClaimed}
+use Rattle.pt_types.specs.Limits.{most_claims}
 
 pub after_is : (g : Graph) (r : ℕ) (s new : State) (tasks : List Task) → Claims g r s tasks new → new ≡ after_claims g s tasks
 after_is g r s new [] h = h
 after_is g r s new (task ∷ tasks) h = after_is g r (after_claim g s (unit_of g task) task) new tasks h.1
 
 -- nothing was claimed, so nothing is safe or all claims were made
-none_left : (X : Type 0) (most old new : ℕ) (tasks : List Task) → 0 < most → new ≡ old + length tasks → tasks ≡ [] → X ⊎ ((most ≤ length tasks) ⊎ (200000 ≤ new)) → X ⊎ (200000 ≤ old)
+none_left : (X : Type 0) (most old new : ℕ) (tasks : List Task) → 0 < most → new ≡ old + length tasks → tasks ≡ [] → X ⊎ ((most ≤ length tasks) ⊎ (most_claims ≤ new)) → X ⊎ (most_claims ≤ old)
 none_left X most old new tasks some count empty h =
     let none : length tasks ≡ 0 = ap length empty in
-    ⊎_elim (λ x. inl x) (λ k. ⊎_elim (λ (full : most ≤ length tasks). absurd (omega (arith, some, none, full))) (λ (all : 200000 ≤ new). inr (omega (arith, all, count, none))) k) h
+    ⊎_elim (λ x. inl x) (λ k. ⊎_elim (λ (full : most ≤ length tasks). absurd (omega (arith, some, none, full))) (λ (all : most_claims ≤ new). inr (omega (arith, all, count, none))) k) h
 
 pub are_cut : (g : Graph) (r most : ℕ) (old new : Fields) (before after : List Task) (c : AreClaimed g r most old new before after) (taken : List OnLink) → 0 < most → AreCut g (state_of old taken) r most c.claimed
 are_cut g r most old new before after c taken some =
@@ -29,8 +30,8 @@ are_cut g r most old new before after c taken some =
     record {
       claims = subst (Claims g r (state_of old taken) c.claimed) is (c.claims taken);
       at_most = c.at_most;
-      in_all = subst (λ (z : State). z.claims ≤ 200000) is c.in_all;
-      greedy = λ empty. subst (λ (z : State). NothingSafe g z.waits z.busy r ⊎ (200000 ≤ (state_of old taken).claims)) is
+      in_all = subst (λ (z : State). z.claims ≤ most_claims) is c.in_all;
+      greedy = λ empty. subst (λ (z : State). NothingSafe g z.waits z.busy r ⊎ (most_claims ≤ (state_of old taken).claims)) is
           (none_left (NothingSafe g (waiting_in new.queue.events) (busy_in new.open_claims.items) r) most old.claims new.claims c.claimed some c.count empty c.all_or);
-      all_or = subst (λ (z : State). NothingSafe g z.waits z.busy r ⊎ ((most ≤ length c.claimed) ⊎ (200000 ≤ z.claims))) is c.all_or;
+      all_or = subst (λ (z : State). NothingSafe g z.waits z.busy r ⊎ ((most ≤ length c.claimed) ⊎ (most_claims ≤ z.claims))) is c.all_or;
     }

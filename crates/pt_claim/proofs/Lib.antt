@@ -4,3 +4,7 @@ pub mod Fronts
 pub mod Making
 pub mod Cut
 pub mod Passing
+pub mod Least
+pub mod Bounds
+pub mod Units
+pub mod Candidates

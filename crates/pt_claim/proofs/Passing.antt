@@ -1,17 +1,13 @@
 -- The search goes over the listed units, and passes over all units between them.
-use Rattle.std.proofs.Common.{◌≡◌, ℕ, zero, suc, ◌+◌, ◌<◌, ◌≤◌, ◌⊎◌, List, [], ◌∷◌, Option, Some, None, length, get_or, refl, sym, ap, subst, inl, inr, ⊎_elim, ◌∙◌, arith}
-use Rattle.pt_tags.specs.declared.tag.Tag.{Tag}
+use Rattle.std.proofs.Common.{◌≡◌, ℕ, zero, suc, ◌+◌, ◌<◌, ◌≤◌, ◌⊎◌, List, [], ◌∷◌, Option, Some, length, get_or, refl, sym, ap, subst, inl, inr, ⊎_elim, ◌∙◌, arith}
 use Rattle.pt_types.specs.declared.firing.Task.{Task}
 use Rattle.pt_types.specs.declared.graph.Graph.{Graph}
 use Rattle.pt_types.specs.declared.graph.Unit.{Unit as Part}
 use Rattle.pt_semantics.specs.Lists.{Each, IsIn}
 use Rattle.pt_semantics.specs.Meaning.{Values}
-use Rattle.pt_semantics.specs.Units.{HasEvent}
-use Rattle.pt_semantics.proofs.Lookups.{Each-in}
-use Rattle.pt_delays.specs.Delays.{IsUnit}
 use Rattle.pt_queue.specs.declared.waiting.Waiting.{Waiting}
 use Rattle.pt_queue.specs.Events.{AreWaiting, IsLeastTag, IsRising, UnitBefore}
-use Rattle.pt_claim.specs.declared.next.SafeUnit.{SafeUnit}
+use Rattle.pt_queue.specs.declared.waiting.Waiting.{Waiting}
 use Rattle.pt_claim.specs.Fronts.{AreFirst, StandsBefore}
 use Rattle.pt_claim.proofs.Fronts.{first_end, first_pass}
 
@@ -94,7 +90,7 @@ stop_before listed zero x h l stands = absurd (⊎_elim (λ (b : x.actor < 0). n
 stop_before listed (suc i) x h l stands = before_next x (listed_at listed i).unit (listed_at listed (suc i)).unit (rising_at listed i (suc i) h (omega arith) l) stands
 
 -- before the next listed unit all units were passed
-pub up_to_next : (g : Graph) (waits : Values) (busy : Part → Option Task) (r i : ℕ) (listed : List Waiting) (cs : List SafeUnit) → AreWaiting g waits listed → i < length listed
+pub up_to_next : (g : Graph) (waits : Values) (busy : Part → Option Task) (r i : ℕ) (listed : List Waiting) (cs : List Waiting) → AreWaiting g waits listed → i < length listed
     → AreFirst g waits busy r (stop_at listed i).actor (stop_at listed i).group cs → AreFirst g waits busy r (listed_at listed i).unit.actor (listed_at listed i).unit.group cs
 up_to_next g waits busy r i listed cs are l first = first_pass g waits busy r (stop_at listed i).actor (stop_at listed i).group (listed_at listed i).unit.actor (listed_at listed i).unit.group cs
     (λ x stands. stop_before listed i x are.rising l stands)
@@ -118,7 +114,7 @@ up_to_next g waits busy r i listed cs are l first = first_pass g waits busy r (s
     split m n less = grind arith
 
 -- behind the last listed unit no unit has an event
-pub up_to_end : (g : Graph) (waits : Values) (busy : Part → Option Task) (r i : ℕ) (listed : List Waiting) (cs : List SafeUnit) → AreWaiting g waits listed → i ≡ length listed
+pub up_to_end : (g : Graph) (waits : Values) (busy : Part → Option Task) (r i : ℕ) (listed : List Waiting) (cs : List Waiting) → AreWaiting g waits listed → i ≡ length listed
     → AreFirst g waits busy r (stop_at listed i).actor (stop_at listed i).group cs → AreFirst g waits busy r (length g.actors) 0 cs
 up_to_end g waits busy r i listed cs are end first = first_end g waits busy r (stop_at listed i).actor (stop_at listed i).group cs
     (λ x t own not event.

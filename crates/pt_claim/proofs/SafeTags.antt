@@ -22,7 +22,7 @@ use Rattle.pt_semantics.specs.Safe.{IsSafe}
 use Rattle.pt_semantics.specs.Units.{same_part}
 use Rattle.pt_semantics.proofs.Lookups.{same_some, when_found, first_of_found, same_part-true, Each-in}
 use Rattle.pt_semantics.proofs.Least.{paced_meets}
-use Rattle.pt_delays.specs.Delays.{AreLeast, IsUnit}
+use Rattle.pt_causality.specs.Delays.{AreLeast, IsUnit}
 use Rattle.pt_queue.specs.Events.{IsLeastTag}
 use Rattle.pt_queue.proofs.Found.{reach_past, past_reach}
 use Rattle.pt_state.specs.declared.fields.OpenClaim.{OpenClaim}

@@ -11,8 +11,9 @@ use Rattle.pt_semantics.specs.Units.{unit_inputs, unit_of}
 use Rattle.pt_queue.specs.Events.{waiting_in}
 use Rattle.pt_state.specs.declared.fields.Fields.{Fields}
 use Rattle.pt_state.specs.State.{busy_in, state_of, states_in}
+use Rattle.pt_types.specs.Limits.{most_claims}
 
--- the task of a unit's events at t: its number is how many claims were made
+-- the task of a unit's events at t; its number is the number of claims made before
 pub record IsTaskOf (g : Graph) (f : Fields) (u : Part) (t : Tag) (task : Task) : Type 0 where
   pub unit : unit_of g task ≡ u
   pub actor : task.actor ≡ u.actor
@@ -21,7 +22,7 @@ pub record IsTaskOf (g : Graph) (f : Fields) (u : Part) (t : Tag) (task : Task) 
   pub state : task.state ≡ states_in f.states.items u.actor
   pub number : task.number ≡ f.claims
 
--- all stays the same but for what waits, the open claims and their number
+-- nothing changes but the events, the open claims and the number of claims
 pub record OthersStay (old new : Fields) : Type 0 where
   pub spare : new.queue.spare ≡ old.queue.spare
   pub groups : new.queue.groups ≡ old.queue.groups
@@ -31,8 +32,7 @@ pub record OthersStay (old new : Fields) : Type 0 where
   pub reading : new.reading ≡ old.reading
   pub closed : new.closed ≡ old.closed
 
--- a part of the greedy list from its beginning was claimed, its tasks stand behind those of before, and it is all of it
--- or was cut at `most` tasks or at 200,000 claims
+-- the first tasks of the greedy list are claimed and appended: all of it, or cut at `most` tasks or at 200,000 claims
 pub record AreClaimed (g : Graph) (r most : ℕ) (old new : Fields) (before after : List Task) : Type 0 where
   pub claimed : List Task
   pub appended : after ≡ before ++ claimed
@@ -40,5 +40,5 @@ pub record AreClaimed (g : Graph) (r most : ℕ) (old new : Fields) (before afte
   pub at_most : length claimed ≤ most
   pub count : new.claims ≡ old.claims + length claimed
   pub open_claims : new.open_claims.spare + length claimed ≡ old.open_claims.spare
-  pub in_all : new.claims ≤ 200000
-  pub all_or : NothingSafe g (waiting_in new.queue.events) (busy_in new.open_claims.items) r ⊎ ((most ≤ length claimed) ⊎ (200000 ≤ new.claims))
+  pub in_all : new.claims ≤ most_claims
+  pub all_or : NothingSafe g (waiting_in new.queue.events) (busy_in new.open_claims.items) r ⊎ ((most ≤ length claimed) ⊎ (most_claims ≤ new.claims))

@@ -1,3 +1,6 @@
 pub mod Safe
 pub mod Fronts
 pub mod Claimed
+pub mod Least
+pub mod Closing
+pub mod Next

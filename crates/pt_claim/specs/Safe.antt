@@ -1,15 +1,11 @@
--- Safe units, as a program finds them.
-use Rattle.std.specs.Prelude.{ℕ, Bool, Option, Some, None}
+-- Safe units, as the program finds them.
+use Rattle.std.specs.Prelude.{ℕ, Bool, Option}
 use Rattle.pt_tags.specs.declared.tag.Tag.{Tag}
 use Rattle.pt_tags.specs.declared.tag.Delay.{Delay}
-use Rattle.pt_types.specs.declared.graph.Graph.{Graph}
 use Rattle.pt_types.specs.declared.graph.Unit.{Unit as Part}
-use Rattle.pt_types.specs.declared.firing.Task.{Task}
-use Rattle.pt_semantics.specs.Meaning.{Values}
-use Rattle.pt_semantics.specs.Safe.{IsSafe}
 use Rattle.pt_queue.specs.Scans.{reaches}
 use Rattle.pt_state.specs.declared.fields.OpenClaim.{OpenClaim}
 
--- an open claim leads to unit u at t or before
+-- an open claim can lead to unit u at t or before
 abbrev pub leads_to : (Part → Part → Option Delay) → Part → Tag → OpenClaim → Bool
 leads_to least u t c = reaches (least c.unit u) c.task.tag t

@@ -1,27 +1,25 @@
-//! Claiming: one unit, and all that a turn claims.
+//! Claiming one unit, and all the claims of a turn.
 
 ghost use Rattle.std.specs.Prelude.{◌≡◌, ◌+◌, ◌<◌, ◌≤◌, None, List as Sequence, length, vec_len, vec_capacity};
 ghost use Rattle.pt_types.specs.declared.firing.OnLink.{OnLink};
 ghost use Rattle.pt_types.specs.Lawful.{IsLawful};
 ghost use Rattle.pt_semantics.specs.Claiming.{after_claim};
 ghost use Rattle.pt_semantics.specs.Units.{HasEvent};
-ghost use Rattle.pt_delays.specs.Delays.{AreLeast, IsUnit, least_of};
+ghost use Rattle.pt_causality.specs.Delays.{AreLeast, IsUnit, least_of};
 ghost use Rattle.pt_offsets.specs.Plans.{AreOffsets};
 ghost use Rattle.pt_queue.specs.Events.{waiting_in};
 ghost use Rattle.pt_state.specs.State.{busy_in, state_of, states_in, IsSound};
 ghost use Rattle.pt_claim.specs.Claimed.{AreClaimed, IsTaskOf, OthersStay};
+ghost use Rattle.pt_types.specs.Limits.{most_claims};
 
 use crate::front::Front;
-use crate::next::SafeUnit;
-use pt_delays::Least;
+use pt_causality::Least;
 use pt_offsets::Offsets;
+use pt_queue::Waiting;
 use pt_state::{Fields, OpenClaim};
-use pt_types::{Graph, Task, Unit};
+use pt_types::{Graph, MOST_CLAIMS, Task, Unit};
 
-/// How many claims a platform makes at most. (This project's own choice.)
-const MOST_CLAIMS: u64 = 200_000;
-
-/// The number that an actor keeps.
+/// The state of an actor.
 fn state_at(states: &[i64], actor: u32) -> i64
     requires there { actor < length states.now }
     ensures { result ≡ states_in states.now actor }
@@ -29,21 +27,21 @@ fn state_at(states: &[i64], actor: u32) -> i64
     states[actor as usize]
 }
 
-/// A task of a unit as an open claim.
+/// A task of a unit, as an open claim.
 fn open_claim(unit: Unit, task: &Task) -> OpenClaim
     ensures { result ≡ record { unit = unit; task = task.now } }
 {
     OpenClaim { unit, task: *task }
 }
 
-/// Makes the events of a unit at a tag an open claim, and gives its task. This takes no memory.
-pub fn claim(fields: &mut Fields, graph: &Graph, next: SafeUnit) -> Task
+/// Claims the events of a unit at a tag: makes them an open claim, and returns its task. Allocates nothing.
+pub fn claim(fields: &mut Fields, graph: &Graph, next: Waiting) -> Task
     requires sound { IsSound graph.now fields.old }
     requires unit { IsUnit graph.now next.unit }
     requires event { HasEvent graph.now (waiting_in fields.old.queue.events) next.unit next.tag }
     requires free { busy_in fields.old.open_claims.items next.unit ≡ None }
     requires room { 0 < fields.old.open_claims.spare }
-    requires claims { fields.old.claims < 200000 }
+    requires claims { fields.old.claims < most_claims }
     ensures task { IsTaskOf graph.now fields.old next.unit next.tag result }
     ensures after { (taken : Sequence OnLink) → state_of fields.new taken ≡ after_claim graph.now (state_of fields.old taken) next.unit result }
     ensures sound { IsSound graph.now fields.new }
@@ -66,8 +64,8 @@ pub fn claim(fields: &mut Fields, graph: &Graph, next: SafeUnit) -> Task
 /// Claims safe units, each time the one with the least tag, actor and group, and appends their tasks.
 /// (The order is this project's own choice.)
 ///
-/// It stops where no unit is safe at that reading (in microseconds), after `most` claims, and where the platform made
-/// 200,000. This takes no memory.
+/// Stops once no unit is safe at this reading (in microseconds), after `most` claims, or when the platform has made 200,000
+/// in all. Allocates nothing.
 pub fn claims(
     fields: &mut Fields,
     graph: &Graph,
@@ -81,7 +79,7 @@ pub fn claims(
     requires sound { IsSound graph.now fields.old }
     requires least { AreLeast graph.now (least_of least.now) }
     requires offsets { AreOffsets graph.now offsets.now }
-    requires claims { fields.old.claims ≤ 200000 }
+    requires claims { fields.old.claims ≤ most_claims }
     requires room { most ≤ fields.old.open_claims.spare }
     requires tasks { vec_len tasks.old + most ≤ vec_capacity tasks.old }
     ensures claimed { AreClaimed graph.now reading most fields.old fields.new tasks.old.items tasks.new.items }

@@ -1,32 +1,32 @@
-//! The safe units that are claimed first.
+//! The safe units to claim next.
 
 ghost use Rattle.std.specs.Prelude.{◌≡◌, ◌<◌, ◌+◌, ◌⊎◌, [], Some, true, false, drop, length};
 ghost use Rattle.pt_types.specs.Lawful.{IsLawful};
-ghost use Rattle.pt_delays.specs.Delays.{AreLeast, IsUnit, least_of};
+ghost use Rattle.pt_causality.specs.Delays.{AreLeast, IsUnit, least_of};
 ghost use Rattle.pt_offsets.specs.Plans.{AreOffsets};
 ghost use Rattle.pt_queue.specs.Events.{waiting_in, IsLeastTag};
 ghost use Rattle.pt_state.specs.State.{busy_in, IsSound};
 ghost use Rattle.pt_claim.specs.Fronts.{AreFirst, AreFront, IsNextSafe, IsTaken};
 
-use crate::next::{SafeUnit, put};
+use crate::order::put;
 use crate::safe::is_safe;
 use arrayvec::ArrayVec;
-use pt_delays::Least;
+use pt_causality::Least;
 use pt_offsets::Offsets;
 use pt_queue::Waiting;
 use pt_state::Fields;
 use pt_types::Graph;
 
-/// Safe units that come first, in their order, and how many of them were taken.
+/// The safe units to claim next, in order, at most 64, and how many of them are taken.
 #[derive(Drop)]
 pub struct Front {
-    pub units: ArrayVec<SafeUnit, 64>,
+    pub units: ArrayVec<Waiting, 64>,
     pub taken: usize,
-    /// Whether there may be safe units behind these.
+    /// Whether there may be more safe units after these.
     pub more: bool,
 }
 
-/// Puts a unit that has events among those that come first, if it is safe.
+/// Adds a unit that has events, if it is safe, to those to claim next.
 fn add_unit(
     fields: &Fields,
     graph: &Graph,
@@ -34,7 +34,7 @@ fn add_unit(
     offsets: &Offsets,
     reading: u64,
     waiting: Waiting,
-    units: &mut ArrayVec<SafeUnit, 64>,
+    units: &mut ArrayVec<Waiting, 64>,
 )
     requires lawful { IsLawful graph.now }
     requires sound { IsSound graph.now fields.now }
@@ -47,18 +47,18 @@ fn add_unit(
 {
     let Waiting { unit, tag } = waiting;
     if is_safe(fields, graph, least, offsets, reading, unit, tag) {
-        put(units, SafeUnit { unit, tag });
+        put(units, Waiting { unit, tag });
     }
 }
 
-/// Puts the safe units that come first in place of others. The search goes over the units that have events.
+/// Replaces the list by the first safe units in order, at most 64. Searches the units that have events.
 fn fill(
     fields: &Fields,
     graph: &Graph,
     least: &Least,
     offsets: &Offsets,
     reading: u64,
-    units: &mut ArrayVec<SafeUnit, 64>,
+    units: &mut ArrayVec<Waiting, 64>,
 )
     requires lawful { IsLawful graph.now }
     requires sound { IsSound graph.now fields.now }
@@ -73,7 +73,7 @@ fn fill(
 }
 
 impl Front {
-    /// A front of which nothing was taken, and nothing found yet.
+    /// An empty front, before the first search.
     pub fn new() -> Front
         ensures units { result.units.items ≡ [] }
         ensures more { result.more ≡ true }
@@ -85,7 +85,7 @@ impl Front {
         }
     }
 
-    /// Where all units were taken and there may be more, finds those that come first now.
+    /// Searches again, if all units found are taken and there may be more.
     fn refill(
         &mut self,
         fields: &Fields,
@@ -113,7 +113,7 @@ impl Front {
         self.more = self.units.is_full();
     }
 
-    /// Takes the safe unit that comes first; `None` exactly where no unit is safe.
+    /// Takes the first safe unit; `None` if no unit is safe.
     pub fn take(
         &mut self,
         fields: &Fields,
@@ -121,7 +121,7 @@ impl Front {
         least: &Least,
         offsets: &Offsets,
         reading: u64,
-    ) -> Option<SafeUnit>
+    ) -> Option<Waiting>
         requires lawful { IsLawful graph.now }
         requires sound { IsSound graph.now fields.now }
         requires least { AreLeast graph.now (least_of least.now) }
@@ -139,16 +139,16 @@ impl Front {
     }
 }
 
-/// Of all units that are safe at that reading the one with the least tag, actor and group; `None` exactly where none is safe.
+/// The unit that is safe at this reading with the least tag, actor and group; `None` if none is safe.
 ///
-/// The reading is in microseconds. The search goes over the units that have events.
+/// The reading is in microseconds. Searches the units that have events.
 pub fn next_safe(
     fields: &Fields,
     graph: &Graph,
     least: &Least,
     offsets: &Offsets,
     reading: u64,
-) -> Option<SafeUnit>
+) -> Option<Waiting>
     requires lawful { IsLawful graph.now }
     requires sound { IsSound graph.now fields.now }
     requires least { AreLeast graph.now (least_of least.now) }

@@ -5,20 +5,21 @@ ghost use Rattle.std.specs.List.{list_any};
 ghost use Rattle.pt_types.specs.Lawful.{IsLawful};
 ghost use Rattle.pt_semantics.specs.Paced.{paced_by};
 ghost use Rattle.pt_semantics.specs.Safe.{IsSafe};
-ghost use Rattle.pt_delays.specs.Delays.{AreLeast, IsUnit, least_of};
+ghost use Rattle.pt_causality.specs.Delays.{AreLeast, IsUnit, least_of};
 ghost use Rattle.pt_offsets.specs.Plans.{AreOffsets};
 ghost use Rattle.pt_queue.specs.Events.{waiting_in, IsLeastTag};
 ghost use Rattle.pt_state.specs.State.{busy_in, IsSound};
 ghost use Rattle.pt_claim.specs.Safe.{leads_to};
 
-use pt_delays::Least;
+use pt_causality::Least;
 use pt_offsets::Offsets;
 use pt_queue::reaches;
 use pt_state::{Fields, OpenClaim, OpenClaims};
 use pt_tags::Tag;
 use pt_types::{Graph, Unit};
 
-/// Whether the paced reading of a tag has come, for a unit of that offset. All are microseconds.
+/// Whether the reading has reached the paced reading of a tag at a unit with this offset. All are microseconds.
+/// With offset 10, a tag of time 50 has paced reading 61.
 fn is_due(offset: Option<i64>, tag: Tag, reading: u64) -> bool
     ensures { (result ≡ true) ↔ (paced_by offset tag ≤ reading) }
 {
@@ -28,14 +29,14 @@ fn is_due(offset: Option<i64>, tag: Tag, reading: u64) -> bool
     }
 }
 
-/// Whether an open claim leads to a unit at the tag or before.
+/// Whether an open claim can lead to a unit at the tag or before.
 fn leads_to(least: &Least, unit: Unit, tag: Tag, claim: &OpenClaim) -> bool
     ensures { result ≡ leads_to (least_of least.now) unit tag claim.now }
 {
     reaches(least.get(claim.unit, unit), claim.task.tag, tag)
 }
 
-/// Whether one of the open claims does.
+/// Whether one of the open claims can lead to a unit at the tag or before.
 fn is_held_up(claims: &OpenClaims, least: &Least, unit: Unit, tag: Tag) -> bool
     ensures { result ≡ list_any (leads_to (least_of least.now) unit tag) claims.now.items }
 {
@@ -46,7 +47,7 @@ fn is_held_up(claims: &OpenClaims, least: &Least, unit: Unit, tag: Tag) -> bool
         .any(|claim| leads_to(least, unit, tag, claim))
 }
 
-/// Whether a unit is safe at a reading, in microseconds, at the least tag of its events.
+/// Whether a unit is safe to process at a reading (in microseconds), where `tag` is the least tag of its events.
 ///
 /// (That a unit waits for its offset is from RTAS 2009, and that it waits for what leads to it from RTAS 2007; that it waits
 /// for an equal tag too is this project's own choice.)

@@ -11,7 +11,7 @@ use Rattle.pt_types.specs.declared.firing.Task.{Task}
 use Rattle.pt_types.specs.declared.firing.OnLink.{OnLink}
 use Rattle.pt_types.specs.Ports.{when}
 use Rattle.pt_semantics.specs.Lists.{or_else}
-use Rattle.pt_semantics.specs.Edges.{platform_of}
+use Rattle.pt_types.specs.Lookups.{platform_of}
 use Rattle.pt_semantics.specs.Bounds.{bound_of}
 use Rattle.pt_semantics.specs.Paced.{IsClosing}
 use Rattle.pt_semantics.specs.Closing.{on_link, end_for}

@@ -11,7 +11,7 @@ use crate::ends::shut_links;
 use pt_state::Fields;
 use pt_types::Graph;
 
-/// Whether a platform can close at a reading, by its closing reading, both in microseconds.
+/// Whether a platform can close at a reading, given its closing reading, both in microseconds.
 fn can_close(fields: &Fields, closing: u64, reading: u64) -> bool
     ensures { (g : Graph) (platform : ℕ) (taken : Sequence OnLink) → IsClosing g platform closing → (result ≡ true) ↔ CanClose g platform (state_of fields.now taken) reading }
 {
@@ -30,10 +30,10 @@ fn can_close(fields: &Fields, closing: u64, reading: u64) -> bool
     fields.outbox.is_empty()
 }
 
-/// Closes a platform where it can close, unless a message was late: `End` is put into the outbox for each outgoing link.
+/// Closes a platform if it can close, unless a message was late: puts `End` into the outbox for each outgoing link.
 ///
 /// `closing` is the platform's closing reading, and `reading` that of the turn, both in microseconds. The outbox needs room
-/// for a message on each link of the graph; no memory is taken.
+/// for a message on each link of the graph. Allocates nothing.
 pub fn close(
     fields: &mut Fields,
     graph: &Graph,

@@ -1,24 +1,14 @@
-//! The ends of the outgoing links.
+//! The end messages of the outgoing links.
 
 ghost use Rattle.std.specs.Prelude.{◌≡◌, ℕ, ◌+◌, ◌<◌, ◌≤◌, ◌^◌, ◌++◌, length, slice_get, vec_len, vec_capacity};
 ghost use Rattle.pt_semantics.specs.Closing.{on_link, end_for};
-ghost use Rattle.pt_semantics.specs.Edges.{platform_of};
+ghost use Rattle.pt_types.specs.Lookups.{platform_of};
 ghost use Rattle.pt_close.specs.Ends.{ended_on};
 
 use pt_tags::Message;
 use pt_types::{Graph, OnLink};
 
-/// The platform of an actor; 0 where there is no such actor.
-fn platform(graph: &Graph, actor: u32) -> u32
-    ensures { result ≡ platform_of graph.now actor }
-{
-    match graph.actors.as_slice().get(actor as usize) {
-        Some(actor) => actor.platform,
-        None => 0,
-    }
-}
-
-/// Puts `End` in for a link, where it leads from this platform.
+/// Puts `End` into the outbox for a link, if it leads from this platform.
 fn end_on(outbox: &mut Vec<OnLink>, link: u32, from: u32, number: u32)
     requires room { vec_len outbox.old < vec_capacity outbox.old }
     ensures ends { (l : ℕ) → on_link l outbox.new.items ≡ on_link l outbox.old.items ++ ended_on l link from number }
@@ -37,7 +27,7 @@ fn end_on(outbox: &mut Vec<OnLink>, link: u32, from: u32, number: u32)
     }
 }
 
-/// Puts `End` into the outbox for each link that leads from a platform. This takes no memory.
+/// Puts `End` into the outbox for each link that leads from a platform. Allocates nothing.
 pub fn shut_links(outbox: &mut Vec<OnLink>, graph: &Graph, number: u32)
     requires links { length graph.now.links < 2 ^ 32 }
     requires room { vec_len outbox.old + length graph.now.links ≤ vec_capacity outbox.old }
@@ -47,6 +37,6 @@ pub fn shut_links(outbox: &mut Vec<OnLink>, graph: &Graph, number: u32)
 {
     let links = graph.links.as_slice();
     for l in 0..links.len() {
-        end_on(outbox, l as u32, platform(graph, links[l].from), number);
+        end_on(outbox, l as u32, graph.platform_of(links[l].from), number);
     }
 }

@@ -1,7 +1,7 @@
-//! Closing: where nothing is left to do on a platform and nothing can come any more, it closes, and says so on its links.
+//! Closing: once a platform has nothing left to do and nothing can still arrive, it closes, and sends `End` on its links.
 //!
-//! A platform can close at a reading that is past the horizon and the bounds of its sensors and receivers, where no event
-//! waits, no claim is open and no message is left to send. Then `End` is put into the outbox of each outgoing link.
+//! A platform can close at a reading past the horizon plus the bound of each of its sensors and receivers, if no event waits,
+//! no claim is open and no message is left to send. Then `End` is put into the outbox of each outgoing link.
 //!
 //! Read first: `close`, then `CanClose` in `specs/Closing.antt` of pt_semantics.
 #![tactic(auto)]

@@ -10,24 +10,24 @@ use Rattle.pt_types.specs.declared.graph.Unit.{Unit as Part}
 use Rattle.pt_types.specs.declared.rows.Row.{Row}
 use Rattle.pt_semantics.specs.Lists.{IsIn}
 use Rattle.pt_semantics.specs.Behaviours.{Behaves, Everywhere}
-use Rattle.pt_semantics.specs.Edges.{platform_of}
+use Rattle.pt_types.specs.Lookups.{platform_of}
 use Rattle.pt_semantics.specs.History.{IsLegal, Legal, claims_of, of_unit}
 use Rattle.pt_semantics.specs.Linked.{IsFinished, all_claims}
 use Rattle.pt_semantics.specs.Meaning.{IsMeaning, opening}
 use Rattle.pt_semantics.specs.Platform.{State, opened}
 use Rattle.pt_semantics.specs.Turn.{Turn}
 use Rattle.pt_semantics.specs.Wired.{IsWired}
-use Rattle.pt_semantics.proofs.ByActor.{by_actor}
-use Rattle.pt_semantics.proofs.Confluent.{confluence}
-use Rattle.pt_semantics.proofs.Finish.{histories_behave}
-use Rattle.pt_semantics.proofs.Home.{home_holds}
+use Rattle.pt_laws.proofs.ByActor.{by_actor}
+use Rattle.pt_laws.proofs.Confluent.{confluence}
+use Rattle.pt_laws.proofs.Finish.{histories_behave}
+use Rattle.pt_laws.proofs.Home.{home_holds}
 use Rattle.pt_semantics.proofs.Longest.{levels_grow}
 use Rattle.pt_semantics.proofs.Lookups.{none_some, same_some}
-use Rattle.pt_lawful.proofs.Edges.{wired}
-use Rattle.pt_ranks.specs.Ranked.{level_of, rank_of}
+use Rattle.pt_semantics.proofs.LawfulEdges.{wired}
+use Rattle.pt_causality.specs.Ranked.{level_of, rank_of}
 use Rattle.pt_offsets.specs.Plans.{IsAdmitted, Parts}
 use Rattle.pt_turn.specs.Platforms.{PlatformView, rows_at, state_at}
-use Rattle.pt_platforms.specs.All.{histories_of}
+use Rattle.pt_turn.specs.All.{histories_of}
 use Rattle.pt_confluence.specs.Gathered.{AreClaimed, AreLegal, HaveFinished, IsItsHistory, tasks_of}
 
 pub legal_none : AreLegal []

@@ -11,12 +11,14 @@ use Rattle.pt_types.specs.declared.graph.Unit.{Unit as Part}
 use Rattle.pt_types.specs.declared.kind.Kind.{Kind}
 use Rattle.pt_types.specs.declared.kind.Kind.TheVariants.{Lanes}
 use Rattle.pt_semantics.specs.Behaviours.{Behaves, Everywhere, Firing, Firings, Rising, comes, firing_at, state_before}
-use Rattle.pt_semantics.specs.Edges.{first_state, kind_of}
+use Rattle.pt_semantics.specs.Edges.{first_state}
+use Rattle.pt_types.specs.Lookups.{kind_of}
 use Rattle.pt_semantics.specs.Firing.{any_present, fired}
 use Rattle.pt_semantics.specs.History.{firing_by, of_unit}
 use Rattle.pt_semantics.specs.Lists.{Each, IsIn}
 use Rattle.pt_semantics.specs.Meaning.{Values}
-use Rattle.pt_semantics.specs.Units.{first_port, input_group, same_part, unit_inputs, unit_of}
+use Rattle.pt_semantics.specs.Units.{first_port, same_part, unit_inputs, unit_of}
+use Rattle.pt_types.specs.Groups.{input_group}
 use Rattle.pt_semantics.proofs.Lookups.{Each-in, at_eight, same_part-refl, same_part-true, same_some, when_found}
 use Rattle.pt_semantics.proofs.Tags.{Before-irrefl, same_tag-before, tag_lt-true}
 use Rattle.pt_semantics.proofs.Words.{firing_at_head, firing_at_tail, when-true}

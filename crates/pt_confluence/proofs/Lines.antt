@@ -14,14 +14,16 @@ use Rattle.pt_types.specs.declared.graph.Unit.{Unit as Part}
 use Rattle.pt_types.specs.declared.kind.Kind.{Kind}
 use Rattle.pt_types.specs.declared.kind.Kind.TheVariants.{Actuator}
 use Rattle.pt_semantics.specs.Behaviours.{Firing}
-use Rattle.pt_semantics.specs.Edges.{kind_of, no_actor}
+use Rattle.pt_types.specs.Groups.{no_actor}
+use Rattle.pt_types.specs.Lookups.{kind_of}
 use Rattle.pt_semantics.specs.Firing.{any_present, or_zero}
 use Rattle.pt_semantics.specs.History.{firing_by, of_unit}
 use Rattle.pt_semantics.specs.Lists.{Each}
 use Rattle.pt_semantics.specs.Meaning.{Runs, World, after_firing}
 use Rattle.pt_semantics.specs.Parts.{narrowed, part_by, part_of, parts}
 use Rattle.pt_semantics.specs.Tables.{line, line_of, lines_of, table_of}
-use Rattle.pt_semantics.specs.Units.{first_port, input_group, same_part, unit_of}
+use Rattle.pt_semantics.specs.Units.{first_port, same_part, unit_of}
+use Rattle.pt_types.specs.Groups.{input_group}
 use Rattle.pt_semantics.specs.Turn.{Turn}
 use Rattle.pt_semantics.proofs.Lookups.{same_some}
 use Rattle.pt_semantics.proofs.Words.{when-false, when-true}

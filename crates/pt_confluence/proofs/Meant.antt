@@ -13,7 +13,7 @@ use Rattle.pt_types.specs.declared.graph.Unit.{Unit as Part}
 use Rattle.pt_types.specs.declared.kind.Kind.{Kind}
 use Rattle.pt_types.specs.declared.rows.Row.{Row}
 use Rattle.pt_semantics.specs.Behaviours.{Behaves, Everywhere, Firing, Firings, Rising, firing_at}
-use Rattle.pt_semantics.specs.Edges.{kind_of}
+use Rattle.pt_types.specs.Lookups.{kind_of}
 use Rattle.pt_semantics.specs.Firing.{any_present, fired}
 use Rattle.pt_semantics.specs.History.{firing_by, of_unit}
 use Rattle.pt_semantics.specs.Lists.{Each, IsIn}
@@ -22,12 +22,13 @@ use Rattle.pt_semantics.specs.Parts.{narrowed, part_of, parts}
 use Rattle.pt_semantics.specs.Ranks.{AreRanks}
 use Rattle.pt_semantics.specs.Rows.{FitRows}
 use Rattle.pt_semantics.specs.Sorted.{InKeyOrder, Sooner}
-use Rattle.pt_semantics.specs.Units.{input_group, unit_of}
+use Rattle.pt_semantics.specs.Units.{unit_of}
+use Rattle.pt_types.specs.Groups.{input_group}
 use Rattle.pt_semantics.specs.Wired.{IsWired}
 use Rattle.pt_semantics.proofs.Lookups.{Each-from, Each-in, eight_below, eight_found, none_some, when_found}
-use Rattle.pt_semantics.proofs.MeaningWalk.{HasPart, in_parts, narrow, part_cases, part_in, sooner_never, sooner_same, the_part}
-use Rattle.pt_semantics.proofs.Sorted.{sorted_is_meaning}
-use Rattle.pt_semantics.proofs.Threads.{firing_at_in}
+use Rattle.pt_laws.proofs.MeaningWalk.{HasPart, in_parts, narrow, part_cases, part_in, sooner_never, sooner_same, the_part}
+use Rattle.pt_laws.proofs.Sorted.{sorted_is_meaning}
+use Rattle.pt_laws.proofs.Threads.{firing_at_in}
 use Rattle.pt_semantics.proofs.Words.{firings_agree, when-false, when-true}
 use Rattle.pt_confluence.specs.Joined.{InOrder, joined, whole}
 use Rattle.pt_confluence.proofs.Neighbours.{AreOne, HasInput, IsWithin, Strict, are_full, in_key_order, made_of, strict_joined, within_joined}

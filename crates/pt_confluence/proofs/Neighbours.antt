@@ -12,7 +12,7 @@ use Rattle.pt_semantics.specs.Lists.{Each, IsIn, or_else}
 use Rattle.pt_semantics.specs.Meaning.{NotAfter}
 use Rattle.pt_semantics.specs.Sorted.{InKeyOrder, IsFull, Sooner}
 use Rattle.pt_semantics.proofs.Lookups.{at_eight, eight_below, or_else_assoc, eight_found, eight_present, or_else_found}
-use Rattle.pt_semantics.proofs.MeaningWalk.{sooner_strict, sooner_then, sooner_weak, tag_from}
+use Rattle.pt_laws.proofs.MeaningWalk.{sooner_strict, sooner_then, sooner_weak, tag_from}
 use Rattle.pt_semantics.proofs.Tags.{same_tag-refl, same_tag-true}
 use Rattle.pt_semantics.proofs.Words.{Each-map}
 use Rattle.pt_confluence.specs.Joined.{InOrder, before, both, is_same_firing, joined, whole}

@@ -5,14 +5,14 @@ use Rattle.pt_types.specs.declared.firing.ActorFiring.{ActorFiring}
 use Rattle.pt_types.specs.declared.rows.Row.{Row}
 use Rattle.pt_semantics.specs.Meaning.{IsMeaning, at_start, opening}
 use Rattle.pt_semantics.specs.Parts.{parts}
-use Rattle.pt_semantics.proofs.Agree.{behaviours_agree}
+use Rattle.pt_laws.proofs.Agree.{behaviours_agree}
 use Rattle.pt_semantics.proofs.Longest.{ranks_grow}
-use Rattle.pt_semantics.proofs.MeaningSteps.{meaning_behaves}
+use Rattle.pt_laws.proofs.MeaningSteps.{meaning_behaves}
 use Rattle.pt_semantics.specs.Linked.{all_claims}
-use Rattle.pt_ranks.specs.Ranked.{rank_of}
+use Rattle.pt_causality.specs.Ranked.{rank_of}
 use Rattle.pt_offsets.specs.Plans.{IsAdmitted, Parts}
 use Rattle.pt_turn.specs.Platforms.{PlatformView}
-use Rattle.pt_platforms.specs.All.{histories_of}
+use Rattle.pt_turn.specs.All.{histories_of}
 use Rattle.pt_tables.specs.Gathered.{texts_from}
 use Rattle.pt_confluence.specs.Gathered.{AreLegal, AreTables, HaveFinished, by_task, tasks_of}
 use Rattle.pt_confluence.specs.Joined.{joined, whole}

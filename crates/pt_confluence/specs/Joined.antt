@@ -1,11 +1,11 @@
--- Tasks in the order of the meaning, and whole firings made of them.
+-- Tasks in the order of the meaning, and whole firings made from them.
 use Rattle.std.specs.Prelude.{◌==◌, ◌&&◌, ◌∷◌, [], if◌then◌else◌, ℕ, Bool, List}
 use Rattle.pt_tags.specs.Tags.{same_tag}
 use Rattle.pt_types.specs.Ports.{at_port, eight}
 use Rattle.pt_types.specs.declared.firing.ActorFiring.{ActorFiring}
 use Rattle.pt_types.specs.declared.firing.Task.{Task}
 use Rattle.pt_types.specs.declared.graph.Graph.{Graph}
-use Rattle.pt_semantics.specs.Edges.{kind_of}
+use Rattle.pt_types.specs.Lookups.{kind_of}
 use Rattle.pt_semantics.specs.Firing.{fired}
 use Rattle.pt_semantics.specs.Lists.{Each, or_else}
 use Rattle.pt_semantics.specs.Meaning.{NotAfter}
@@ -19,21 +19,21 @@ InOrder rank (x ∷ xs) = Each (λ (y : Task). NotAfter rank x.tag x.actor y.tag
 abbrev pub is_same_firing : Task → Task → Bool
 is_same_firing x y = x.actor == y.actor && same_tag x.tag y.tag
 
--- a task with the inputs of another as well
+-- the first task, with the inputs of the second added
 abbrev pub both : Task → Task → Task
 both x y = record x { inputs = eight (λ p. or_else (at_port x.inputs p) (at_port y.inputs p)) }
 
--- a task before others, joined to the first where they are of one actor and tag
+-- a task in front of others, joined with the first of them if both are of one actor and tag
 abbrev pub before : Task → List Task → List Task
 before x [] = x ∷ []
 before x (y ∷ ys) = if is_same_firing x y then both x y ∷ ys else x ∷ y ∷ ys
 
--- tasks, of which neighbours of one actor and tag are joined
+-- the tasks, with neighbours of one actor and tag joined
 abbrev pub joined : List Task → List Task
 joined [] = []
 joined (x ∷ xs) = before x (joined xs)
 
--- a task as the whole firing of its actor
+-- a joined task as the whole firing of its actor
 abbrev pub whole : Graph → Task → ActorFiring
 whole g task = record {
   actor = task.actor;

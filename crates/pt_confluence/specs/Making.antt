@@ -1,4 +1,4 @@
--- Firings that are being made.
+-- Firings in the making.
 use Rattle.std.specs.Prelude.{◌++◌, List, None, Option, Some, map}
 use Rattle.pt_types.specs.declared.firing.ActorFiring.{ActorFiring}
 use Rattle.pt_types.specs.declared.firing.Task.{Task}
@@ -6,11 +6,11 @@ use Rattle.pt_types.specs.declared.graph.Graph.{Graph}
 use Rattle.pt_confluence.specs.Joined.{before, joined, whole}
 use Rattle.pt_confluence.specs.declared.joining.Joining.{Joining}
 
--- tasks after one that they may join
+-- the joined tasks, if these tasks follow the last one
 abbrev pub after_last : Option Task → List Task → List Task
 after_last None rest = joined rest
 after_last (Some last) rest = before last (joined rest)
 
--- the firings that are made once these tasks have followed
+-- all firings, if these tasks follow
 abbrev pub made : Graph → Joining → List Task → List ActorFiring
 made g joining rest = joining.firings ++ map (whole g) (after_last joining.last rest)

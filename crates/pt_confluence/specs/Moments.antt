@@ -5,7 +5,7 @@ use Rattle.std.specs.Ordering.{nat_cmp, ordering_then}
 use Rattle.pt_types.specs.declared.firing.Task.{Task}
 use Rattle.pt_confluence.specs.declared.moment.Moment.{Moment}
 
--- where a task stands
+-- the place of a task in the order of the meaning
 abbrev pub moment_of : (ℕ → ℕ) → Task → Moment
 moment_of rank task = record { time = task.tag.time; step = task.tag.step; rank = rank task.actor; actor = task.actor }
 

@@ -1,4 +1,4 @@
-//! The tables of the actuators, straight from the kept turns.
+//! The tables of the actuators, directly from the recorded turns.
 
 ghost use Rattle.std.specs.Prelude.{◌≡◌, ◌++◌, ℕ, IfOk, List, OnOk, flat_map, map, string_bytes};
 ghost use Rattle.pt_types.specs.declared.firing.ActorFiring.{ActorFiring};
@@ -15,10 +15,10 @@ use pt_turn::Platform;
 use pt_types::{Actor, Ports, Task};
 use std::alloc::{AllocError, Global};
 
-/// The tables of a plan's actuators as text, from what its finished platforms claimed: those of the meaning.
+/// The tables of a plan's actuators as text, from the claims of its finished platforms. They are those of the meaning.
 ///
 /// An actuator's claims are all on its platform, in the order of their tags, so nothing is sorted: each becomes a line of
-/// its table as the kept turns are read.
+/// its table as the recorded turns are read.
 pub fn tables_of(alloc: Global, plan: &Plan, platforms: &[Platform]) -> Result<String, AllocError>
     ensures { IfOk result (λ text. (rows : ℕ → List Row) → HaveFinished plan.now rows platforms.now → AreTables plan.now rows (string_bytes text)) }
 {
@@ -30,7 +30,7 @@ pub fn tables_of(alloc: Global, plan: &Plan, platforms: &[Platform]) -> Result<S
     tables.text(alloc)
 }
 
-/// Appends the lines of what kept turns claimed.
+/// Appends the lines of the claims of recorded turns.
 fn push_history(
     tables: &mut ActorTables,
     actors: &[Actor],
@@ -54,7 +54,7 @@ fn push_tasks(tables: &mut ActorTables, actors: &[Actor], tasks: &[Task]) -> Res
     Ok(())
 }
 
-/// The value at input 0.
+/// The value at input 0; 0 if there is none.
 fn first_value(inputs: &Ports) -> i64
     ensures { result ≡ or_zero (at_port inputs.now 0) }
 {

@@ -1,31 +1,30 @@
-//! The meaning, from the kept turns.
+//! The meaning, from the recorded turns.
 
 ghost use Rattle.std.specs.Prelude.{◌≡◌, ◌++◌, ℕ, IfOk, List, OnOk, flat_map, map};
 ghost use Rattle.std.specs.List.Sorted.{IsPermutation, IsSortedByKey};
-ghost use Rattle.pt_types.specs.Lawful.{IsLawful};
 ghost use Rattle.pt_types.specs.declared.firing.Task.{Task};
 ghost use Rattle.pt_types.specs.declared.rows.Row.{Row};
 ghost use Rattle.pt_semantics.specs.Meaning.{IsMeaning};
-ghost use Rattle.pt_ranks.specs.Ranked.{rank_of};
+ghost use Rattle.pt_causality.specs.Ranked.{rank_of};
 ghost use Rattle.pt_confluence.specs.Gathered.{AreClaimed, AreLegal, HaveFinished, tasks_of};
-ghost use Rattle.pt_confluence.specs.Joined.{joined, whole};
+ghost use Rattle.pt_confluence.specs.Joined.{joined};
 ghost use Rattle.pt_confluence.specs.Moments.{moment_cmp, moment_of};
 
 use crate::joining::join;
 use crate::moment::Moment;
-use pt_firings::Firings;
+use pt_causality::Ranks;
 use pt_history::History;
+use pt_meaning::Firings;
 use pt_offsets::Plan;
-use pt_ranks::Ranks;
 use pt_tags::Memory;
 use pt_turn::Platform;
 use pt_types::Task;
 use std::alloc::Global;
 
-/// The meaning of a plan's graph and the rows of the run, from what its finished platforms claimed.
+/// The meaning of a plan's graph and the rows of the run, from the claims of its finished platforms.
 ///
-/// The tasks are brought into the order of the meaning as references, and those of one actor and tag, which are the
-/// units of lanes, are joined to one firing.
+/// References to the tasks are sorted in the order of the meaning, and tasks of one actor and tag, which are those of the
+/// units of lanes, are joined into one firing.
 pub fn gather(alloc: Global, plan: &Plan, platforms: &[Platform]) -> Result<Firings, Memory>
     ensures meaning { IfOk result (λ firings. (rows : ℕ → List Row) → HaveFinished plan.now rows platforms.now → IsMeaning plan.now.graph (rank_of plan.now.ranks) rows firings) }
     ensures claimed { IfOk result (λ firings. (rows : ℕ → List Row) → HaveFinished plan.now rows platforms.now → AreClaimed plan.now platforms.now firings) }
@@ -35,7 +34,7 @@ pub fn gather(alloc: Global, plan: &Plan, platforms: &[Platform]) -> Result<Firi
     join(alloc, plan.graph(), tasks.as_slice())
 }
 
-/// All tasks that platforms claimed, platform by platform.
+/// All tasks claimed by platforms, platform by platform.
 fn all_tasks(alloc: Global, platforms: &[Platform]) -> Result<Vec<&Task>, Memory>
     ensures tasks { IfOk result (λ tasks. map (λ task. task.now) tasks.items ≡ flat_map tasks_of platforms.now) }
     ensures legal { IfOk result (λ tasks. AreLegal platforms.now) }
@@ -47,7 +46,7 @@ fn all_tasks(alloc: Global, platforms: &[Platform]) -> Result<Vec<&Task>, Memory
     Ok(tasks)
 }
 
-/// Appends the tasks that kept turns claimed.
+/// Appends the tasks claimed in recorded turns.
 fn push_history<'a>(tasks: &mut Vec<&'a Task>, history: &'a History) -> Result<(), Memory>
     ensures { OnOk result (map (λ task. task.now) tasks.new.items ≡ map (λ task. task.now) tasks.old.items ++ flat_map (λ turn. turn.claimed) history.now.turns) }
 {
@@ -69,7 +68,7 @@ fn push_tasks<'a>(tasks: &mut Vec<&'a Task>, claimed: &'a [Task]) -> Result<(), 
     Ok(())
 }
 
-/// Brings tasks into the order of tag, rank and actor. No memory is taken.
+/// Sorts tasks by tag, rank and actor. Allocates nothing.
 fn sort(ranks: &Ranks, tasks: &mut Vec<&Task>)
     ensures sorted { IsSortedByKey (λ task. moment_of (rank_of ranks.now) task.now) moment_cmp tasks.new.items }
     ensures permutation { IsPermutation tasks.old.items tasks.new.items }
@@ -77,7 +76,7 @@ fn sort(ranks: &Ranks, tasks: &mut Vec<&Task>)
     tasks.sort_unstable_by_key(|task| moment_of(ranks, task));
 }
 
-/// Where a task stands in the order of the meaning.
+/// The place of a task in the order of the meaning.
 fn moment_of(ranks: &Ranks, task: &Task) -> Moment
     ensures { result ≡ moment_of (rank_of ranks.now) task.now }
 {

@@ -1,28 +1,28 @@
-//! Whole firings of tasks in order.
+//! Whole firings, from sorted tasks.
 
 ghost use Rattle.std.specs.Prelude.{◌≡◌, ◌∷◌, [], IfOk, List, map};
 ghost use Rattle.pt_types.specs.Lawful.{IsLawful};
 ghost use Rattle.pt_types.specs.declared.firing.Task.{Task};
-ghost use Rattle.pt_semantics.specs.Edges.{kind_of};
+ghost use Rattle.pt_types.specs.Lookups.{kind_of};
 ghost use Rattle.pt_semantics.specs.Firing.{fired};
 ghost use Rattle.pt_semantics.specs.Lists.{or_else};
 ghost use Rattle.pt_confluence.specs.Joined.{both, is_same_firing, joined, whole};
 ghost use Rattle.pt_confluence.specs.Making.{made};
 
 use pt_actors::fire_kind;
-use pt_firings::Firings;
+use pt_meaning::Firings;
 use pt_tags::Memory;
 use pt_types::{ActorFiring, Fired, Graph, Kind, Ports, Task};
 use std::alloc::Global;
 
-/// The firings so far, and the task that those of its actor and tag still join.
+/// The firings so far, and the last task, which further tasks of its actor and tag join.
 #[derive(Drop)]
 pub struct Joining {
     pub firings: Firings,
     pub last: Option<Task>,
 }
 
-/// The whole firings of tasks in order: neighbours of one actor and tag are joined.
+/// The whole firings of sorted tasks: neighbours of one actor and tag are joined.
 pub fn join(alloc: Global, graph: &Graph, tasks: &[&Task]) -> Result<Firings, Memory>
     requires lawful { IsLawful graph.now }
     ensures { IfOk result (λ firings. firings ≡ map (whole graph.now) (joined (map (λ task. task.now) tasks.now))) }
@@ -62,7 +62,7 @@ fn with(joining: Joining, graph: &Graph, task: &Task) -> Result<Joining, Memory>
     })
 }
 
-/// All firings, where no task follows.
+/// All firings, once no task follows.
 fn finish(joining: Joining, graph: &Graph) -> Result<Firings, Memory>
     requires lawful { IsLawful graph.now }
     ensures { IfOk result (λ firings. firings ≡ made graph.now joining []) }
@@ -83,7 +83,7 @@ fn is_same_firing(first: &Task, second: &Task) -> bool
         && first.tag.step == second.tag.step
 }
 
-/// A task with the inputs of another as well.
+/// The first task, with the inputs of the second added.
 fn both(first: &Task, second: &Task) -> Task
     ensures { result ≡ both first.now second.now }
 {
@@ -102,7 +102,7 @@ fn both(first: &Task, second: &Task) -> Task
     Task { inputs, ..*first }
 }
 
-/// The first of two values that is there.
+/// `first` if it is a value, else `second`.
 fn or_else(first: Option<i64>, second: Option<i64>) -> Option<i64>
     ensures { result ≡ or_else first second }
 {
@@ -112,7 +112,7 @@ fn or_else(first: Option<i64>, second: Option<i64>) -> Option<i64>
     }
 }
 
-/// The whole firing of a task.
+/// The whole firing of a joined task.
 fn whole(graph: &Graph, task: &Task) -> ActorFiring
     requires lawful { IsLawful graph.now }
     ensures { result ≡ whole graph.now task.now }
@@ -128,7 +128,7 @@ fn whole(graph: &Graph, task: &Task) -> ActorFiring
     }
 }
 
-/// What a task's actor gives.
+/// The new state and the outputs of a task's actor.
 fn fire(graph: &Graph, task: &Task) -> Fired
     requires lawful { IsLawful graph.now }
     ensures { result ≡ fired (kind_of graph.now task.now.actor) task.now.state task.now.inputs }

@@ -1,4 +1,4 @@
-//! Confluence: what the platforms of a plan claimed, gathered into the meaning.
+//! Confluence: the claims of all platforms of a plan, gathered into the meaning.
 //!
 //! Read first: `gather` and `tables_of`, then `specs/Gathered.antt`.
 #![tactic(auto)]

@@ -1,6 +1,6 @@
 //! The order of the meaning.
 
-/// When an actor fires: the order of moments is the order of firings in the meaning.
+/// The place of a firing in the meaning: moments are ordered as the firings are, by time, step, rank and actor.
 #[derive(Clone, Copy, Debug, PartialEq, Eq, PartialOrd, Ord)]
 pub struct Moment {
     /// Microseconds of model time.

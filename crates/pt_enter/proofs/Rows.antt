@@ -15,7 +15,7 @@ use Rattle.pt_semantics.proofs.Lookups.{or_else_none, or_else_assoc, when_or_els
 use Rattle.pt_semantics.proofs.Tags.{same_tag-refl, same_tag-true, same_tag-before}
 use Rattle.pt_semantics.proofs.Words.{when-true, when-false}
 use Rattle.pt_queue.specs.Events.{value_in}
-use Rattle.pt_enter.specs.Sensors.{seen_at}
+use Rattle.pt_state.specs.Sensors.{seen_at}
 
 both : (b c d : Bool) (x : Option ℤ) → when (b && c && d) x ≡ when (b && c) (when d x)
 both true true d x = refl

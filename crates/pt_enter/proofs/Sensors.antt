@@ -15,10 +15,10 @@ use Rattle.pt_semantics.specs.Meaning.{Values, added, row_at}
 use Rattle.pt_semantics.specs.Rows.{TimesRise}
 use Rattle.pt_semantics.specs.Units.{at_input}
 use Rattle.pt_semantics.proofs.Lookups.{none_some, or_else_none, or_else_assoc, when_found, when_none}
-use Rattle.pt_delays.specs.Units.{IsUnit}
+use Rattle.pt_causality.specs.Units.{IsUnit}
 use Rattle.pt_state.specs.declared.fields.Sensor.{Sensor}
 use Rattle.pt_state.specs.State.{left_in, rows_left, rows_of}
-use Rattle.pt_enter.specs.Sensors.{at_sensor, seen_at, IsSensor, RiseFrom}
+use Rattle.pt_state.specs.Sensors.{at_sensor, seen_at, IsSensor, RiseFrom}
 
 -- the rows that are due of one sensor, and of several
 abbrev pub due_of : ℕ → Sensor → List Row

@@ -1,6 +1,6 @@
-//! The rows of sensors, one after another.
+//! The rows of sensors that enter in a turn.
 
-ghost use Rattle.std.specs.Prelude.{◌≡◌, ℕ, ◌+◌, ◌<◌, ◌≤◌, ◌++◌, ◌∷◌, [], List as Sequence, None, drop, length, map, vec_len, vec_capacity};
+ghost use Rattle.std.specs.Prelude.{◌≡◌, ℕ, ◌+◌, ◌<◌, ◌≤◌, ◌++◌, ◌∷◌, [], List as Sequence, drop, length, map, vec_len, vec_capacity};
 ghost use Rattle.pt_types.specs.declared.firing.OnLink.{OnLink};
 ghost use Rattle.pt_semantics.specs.Entering.{after_rows, all_due, due, not_due};
 ghost use Rattle.pt_semantics.specs.Floor.{NothingThere};
@@ -8,14 +8,14 @@ ghost use Rattle.pt_semantics.specs.Meaning.{added};
 ghost use Rattle.pt_semantics.specs.Rows.{TimesRise};
 ghost use Rattle.pt_queue.specs.Events.{waiting_in};
 ghost use Rattle.pt_state.specs.State.{state_of, left_in, rows_of, IsSound};
-ghost use Rattle.pt_enter.specs.Sensors.{at_sensor, seen_at, AreSensors, NeverEnters};
+ghost use Rattle.pt_state.specs.Sensors.{at_sensor, seen_at, AreSensors, NeverEnters};
 
 use pt_queue::Queue;
 use pt_state::Fields;
 use pt_tags::Tag;
 use pt_types::{Event, Graph, Row, RowAt};
 
-/// A row of a sensor enters: it waits as an event, and is appended to `kept`.
+/// A row of a sensor enters: it becomes a waiting event, and is appended to `kept`.
 fn enter_row(queue: &mut Queue, sensor: u32, row: Row, kept: &mut Vec<RowAt>)
     requires spare { 0 < queue.old.spare }
     requires actor { sensor < length queue.old.groups }
@@ -42,8 +42,8 @@ fn enter_row(queue: &mut Queue, sensor: u32, row: Row, kept: &mut Vec<RowAt>)
     }
 }
 
-/// The rows of a sensor that are seen by a reading enter, of those left after the first `entered`. It says how many have
-/// entered then.
+/// Of the rows after the first `entered`, those seen by the reading enter, in order, up to the first that is not. Returns
+/// how many rows of the sensor have entered then.
 fn enter_due(
     queue: &mut Queue,
     sensor: u32,
@@ -76,10 +76,10 @@ fn enter_due(
     rows.len()
 }
 
-/// All rows that are seen by a reading, in microseconds, enter: sensor after sensor in the order of the graph. They wait as
+/// All rows seen by a reading (in microseconds) enter, sensor by sensor in the order of the graph. They become waiting
 /// events, and are appended to `kept`.
 ///
-/// Where a row comes in, nothing may wait: this holds in every state that a history leads to. No memory is taken.
+/// No event may wait where a row enters: this holds in every state that a history leads to. Allocates nothing.
 pub fn enter(fields: &mut Fields, graph: &Graph, reading: u64, kept: &mut Vec<RowAt>)
     requires sound { IsSound graph.now fields.old }
     requires sensors { AreSensors graph.now fields.old.sensors.items }

@@ -1,6 +1,6 @@
-//! Entering: the rows of a platform's sensors that are seen by a reading enter, and wait as events.
+//! Entering: the rows of a platform's sensors that are seen by a reading become waiting events.
 //!
-//! Sensors come in the order of the graph, and of each the rows from the first that is left on, as far as they are seen.
+//! Sensors come in the order of the graph. The rows of each enter in order, up to the first that is not seen yet.
 //!
 //! Read first: `enter`, then `after_rows` in `specs/Entering.antt` of pt_semantics.
 #![tactic(auto)]

@@ -12,7 +12,9 @@ use Rattle.pt_types.specs.declared.rows.Row.{Row}
 use Rattle.pt_types.specs.declared.firing.Event.{Event}
 use Rattle.pt_types.specs.Ports.{when, at_port}
 use Rattle.pt_semantics.specs.Lists.{first_of, or_else, IsIn}
-use Rattle.pt_semantics.specs.Edges.{Edge, edges, kind_of, first_state, no_actor}
+use Rattle.pt_semantics.specs.Edges.{Edge, edges, first_state}
+use Rattle.pt_types.specs.Groups.{no_actor}
+use Rattle.pt_types.specs.Lookups.{kind_of}
 use Rattle.pt_semantics.specs.Firing.{fired, any_present, or_zero}
 use Rattle.pt_semantics.specs.Meaning.{Values, World, ActorFiring, at_time, row_at, start_at, opening, going, added, waiting, NotAfter, IsFirst, put_state, without, leaves_actor, after_firing, Runs, at_start}
 use Rattle.pt_semantics.specs.Tables.{tables_from, table_of, lines_of, line_of, line, head}

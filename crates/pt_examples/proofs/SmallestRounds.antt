@@ -8,7 +8,8 @@ use Rattle.pt_types.specs.declared.graph.Unit.{Unit as Part}
 use Rattle.pt_types.specs.declared.kind.Kind.TheVariants.{Sensor, Send, Receive}
 use Rattle.pt_tags.specs.Tags.{UpTo, same_tag}
 use Rattle.pt_types.specs.Ports.{when}
-use Rattle.pt_semantics.specs.Edges.{Edge, kind_of, platform_of}
+use Rattle.pt_semantics.specs.Edges.{Edge}
+use Rattle.pt_types.specs.Lookups.{kind_of, platform_of}
 use Rattle.pt_semantics.specs.Units.{at_input, at_output, HasEvent}
 use Rattle.pt_semantics.specs.Paths.{Goes}
 use Rattle.pt_semantics.specs.Bounds.{Feeds, bound_of}
@@ -30,6 +31,7 @@ use Rattle.pt_semantics.proofs.Claiming.{event_found}
 use Rattle.pt_semantics.proofs.Least.{paced_meets}
 use Rattle.pt_examples.specs.Smallest.{one, row, rows, level}
 use Rattle.pt_examples.specs.SmallestPaced.{IsPacedOne}
+use Rattle.pt_types.specs.Limits.{most_claims}
 
 abbrev s0 : State
 s0 = opened one 0 rows
@@ -212,8 +214,8 @@ m2 = record { platform = 0; turn = t2; late = false; fault = false }
 no_link : (x : Link) → None ≡ Some x → ⊥
 no_link x e = cc
 
-few : (s ready : State) (r : ℕ) → s.claims < 200000 → IsLast one s r false ready → false ≡ true
-few s ready r lt h = ⊎_elim (λ (e : false ≡ true). e) (λ (l : (200000 ≤ s.claims) × (NothingSafe one ready.waits ready.busy r → ⊥)). let le = l.0 in absurd (omega arith)) h
+few : (s ready : State) (r : ℕ) → s.claims < most_claims → IsLast one s r false ready → false ≡ true
+few s ready r lt h = ⊎_elim (λ (e : false ≡ true). e) (λ (l : (most_claims ≤ s.claims) × (NothingSafe one ready.waits ready.busy r → ⊥)). let le = l.0 in absurd (omega arith)) h
 
 makes1 : Makes one level 55 x0 m1 x1
 unfolding turn1

@@ -8,7 +8,8 @@ use Rattle.pt_types.specs.declared.graph.Unit.{Unit as Part}
 use Rattle.pt_tags.specs.Tags.{UpTo, same_tag}
 use Rattle.pt_types.specs.Ports.{when}
 use Rattle.pt_semantics.specs.Lists.{Each}
-use Rattle.pt_semantics.specs.Edges.{Edge, wires, platform_of}
+use Rattle.pt_semantics.specs.Edges.{Edge, wires}
+use Rattle.pt_types.specs.Lookups.{platform_of}
 use Rattle.pt_semantics.specs.Units.{at_input, at_output, HasEvent, leaves_unit}
 use Rattle.pt_semantics.specs.Paths.{Goes}
 use Rattle.pt_semantics.specs.Bounds.{bound_of}
@@ -33,6 +34,7 @@ use Rattle.pt_semantics.proofs.Lookups.{none_some, same_some, or_else_found, whe
 use Rattle.pt_semantics.proofs.Claiming.{event_found, without_found}
 use Rattle.pt_semantics.proofs.Floor.{put_same, put_other}
 use Rattle.pt_examples.specs.Smallest.{one, row, rows, three, task, done, level, turns, firing}
+use Rattle.pt_types.specs.Limits.{most_claims}
 
 abbrev at_50 : Tag
 at_50 = record { time = 50; step = 0 }
@@ -56,7 +58,7 @@ abbrev pub s4 : State
 s4 = raised (after_rows s3 111) 111
 
 -- only the row waits
-starts_none : (a : ℕ) (t : Tag) (v : ℤ) (b : Bool) → when b (start_at one ((λ (n : ℕ). Rattle.pt_semantics.specs.Edges.kind_of one n) a) t) ≡ Some v → ⊥
+starts_none : (a : ℕ) (t : Tag) (v : ℤ) (b : Bool) → when b (start_at one ((λ (n : ℕ). Rattle.pt_types.specs.Lookups.kind_of one n) a) t) ≡ Some v → ⊥
 starts_none zero t v b h = none_some v (when_found b None v h).1
 starts_none (suc a) t v b h = none_some v (when_found b None v h).1
 
@@ -261,7 +263,7 @@ turn3 = record {
   sends = (keep s5, refl, λ l. refl, λ l. omega arith);
 }
 
-is_last : (g : Graph) (s ready : State) (r : ℕ) → s.claims < 200000 → IsLast g s r false ready → ⊥
+is_last : (g : Graph) (s ready : State) (r : ℕ) → s.claims < most_claims → IsLast g s r false ready → ⊥
 is_last g s ready r few h = ⊎_elim (λ e. absurd (false≢true e)) (λ l. let le = l.0 in omega arith) h
 
 pub legal : IsLegal one level 0 rows turns s5

@@ -1,4 +1,4 @@
--- Small programs, and how their tables are written here.
+-- Small programs, and notation for their tables.
 use Rattle.std.specs.Prelude.{ℕ, ℤ, List, [], ◌∷◌, ◌++◌, None, Some, codes, pos, negsuc, slice_index_or}
 use Rattle.pt_types.specs.declared.graph.Graph.{Graph}
 use Rattle.pt_types.specs.declared.graph.Actor.{Actor}
@@ -54,7 +54,7 @@ pub record Acts : Type 0 where
 abbrev pub acts : List ℕ → ℕ → ℕ → ℤ → Acts
 acts name time step value = record { name = name; time = time; step = step; value = value }
 
--- the text of a table with these lines
+-- the text of these lines
 abbrev pub lines_text : List Acts → List ℕ
 lines_text [] = []
 lines_text (x ∷ xs) = line x.name (record { time = x.time; step = x.step }) x.value ++ lines_text xs
@@ -62,19 +62,19 @@ lines_text (x ∷ xs) = line x.name (record { time = x.time; step = x.step }) x.
 abbrev pub text : List Acts → List ℕ
 text lines = head ++ lines_text lines
 
--- a sensor, its double, a delay, an actuator
+-- a sensor, a doubling, a delay, an actuator
 abbrev pub basic : ℕ → ℕ → Graph
 basic delay slack = on_one
     (sensor (codes "s") 10 ∷ named (codes "x") 0 (Scale (pos 2) (pos 1)) 1 1 ∷ named (codes "d") 0 (Kind.Delay delay) 1 1 ∷ actuator (codes "out") slack ∷ [])
     (wire 0 0 1 0 ∷ wire 1 0 2 0 ∷ wire 2 0 3 0 ∷ [])
 
--- two sensors to one merge
+-- two sensors into one merge
 abbrev pub merged : Graph
 merged = on_one
     (sensor (codes "s") 10 ∷ sensor (codes "u") 10 ∷ named (codes "m") 0 (Merge 2) 2 1 ∷ actuator (codes "out") 20 ∷ [])
     (wire 0 0 2 0 ∷ wire 1 0 2 1 ∷ wire 2 0 3 0 ∷ [])
 
--- a sensor whose two ways meet again in an addition
+-- a sensor with two paths that meet in an addition
 abbrev pub diamond : Graph
 diamond = on_one
     (sensor (codes "s") 10 ∷ named (codes "x") 0 (Scale (pos 2) (pos 1)) 1 1 ∷ named (codes "y") 0 (Shift (pos 1)) 1 1 ∷ named (codes "a") 0 Add 2 1 ∷ actuator (codes "out") 20 ∷ [])
@@ -86,7 +86,7 @@ loop = on_one
     (sensor (codes "s") 10 ∷ named (codes "m") 0 (Merge 2) 2 1 ∷ named (codes "d") 0 (Kind.Delay 100) 1 1 ∷ actuator (codes "out") 20 ∷ [])
     (wire 0 0 1 0 ∷ wire 1 0 2 0 ∷ wire 1 0 3 0 ∷ wire 2 0 1 1 ∷ [])
 
--- a counter that begins by itself; its hidden wire stands last
+-- an `every` and an actuator; the hidden wire is the last
 abbrev pub ticks : Graph
 ticks = on_one
     (named (codes "e") 0 (Every 0 250) 0 1 ∷ actuator (codes "out") 0 ∷ [])
@@ -106,11 +106,11 @@ linked = record {
   clock_errors = [];
 }
 
--- the same two platforms, whose clocks stand further apart than others
+-- the same two platforms, with a clock error of their own
 abbrev pub paired : Graph
 paired = record linked { clock_errors = record { a = 1; b = 0; error = 25 } ∷ [] }
 
--- a machine whose first row is guarded: the input is more than 5 above the state
+-- a machine whose first row has a guard: the input is more than 5 above the state
 abbrev pub guarded : Graph
 guarded = on_one
     (sensor (codes "s") 10
@@ -120,7 +120,7 @@ guarded = on_one
     ∷ actuator (codes "out") 20 ∷ [])
     (wire 0 0 1 0 ∷ wire 1 0 2 0 ∷ [])
 
--- two sensors of different bounds through two lanes of one actor
+-- two sensors of different bounds, through two lanes of one actor
 abbrev pub lanes : Graph
 lanes = on_one
     (sensor (codes "s") 10 ∷ sensor (codes "u") 200 ∷ named (codes "g") 0 (Lanes (1 ∷ 1 ∷ [])) 2 2 ∷ actuator (codes "out") 20 ∷ actuator (codes "out2") 300 ∷ [])

@@ -16,13 +16,13 @@ pub record LanesStandApart : Type 0 where
   pub first : IsPaced lanes (unit 3 0) (tag 50 0) 61
   pub second : IsPaced lanes (unit 4 0) (tag 50 0) 251
 
--- the sender is claimed at 61; the receiver waits for slack, link delay and clock error, 45 in all, and is claimed at 126
--- as is the actuator behind it
+-- the sender is claimed at 61. The receiver waits for slack, link delay and
+-- clock error, 45 in all, and is claimed at 126, as is the actuator after it
 pub record LinkedReadings : Type 0 where
   pub sender : IsPaced linked (unit 2 0) (tag 80 0) 61
   pub receiver : IsPaced linked (unit 3 0) (tag 80 0) 126
   pub actuator : IsPaced linked (unit 5 0) (tag 140 0) 126
 
--- where the error of the pair is stated it counts, in whichever order the pair is named: 65 in all
+-- if a pair states its clock error, it counts, in either order of the two platforms: 65 in all
 pub record PairedReading : Type 0 where
   pub receiver : IsPaced paired (unit 3 0) (tag 80 0) 146

@@ -60,7 +60,7 @@ pub record IsRun : Type 0 where
   pub legal : IsLegal one level 0 rows turns state
   pub finished : IsFinished one 0 state
   pub meaning : IsMeaning one level rows (firing ∷ [])
-  -- and the premises of confluence hold
+  -- the premises of confluence hold
   pub wired : IsWired one
   pub ranks : AreRanks one level
   pub levels : AreLevels one level

@@ -1,4 +1,5 @@
--- The beginning of the smallest paced run: the row enters at 55, a quiet round, and the next reading is the sensor's paced one.
+-- The beginning of the smallest paced run: the row enters at 55, a quiet
+-- round follows, and the next reading is 61, the sensor's paced reading.
 use Rattle.std.specs.Prelude.{[], ◌∷◌, ℤ, Option}
 use Rattle.pt_types.specs.declared.graph.Unit.{Unit as Part}
 use Rattle.pt_semantics.specs.Offsets.{IsFeasible, HasOffset}
@@ -6,7 +7,7 @@ use Rattle.pt_semantics.specs.Visits.{Together, Made}
 use Rattle.pt_semantics.specs.Rounds.{IsPacedRun}
 use Rattle.pt_examples.specs.Smallest.{one, rows, level}
 
--- two rounds lead to reading 61, and the premises of the theorems on paced runs hold
+-- two rounds lead to reading 61, and the premises of the theorems about paced runs hold
 pub record IsPacedOne : Type 0 where
   pub first : Made
   pub second : Made

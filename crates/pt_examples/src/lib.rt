@@ -1,4 +1,4 @@
-//! Worked examples, so that a wrong definition is caught by a number and not only by reading.
+//! Worked examples: if a definition is wrong, one of their numbers is refused.
 //!
 //! Read `specs/Programs.antt`, and then `specs/Worked.antt` and `specs/Readings.antt`.
 #![tactic(auto)]
@@ -8,12 +8,12 @@ ghost use Rattle.pt_examples.specs.Smallest.{IsRun};
 ghost use Rattle.pt_examples.specs.SmallestPaced.{IsPacedOne};
 ghost use Rattle.pt_examples.specs.Worked.{AreWorked};
 
-/// Twelve small programs write these tables.
+/// The tables of twelve runs of small programs.
 pub fn worked_tables()
     ensures { AreWorked }
 {}
 
-/// Each lane of an actor waits for its own sensor alone, and so is claimed at a reading of its own.
+/// Each lane of an actor waits for its own sensor alone, so each has a paced reading of its own.
 pub fn lanes_stand_apart()
     ensures { LanesStandApart }
 {}
@@ -23,19 +23,19 @@ pub fn linked_readings()
     ensures { LinkedReadings }
 {}
 
-/// One sensor with one row: three turns are a legal and finished history, its one claim is the meaning, and the graph and
-/// its rows meet what the theorems ask of them.
+/// One sensor with one row: its three turns are a legal and finished history, its one claim is the meaning, and the graph
+/// and its rows satisfy the premises of the theorems.
 pub fn smallest_run()
     ensures { IsRun }
 {}
 
-/// The beginning of a paced run of the same program: two rounds at 55 lead to reading 61, and the graph meets what the
-/// theorems on paced runs ask of it.
+/// The beginning of a paced run of the same program: two rounds at 55 lead to reading 61, and the graph satisfies the
+/// premises of the theorems about paced runs.
 pub fn smallest_paced_run()
     ensures { IsPacedOne }
 {}
 
-/// The clock error of a pair of platforms stands in place of the graph's.
+/// If a pair of platforms states a clock error, it counts instead of the graph's.
 pub fn paired_reading()
     ensures { PairedReading }
 {}

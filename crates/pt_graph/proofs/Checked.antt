@@ -20,7 +20,8 @@ use Rattle.pt_graph.specs.Ranges.{is_time, kind_in_range, wire_in_range, pair_in
 use Rattle.pt_graph.specs.Naming.{actor_is_named, name_place}
 use Rattle.pt_graph.specs.Known.{number_in, itself, actor_name, pair_again_from, is_platform, is_known, repeated_place, unknown_by, unknown_place}
 use Rattle.pt_graph.specs.GraphOf.{checked}
-use Rattle.pt_graph.proofs.Passing.{check_before, none_if, none_unless}
+use Rattle.pt_graph.proofs.Passing.{check_before}
+use Rattle.pt_types.proofs.Conditions.{none_if, none_unless}
 use Rattle.pt_graph.proofs.Joins.{none_first, none_mapped, none_refused, all_pass, all_from}
 
 -- no check of a document found a fault

@@ -5,7 +5,7 @@ use Rattle.std.proofs.lemmas.Bool.{and_parts, and_from, or_parts, eq-eqb, lt-ltb
 use Rattle.pt_types.specs.declared.graph.Actor.{Actor}
 use Rattle.pt_types.specs.Names.{is_name}
 use Rattle.pt_types.specs.Kinds as kinds
-use Rattle.pt_types.specs.Kinds.{is_between, is_among, law_in_range, kind_is_lawful, visible_inputs, visible_outputs}
+use Rattle.pt_types.specs.Kinds.{is_between, law_in_range, kind_is_lawful, visible_inputs, visible_outputs}
 use Rattle.pt_types.specs.Groups.{held}
 use Rattle.pt_types.specs.Lawful as lawful
 use Rattle.pt_types.specs.Lawful.{actor_is_lawful, wire_is_lawful, link_is_lawful}
@@ -21,7 +21,8 @@ use Rattle.pt_graph.specs.Naming.{actor_is_named, kind_is_named}
 use Rattle.pt_graph.specs.Known.{number_in, itself, actor_name, is_platform, is_known}
 use Rattle.pt_graph.specs.Graphs.{small, number_or_0, platform_number, kind_from, actor_from, wire_from, link_from}
 use Rattle.pt_graph.proofs.InRange.{held_small, small_among, time_of, length_map}
-use Rattle.pt_graph.proofs.KindsInRange.{kind_lawful, few_inputs, few_outputs}
+use Rattle.pt_graph.proofs.KindsInRange.{kind_lawful}
+use Rattle.pt_types.proofs.SmallKinds.{few_inputs, few_outputs}
 use Rattle.pt_graph.proofs.Numbered.{number_below}
 
 same_ports : (n : ℕ) → n ≤ 8 → (held n == n) ≡ true

@@ -5,6 +5,7 @@ use Rattle.std.proofs.lemmas.Bool.Decides.{nat_tests}
 use Rattle.std.proofs.lemmas.List.{length-take, take_all}
 use Rattle.pt_blocks.specs.declared.blocks.Named.{Named}
 use Rattle.pt_graph.specs.GraphOf.{graph_in, graph_of}
+use Rattle.pt_types.specs.Limits.{most_graph_bytes}
 
 fetched : {R : Type 0} (limit : ℕ) (e : R) (f : List ℕ → R) (bytes : List ℕ)
     → cond (nat_lt limit (length (take (limit + 1) bytes))) e (f (take (limit + 1) bytes)) ≡ cond (nat_lt limit (length bytes)) e (f bytes)
@@ -22,4 +23,4 @@ fetched limit e f bytes =
 -- the fault or the graph of the first bytes are those of all of them
 pub graph_of-fetched : (blocks : List Named) (bytes : List ℕ) → graph_of blocks (take 1048577 bytes) ≡ graph_of blocks bytes
 unfolding graph_of
-graph_of-fetched blocks bytes = fetched 1048576 _ (graph_in blocks) bytes
+graph_of-fetched blocks bytes = fetched most_graph_bytes _ (graph_in blocks) bytes

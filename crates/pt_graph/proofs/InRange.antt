@@ -1,10 +1,10 @@
 -- The numbers of a file that passed their checks, without their signs and as 32 bits hold them.
 use Rattle.std.proofs.Common.{◌≡◌, ℕ, suc, ◌≤◌, ℤ, pos, negsuc, true, List, [], ◌∷◌, length, map, refl, ap, subst, sym, nat_le, unsigned_abs, arith}
-use Rattle.std.proofs.lemmas.Bool.{and_parts, leb-true}
+use Rattle.std.proofs.lemmas.Bool.{and_parts}
 use Rattle.pt_types.specs.Kinds.{is_between, is_among, is_time}
 use Rattle.pt_types.specs.Groups.{held}
+use Rattle.pt_types.proofs.SmallKinds.{among}
 use Rattle.pt_graph.specs.Ranges as ranges
-use Rattle.pt_graph.specs.Ranges.{kind_in_range, row_in_range, emit_in_range}
 use Rattle.pt_graph.specs.Graphs.{small}
 
 -- a number from low to high, both not negative, is so without its sign
@@ -14,11 +14,6 @@ between low high (negsuc n) h = absurd cc
 
 pub time_of : (z : ℤ) → ranges.is_time z ≡ true → is_time (unsigned_abs z) ≡ true
 time_of z h = (and_parts (nat_le 0 (unsigned_abs z)) (is_time (unsigned_abs z)) (between 0 1000000000000000 z h)).1
-
-pub among : (low high n : ℕ) → is_among low high n ≡ true → (low ≤ n) × (n ≤ high)
-among low high n h =
-    let parts = and_parts (nat_le low n) (nat_le n high) h in
-    (leb-true low n parts.0, leb-true n high parts.1)
 
 pub held_small : (n : ℕ) → n ≤ 1024 → held n ≡ n
 held_small n h = omega arith

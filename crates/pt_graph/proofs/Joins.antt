@@ -21,6 +21,7 @@ use Rattle.pt_graph.specs.Chains.{refused, found}
 use Rattle.pt_graph.specs.EndFaults.{joined, feeding, bad_wire, unfed_at, link_place, block_place}
 use Rattle.pt_graph.specs.Graphs.{actors_of, wires_of, links_of, graph_from}
 use Rattle.pt_graph.specs.GraphOf.{graph_of, graph_in, checked, built, json_of}
+use Rattle.pt_types.specs.Limits.{most_graph_bytes}
 
 pub none_refused : (o : Option GraphFault) (x : ⊤) → refused o ≡ Ok x → o ≡ None
 none_refused None x h = refl
@@ -148,4 +149,4 @@ graph_in-given blocks bytes g h =
 
 pub graph_of-given : (blocks : List Named) (bytes : List ℕ) (g : Graph) → graph_of blocks bytes ≡ Ok g → Given blocks g
 unfolding graph_of
-graph_of-given blocks bytes g h = graph_in-given blocks bytes g (not_long (nat_lt 1048576 (length bytes)) fault.TooLong (graph_in blocks bytes) g h)
+graph_of-given blocks bytes g h = graph_in-given blocks bytes g (not_long (nat_lt most_graph_bytes (length bytes)) fault.TooLong (graph_in blocks bytes) g h)

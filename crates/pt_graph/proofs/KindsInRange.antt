@@ -2,11 +2,10 @@
 use Rattle.std.proofs.Common.{◌≡◌, ◌≤◌, ℤ, pos, true, false, ◌&&◌, List, [], ◌∷◌, length, map, refl, subst, sym, nat_lt, nat_le, unsigned_abs, arith}
 use Rattle.std.specs.Prelude.{sum}
 use Rattle.std.specs.List.{list_all}
-use Rattle.std.proofs.lemmas.Bool.{and_parts, and_from, leb-true}
+use Rattle.std.proofs.lemmas.Bool.{and_parts, and_from}
 use Rattle.std.proofs.lemmas.Bool.Decides.{nat_tests}
-use Rattle.pt_types.specs.declared.kind.Kind.{Kind}
 use Rattle.pt_types.specs.declared.kind.Kind.TheVariants as kind
-use Rattle.pt_types.specs.Kinds.{is_between, is_among, is_time, law_in_range, row_is_lawful, kind_is_lawful, visible_inputs, visible_outputs}
+use Rattle.pt_types.specs.Kinds.{is_between, is_among, is_time, law_in_range, row_is_lawful, kind_is_lawful}
 use Rattle.pt_blocks.specs.declared.blocks.Named.{Named}
 use Rattle.pt_blocks.specs.Blocks.{find_block}
 use Rattle.pt_graph_text.specs.declared.document.RowText.{RowText}
@@ -14,10 +13,10 @@ use Rattle.pt_graph_text.specs.declared.kinds.KindText.{KindText}
 use Rattle.pt_graph_text.specs.declared.kinds.KindText.TheVariants as text
 use Rattle.pt_graph.specs.Limits.{row_count}
 use Rattle.pt_graph.specs.Ranges as ranges
-use Rattle.pt_graph.specs.Ranges.{kind_in_range, row_in_range, emit_in_range}
+use Rattle.pt_graph.specs.Ranges.{kind_in_range, row_in_range}
 use Rattle.pt_graph.specs.Naming.{kind_is_named}
 use Rattle.pt_graph.specs.Graphs.{small, row_from, kind_from}
-use Rattle.pt_graph.proofs.InRange.{between, time_of, among, small_is, small_among, length_map}
+use Rattle.pt_graph.proofs.InRange.{between, time_of, small_is, small_among, length_map}
 use Rattle.pt_graph.proofs.RowsInRange.{law_of_found, rows_lawful}
 
 cells_lawful : (cells : List ℤ) → list_all (is_between (pos 1) (pos 8)) cells ≡ true → list_all (is_among 1 8) (map small cells) ≡ true
@@ -73,27 +72,3 @@ kind_lawful blocks (text.Every start period) laws h named few =
     and_from (is_time (unsigned_abs start)) (is_among 1 1000000000000000 (unsigned_abs period)) (time_of start parts.0) (between 1 1000000000000000 period parts.1)
 kind_lawful blocks (text.Block block) laws h named few = law_of_found blocks (find_block blocks block) laws
 kind_lawful blocks (text.Lanes cells) laws h named few = lanes_lawful cells h
-
--- a lawful kind has at most eight visible inputs
-pub few_inputs : (k : Kind) → kind_is_lawful k ≡ true → visible_inputs k ≤ 8
-few_inputs (kind.Merge n) h = (among 2 8 n h).1
-few_inputs (kind.Lanes cells) h = leb-true (sum cells) 8 (and_parts (is_among 1 8 (length cells) && list_all (is_among 1 8) cells) (nat_le (sum cells) 8) h).1
-few_inputs (kind.Sensor file bound) h = omega arith
-few_inputs kind.Receive h = omega arith
-few_inputs (kind.Every start period) h = omega arith
-few_inputs kind.Add h = omega arith
-few_inputs kind.Sub h = omega arith
-few_inputs kind.Latch h = omega arith
-few_inputs (kind.Block block law) h = omega arith
-few_inputs _ h = omega arith
-
-pub few_outputs : (k : Kind) → kind_is_lawful k ≡ true → visible_outputs k ≤ 8
-few_outputs (kind.Machine start outputs rows) h =
-    let parts = and_parts (is_among 1 8 outputs && nat_le (length rows) 64) (list_all (row_is_lawful outputs) rows) h in
-    (among 1 8 outputs (and_parts (is_among 1 8 outputs) (nat_le (length rows) 64) parts.0).0).1
-few_outputs (kind.Lanes cells) h =
-    let parts = and_parts (is_among 1 8 (length cells) && list_all (is_among 1 8) cells) (nat_le (sum cells) 8) h in
-    (among 1 8 (length cells) (and_parts (is_among 1 8 (length cells)) (list_all (is_among 1 8) cells) parts.0).0).1
-few_outputs (kind.Send slack) h = omega arith
-few_outputs (kind.Actuator slack) h = omega arith
-few_outputs _ h = omega arith

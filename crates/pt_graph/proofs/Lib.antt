@@ -7,12 +7,6 @@ pub mod Numbered
 pub mod Pairs
 pub mod Converted
 pub mod Lawful
-pub mod Once
-pub mod OwnWires
-pub mod Actors
-pub mod Wires
-pub mod Links
-pub mod Wired
 pub mod Texts
 pub mod Fetched
 pub mod Numbers

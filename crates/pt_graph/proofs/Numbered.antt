@@ -6,7 +6,7 @@ use Rattle.std.proofs.lemmas.Option.{cond_some}
 use Rattle.pt_types.specs.Lawful.{is_named, repeated_from}
 use Rattle.pt_graph.specs.Known.{number_in}
 use Rattle.pt_graph.specs.Graphs.{number_or_0}
-use Rattle.pt_graph.proofs.Passing.{none_if}
+use Rattle.pt_types.proofs.Conditions.{none_if}
 use Rattle.pt_graph.proofs.InRange.{held_small}
 
 some_value : {A : Type 0} (o : Option A) → is_some o ≡ true → (x : A) × (o ≡ Some x)

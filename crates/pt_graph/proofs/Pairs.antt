@@ -7,13 +7,13 @@ use Rattle.std.proofs.lemmas.List.Folds.{list_all-append}
 use Rattle.std.proofs.lemmas.Slice.Eq.{bytes_eq-Decides}
 use Rattle.pt_types.specs.Groups.{is_of}
 use Rattle.pt_types.specs.Kinds as kinds
-use Rattle.pt_types.specs.Lawful.{is_named, repeated_from, pair_is_lawful}
+use Rattle.pt_types.specs.Lawful.{pair_is_lawful}
 use Rattle.pt_types.specs.Lawful as lawful
 use Rattle.pt_graph_text.specs.declared.document.PairText.{PairText}
 use Rattle.pt_graph.specs.Ranges.{is_time, pair_in_range}
 use Rattle.pt_graph.specs.Known.{itself, is_platform, same_pair, pair_again_from}
 use Rattle.pt_graph.specs.Graphs.{platform_number, pair_from}
-use Rattle.pt_graph.proofs.Passing.{none_if}
+use Rattle.pt_types.proofs.Conditions.{none_if}
 use Rattle.pt_graph.proofs.InRange.{time_of}
 use Rattle.pt_graph.proofs.Numbered.{number_is, number_below, map_append, if_none}
 

@@ -11,7 +11,7 @@ use Rattle.pt_blocks.specs.Blocks.{find_block, law_at}
 use Rattle.pt_graph_text.specs.declared.document.RowText.{RowText}
 use Rattle.pt_graph.specs.Ranges.{row_in_range, emit_in_range}
 use Rattle.pt_graph.specs.Graphs.{small, block_of, emit_from, row_from}
-use Rattle.pt_graph.proofs.InRange.{among}
+use Rattle.pt_types.proofs.SmallKinds.{among}
 
 -- the law of a block of the list, or the law that stands for none
 law_of_listed : (blocks : List Named) (n : ℕ) → list_all (λ (b : Named). law_in_range b.law) blocks ≡ true → law_in_range (unwrap_or (law_at blocks n) Least) ≡ true

@@ -1,10 +1,9 @@
 -- The document of bytes that are text or not, and the graph of a document.
-use Rattle.std.proofs.Common.{◌≡◌, List, ℕ, Option, Some, None, Result, Ok, Err, refl, sym, ap, ◌∙◌, true, false, cond, IsUtf8}
+use Rattle.std.proofs.Common.{◌≡◌, List, ℕ, Some, None, Result, Ok, Err, refl, ap, ◌∙◌, true, false, cond, IsUtf8}
 use Rattle.std.specs.Str.{is_utf8}
 use Rattle.std.proofs.lemmas.Str.{IsUtf8-from_is_utf8, is_utf8-from_IsUtf8}
 use Rattle.serde_json.specs.Data.{Data}
 use Rattle.serde_json.specs.Read.{read}
-use Rattle.pt_types.specs.declared.graph.Graph.{Graph}
 use Rattle.pt_blocks.specs.declared.blocks.Named.{Named}
 use Rattle.pt_graph_text.specs.Faults.{◌>>=◌, Gives, or_fault}
 use Rattle.pt_graph_text.specs.Whole.{document_of, document_of_text}

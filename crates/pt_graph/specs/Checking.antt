@@ -1,4 +1,4 @@
--- What the checks of a document hand on.
+-- What the checks of a document give.
 use Rattle.std.specs.Prelude.{◌≡◌, ◌≢◌, ℕ, List, Result, Ok, Err}
 use Rattle.std.specs.BTreeMap.{BTreeMap}
 use denote.Ref.{Bor}
@@ -13,12 +13,12 @@ use Rattle.pt_graph.specs.Index.{at_name}
 use Rattle.pt_graph.specs.Graphs.{wires_of, links_of}
 use Rattle.pt_graph.specs.GraphOf.{json_of, checked}
 
--- a document passed its checks, and a map has the numbers of its actors; or it has this fault
+-- the document passes its checks, and the map has the numbers of its actors; or the document has this fault
 abbrev pub GivesNumbers : Document → Result (BTreeMap (Bor (List ℕ)) ℕ) GraphFault → Type 0
 GivesNumbers d (Ok m) = (checked d ≡ Ok tt) × (at_name m ≡ number_in actor_name d.actors)
 GivesNumbers d (Err e) = e ≢ fault.Memory → checked d ≡ Err e
 
--- a document passed its checks, and these are its wires and links; or it has this fault
+-- the document passes its checks, and these are its wires and links; or the document has this fault
 abbrev pub GivesWiring : Document → Result Wiring GraphFault → Type 0
 GivesWiring d (Ok w) = (checked d ≡ Ok tt) × (w.wires.items ≡ wires_of d) × (w.links.items ≡ links_of d)
 GivesWiring d (Err e) = e ≢ fault.Memory → checked d ≡ Err e

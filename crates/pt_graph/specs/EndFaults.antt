@@ -1,4 +1,4 @@
--- The faults of wires' and links' ends, and of names of blocks.
+-- The faults of the ends of wires and links, and of names of blocks.
 use Rattle.std.specs.Prelude.{ℕ, List, [], not, Bool, true, Option, Some, None, Result, ⊤, option_map, is_some, position}
 use Rattle.std.specs.List.{list_all}
 use Rattle.pt_graph_text.specs.declared.document.Document.{Document}
@@ -20,25 +20,25 @@ use Rattle.pt_blocks.specs.Blocks.{find_block}
 use Rattle.pt_graph_text.specs.Faults.{◌>>=◌}
 use Rattle.pt_graph.specs.Chains.{◌<|>◌, found, refused}
 
--- the first wire with such an end
+-- the first wire that fails a test
 abbrev pub bad_wire : (Wire → Bool) → List Wire → Option Place
 bad_wire test wires = found part.Wire (position (λ w. not (test w)) wires)
 
 abbrev pub unfed_at : ℕ × ℕ → GraphFault
 unfed_at p = fault.Unfed (held p.0) p.1
 
--- the first link that doesn't lead from a sender to a receiver of another platform, and then the first sender or receiver
--- that has not exactly one link
+-- the first link that doesn't lead from a sender to a receiver on another platform; or else the first sender or receiver
+-- that doesn't have exactly one link
 abbrev pub link_place : List Actor → List Link → Option Place
 link_place actors links = found part.Link (position (λ l. not (link_fits actors l)) links) <|> found part.Actor (misfit_from links 0 actors)
 
--- each input is fed by one wire: none by two, and then none by none
+-- each visible input has exactly one wire: first, no two wires lead to one input; then, no input has no wire
 unfoldable pub feeding : List Actor → List Wire → Result ⊤ GraphFault
 feeding actors wires = do
   done ← refused (option_map fault.FedTwice (found part.Wire (fed_twice_from [] 0 wires)))
   refused (option_map unfed_at (first_unfed (is_fed wires) 0 actors))
 
--- the checks of wires and links: the first that fails is the answer
+-- the checks of wires and links, in order; the first that fails gives the fault
 unfoldable pub joined : List Actor → List Wire → List Link → Result ⊤ GraphFault
 joined actors wires links = do
   done ← refused (option_map fault.WireEnd (bad_wire (ends_fit actors) wires))
@@ -53,7 +53,7 @@ unfoldable pub guard_has_block : List Named → Option (List ℕ) → Bool
 guard_has_block blocks None = true
 guard_has_block blocks (Some name) = has_name blocks name
 
--- each block that a kind names is there
+-- each block that a kind names is known
 abbrev pub has_blocks : List Named → KindText → Bool
 has_blocks blocks (text.Block name) = has_name blocks name
 has_blocks blocks (text.Machine start outputs rows) = list_all (λ (r : RowText). guard_has_block blocks r.guard) rows

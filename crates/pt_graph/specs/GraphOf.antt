@@ -17,12 +17,13 @@ use Rattle.pt_graph.specs.Naming.{name_place}
 use Rattle.pt_graph.specs.Known.{repeated_place, unknown_place}
 use Rattle.pt_graph.specs.EndFaults.{joined, block_place}
 use Rattle.pt_graph.specs.Graphs.{actors_of, wires_of, links_of, graph_from}
+use Rattle.pt_types.specs.Limits.{most_graph_bytes}
 
--- the value that serde_json reads from the bytes, which must be text
+-- the JSON value that serde_json reads from the bytes, which must be UTF-8
 unfoldable pub json_of : List ℕ → Option Data
 json_of bytes = if is_utf8 bytes then read bytes else None
 
--- the checks of a document, each over the whole of it: the first that fails is the answer
+-- the checks of a document, each over all of it; the first that fails gives the fault
 unfoldable pub checked : Document → Result ⊤ GraphFault
 checked d = do
   done ← refused (too_many d)
@@ -31,7 +32,7 @@ checked d = do
   done ← refused (option_map fault.Repeated (repeated_place d))
   refused (option_map fault.Unknown (unknown_place d))
 
--- the graph of a document: its wires and links are checked by number, and then its blocks
+-- the graph of a document: first the checks of wires and links, with numbers for names, then that of blocks
 unfoldable pub built : List Named → Document → Result Graph GraphFault
 built blocks d = do
   done ← joined (actors_of blocks d) (wires_of d) (links_of d)
@@ -46,6 +47,6 @@ graph_in blocks bytes = do
   done ← checked document
   built blocks document
 
--- the graph of a text, where programs may name these blocks
+-- the graph of a text, if actors may name these blocks
 unfoldable pub graph_of : List Named → List ℕ → Result Graph GraphFault
-graph_of blocks bytes = if nat_lt 1048576 (length bytes) then Err fault.TooLong else graph_in blocks bytes
+graph_of blocks bytes = if nat_lt most_graph_bytes (length bytes) then Err fault.TooLong else graph_in blocks bytes

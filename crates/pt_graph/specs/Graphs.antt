@@ -26,15 +26,15 @@ use Rattle.pt_blocks.specs.declared.blocks.Named.{Named}
 use Rattle.pt_blocks.specs.Blocks.{find_block, law_at}
 use Rattle.pt_graph.specs.Known.{number_in, itself, actor_name}
 
--- a number of the file, which 32 bits hold
+-- a number of the file as a natural number of 32 bits; numbers in their ranges fit
 abbrev pub small : ℤ → ℕ
 small z = held (unsigned_abs z)
 
--- the number of a name; 0 where it has none
+-- the number of a name; 0 if it has none
 abbrev pub number_or_0 : Option ℕ → ℕ
 number_or_0 n = held (unwrap_or n 0)
 
--- the number and the law of the block of that name
+-- the number and the law of the block with this name
 abbrev pub block_of : List Named → List ℕ → ℕ × Law
 block_of blocks name = (number_or_0 (find_block blocks name), unwrap_or (option_and_then (law_at blocks) (find_block blocks name)) Least)
 
@@ -64,7 +64,7 @@ kind_from blocks (text.Every start period) = kind.Every (unsigned_abs start) (un
 kind_from blocks (text.Block block) = kind.Block (block_of blocks block).0 (block_of blocks block).1
 kind_from blocks (text.Lanes cells) = kind.Lanes (map small cells)
 
--- an actor with the number of its platform and its visible ports
+-- an actor with its name, the number of its platform, its kind and its visible ports
 abbrev pub with_ports : List ℕ → ℕ → Kind → Actor
 with_ports name platform k = record { name = name; platform = platform; kind = k; inputs = held (visible_inputs k); outputs = held (visible_outputs k) }
 
@@ -83,7 +83,7 @@ link_from numbers l = record { from = number_or_0 (numbers l.from); to = number_
 abbrev pub pair_from : List (List ℕ) → PairText → PairError
 pair_from platforms p = record { a = platform_number platforms p.a; b = platform_number platforms p.b; error = unsigned_abs p.error }
 
--- the actors, wires and links by their numbers, hidden wires left out
+-- the actors, wires and links, with numbers for names and without hidden wires
 abbrev pub actors_of : List Named → Document → List Actor
 actors_of blocks d = map (actor_from blocks d.platforms) d.actors
 
@@ -105,7 +105,7 @@ whole head platforms actors wires links pairs = record {
   clock_errors = pairs;
 }
 
--- the graph of these parts: the hidden wires stand last
+-- the graph of these parts; hidden wires are last
 abbrev pub graph_with : Document → List Actor → List Wire → List Link → Graph
 graph_with d actors wires links = whole d.head d.platforms actors (wires ++ hidden_wires 0 actors) links (map (pair_from d.platforms) d.pairs)
 

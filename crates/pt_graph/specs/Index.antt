@@ -19,7 +19,7 @@ at_name m n = get_by (λ k. slice_cmp nat_cmp n k.now) m
 abbrev pub has_input : {S : Type 0} → set.HashSet (ℕ × ℕ) S → ℕ → ℕ → Bool
 has_input s actor input = set.contains_by (λ k. nat_eq actor k.0 && nat_eq input k.1) s
 
--- the set has the inputs that are fed, each by one wire
+-- the set has exactly the inputs to which wires lead, and no two wires lead to one input
 pub record HasFed {S : Type 0} (wires : List Wire) (s : set.HashSet (ℕ × ℕ) S) : Type 0 where
   pub once : fed_twice_from [] 0 wires ≡ None
   pub fed : has_input s ≡ is_fed wires

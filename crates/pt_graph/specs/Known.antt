@@ -1,4 +1,4 @@
--- Names that stand twice, and names of nothing.
+-- Repeated names and unknown names.
 use Rattle.std.specs.Prelude.{◌&&◌, ◌||◌, ℕ, ◌+◌, List, [], ◌∷◌, ◌++◌, not, Bool, Option, Some, None, is_some, bytes_eq, position, if◌then◌else◌}
 use Rattle.std.specs.List.{list_any}
 use Rattle.pt_graph_text.specs.declared.document.Document.{Document}
@@ -11,7 +11,7 @@ use Rattle.pt_graph_text.specs.declared.fault.Place.{Place}
 use Rattle.pt_graph.specs.Chains.{◌<|>◌, found, first_index}
 use Rattle.pt_types.specs.Lawful.{repeated_from}
 
--- the number of the first with that name
+-- the number of the first item with this name
 abbrev pub number_in : {A : Type 0} → (A → List ℕ) → List A → List ℕ → Option ℕ
 number_in name_of xs n = position (λ x. bytes_eq (name_of x) n) xs
 
@@ -21,11 +21,11 @@ itself n = n
 abbrev pub actor_name : ActorText → List ℕ
 actor_name a = a.name
 
--- two pairs tell of the same platforms
+-- two pairs name the same platforms
 abbrev pub same_pair : PairText → PairText → Bool
 same_pair p q = bytes_eq p.a q.a && bytes_eq p.b q.b || bytes_eq p.a q.b && bytes_eq p.b q.a
 
--- the index of the first pair of two platforms of which an earlier pair tells
+-- the index of the first pair that names the two platforms of an earlier pair
 abbrev pub pair_again_from : List PairText → ℕ → List PairText → Option ℕ
 pair_again_from seen i [] = None
 pair_again_from seen i (p ∷ ps) = if list_any (same_pair p) seen then Some i else pair_again_from (seen ++ p ∷ []) (i + 1) ps
@@ -39,11 +39,11 @@ repeated_place d =
 abbrev pub is_platform : List (List ℕ) → List ℕ → Bool
 is_platform platforms n = is_some (number_in itself platforms n)
 
--- the names known are those that have a number
+-- both names have a number
 abbrev pub is_known : (List ℕ → Option ℕ) → List ℕ → List ℕ → Bool
 is_known numbers from to = is_some (numbers from) && is_some (numbers to)
 
--- the first place that names nothing, where actors have these numbers
+-- the first place that names an unknown platform or actor, if `numbers` has the numbers of the actors
 unfoldable pub unknown_by : (List ℕ → Option ℕ) → Document → Option Place
 unknown_by numbers d =
     found part.Actor (position (λ (a : ActorText). not (is_platform d.platforms a.platform)) d.actors)

@@ -1,4 +1,4 @@
--- The limits of a file's arrays.
+-- The limits of the arrays of a file.
 use Rattle.std.specs.Prelude.{ℕ, length, map, sum, Option, Some, None, nat_lt, if◌then◌else◌}
 use Rattle.std.specs.List.{list_any}
 use Rattle.pt_graph_text.specs.declared.document.Document.{Document}
@@ -19,17 +19,17 @@ abbrev pub most_wires : Version → ℕ
 most_wires First = 1024
 most_wires Second = 4096
 
--- how many rows a machine has
+-- the number of rows of a machine
 abbrev pub row_count : KindText → ℕ
 row_count (text.Machine start outputs rows) = length rows
 row_count _ = 0
 
--- how many cells lanes have
+-- the number of cells of lanes
 abbrev pub cell_count : KindText → ℕ
 cell_count (text.Lanes cells) = length cells
 cell_count _ = 0
 
--- the first array that is too long; of the cells all together count
+-- the first array that is too long; the cells of all lanes are counted together
 unfoldable pub too_many : Document → Option GraphFault
 too_many d =
     if nat_lt 16 (length d.platforms) then Some (fault.TooMany what.Platforms)

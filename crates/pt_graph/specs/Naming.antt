@@ -1,4 +1,4 @@
--- The forms of a file's names.
+-- Which names of a file are valid.
 use Rattle.std.specs.Prelude.{◌&&◌, ℕ, List, not, Bool, true, Option, Some, None, position}
 use Rattle.std.specs.List.{list_all}
 use Rattle.pt_graph_text.specs.declared.document.Document.{Document}
@@ -18,7 +18,7 @@ abbrev pub guard_is_named : Option (List ℕ) → Bool
 guard_is_named None = true
 guard_is_named (Some guard) = is_name guard
 
--- the names within a kind
+-- all names within a kind are valid
 abbrev pub kind_is_named : KindText → Bool
 kind_is_named (text.Sensor file bound) = is_file file
 kind_is_named (text.Machine start outputs rows) = list_all (λ (r : RowText). guard_is_named r.guard) rows

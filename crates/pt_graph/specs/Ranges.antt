@@ -1,4 +1,4 @@
--- The ranges of a file's numbers.
+-- The ranges of the numbers of a file.
 use Rattle.std.specs.Prelude.{◌==◌, ◌&&◌, ℤ, pos, negsuc, List, length, map, sum, not, Bool, true, Option, Some, None, unsigned_abs, nat_le, int_lt, int_le, bytes_eq, position, if◌then◌else◌}
 use Rattle.std.specs.List.{list_all}
 use Rattle.pt_graph_text.specs.declared.document.Document.{Document}
@@ -27,7 +27,7 @@ emit_in_range outputs (Some e) = int_le (pos 0) e.0 && int_lt e.0 outputs
 abbrev pub row_in_range : ℤ → RowText → Bool
 row_in_range outputs r = int_le r.low r.high && emit_in_range outputs r.emit
 
--- the sum of the numbers, all taken as positive, is at most 8
+-- the sum of the absolute values is at most 8
 abbrev pub sum_is_small : List ℤ → Bool
 sum_is_small cells = nat_le (sum (map unsigned_abs cells)) 8
 
@@ -46,14 +46,14 @@ kind_in_range _ = true
 abbrev pub wire_in_range : WireText → Bool
 wire_in_range w = is_between (pos 0) (pos 7) w.output && is_between (pos 0) (pos 7) w.input
 
--- a pair is of two platforms
+-- the clock error is a time, and the pair is of two different platforms
 abbrev pub pair_in_range : PairText → Bool
 pair_in_range p = is_time p.error && not (bytes_eq p.a p.b)
 
 abbrev pub head_in_range : Head → Bool
 head_in_range h = is_between (pos 1) (pos 2) h.version && is_time h.until && is_time h.clock_error
 
--- the top, where a number of it is out of range or there is no platform
+-- the top object, if one of its numbers is out of range or there is no platform
 abbrev pub top_range : Document → Option Place
 top_range d = if head_in_range d.head && not (length d.platforms == 0) then None else Some top
 

@@ -12,7 +12,7 @@ use pt_blocks::Named;
 use pt_graph_text::{ActorText, Document, KindText, Part, Place, RowText};
 use pt_tags::Name;
 
-/// The first actor that names no block.
+/// The first actor that names an unknown block.
 pub fn block_place(listed: &[Named], document: &Document) -> Option<Place>
     ensures { result ≡ block_place listed.now document.now }
 {
@@ -58,7 +58,7 @@ fn has_name(listed: &[Named], name: &Name) -> bool
     find(listed, name).is_some()
 }
 
-/// The number of the block of that name.
+/// The number of the block with this name.
 pub fn find(listed: &[Named], name: &Name) -> Option<usize>
     ensures { result ≡ find_block listed.now name.now }
 {

@@ -1,10 +1,9 @@
-//! A document by numbers in place of names.
+//! The parts of a document, with numbers instead of names.
 
 ghost use Rattle.std.specs.Prelude.{◌≡◌, ℕ, List, Option, IfOk, map, option_map, option_and_then, unwrap_or, [], true};
 ghost use Rattle.pt_types.specs.declared.kind.Law.TheVariants.{Least};
 ghost use Rattle.pt_blocks.specs.Blocks.{law_at};
 ghost use Rattle.pt_graph_text.specs.declared.kinds.KindText.TheVariants as text;
-ghost use Rattle.pt_types.specs.Groups.{held};
 ghost use Rattle.pt_graph.specs.Index.{at_name};
 ghost use Rattle.pt_graph.specs.Graphs.{small, number_or_0, block_of, emit_from, row_from, kind_from, with_ports, platform_number, actor_from, wire_from, link_from, pair_from, actors_of, is_number_kind};
 
@@ -17,7 +16,7 @@ use pt_types::{Actor, Kind, Law, Link, MachineRow, PairError, Wire};
 use std::alloc::{AllocError, Global};
 use std::collections::BTreeMap;
 
-/// The actors, by numbers of platforms and blocks.
+/// The actors, with numbers of platforms and blocks.
 pub fn actors_of(
     alloc: Global,
     listed: &[Named],
@@ -152,7 +151,7 @@ fn guard_from(listed: &[Named], guard: &Option<Name>) -> Option<(u32, Law)>
     }
 }
 
-/// The number and the law of the block of that name.
+/// The number and the law of the block with this name.
 fn block_of(listed: &[Named], name: &Name) -> (u32, Law)
     ensures { result ≡ block_of listed.now name.now }
 {
@@ -199,7 +198,7 @@ fn cells_from(alloc: Global, cells: &[i64]) -> Result<Vec<u32>, AllocError>
     cells.iter().map(|c| small(*c)).collect(alloc)
 }
 
-/// A kind without names and lists; of another kind nothing is asked.
+/// A kind without names and lists; the result for other kinds is not used.
 fn number_kind_from(kind: &KindText) -> Kind
     ensures { is_number_kind kind.now ≡ true → result ≡ kind_from [] kind.now }
 {
@@ -233,7 +232,7 @@ fn number_kind_from(kind: &KindText) -> Kind
     }
 }
 
-/// A number of the file, which 32 bits hold.
+/// A number of the file as a `u32`. Numbers in their ranges fit.
 fn small(number: i64) -> u32
     ensures { result ≡ small number }
 {
@@ -252,7 +251,7 @@ fn platform_number(platforms: &List<Name>, name: &Name) -> u32
     number_or_0(index_of(platforms.as_slice(), name.as_str()))
 }
 
-/// The wires of the file, by these numbers of actors.
+/// The wires of the file, with these numbers of actors.
 pub fn wires_of<'a>(
     alloc: Global,
     numbers: &BTreeMap<&'a str, usize>,
@@ -267,7 +266,7 @@ pub fn wires_of<'a>(
     Ok(done)
 }
 
-/// The links, by these numbers of actors.
+/// The links, with these numbers of actors.
 pub fn links_of<'a>(
     alloc: Global,
     numbers: &BTreeMap<&'a str, usize>,
@@ -282,7 +281,7 @@ pub fn links_of<'a>(
     Ok(done)
 }
 
-/// The pairs, by numbers of platforms.
+/// The pairs, with numbers of platforms.
 pub fn pairs_of(alloc: Global, document: &Document) -> Result<Vec<PairError>, AllocError>
     ensures { IfOk result (λ v. v.items ≡ map (pair_from document.now.platforms) document.now.pairs) }
 {

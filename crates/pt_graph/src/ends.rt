@@ -1,8 +1,8 @@
-//! Where wires and links lead.
+//! The ends of wires and links.
 
 ghost use Rattle.std.specs.Prelude.{◌≡◌, ◌++◌, ℕ, [], position, not, option_map, IfOk};
-ghost use Rattle.std.specs.List.{list_any, count_by};
-ghost use Rattle.pt_types.specs.Groups.{actor_at, no_actor};
+ghost use Rattle.std.specs.List.{count_by};
+ghost use Rattle.pt_types.specs.Groups.{actor_at};
 ghost use Rattle.pt_types.specs.Ends.{ends_fit, stays_home, unfed_from, first_unfed, is_send, is_receive, link_fits, has_end, links_fit, misfit_from, hidden_wire, hidden_wires};
 ghost use Rattle.pt_graph_text.specs.declared.fault.GraphFault.TheVariants as fault;
 ghost use Rattle.pt_graph_text.specs.declared.fault.Part.TheVariants as part;
@@ -18,7 +18,7 @@ use pt_types::{Actor, Kind, Link, Wire};
 use std::alloc::{AllocError, Global};
 use std::collections::HashSet;
 
-/// The checks of wires and links.
+/// Checks the wires and links.
 #[tactic(auto, unfolding(crate::specs::EndFaults::joined))]
 pub fn check_ends(
     alloc: Global,
@@ -34,7 +34,7 @@ pub fn check_ends(
     refuse(link_end(actors, links))
 }
 
-/// Nothing, unless there is a fault.
+/// The fault as an error, if there is one.
 pub fn refuse(fault: Option<GraphFault>) -> Result<(), GraphFault>
     ensures { result ≡ refused fault }
 {
@@ -44,7 +44,7 @@ pub fn refuse(fault: Option<GraphFault>) -> Result<(), GraphFault>
     }
 }
 
-/// Each input is fed by one wire.
+/// Checks that each input is fed by exactly one wire.
 #[tactic(auto, unfolding(crate::specs::EndFaults::feeding))]
 fn check_feeding(alloc: Global, actors: &[Actor], wires: &[Wire]) -> Result<(), GraphFault>
     ensures { Gives (feeding actors.now wires.now) result }
@@ -68,7 +68,7 @@ fn loose(actors: &[Actor], wires: &[Wire]) -> Option<usize>
     wires.iter().position(|w| !ends_fit(actors, w))
 }
 
-/// Whether both ends of a wire are visible ports: those of a hidden wire are not.
+/// Whether both ends of a wire are visible ports; those of a hidden wire are not.
 pub fn ends_fit(actors: &[Actor], wire: &Wire) -> bool
     ensures { result ≡ ends_fit actors.now wire.now }
 {
@@ -120,7 +120,7 @@ fn stays_home(actors: &[Actor], wire: &Wire) -> bool
     platform_at(actors, wire.from) == platform_at(actors, wire.to)
 }
 
-/// The first of so many inputs of an actor that is not in the set.
+/// The first of an actor's `inputs` inputs that is not in the set.
 fn unfed_port(fed: &HashSet<(usize, u32)>, actor: usize, inputs: u32) -> Option<u32>
     ensures { result ≡ unfed_from (has_input fed.now actor) 0 inputs }
 {
@@ -220,7 +220,7 @@ fn is_receive(kind: &Kind) -> bool
     }
 }
 
-/// The first sender or receiver that has not exactly one link.
+/// The first sender or receiver that does not have exactly one link.
 fn misfit(actors: &[Actor], links: &[Link]) -> Option<usize>
     ensures { result ≡ misfit_from links.now 0 actors.now }
 {
@@ -238,7 +238,7 @@ fn links_fit(links: &[Link], actor: usize, kind: &Kind) -> bool
     !(is_send(kind) || is_receive(kind)) || links_of(links, actor) == 1
 }
 
-/// How many of the links begin or end at that actor.
+/// The number of links that begin or end at this actor.
 fn links_of(links: &[Link], actor: usize) -> usize
     ensures { result ≡ count_by (has_end actor) links.now }
 {
@@ -251,7 +251,7 @@ fn has_end(actor: usize, link: &Link) -> bool
     link.from as usize == actor || link.to as usize == actor
 }
 
-/// The wires of the file and then the hidden ones.
+/// The wires of the file, and then the hidden ones.
 pub fn with_hidden(wires: Vec<Wire>, actors: &[Actor]) -> Result<Vec<Wire>, AllocError>
     ensures { IfOk result (λ v. v.items ≡ wires.items ++ hidden_wires 0 actors.now) }
 {
@@ -264,7 +264,7 @@ pub fn with_hidden(wires: Vec<Wire>, actors: &[Actor]) -> Result<Vec<Wire>, Allo
     Ok(all)
 }
 
-/// The hidden wire of an actor of that number and kind, where it has one.
+/// The hidden wire of an actor with this number and kind, if it has one.
 fn hidden_wire(i: usize, kind: &Kind) -> Option<Wire>
     ensures { result ≡ hidden_wire i kind.now }
 {

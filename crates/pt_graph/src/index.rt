@@ -1,6 +1,6 @@
-//! Look-ups by name and by input whose time grows little with the number of entries.
+//! Lookups by name and by input, in a map and a set: they stay fast in large files.
 
-ghost use Rattle.std.specs.Prelude.{◌≡◌, ℕ, [], List, IfOk};
+ghost use Rattle.std.specs.Prelude.{◌≡◌, ℕ, [], IfOk};
 ghost use Rattle.pt_types.specs.Lawful.{repeated_from};
 ghost use Rattle.pt_graph.specs.Known.{number_in};
 ghost use Rattle.pt_graph.specs.Index.{at_name, Feeds};
@@ -10,7 +10,7 @@ use pt_types::Wire;
 use std::alloc::{AllocError, Global};
 use std::collections::{BTreeMap, HashSet};
 
-/// The number of each name; of two with one name the first counts.
+/// The number of each name. If two have one name, the map has the first.
 pub fn numbers<'a, T: Named>(
     alloc: Global,
     items: &'a [T],
@@ -27,7 +27,7 @@ pub fn numbers<'a, T: Named>(
     Ok(numbers)
 }
 
-/// The index of the first that has the name of an earlier one.
+/// The index of the first item that has the name of an earlier one.
 pub fn repeated<T: Named>(alloc: Global, items: &[T]) -> Result<Option<usize>, AllocError>
     ensures { IfOk result (λ r. r ≡ repeated_from T.name_of [] 0 items.now) }
 {
@@ -42,15 +42,15 @@ pub fn repeated<T: Named>(alloc: Global, items: &[T]) -> Result<Option<usize>, A
     Ok(None)
 }
 
-/// Why the fed inputs could not be listed.
+/// Why there is no set of fed inputs.
 #[derive(Clone, Copy, Debug, PartialEq, Eq)]
 pub enum Twice {
     Memory,
-    /// The first wire to an input to which an earlier one goes.
+    /// The index of the first wire that leads to the same input as an earlier one.
     At(usize),
 }
 
-/// The inputs to which wires go, each by its actor and its number.
+/// The inputs to which wires lead, each as an actor and the input's number.
 pub fn fed_inputs(alloc: Global, wires: &[Wire]) -> Result<HashSet<(usize, u32)>, Twice>
     ensures { Feeds wires.now result }
 {

@@ -1,4 +1,4 @@
-//! Names that stand twice, and names of nothing.
+//! Repeated names and unknown names.
 
 ghost use Rattle.std.specs.Prelude.{◌≡◌, ◌&&◌, ℕ, [], List, position, not, is_some, IfOk};
 ghost use Rattle.std.specs.List.{list_any};
@@ -46,7 +46,7 @@ impl Named for ActorText {
     }
 }
 
-/// The first place that has the name of an earlier one, or tells of an earlier one's platforms.
+/// The first place that has the name of an earlier one, or the platforms of an earlier pair.
 #[tactic(auto, unfolding(crate::specs::Known::repeated_place))]
 pub fn repeated_place(alloc: Global, document: &Document) -> Result<Option<Place>, AllocError>
     ensures { IfOk result (λ p. p ≡ repeated_place document.now) }
@@ -69,7 +69,7 @@ fn first_place(
         .or(found(Part::Pair, pairs))
 }
 
-/// The index of the first pair of two platforms of which an earlier pair tells.
+/// The index of the first pair that names the two platforms of an earlier pair.
 fn pair_again(pairs: &[PairText]) -> Option<usize>
     ensures { result ≡ pair_again_from [] 0 pairs.now }
 {
@@ -94,7 +94,7 @@ fn same_pair(pair: &PairText, other: &PairText) -> bool
         || (pair.a.as_str() == other.b.as_str() && pair.b.as_str() == other.a.as_str())
 }
 
-/// The first place that names no platform or no actor of the file, where actors have these numbers.
+/// The first place that names an unknown platform or actor; `numbers` has the numbers of the actors.
 #[tactic(auto, unfolding(crate::specs::Known::unknown_by))]
 pub fn unknown_place<'a>(
     document: &'a Document,
@@ -168,7 +168,7 @@ fn is_platform(platforms: &List<Name>, name: &Name) -> bool
     index_of(platforms.as_slice(), name.as_str()).is_some()
 }
 
-/// The index of the first with that name.
+/// The index of the first item with this name.
 pub fn index_of<T: Named>(items: &[T], name: &str) -> Option<usize>
     ensures { result ≡ number_in T.name_of items.now name.now }
 {

@@ -1,4 +1,4 @@
-//! The limits of a file's arrays.
+//! The limits of the arrays of a file.
 
 ghost use Rattle.std.specs.Prelude.{◌≡◌, nat_lt, map, sum, min, ◌-◌, ◌^◌};
 ghost use Rattle.std.specs.List.{list_any};
@@ -70,7 +70,7 @@ fn has_many_cells(actors: &[ActorText]) -> bool
     cells_of_all(actors) > 1024
 }
 
-/// How many cells there are in all, as far as a `usize` holds it.
+/// The number of cells of all lanes, at most the greatest `usize`.
 fn cells_of_all(actors: &[ActorText]) -> usize
     ensures { result ≡ min (sum (map (λ (a : ActorText). cell_count a.kind) actors.now)) (2 ^ 64 - 1) }
 {

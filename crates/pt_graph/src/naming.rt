@@ -1,4 +1,4 @@
-//! The forms of a file's names.
+//! Which names of a file are valid.
 
 ghost use Rattle.std.specs.Prelude.{◌≡◌, ◌&&◌, position, not};
 ghost use Rattle.std.specs.List.{list_all};
@@ -15,7 +15,7 @@ use pt_graph_text::{
 };
 use pt_tags::{List, Name};
 
-/// The first place that has a name of another form.
+/// The first place with a name that is not valid.
 #[tactic(auto, unfolding(crate::specs::Naming::name_place))]
 pub fn name_place(document: &Document) -> Option<Place>
     ensures { result ≡ name_place document.now }

@@ -1,4 +1,4 @@
-//! The ranges of a file's numbers.
+//! The ranges of the numbers of a file.
 
 ghost use Rattle.std.specs.Prelude.{◌≡◌, ◌-◌, ◌^◌, min, position, not, map, sum, unsigned_abs, nat_le, length, ◌&&◌, pos};
 ghost use Rattle.std.specs.List.{list_all};
@@ -6,7 +6,7 @@ ghost use Rattle.pt_types.specs.Kinds.{is_between};
 ghost use Rattle.pt_graph_text.specs.declared.document.ActorText.{ActorText};
 ghost use Rattle.pt_graph_text.specs.declared.document.LinkText.{LinkText};
 ghost use Rattle.pt_graph.specs.Chains.{found};
-ghost use Rattle.pt_graph.specs.Ranges.{is_time, top_range, range_place, head_in_range, kind_in_range, emit_in_range, row_in_range, wire_in_range, pair_in_range, sum_is_small};
+ghost use Rattle.pt_graph.specs.Ranges.{is_time, top_range, range_place, head_in_range, kind_in_range, row_in_range, wire_in_range, pair_in_range, sum_is_small};
 
 use pt_graph_text::{
     ActorText, Document, Head, KindText, LinkText, PairText, Part, Place, RowText, WireText, place,
@@ -15,7 +15,7 @@ use pt_tags::List;
 
 const MOST_TIME: i64 = 1_000_000_000_000_000;
 
-/// The first place that has a number out of its range.
+/// The first place with a number out of its range.
 #[tactic(auto, unfolding(crate::specs::Ranges::range_place))]
 pub fn range_place(document: &Document) -> Option<Place>
     ensures { result ≡ range_place document.now }
@@ -27,7 +27,7 @@ pub fn range_place(document: &Document) -> Option<Place>
         .or(found(Part::Pair, odd_pair(&document.pairs)))
 }
 
-/// The place of that part, where there is one.
+/// The place of a part and an index, if there is an index.
 pub fn found(part: Part, index: Option<usize>) -> Option<Place>
     ensures { result ≡ found part index }
 {
@@ -144,7 +144,7 @@ fn sum_is_small(cells: &[i64]) -> bool
     sum_of(cells) <= 8
 }
 
-/// The sum of the numbers, all taken as positive, as far as a `u64` holds it.
+/// The sum of the absolute values, at most the greatest `u64`.
 fn sum_of(cells: &[i64]) -> u64
     ensures { result ≡ min (sum (map unsigned_abs cells.now)) (2 ^ 64 - 1) }
 {

@@ -10,7 +10,7 @@ ghost use Rattle.pt_graph.specs.Naming.{name_place};
 ghost use Rattle.pt_graph.specs.Known.{repeated_place, unknown_by};
 ghost use Rattle.pt_graph.specs.Index.{at_name};
 ghost use Rattle.pt_graph.specs.Checking.{document_of_bytes, GivesNumbers, GivesWiring};
-ghost use Rattle.pt_graph.specs.EndFaults.{joined, block_place};
+ghost use Rattle.pt_graph.specs.EndFaults.{block_place};
 ghost use Rattle.pt_graph.specs.Graphs.{actors_of, wires_of, links_of, graph_with, whole};
 ghost use Rattle.pt_graph.specs.GraphOf.{built, graph_in, graph_of};
 
@@ -25,22 +25,19 @@ use crate::ranges::range_place;
 use pt_blocks::{Blocks, Named};
 use pt_graph_text::{Document, GraphFault, Head, read_document};
 use pt_tags::{List, Name};
-use pt_types::{Actor, Graph, Link, PairError, Wire};
+use pt_types::{Actor, Graph, Link, MOST_GRAPH_BYTES, PairError, Wire};
 use std::alloc::{AllocError, Global};
 use std::collections::BTreeMap;
 
-/// The longest graph file, in bytes.
-pub const MOST_BYTES: usize = 1_048_576;
-
 /// The graph of a text, or its first fault in the order of the checks.
 ///
-/// Actors may name these blocks.
+/// Actors may name the blocks in `blocks`.
 #[tactic(auto, unfolding(crate::specs::GraphOf::graph_of), using(crate::proofs::Lawful::lawful_result))]
 pub fn read_graph(alloc: Global, bytes: &[u8], blocks: &Blocks) -> Result<Graph, GraphFault>
     ensures graph { Gives (graph_of blocks.now.listed.items bytes.now) result }
     ensures lawful { IfOk result IsLawful }
 {
-    if bytes.len() > MOST_BYTES {
+    if bytes.len() > MOST_GRAPH_BYTES {
         return Err(GraphFault::TooLong);
     }
     graph_in(alloc, bytes, blocks.listed())
@@ -54,7 +51,7 @@ fn graph_in(alloc: Global, bytes: &[u8], listed: &[Named]) -> Result<Graph, Grap
     build(alloc, document, wiring, listed)
 }
 
-/// The document of the bytes, which must be text.
+/// The document of the bytes, which must be UTF-8.
 fn document(alloc: Global, bytes: &[u8]) -> Result<Document, GraphFault>
     ensures { Gives (document_of_bytes bytes.now) result }
 {
@@ -64,13 +61,13 @@ fn document(alloc: Global, bytes: &[u8]) -> Result<Document, GraphFault>
     }
 }
 
-/// The wires and links of a document, by numbers of actors.
+/// The wires and links of a document, with numbers of actors.
 struct Wiring {
     wires: Vec<Wire>,
     links: Vec<Link>,
 }
 
-/// The wires and links of a document, once it passed its checks.
+/// The wires and links of a document, if it passes its checks.
 fn wired(alloc: Global, document: &Document) -> Result<Wiring, GraphFault>
     ensures { GivesWiring document.now result }
 {
@@ -84,7 +81,7 @@ fn wired(alloc: Global, document: &Document) -> Result<Wiring, GraphFault>
     Ok(Wiring { wires, links })
 }
 
-/// The checks of a document, from its limits to its unknown names. Where it passes, the numbers of its actors are given.
+/// Checks a document, from its limits to its unknown names. Gives the numbers of its actors if it passes.
 #[tactic(auto, unfolding(crate::specs::GraphOf::checked))]
 fn check<'a>(alloc: Global, document: &'a Document) -> Result<BTreeMap<&'a str, usize>, GraphFault>
     ensures { GivesNumbers document.now result }
@@ -137,7 +134,7 @@ fn block_fault(document: &Document, listed: &[Named]) -> Option<GraphFault>
     block_place(listed, document).map(GraphFault::Block)
 }
 
-/// The graph of a document that passed the checks before.
+/// The graph of a document that passed these checks.
 #[tactic(auto, unfolding(crate::specs::GraphOf::built))]
 fn build(
     alloc: Global,
@@ -161,7 +158,7 @@ fn build(
     }
 }
 
-/// The graph of these parts, with the hidden wires.
+/// The graph of these parts, with the hidden wires added.
 fn graph(
     alloc: Global,
     document: Document,

@@ -1,9 +1,9 @@
 -- An actor whose arrays are read apart is that of the whole.
 use Rattle.std.proofs.Common.{◌≡◌, ℕ, ℤ, List, bytes_eq, Bool, true, false, ◌&&◌, Option, Some, None, Result, option_map, option_and_then, refl, sym, ap, ◌∙◌}
 use Rattle.std.specs.Prelude.{codes, if◌then◌else◌}
-use Rattle.serde_json.specs.Data.{Data, null, boolean, number, string, array, object, Members, no_members, put}
-use Rattle.serde_json.specs.Find.{as_str, as_array, get_member}
-use Rattle.pt_graph_text.specs.Decoding.{◌>>=◌, only, field, whole, has_members, each_from}
+use Rattle.serde_json.specs.Data.{Data, null, boolean, number, string, array, object, Members, put}
+use Rattle.serde_json.specs.Find.{as_str, get_member}
+use Rattle.pt_graph_text.specs.Decoding.{◌>>=◌, only, field, whole, has_members}
 use Rattle.pt_graph_text.specs.Apart.{hollow, emptied, members_in, list_in, list_at}
 use Rattle.pt_graph_text.specs.Inner.{inner_of, kind_with, with_inner}
 use Rattle.pt_graph_text.specs.Versions.{is_second}

@@ -1,12 +1,11 @@
 -- The document of what was read apart is that of the whole.
-use Rattle.std.proofs.Common.{◌≡◌, ◌≢◌, ℕ, suc, List, ◌==◌, Option, Some, None, Result, Ok, Err, option_map, option_and_then, true, false, true≢false, refl, sym, ap, ◌∙◌}
+use Rattle.std.proofs.Common.{◌≡◌, ◌≢◌, ℕ, suc, List, ◌==◌, Option, Some, None, Result, Ok, Err, option_map, option_and_then, true, false, true≢false, refl, sym, ap, ◌∙◌, Ordering, Less, Equal, Greater}
 use Rattle.std.specs.Prelude.{codes}
 use Rattle.serde_json.specs.Data.{Data, null, boolean, number, string, array, object, Items, Members, no_members, member}
 use Rattle.serde_json.specs.Events.{members_len}
 use Rattle.serde_json.specs.Find.{get_member, as_str, as_array}
 use Rattle.std.specs.Ordering.{nat_cmp, match_ordering}
 use Rattle.std.specs.Cmp.Lexicographic.{slice_cmp}
-use Rattle.std.proofs.Common.{Ordering, Less, Equal, Greater}
 use Rattle.serde_json.specs.Read.{read}
 use Rattle.pt_graph_text.specs.declared.arrays.Arrays.{Arrays}
 use Rattle.pt_graph_text.specs.Decoding.{field, whole, has_members, each_from}

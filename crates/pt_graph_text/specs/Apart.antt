@@ -1,10 +1,10 @@
--- An object whose arrays are read apart from it: what is left of it, and what its arrays list.
+-- An object whose arrays are decoded separately: the object without their items, and the decoded items.
 use Rattle.std.specs.Prelude.{ℕ, List, [], ◌∷◌, ◌++◌, length, Option, Some, None, Result, Ok, Err, option_map, option_and_then}
 use Rattle.serde_json.specs.Data.{Data, null, boolean, number, string, array, object, no_items, Members, no_members, member}
 use Rattle.serde_json.specs.Find.{get_member, as_array}
 use Rattle.pt_graph_text.specs.Decoding.{each_from}
 
--- an array loses its items
+-- an array without its items; any other value as it is
 abbrev pub hollow : Data → Data
 hollow null = null
 hollow (boolean b) = boolean b
@@ -17,26 +17,26 @@ abbrev pub hollow_members : Members → Members
 hollow_members no_members = no_members
 hollow_members (member k d ms) = member k (hollow d) (hollow_members ms)
 
--- the items of an array, each decoded; nothing where the value is no array
+-- the decoded items of an array; nothing if the value is not an array
 abbrev pub list_in : {A : Type 0} → (Data → Option A) → Data → Option (Result (List A) ℕ)
 list_in f d = option_map (each_from f 0) (as_array d)
 
--- the same of the member of that key
+-- the decoded items of the member with this key
 abbrev pub list_at : {A : Type 0} → (Data → Option A) → List ℕ → Members → Option (Result (List A) ℕ)
 list_at f key ms = option_and_then (list_in f) (get_member key ms)
 
--- what was read of an array so far: the parts, or the index of the first item that has another form
+-- the result for the first items of an array: the parts, or the index of the first that could not be decoded
 abbrev pub so_far : {A : Type 0} → Option ℕ → List A → Result (List A) ℕ
 so_far None front = Ok front
 so_far (Some i) front = Err i
 
--- and one item more, decoded
+-- the result with one more item
 abbrev pub and_part : {A : Type 0} → Result (List A) ℕ → Option A → Result (List A) ℕ
 and_part (Ok front) None = Err (length front)
 and_part (Ok front) (Some x) = Ok (front ++ x ∷ [])
 and_part (Err i) part = Err i
 
--- an object whose arrays lost their items; any other value as it is
+-- an object without the items of its arrays; any other value as it is
 abbrev pub emptied : Data → Data
 emptied null = null
 emptied (boolean b) = boolean b
@@ -45,7 +45,7 @@ emptied (string s) = string s
 emptied (array ds) = array ds
 emptied (object ms) = object (hollow_members ms)
 
--- the members of an object; none where the value is no object
+-- the members of an object; none if the value is not an object
 abbrev pub members_in : Data → Members
 members_in null = no_members
 members_in (boolean b) = no_members

@@ -1,4 +1,4 @@
--- The whole file from its top object and from the arrays that were read apart of it.
+-- The whole file from its top object and from the arrays, which are decoded separately.
 use Rattle.std.specs.Prelude.{ℕ, List, [], Option, Some, codes, Result, Ok}
 use Rattle.serde_json.specs.Data.{Data, Members}
 use Rattle.serde_json.specs.Find.{as_str}
@@ -29,7 +29,7 @@ abbrev pub pairs_in : Version → Option (Result (List PairText) ℕ) → Option
 pairs_in First pairs = Some (Ok [])
 pairs_in Second pairs = pairs
 
--- the file of that version: first what is left of the top object, then each array
+-- the file in this version: first the top object is checked, then each array
 unfoldable pub document_with : Version → Data → Arrays → Result Document GraphFault
 document_with v left a = do
   head ← or_fault (fault.Member top) (head_of v left)

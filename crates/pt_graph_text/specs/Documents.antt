@@ -1,4 +1,4 @@
--- The parts of a graph file as they are written: what their JSON values must be.
+-- The parts of a graph file, from their JSON values.
 use Rattle.std.specs.Prelude.{Option, Some, codes}
 use Rattle.serde_json.specs.Data.{Data}
 use Rattle.serde_json.specs.Find.{as_str}

@@ -1,4 +1,4 @@
--- An actor from its object and from the arrays that were read apart of it.
+-- An actor from its object and from its arrays, which are decoded separately.
 use Rattle.std.specs.Prelude.{Option, Some, codes, option_map, option_and_then}
 use Rattle.serde_json.specs.Data.{Members}
 use Rattle.pt_graph_text.specs.Decoding.{whole}
@@ -16,7 +16,7 @@ inner_of v ms = record {
   cells = list_at whole (codes "cells") ms;
 }
 
--- a machine has its rows and lanes have their cells from there
+-- a machine gets its rows and lanes get their cells from these arrays
 abbrev pub kind_with : Inner → KindText → Option KindText
 kind_with i (kind.Machine start outputs rows) = option_map (kind.Machine start outputs) (option_and_then listed i.rows)
 kind_with i (kind.Lanes cells) = option_map kind.Lanes (option_and_then listed i.cells)

@@ -1,4 +1,4 @@
--- The kinds of actors as they are written: a kind has exactly its members, beside `name`, `platform` and `kind`.
+-- The kinds of actors as they are written: a kind has exactly its members, besides `name`, `platform` and `kind`.
 use Rattle.std.specs.Prelude.{ℕ, List, Option, Some, None, codes, ◌&&◌, if◌then◌else◌, bytes_eq}
 use Rattle.serde_json.specs.Data.{Data}
 use Rattle.serde_json.specs.Find.{as_str}
@@ -73,13 +73,13 @@ block_of v d = only (has_members 4 d) (do
   block ← field as_str (codes "block") d
   Some (kind.Block block))
 
--- lanes are of version 2
+-- only version 2 has lanes
 unfoldable pub lanes_of : Version → Data → Option KindText
 lanes_of v d = only (is_second v && has_members 4 d) (do
   cells ← field (list_of whole) (codes "cells") d
   Some (kind.Lanes cells))
 
--- the kind of that word, of the others
+-- the kind with this word, of the other kinds
 unfoldable pub other_kind_of : Version → List ℕ → Data → Option KindText
 other_kind_of v word d =
     if bytes_eq word (codes "latch") then plain_of kind.Latch d
@@ -89,7 +89,7 @@ other_kind_of v word d =
     else if bytes_eq word (codes "lanes") then lanes_of v d
     else None
 
--- the kind of that word, of those that compute with numbers
+-- the kind with this word, if it computes with numbers
 unfoldable pub number_kind_of : Version → List ℕ → Data → Option KindText
 number_kind_of v word d =
     if bytes_eq word (codes "scale") then scale_of v d
@@ -101,7 +101,7 @@ number_kind_of v word d =
     else if bytes_eq word (codes "sum") then plain_of kind.Sum d
     else other_kind_of v word d
 
--- the kind of that word, with its members
+-- the kind with this word, with its members
 unfoldable pub kind_of : Version → List ℕ → Data → Option KindText
 kind_of v word d =
     if bytes_eq word (codes "sensor") then sensor_of v d

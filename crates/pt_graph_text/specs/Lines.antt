@@ -1,4 +1,4 @@
--- The line that tells a fault.
+-- The line that reports a fault.
 use Rattle.std.specs.Prelude.{ℕ, List, [], ◌∷◌, ◌++◌, codes}
 use Rattle.std.specs.Fmt.{decimal}
 use Rattle.pt_graph_text.specs.declared.fault.Part.{Part}
@@ -17,7 +17,7 @@ part_text part.Wire i = codes "wire " ++ decimal i
 part_text part.Link i = codes "link " ++ decimal i
 part_text part.Pair i = codes "clock error " ++ decimal i
 
--- FAULT at PLACE
+-- graph: FAULT at PLACE
 abbrev pub at_place : List ℕ → Place → List ℕ
 at_place fault p = codes "graph: " ++ fault ++ codes " at " ++ part_text p.part p.index ++ 10 ∷ []
 

@@ -7,7 +7,7 @@ use Rattle.pt_graph_text.specs.Versions.{is_second}
 use Rattle.pt_graph_text.specs.declared.version.Version.{Version}
 use Rattle.pt_graph_text.specs.declared.document.RowText.{RowText}
 
--- the parts that an array lists
+-- the parts of an array, if all could be decoded
 abbrev pub listed : {A : Type 0} → Result (List A) ℕ → Option (List A)
 listed (Ok xs) = Some xs
 listed (Err i) = None
@@ -22,7 +22,7 @@ emit_of d = if is_some (as_null d) then Some None else only (has_items 2 d) (do
   given ← place whole 1 d
   Some (Some (output, given)))
 
--- a row of version 2 may have a guard
+-- the number of members of a row: one more with a guard, which only version 2 has
 abbrev pub row_members : Version → Data → ℕ
 row_members v d = if is_second v && is_some (get (codes "guard") d) then 6 else 5
 

@@ -14,6 +14,6 @@ abbrev pub is_two : Option ℤ → Bool
 is_two None = false
 is_two (Some z) = int_eq z (pos 2)
 
--- a file is of version 2 where its member `ptides` is the whole number 2
+-- a file is of version 2 if its member `ptides` is the whole number 2, and else of version 1
 abbrev pub version_of : Data → Version
 version_of d = if is_two (field whole (codes "ptides") d) then Second else First

@@ -1,4 +1,4 @@
--- The whole file as it is written, or the first member that it has wrong.
+-- The whole file as it is written, or its first fault.
 use Rattle.std.specs.Prelude.{ℕ, List, Option, Some, codes, Result, Ok, option_and_then}
 use Rattle.serde_json.specs.Data.{Data, Items, no_items}
 use Rattle.serde_json.specs.Find.{get, as_str, as_array}
@@ -21,7 +21,7 @@ abbrev pub top_members : Version → ℕ
 top_members First = 7
 top_members Second = 8
 
--- its numbers
+-- the numbers of the top object
 unfoldable pub head_of : Version → Data → Option Head
 head_of v d = only (has_members (top_members v) d)
     (decoding.◌>>=◌ (field whole (codes "ptides") d) (λ version.
@@ -37,7 +37,7 @@ abbrev pub pairs_of : Version → Data → Option Items
 pairs_of First d = Some no_items
 pairs_of Second d = array (codes "clock_errors") d
 
--- the file of that version: first the top object, then each array from its first entry on
+-- the file in this version: first the top object is checked, then each array from its first entry on
 unfoldable pub document_in : Version → Data → Result Document GraphFault
 document_in v d = do
   head ← or_fault (fault.Member top) (head_of v d)
@@ -56,7 +56,7 @@ document_in v d = do
 abbrev pub document_of : Data → Result Document GraphFault
 document_of d = document_in (version_of d) d
 
--- the document of a text: that of the value which serde_json reads from it
+-- the document of a text: that of the JSON value that serde_json reads from it
 unfoldable pub document_of_text : List ℕ → Result Document GraphFault
 document_of_text text = do
   value ← or_fault fault.NotJson (read text)

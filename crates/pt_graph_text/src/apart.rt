@@ -1,4 +1,4 @@
-//! Arrays that are read apart from their object, an item at a time: each item is decoded and let go before the next.
+//! Arrays that are read item by item: each item is decoded, and its JSON value dropped, before the next is read.
 
 ghost use Rattle.std.specs.Prelude.{◌≡◌, ◌<◌, Some, None, Err, IfOk, OnOk, OnErr, length};
 ghost use Rattle.json.specs.Json.{value, items};
@@ -16,10 +16,10 @@ use pt_tags::List;
 use serde_json::Value;
 use std::alloc::Global;
 
-/// The items of an array, or the index of the first that has another form.
+/// The decoded items of an array, or the index of the first that can't be decoded.
 pub type Listed<T> = Result<List<T>, usize>;
 
-/// The items that follow the bracket, and its closing one.
+/// Reads and decodes the items after an opening bracket, and the closing one.
 pub fn read_each<T: Decode>(
     alloc: Global,
     version: Version,
@@ -46,7 +46,7 @@ pub fn read_each<T: Decode>(
     }
 }
 
-/// Keeps a part, where none before had another form, and gives the index of the first that has.
+/// Adds a part, if all before it could be decoded. Gives the index of the first that could not.
 fn keep<T: Drop>(
     found: &mut Vec<T>,
     wrong: Option<usize>,
@@ -66,7 +66,7 @@ fn keep<T: Drop>(
     }
 }
 
-/// What is left of the next value without its items, which go into `listed`.
+/// Reads the next value. If it is an array, its items go decoded into `listed`, and the value is an empty array.
 pub fn read_apart<T: Decode>(
     alloc: Global,
     version: Version,
@@ -97,7 +97,7 @@ pub fn read_apart<T: Decode>(
     }
 }
 
-/// What is left of the next value without its items.
+/// Reads the next value. If it is an array, its items are dropped, and the value is an empty array.
 pub fn read_hollow(
     alloc: Global,
     version: Version,
@@ -115,7 +115,7 @@ pub fn read_hollow(
     Ok(read_apart(alloc, version, &mut items, reader, depth)?)
 }
 
-/// A part that no file has.
+/// A part that is never decoded.
 #[derive(Drop)]
 struct Unused;
 

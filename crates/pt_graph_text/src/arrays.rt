@@ -10,7 +10,7 @@ use pt_tags::Name;
 use serde_json::Value;
 use std::alloc::Global;
 
-/// The arrays of the top object; None where there is no such member, or where it is no array.
+/// The arrays of the top object; `None` for one that is missing or is not an array.
 #[derive(Drop)]
 pub struct Arrays {
     pub platforms: Option<Listed<Name>>,

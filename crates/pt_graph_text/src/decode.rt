@@ -1,6 +1,6 @@
 //! Decoding of JSON values, part by part.
 
-ghost use Rattle.std.specs.Prelude.{◌≡◌, ◌<◌, List, Option, Some, None, Err, IfOk, OnOk, codes, length};
+ghost use Rattle.std.specs.Prelude.{◌≡◌, ◌<◌, List, Option, Some, None, Err, IfOk, OnOk, length};
 ghost use Rattle.json.specs.Json.{value};
 ghost use Rattle.serde_json.specs.Data.{Data};
 ghost use Rattle.serde_json.specs.Find.{get, as_str};
@@ -16,30 +16,30 @@ use pt_tags::{List, Name};
 use serde_json::Value;
 use std::alloc::Global;
 
-/// Why a value could not be decoded.
+/// Why a value was not decoded.
 #[derive(Clone, Copy, Debug, PartialEq, Eq)]
 pub enum Misfit {
     Memory,
-    /// A member is missing, is too many or has another form.
+    /// A member is missing, is too many, or is not of the wanted form.
     Member,
 }
 
-/// Why an array could not be decoded.
+/// Why an array was not decoded.
 #[derive(Clone, Copy, Debug, PartialEq, Eq)]
 pub enum Stop {
     Memory,
-    /// The first item that has another form.
+    /// The index of the first item that is not of the wanted form.
     At(usize),
 }
 
-/// A part of the file that has one JSON form.
+/// A part of the file that can be decoded from a JSON value.
 pub trait Decode: Drop {
     ghost decoded: { Version → Data → Option Self };
 
     fn decode(alloc: Global, version: Version, value: &Value) -> Result<Self, Misfit>
         ensures { Decodes (decoded version (view value.now)) result };
 
-    /// The next value of the reader, decoded; None where it has another form.
+    /// Reads and decodes the next value; `None` if it is not of the wanted form.
     fn read(
         alloc: Global,
         version: Version,
@@ -87,7 +87,7 @@ impl Decode for Name {
     }
 }
 
-/// The member of that key.
+/// The decoded member with this key.
 pub fn member<T: Decode>(
     alloc: Global,
     version: Version,
@@ -102,7 +102,7 @@ pub fn member<T: Decode>(
     }
 }
 
-/// The member of that key, where there is one.
+/// The decoded member with this key; `None` if there is no such member.
 pub fn optional_member<T: Decode>(
     alloc: Global,
     version: Version,
@@ -120,7 +120,7 @@ pub fn optional_member<T: Decode>(
     }
 }
 
-/// The item at that index.
+/// The decoded item at this index.
 pub fn item<T: Decode>(
     alloc: Global,
     version: Version,
@@ -135,7 +135,7 @@ pub fn item<T: Decode>(
     }
 }
 
-/// Whether the value is an array of exactly so many items.
+/// Whether the value is an array of exactly `count` items.
 pub fn has_items(value: &Value, count: usize) -> bool
     ensures { result ≡ has_items count (view value.now) }
 {
@@ -145,7 +145,7 @@ pub fn has_items(value: &Value, count: usize) -> bool
     }
 }
 
-/// Whether the value is an object of exactly so many members.
+/// Whether the value is an object of exactly `count` members.
 pub fn has_members(value: &Value, count: usize) -> bool
     ensures { result ≡ has_members count (view value.now) }
 {
@@ -155,7 +155,7 @@ pub fn has_members(value: &Value, count: usize) -> bool
     }
 }
 
-/// The items of an array, decoded.
+/// The decoded items of an array.
 pub fn each<T: Decode>(alloc: Global, version: Version, items: &[Value]) -> Result<List<T>, Stop>
     ensures { DecodesEach (each_from (T.decoded version) 0 (items_view items.now)) result }
 {

@@ -24,7 +24,7 @@ pub struct RowText {
     pub low: i64,
     pub high: i64,
     pub next: i64,
-    /// An output and its value.
+    /// An output and the value that it gets.
     pub emit: Option<(i64, i64)>,
     /// The name of a block.
     pub guard: Option<Name>,
@@ -38,7 +38,7 @@ pub struct ActorText {
     pub kind: KindText,
 }
 
-/// A wire, by the names of its actors.
+/// A wire, with the names of its actors.
 #[derive(Drop)]
 pub struct WireText {
     pub from: Name,
@@ -47,7 +47,7 @@ pub struct WireText {
     pub input: i64,
 }
 
-/// A link, by the names of its actors.
+/// A link, with the names of its actors.
 #[derive(Drop)]
 pub struct LinkText {
     pub from: Name,
@@ -55,7 +55,7 @@ pub struct LinkText {
     pub delay: i64,
 }
 
-/// Two platforms and the error of their clocks.
+/// The names of two platforms and their clock error, in microseconds.
 #[derive(Drop)]
 pub struct PairText {
     pub a: Name,
@@ -66,7 +66,7 @@ pub struct PairText {
 /// The numbers of the top object.
 #[derive(Clone, Copy, Debug)]
 pub struct Head {
-    /// What the member `ptides` says.
+    /// The member `ptides`.
     pub version: i64,
     pub until: i64,
     pub clock_error: i64,
@@ -81,7 +81,7 @@ pub struct Document {
     pub actors: List<ActorText>,
     pub wires: List<WireText>,
     pub links: List<LinkText>,
-    /// None in version 1.
+    /// Empty in version 1.
     pub pairs: List<PairText>,
 }
 
@@ -140,7 +140,7 @@ impl Decode for PairText {
     }
 }
 
-/// How many members a row has.
+/// The number of members that a row must have.
 fn row_members(version: Version, value: &Value) -> usize
     ensures { result ≡ row_members version (view value.now) }
 {

@@ -1,9 +1,9 @@
-//! What is wrong with a graph file.
+//! The faults of a graph file.
 
-/// A part of the file that a fault names.
+/// The parts of the file that a fault can name.
 #[derive(Clone, Copy, Debug, PartialEq, Eq)]
 pub enum Part {
-    /// The outer object.
+    /// The top object.
     Top,
     Platform,
     Actor,
@@ -13,14 +13,14 @@ pub enum Part {
     Pair,
 }
 
-/// Where a fault is: a part and its index in the file, from 0.
+/// The place of a fault: a part and its index in the file, from 0.
 #[derive(Clone, Copy, Debug, PartialEq, Eq)]
 pub struct Place {
     pub part: Part,
     pub index: u32,
 }
 
-/// What there is too much of.
+/// The entries that can be too many.
 #[derive(Clone, Copy, Debug, PartialEq, Eq)]
 pub enum What {
     Platforms,
@@ -29,7 +29,7 @@ pub enum What {
     Links,
     /// Clock errors of two platforms.
     Pairs,
-    /// Rows of a machine.
+    /// Rows of one machine.
     Rows,
     /// Cells of all lanes together.
     Cells,
@@ -37,33 +37,33 @@ pub enum What {
 
 /// The first fault of a graph file, in the order of the checks.
 ///
-/// Each check goes over the whole file, and the fault names the first place at which it fails: top, platforms,
+/// Each check goes over the whole file. The fault names the first place at which it fails: top, platforms,
 /// actors, wires, links, pairs, each by index.
 #[derive(Clone, Copy, Debug, PartialEq, Eq)]
 pub enum GraphFault {
-    /// Memory ran out. The file may have any fault or none.
+    /// Out of memory. The file may have any fault or none.
     Memory,
     /// The file has more than 1,048,576 bytes.
     TooLong,
-    /// It is not a JSON text.
+    /// The file is not UTF-8 or not JSON, or it nests more than 127 deep, or it has a number that is too large.
     NotJson,
-    /// A member is missing, is too many, or is not of its JSON type, or a kind is unknown.
+    /// A member is missing, is too many, or is not of its JSON type; or a kind is unknown.
     Member(Place),
     /// An array has more entries than its limit.
     TooMany(What),
     /// A number is out of its range, or there is no platform.
     Range(Place),
-    /// A name, or a file's name, has not its form.
+    /// A name or a file name is not valid.
     Name(Place),
-    /// A platform, an actor or a pair is named as an earlier one.
+    /// A platform or an actor has the name of an earlier one, or a pair names the platforms of an earlier one.
     Repeated(Place),
-    /// A name is that of no platform, or of no actor.
+    /// There is no platform or no actor with the name.
     Unknown(Place),
-    /// A wire's output or input number is not below the number of visible ports.
+    /// There is no visible output or no visible input with the wire's number.
     WireEnd(Place),
-    /// A wire joins actors of two platforms.
+    /// A wire joins actors on two platforms.
     CrossWire(Place),
-    /// A wire goes to an input to which an earlier one goes.
+    /// A wire leads to the same input as an earlier one.
     FedTwice(Place),
     /// A visible input has no wire.
     Unfed {
@@ -71,8 +71,9 @@ pub enum GraphFault {
         actor: u32,
         port: u32,
     },
-    /// A link does not lead from a `send` to a `receive` of another platform, or one of these has not exactly one link.
+    /// A link does not lead from a `send` to a `receive` on another
+    /// platform, or one of these does not have exactly one link.
     LinkEnd(Place),
-    /// No block has the name that an actor states.
+    /// There is no block with the name that an actor gives.
     Block(Place),
 }

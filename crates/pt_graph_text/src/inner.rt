@@ -13,7 +13,7 @@ use json::Reader;
 use serde_json::Value;
 use std::alloc::Global;
 
-/// The arrays of an actor; None where there is no such member, or where it is no array.
+/// The arrays of an actor; `None` for one that is missing or is not an array.
 #[derive(Drop)]
 pub struct Inner {
     pub rows: Option<Listed<RowText>>,
@@ -48,7 +48,7 @@ impl Lists for Inner {
     }
 }
 
-/// The actor with these rows or cells.
+/// The actor with these rows or cells, if they were decoded.
 pub fn with_inner(actor: ActorText, inner: Inner) -> Option<ActorText>
     ensures { result ≡ with_inner inner actor }
 {

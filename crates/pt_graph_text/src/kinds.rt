@@ -1,6 +1,6 @@
 //! The kinds of actors as they are written.
 
-ghost use Rattle.std.specs.Prelude.{◌≡◌, Option};
+ghost use Rattle.std.specs.Prelude.{◌≡◌};
 ghost use Rattle.serde_json.specs.View.{view};
 ghost use Rattle.pt_graph_text.specs.Decoding.{Decodes};
 ghost use Rattle.pt_graph_text.specs.Kinds.{kind_of, number_kind_of, other_kind_of, plain_of, sensor_of, send_of, actuator_of, every_of, delay_of, scale_of, shift_of, above_of, merge_of, machine_of, block_of, lanes_of};
@@ -64,7 +64,7 @@ pub enum KindText {
     },
 }
 
-/// The kind of that word, with its members.
+/// The kind with this word, with its members.
 #[tactic(auto, unfolding(crate::specs::Kinds::kind_of))]
 pub fn kind_of(
     alloc: Global,
@@ -85,7 +85,7 @@ pub fn kind_of(
     }
 }
 
-/// The kind of that word, of those that compute with numbers.
+/// The kind with this word, if it computes with numbers.
 #[tactic(auto, unfolding(crate::specs::Kinds::number_kind_of))]
 fn number_kind_of(
     alloc: Global,
@@ -107,7 +107,7 @@ fn number_kind_of(
     }
 }
 
-/// The kind of that word, of the others.
+/// The kind with this word, of the other kinds.
 #[tactic(auto, unfolding(crate::specs::Kinds::other_kind_of))]
 fn other_kind_of(
     alloc: Global,

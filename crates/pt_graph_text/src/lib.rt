@@ -1,9 +1,9 @@
-//! The graph file as it is written: its JSON value decoded into a document with types, and the faults with their lines.
+//! The graph file as it is written: its JSON value decoded into a typed document, and the lines of faults.
 //!
-//! A document has all members that a file must have, each of its JSON type, and nothing else. Its names and numbers
-//! are not judged here.
+//! A document has all members that a file must have, each of its JSON
+//! type, and no others. Its names and numbers are not checked here.
 //!
-//! Read first: `Document`, and `specs/Whole.antt`, which says what the document of a JSON value is.
+//! Read first: `Document`, and `specs/Whole.antt`, which defines the document of a JSON value.
 #![tactic(auto)]
 
 mod apart;

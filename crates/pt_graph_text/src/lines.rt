@@ -1,4 +1,4 @@
-//! The line that tells a fault.
+//! The line that reports a fault.
 
 ghost use Rattle.std.specs.Prelude.{◌≡◌, ◌++◌, OnOk, string_bytes};
 ghost use Rattle.pt_graph_text.specs.Lines.{fault_line, at_place, what_text, unfed_line};

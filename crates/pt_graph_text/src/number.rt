@@ -1,4 +1,4 @@
-//! The number that a JSON text writes.
+//! The value of a number in a JSON text.
 
 ghost use Rattle.std.specs.Prelude.{◌≡◌, ◌<◌, ◌==◌, length, slice_index, option_map, IsTrue, false, true};
 ghost use Rattle.serde_json.specs.Read.{number_of, number_from, float_of};
@@ -7,7 +7,7 @@ ghost use Rattle.serde_json.specs.View.{number_view};
 use fast_float::Numeral;
 use serde_json::Number;
 
-/// The number of that text; None where it is too large.
+/// The value of a number; `None` if it is too large.
 pub fn number_of(text: &str) -> Option<Number>
     ensures { option_map number_view result ≡ number_of text.now }
 {

@@ -1,10 +1,10 @@
-//! Objects that are read member by member, their arrays apart.
+//! Objects that are read member by member; their arrays are decoded separately.
 
 ghost use Rattle.std.specs.Prelude.{◌≡◌, ◌<◌, Some, None, Err, IfOk, OnOk, length};
 ghost use Rattle.json.specs.Json.{value, members};
 ghost use Rattle.serde_json.specs.Data.{Data, Members, no_members, object as object_of, put};
 ghost use Rattle.serde_json.specs.Read.{of_json, of_members, converted};
-ghost use Rattle.serde_json.specs.View.{view, members_view};
+ghost use Rattle.serde_json.specs.View.{view};
 ghost use Rattle.pt_graph_text.specs.Apart.{hollow, hollow_members, emptied, members_in};
 ghost use Rattle.pt_graph_text.specs.declared.version.Version.{Version};
 
@@ -15,15 +15,15 @@ use serde_json::Value;
 use serde_json::value::Map;
 use std::alloc::Global;
 
-/// The arrays of an object that are read apart.
+/// The arrays of an object that are decoded separately.
 pub trait Lists: Drop {
-    /// Those of an object with these members.
+    /// The arrays of an object with these members.
     ghost lists_of: { Version → Members → Self };
 
     fn none() -> Self
         ensures { (version : Version) → result ≡ lists_of version no_members };
 
-    /// What is left of the value of one more member. Of two members of one key the last counts.
+    /// Reads the value of one more member; an array is left without items. If a key comes twice, the last member counts.
     fn read(
         &mut self,
         alloc: Global,
@@ -41,15 +41,15 @@ pub trait Lists: Drop {
             → converted of_json (value depth reader.old) ≡ None };
 }
 
-/// A value, where it is an object with its arrays read apart.
+/// A value; if it is an object, with its arrays decoded separately.
 #[derive(Drop)]
 pub struct Object<L: Lists> {
-    /// The value, with no items in the arrays of its members.
+    /// The value; the arrays among its members have no items.
     pub left: Value,
     pub lists: L,
 }
 
-/// The next value of the reader.
+/// Reads the next value.
 pub fn read_object<L: Lists>(
     alloc: Global,
     version: Version,
@@ -81,7 +81,7 @@ pub fn read_object<L: Lists>(
     }
 }
 
-/// The members that follow the bracket, and its closing one.
+/// Reads the members after an opening bracket, and the closing one.
 fn read_members<L: Lists>(
     alloc: Global,
     version: Version,

@@ -13,11 +13,11 @@ use serde_json::Value;
 use serde_json::value::Map;
 use std::alloc::{AllocError, AllocFailed, Global};
 
-/// Why a text gave no value.
+/// Why no value was read.
 #[derive(Clone, Copy, Debug, PartialEq, Eq)]
 pub enum Unread {
     Memory,
-    /// It is not a JSON text, or has a number that is too large.
+    /// The text is not JSON, or has a number that is too large, or nests too deep.
     NotJson,
 }
 
@@ -54,7 +54,7 @@ impl From<Invalid> for Unread {
     }
 }
 
-/// The next value of the reader; arrays and objects may nest `depth` deep.
+/// Reads the next value; arrays and objects may nest `depth` deep.
 #[cycle(read)]
 pub fn read_value(alloc: Global, reader: &mut Reader<'_>, depth: usize) -> Result<Value, Unread>
     ensures ok { IfOk result
@@ -67,7 +67,7 @@ pub fn read_value(alloc: Global, reader: &mut Reader<'_>, depth: usize) -> Resul
     value_from(alloc, token, reader, depth)
 }
 
-/// The value that begins with that token.
+/// Reads the value that begins with this token.
 #[cycle(read)]
 pub fn value_from(
     alloc: Global,

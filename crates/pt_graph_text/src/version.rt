@@ -1,4 +1,4 @@
-//! Which of the two forms of graph files a file has.
+//! The two versions of graph files.
 
 ghost use Rattle.std.specs.Prelude.{◌≡◌};
 ghost use Rattle.serde_json.specs.View.{view};
@@ -15,7 +15,7 @@ pub enum Version {
 }
 
 impl Version {
-    /// Whether it is the second.
+    /// Whether it is the second version.
     pub fn is_second(self) -> bool
         ensures { result ≡ is_second self }
     {
@@ -26,7 +26,7 @@ impl Version {
     }
 }
 
-/// The version of a file: the second where its member `ptides` is the whole number 2, and else the first.
+/// The version of a file: the second if its member `ptides` is the whole number 2, and else the first.
 pub fn version_of(value: &Value) -> Version
     ensures { result ≡ version_of (view value.now) }
 {

@@ -23,10 +23,10 @@ use pt_tags::List;
 use serde_json::Value;
 use std::alloc::Global;
 
-/// How deep arrays and objects may nest.
+/// The depth to which arrays and objects may nest.
 const MOST_DEPTH: usize = 127;
 
-/// The place of that part and index.
+/// The place of a part and an index.
 pub fn place(part: Part, index: usize) -> Place
     ensures { result ≡ at part index }
 {
@@ -38,7 +38,8 @@ pub fn place(part: Part, index: usize) -> Place
 
 /// The document of a text, or its first fault.
 ///
-/// The version decides how the arrays are decoded, and may stand behind them: the second is tried first.
+/// The version decides how the arrays are decoded, but may come after them in the file. So the text is first read as
+/// version 2, and read again if it is of version 1.
 pub fn read_document(alloc: Global, text: &str) -> Result<Document, GraphFault>
     ensures { Gives (document_of_text text.now) result }
 {
@@ -52,7 +53,7 @@ pub fn read_document(alloc: Global, text: &str) -> Result<Document, GraphFault>
     document_with(alloc, Version::First, &left, lists)
 }
 
-/// The top object with its arrays apart, as those of that version.
+/// Reads the top object, with its arrays decoded as in this version.
 fn read_top(alloc: Global, version: Version, text: &str) -> Result<Object<Arrays>, GraphFault>
     ensures ok { IfOk result
         (λ object. (d : Data) × (read text.now ≡ Some d) × (view object.left ≡ emptied d)
@@ -149,14 +150,14 @@ fn pairs_in(
     }
 }
 
-/// What the top object has, or its fault.
+/// The member of the top object, or the fault if it is missing.
 fn top<T>(listed: Option<Listed<T>>) -> Result<Listed<T>, GraphFault>
     ensures { result ≡ or_fault (GraphFault.Member top) listed }
 {
     listed.ok_or(GraphFault::Member(place(Part::Top, 0)))
 }
 
-/// The parts of an array, or the place of the first that has another form.
+/// The parts of an array, or the place of the first that could not be decoded.
 fn within<T>(part: Part, listed: Listed<T>) -> Result<List<T>, GraphFault>
     ensures { result ≡ parts part listed }
 {

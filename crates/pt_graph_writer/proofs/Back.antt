@@ -36,7 +36,7 @@ use Rattle.pt_graph.specs.GraphOf.{graph_of, graph_in, checked, built, json_of}
 use Rattle.pt_graph.proofs.Checked.{NoneFound, none_found, has_limits, has_ranges, all_known}
 use Rattle.pt_graph.proofs.InRange.{length_map}
 use Rattle.pt_graph.proofs.Joins.{Joins, joins, both_ok, none_refused, none_mapped, all_pass}
-use Rattle.pt_graph.proofs.Once.{mapped_at}
+use Rattle.pt_types.proofs.Distinct.{mapped_at}
 use Rattle.pt_graph.proofs.Texts.{json_of-text}
 use Rattle.pt_graph_writer.specs.Text.{natural, actor_data, wire_data, link_data, pair_data, visible_wires, graph_data}
 use Rattle.pt_graph_writer.specs.Fits.{kind_fits}
@@ -45,6 +45,7 @@ use Rattle.pt_graph_writer.proofs.NamesBack.{blocks_back}
 use Rattle.pt_graph_writer.proofs.PartsBack.{Has, actors_back, wires_back, links_back, pairs_back, names_back}
 use Rattle.pt_graph_writer.proofs.WiresBack.{HasOutputs, visible_only}
 use Rattle.pt_graph_writer.proofs.Second.{second, second_checked, second_built}
+use Rattle.pt_types.specs.Limits.{most_graph_bytes}
 
 -- a document that gave a graph
 record Source (blocks : List Named) (g : Graph) : Type 0 where
@@ -86,7 +87,7 @@ checks_of d x h = none_found d h
 source_of : (blocks : List Named) (bytes : List ℕ) (g : Graph) → graph_of blocks bytes ≡ Ok g → Source blocks g
 unfolding graph_of graph_in
 source_of blocks bytes g h =
-    let inside = not_long (nat_lt 1048576 (length bytes)) fault.TooLong (graph_in blocks bytes) g h in
+    let inside = not_long (nat_lt most_graph_bytes (length bytes)) fault.TooLong (graph_in blocks bytes) g h in
     let a = both_ok (or_fault fault.NotJson (json_of bytes)) (λ value. document_of value >>= (λ d. checked d >>= (λ done. built blocks d))) g inside in
     let b = both_ok (document_of a.0) (λ d. checked d >>= (λ done. built blocks d)) g a.2 in
     let c = both_ok (checked b.0) (λ done. built blocks b.0) g b.2 in
@@ -165,10 +166,10 @@ document_back blocks g source few fit =
 
 -- a text that has the written value gives the graph
 pub reads_back : (blocks : List Named) (g : Graph) (bytes text : List ℕ) → length blocks ≤ 64 → list_all (λ (a : Actor). kind_fits a.kind) g.actors ≡ true → graph_of blocks bytes ≡ Ok g
-    → IsUtf8 text → read text ≡ Some (graph_data g blocks) → length text ≤ 1048576 → graph_of blocks text ≡ Ok g
+    → IsUtf8 text → read text ≡ Some (graph_data g blocks) → length text ≤ most_graph_bytes → graph_of blocks text ≡ Ok g
 unfolding graph_of graph_in
 reads_back blocks g bytes text few fit given utf8 value short =
     let source = source_of blocks bytes g given in
     let json = json_of-text text (graph_data g blocks) (utf8, value) in
     let document = document_back blocks g source few fit in
-    rw (le-ltb 1048576 (length text) short, json, document, second_checked source.document source.checks, second_built blocks source.document, source.gives) refl
+    rw (le-ltb most_graph_bytes (length text) short, json, document, second_checked source.document source.checks, second_built blocks source.document, source.gives) refl

@@ -11,11 +11,11 @@ use Rattle.pt_types.specs.Groups.{no_actor}
 use Rattle.pt_types.specs.declared.kind.Law.TheVariants.{Least}
 use Rattle.pt_blocks.specs.declared.blocks.Named.{Named}
 use Rattle.pt_graph_text.specs.declared.document.ActorText.{ActorText}
-use Rattle.pt_graph.specs.Known.{number_in, itself}
-use Rattle.pt_graph.specs.Known.{actor_name as text_name}
+use Rattle.pt_graph.specs.Known.{number_in, itself, actor_name as text_name}
 use Rattle.pt_graph.specs.Graphs.{number_or_0, platform_number, actor_from}
 use Rattle.pt_graph.proofs.Numbered.{number_is}
-use Rattle.pt_graph_writer.specs.Text.{platform_name, actor_name, block_name}
+use Rattle.pt_graph_writer.specs.Text.{block_name}
+use Rattle.pt_types.specs.Lookups.{platform_name, actor_name}
 use Rattle.pt_graph_writer.proofs.KindsBack.{NamesBlocks}
 
 -- what stands at the index that was found has the name

@@ -16,7 +16,8 @@ use Rattle.pt_types.specs.declared.kind.Kind.TheVariants.{Sensor, Receive, Send,
 use Rattle.pt_types.specs.declared.kind.Law.{Law}
 use Rattle.pt_types.specs.declared.kind.MachineRow.{MachineRow}
 use Rattle.pt_blocks.specs.declared.blocks.Named.{Named}
-use Rattle.pt_graph_writer.specs.Text.{members, fields, entries, natural, whole_number, platform_name, actor_name, block_name, emit_data, guard_fields, row_data, kind_word, kind_fields, actor_data, row_members, actor_members, link_members, graph_members, wire_data, link_data, pair_data, visible_wires, graph_data}
+use Rattle.pt_graph_writer.specs.Text.{members, fields, entries, natural, whole_number, block_name, emit_data, guard_fields, row_data, kind_word, kind_fields, actor_data, row_members, actor_members, link_members, graph_members, wire_data, link_data, pair_data, visible_wires, graph_data}
+use Rattle.pt_types.specs.Lookups.{platform_name, actor_name}
 
 -- no float, and no deeper than n
 pub record IsPlain (n : ℕ) (d : Data) : Type 0 where

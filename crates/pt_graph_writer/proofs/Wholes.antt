@@ -8,7 +8,8 @@ use Rattle.pt_types.specs.Kinds.{is_between}
 use Rattle.pt_graph_text.specs.Decoding.{whole, each_from}
 use Rattle.pt_graph.specs.Ranges.{is_time}
 use Rattle.pt_graph.specs.Graphs.{small}
-use Rattle.pt_graph.proofs.InRange.{between, among, small_is}
+use Rattle.pt_graph.proofs.InRange.{between, small_is}
+use Rattle.pt_types.proofs.SmallKinds.{among}
 use Rattle.pt_graph_writer.specs.Text.{natural, whole_number}
 use Rattle.pt_graph_writer.specs.Fits.{fits}
 

@@ -8,7 +8,7 @@ use Rattle.pt_types.specs.declared.graph.Wire.{Wire}
 use Rattle.pt_types.specs.Kinds.{visible_outputs}
 use Rattle.pt_types.specs.Groups.{held, actor_at}
 use Rattle.pt_types.specs.Ends.{ends_fit, hidden_wires}
-use Rattle.pt_graph.proofs.OwnWires.{IsHidden, hidden_at}
+use Rattle.pt_types.proofs.HiddenWires.{IsHidden, hidden_at}
 
 filter_all : {A : Type 0} (test : A → Bool) (xs : List A) → list_all test xs ≡ true → filter test xs ≡ xs
 filter_all test [] h = refl

@@ -1,5 +1,5 @@
 -- The text of a graph: the compact JSON text of its file of version 2.
-use Rattle.std.specs.Prelude.{ℕ, ℤ, List, [], ◌∷◌, map, codes, Option, Some, None, unwrap_or, slice_index_or}
+use Rattle.std.specs.Prelude.{ℕ, ℤ, List, [], ◌∷◌, map, codes, Option, Some, None, unwrap_or}
 use Rattle.std.specs.List.{filter}
 use Rattle.serde_json.specs.Data.{unsigned, Data, null, number, string, array, object, Members, no_members, put}
 use Rattle.serde_json.specs.Find.{of_integer}
@@ -14,17 +14,17 @@ use Rattle.pt_types.specs.declared.kind.Kind.{Kind}
 use Rattle.pt_types.specs.declared.kind.Kind.TheVariants.{Sensor, Receive, Send, Actuator, Scale, Shift, Add, Sub, Above, Merge, Delay, Count, Sum, Latch, Machine, Every, Block, Lanes}
 use Rattle.pt_types.specs.declared.kind.Law.{Law}
 use Rattle.pt_types.specs.declared.kind.MachineRow.{MachineRow}
-use Rattle.pt_types.specs.Groups.{actor_at}
 use Rattle.pt_types.specs.Ends.{ends_fit}
 use Rattle.pt_blocks.specs.declared.blocks.Named.{Named}
 use Rattle.pt_blocks.specs.Blocks.{name_at}
+use Rattle.pt_types.specs.Lookups.{actor_name, platform_name}
 
--- an object of these members, which its text has in byte order of their keys
+-- an object with these members; its text has them in byte order of their keys
 abbrev pub members : List (List ℕ × Data) → Members
 members [] = no_members
 members (m ∷ ms) = put m.0 m.1 (members ms)
 
--- the value of an object of these members
+-- the JSON value of an object with these members
 abbrev pub fields : List (List ℕ × Data) → Data
 fields ms = object (members ms)
 
@@ -32,29 +32,23 @@ fields ms = object (members ms)
 abbrev pub entries : {A : Type 0} → (A → Data) → List A → Data
 entries f xs = array (items_of (map f xs))
 
--- a number that is not negative, and one of either sign
+-- a number that is not negative, and one that may be
 abbrev pub natural : ℕ → Data
 natural n = number (unsigned n)
 
 abbrev pub whole_number : ℤ → Data
 whole_number z = number (of_integer z)
 
--- the name of the platform, the actor or the block of that number
-abbrev pub platform_name : Graph → ℕ → List ℕ
-platform_name g n = slice_index_or g.platforms n []
-
-abbrev pub actor_name : Graph → ℕ → List ℕ
-actor_name g n = (actor_at g.actors n).name
-
+-- the name of the block with this number
 abbrev pub block_name : List Named → ℕ → List ℕ
 block_name blocks n = unwrap_or (name_at blocks n) []
 
--- what a row gives: an output and its value, or `null`
+-- the member `emit` of a row: an output and its value, or `null`
 abbrev pub emit_data : Option (ℕ × ℤ) → Data
 emit_data None = null
 emit_data (Some emit) = array (items_of (natural emit.0 ∷ whole_number emit.1 ∷ []))
 
--- a row names its guard only where it has one
+-- the member `guard` of a row, if it has a guard
 abbrev pub guard_fields : List Named → Option (ℕ × Law) → List (List ℕ × Data)
 guard_fields blocks None = []
 guard_fields blocks (Some guard) = (codes "guard", string (block_name blocks guard.0)) ∷ []
@@ -93,7 +87,7 @@ kind_word (Every start period) = codes "every"
 kind_word (Block block law) = codes "block"
 kind_word (Lanes cells) = codes "lanes"
 
--- the members that a kind has for itself
+-- the members that are particular to a kind
 abbrev pub kind_fields : List Named → Kind → List (List ℕ × Data)
 kind_fields blocks (Sensor file bound) = (codes "file", string file) ∷ (codes "bound", natural bound) ∷ []
 kind_fields blocks (Send slack) = (codes "slack", natural slack) ∷ []
@@ -120,7 +114,7 @@ actor_members g blocks a =
 abbrev pub actor_data : Graph → List Named → Actor → Data
 actor_data g blocks a = fields (actor_members g blocks a)
 
--- a wire: the names of its actors, each with the number of the port
+-- a wire: the names of its actors, each followed by the number of the port
 abbrev pub wire_data : Graph → Wire → Data
 wire_data g w = array (items_of (string (actor_name g w.from) ∷ natural w.output ∷ string (actor_name g w.to) ∷ natural w.input ∷ []))
 
@@ -131,15 +125,15 @@ link_members g l = (codes "from", string (actor_name g l.from)) ∷ (codes "to",
 abbrev pub link_data : Graph → Link → Data
 link_data g l = fields (link_members g l)
 
--- a pair: the names of its platforms, and the error of their clocks
+-- a pair: the names of its platforms, and their clock error
 abbrev pub pair_data : Graph → PairError → Data
 pair_data g p = array (items_of (string (platform_name g p.a) ∷ string (platform_name g p.b) ∷ natural p.error ∷ []))
 
--- the wires of the file: both ends of a wire are visible ports, unless the wire is hidden
+-- the wires of the file: those whose ends are visible ports
 abbrev pub visible_wires : Graph → List Wire
 visible_wires g = filter (ends_fit g.actors) g.wires
 
--- the file of version 2 of a graph, whose blocks have these names: entries stand in the order of the graph
+-- the members of a file of version 2; all entries are in the order of the graph
 abbrev pub graph_members : Graph → List Named → List (List ℕ × Data)
 graph_members g blocks =
     (codes "ptides", natural 2)
@@ -155,6 +149,6 @@ graph_members g blocks =
 unfoldable pub graph_data : Graph → List Named → Data
 graph_data g blocks = fields (graph_members g blocks)
 
--- its text, without spaces
+-- the text of the file, without spaces
 abbrev pub graph_text : Graph → List Named → List ℕ
 graph_text g blocks = compact_text (graph_data g blocks)

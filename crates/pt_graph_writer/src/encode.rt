@@ -10,7 +10,8 @@ use pt_types::Graph;
 use serde_json::Value;
 use std::alloc::{AllocError, Global};
 
-/// A part of a graph, which has one JSON form. Platforms and actors are named as in the graph, and blocks as in the list.
+/// A part of a graph that can be encoded as JSON. Names of platforms
+/// and actors are from the graph, of blocks from the list.
 pub trait Encode {
     ghost use Rattle.std.specs.Prelude.{List, Bool, true};
     ghost use Rattle.serde_json.specs.Data.{Data};
@@ -19,7 +20,7 @@ pub trait Encode {
 
     ghost encoded: { Graph → List Named → Self → Data };
 
-    // The numbers in it that have no range of their own fit in 64 bits with a sign, as the reader asks.
+    // The numbers in it that have no range of their own fit in an `i64`, as the reader requires.
     ghost fits: { Self → Bool };
 
     fn encode(&self, alloc: Global, graph: &Graph, blocks: &[Named]) -> Result<Value, AllocError>

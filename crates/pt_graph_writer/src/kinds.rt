@@ -8,7 +8,7 @@ ghost use Rattle.pt_types.specs.declared.kind.Kind.TheVariants as kind;
 
 use crate::encode::{Encode, entries};
 use crate::members::{named, one, two};
-use crate::parts::{block_name, platform_name};
+use crate::parts::block_name;
 use pt_blocks::Named;
 use pt_tags::List;
 use pt_types::{Actor, Graph, Kind, MachineRow};
@@ -24,7 +24,7 @@ impl Encode for Actor {
     ghost fits = { λ a. kind_fits a.kind };
 
     fn encode(&self, alloc: Global, graph: &Graph, blocks: &[Named]) -> Result<Value, AllocError> {
-        let platform = platform_name(graph, self.platform);
+        let platform = graph.platform_name(self.platform);
         let mut members = kind_members(alloc, graph, blocks, &self.kind)?;
         put(
             &mut members,
@@ -74,7 +74,7 @@ fn kind_word(kind: &Kind) -> &str
     }
 }
 
-/// The members that a kind has for itself.
+/// The members that are particular to a kind.
 fn kind_members(
     alloc: Global,
     graph: &Graph,

@@ -1,8 +1,8 @@
-//! Writes the graph file: the text of a graph, as the reader of graphs reads it.
+//! Writes the graph file: gives the text of a graph, which the reader of graphs can read.
 //!
-//! Each part of a graph is encoded as a JSON value by an impl of one trait, and the whole value is written as text.
+//! Each part of a graph is encoded as a JSON value by an impl of one trait. The whole value is then written as text.
 //!
-//! Read first: `graph_text`, and `specs/Text.antt`, which says what the text of a graph is.
+//! Read first: `graph_text`, and `specs/Text.antt`, which defines the text of a graph.
 #![tactic(auto)]
 
 mod encode;
@@ -10,8 +10,6 @@ mod kinds;
 mod members;
 mod parts;
 mod rows;
-#[cfg(test)]
-mod tests;
 mod writer;
 
 pub use writer::graph_text;

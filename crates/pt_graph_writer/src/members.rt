@@ -8,7 +8,7 @@ ghost use Rattle.pt_graph_writer.specs.Text.{members};
 use serde_json::{Map, Value, put};
 use std::alloc::{AllocError, Global};
 
-/// One member.
+/// An object with one member.
 pub fn one(alloc: Global, key: &str, value: Value) -> Result<Map<String, Value>, AllocError>
     ensures { IfOk result (λ m. members_view m.entries ≡ members ((key.now, view value) ∷ [])) }
 {
@@ -17,7 +17,7 @@ pub fn one(alloc: Global, key: &str, value: Value) -> Result<Map<String, Value>,
     Ok(members)
 }
 
-/// Two members.
+/// An object with two members.
 pub fn two(
     alloc: Global,
     first: &str,
@@ -32,7 +32,7 @@ pub fn two(
     Ok(members)
 }
 
-/// A member that is a name.
+/// An object with one member, a name.
 pub fn named(alloc: Global, key: &str, name: &str) -> Result<Map<String, Value>, AllocError>
     ensures { IfOk result (λ m. members_view m.entries ≡ members ((key.now, string name.now) ∷ [])) }
 {

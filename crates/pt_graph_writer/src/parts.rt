@@ -1,7 +1,8 @@
 //! Names, numbers, wires, links and pairs.
 
 ghost use Rattle.std.specs.Prelude.{◌≡◌};
-ghost use Rattle.pt_graph_writer.specs.Text.{platform_name, actor_name, block_name};
+ghost use Rattle.pt_graph_writer.specs.Text.{block_name};
+ghost use Rattle.pt_types.specs.Lookups.{platform_name, actor_name};
 
 use crate::encode::Encode;
 use pt_blocks::Named;
@@ -10,32 +11,12 @@ use pt_types::{Graph, Link, PairError, Wire};
 use serde_json::{Value, json};
 use std::alloc::{AllocError, Global};
 
-/// The name of the platform of that number.
-pub fn platform_name(graph: &Graph, platform: u32) -> &str
-    ensures { result.now ≡ platform_name graph.now platform }
-{
-    match graph.platforms.as_slice().get(platform as usize) {
-        Some(name) => name.as_str(),
-        None => "",
-    }
-}
-
-/// The name of the block of that number.
+/// The name of the block with this number; empty if there is no such block.
 pub fn block_name(blocks: &[Named], block: u32) -> &str
     ensures { result.now ≡ block_name blocks.now block }
 {
     match blocks.get(block as usize) {
         Some(block) => block.name.as_str(),
-        None => "",
-    }
-}
-
-/// The name of the actor of that number.
-fn actor_name(graph: &Graph, actor: u32) -> &str
-    ensures { result.now ≡ actor_name graph.now actor }
-{
-    match graph.actors.as_slice().get(actor as usize) {
-        Some(actor) => actor.name.as_str(),
         None => "",
     }
 }
@@ -67,8 +48,8 @@ impl Encode for Wire {
     ghost fits = { λ part. true };
 
     fn encode(&self, alloc: Global, graph: &Graph, _blocks: &[Named]) -> Result<Value, AllocError> {
-        let from = actor_name(graph, self.from);
-        let to = actor_name(graph, self.to);
+        let from = graph.actor_name(self.from);
+        let to = graph.actor_name(self.to);
         json!(in alloc; [from, self.output, to, self.input])
     }
 }
@@ -82,8 +63,8 @@ impl Encode for Link {
     ghost fits = { λ part. true };
 
     fn encode(&self, alloc: Global, graph: &Graph, _blocks: &[Named]) -> Result<Value, AllocError> {
-        let from = actor_name(graph, self.from);
-        let to = actor_name(graph, self.to);
+        let from = graph.actor_name(self.from);
+        let to = graph.actor_name(self.to);
         json!(in alloc; {"from": from, "to": to, "delay": self.delay})
     }
 }
@@ -97,8 +78,8 @@ impl Encode for PairError {
     ghost fits = { λ part. true };
 
     fn encode(&self, alloc: Global, graph: &Graph, _blocks: &[Named]) -> Result<Value, AllocError> {
-        let a = platform_name(graph, self.a);
-        let b = platform_name(graph, self.b);
+        let a = graph.platform_name(self.a);
+        let b = graph.platform_name(self.b);
         json!(in alloc; [a, b, self.error])
     }
 }

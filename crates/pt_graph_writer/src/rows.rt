@@ -32,7 +32,7 @@ impl Encode for MachineRow {
     }
 }
 
-/// The member for a guard, where there is one.
+/// The member `guard`, if there is a guard.
 fn guard_members(
     alloc: Global,
     blocks: &[Named],

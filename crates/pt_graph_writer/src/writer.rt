@@ -17,21 +17,17 @@ use pt_types::{Actor, Graph, Wire};
 use serde_json::{Map, Value, put};
 use std::alloc::{AllocError, Global};
 
-/// The text of a graph, whose actors name these blocks: the compact JSON text of its file of version 2.
+/// The text of a graph whose actors may name `blocks`: compact JSON, a file of version 2.
 ///
-/// The reader gives the same graph for it, where the graph was read with these blocks and the text has at most
-/// 1,048,576 bytes. The same holds of the text with a line feed at its end. (This project's own choice.)
+/// If the graph was read with these blocks, the reader gives the same graph for this text, as long as it has at most
+/// 1,048,576 bytes. The same holds for the text with a line feed at its end. (This project's own choice.)
 pub fn graph_text(alloc: Global, graph: &Graph, blocks: &Blocks) -> Result<Vec<u8>, Memory>
     ensures text { IfOk result (λ text. text.items ≡ graph_text graph.now blocks.now.listed.items) }
     ensures reads_back { IfOk result (λ text. ReadsBack graph.now blocks.now.listed.items text.items) }
     ensures reads_line { IfOk result (λ text. ReadsBack graph.now blocks.now.listed.items (text.items ++ 10 ∷ [])) }
 {
-    let Ok(value) = graph_value(alloc, graph, blocks.listed()) else {
-        return Err(Memory);
-    };
-    let Ok(text) = value.to_vec(alloc) else {
-        return Err(Memory);
-    };
+    let value = graph_value(alloc, graph, blocks.listed())?;
+    let text = value.to_vec(alloc)?;
     Ok(text)
 }
 

@@ -2,8 +2,8 @@
 use Rattle.std.proofs.Common.{◌≡◌, ◌+◌, ◌^◌, ◌&&◌, if◌then◌else◌, Bool, true, false, List, [], ◌∷◌, ◌++◌, nat_lt, refl, sym, ap, ◌∙◌}
 use Rattle.std.specs.List.{flat_map}
 use Rattle.std.proofs.lemmas.Bool.{and_parts}
-use Rattle.pt_pieces.specs.Lists.{on_last}
-use Rattle.pt_pieces.proofs.LastMember.{on_last-push}
+use Rattle.pt_history.specs.Lists.{on_last}
+use Rattle.pt_history.proofs.LastMember.{on_last-push}
 use Rattle.pt_semantics.specs.Turn.{Turn, is_quiet, joined}
 use Rattle.pt_semantics.specs.Kept.{kept, kept_from, kept_with, settled}
 use Rattle.pt_history.proofs.Joining.{quiet_is}

@@ -5,8 +5,8 @@ use Rattle.pt_types.specs.declared.firing.Done.{Done}
 use Rattle.pt_types.specs.declared.firing.OnLink.{OnLink}
 use Rattle.pt_types.specs.declared.firing.Task.{Task}
 use Rattle.pt_types.specs.declared.rows.RowAt.{RowAt}
-use Rattle.pt_pieces.specs.Lists.{RoomyLists, on_last}
-use Rattle.pt_pieces.proofs.LastMember.{at_last, before_last, length-on_last}
+use Rattle.pt_history.specs.Lists.{RoomyLists, on_last}
+use Rattle.pt_history.proofs.LastMember.{at_last, before_last, length-on_last}
 use Rattle.pt_semantics.specs.Turn.{Turn}
 use Rattle.pt_history.specs.declared.head.Head.{Head}
 use Rattle.pt_history.specs.Keeping.{Fits, Lists, turn_at, turns_from}

@@ -4,3 +4,5 @@ pub mod Growing
 pub mod Joining
 pub mod Reading
 pub mod Quietness
+pub mod Cutting
+pub mod LastMember

@@ -5,8 +5,8 @@ use Rattle.pt_types.specs.declared.firing.Done.{Done}
 use Rattle.pt_types.specs.declared.firing.OnLink.{OnLink}
 use Rattle.pt_types.specs.declared.firing.Task.{Task}
 use Rattle.pt_types.specs.declared.rows.RowAt.{RowAt}
-use Rattle.pt_pieces.specs.Lists.{on_last}
-use Rattle.pt_pieces.proofs.LastMember.{at_last, before_last}
+use Rattle.pt_history.specs.Lists.{on_last}
+use Rattle.pt_history.proofs.LastMember.{at_last, before_last}
 use Rattle.pt_semantics.specs.Turn.{is_empty, is_quiet}
 use Rattle.pt_history.specs.declared.head.Head.{Head}
 use Rattle.pt_history.specs.Keeping.{Lists, TellQuiet, are_empty, turns_from}

@@ -1,3 +1,4 @@
 pub mod Keeping
 pub mod Turns
 pub mod Whole
+pub mod Lists

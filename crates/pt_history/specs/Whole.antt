@@ -1,4 +1,4 @@
--- What always holds of the fields of a history.
+-- The invariant of a history.
 use Rattle.std.specs.Prelude.{◌+◌, ◌≤◌, length, vec_capacity, vec_len}
 use Rattle.pt_history.specs.declared.history.History.TheInside.{Inside}
 use Rattle.pt_history.specs.Keeping.{Fits, Lists, TellQuiet, turns_from}
@@ -8,11 +8,11 @@ use Rattle.pt_history.specs.Turns.{RoomyTurns}
 abbrev pub lists_of : Inside → Lists
 lists_of h = record { posted = h.posted.lists; rows = h.rows.lists; taken = h.taken.lists; claimed = h.claimed.lists; sent = h.sent.lists }
 
--- the turns, and the room
+-- the turns and the room of a history
 abbrev pub roomy_turns : Inside → RoomyTurns
 roomy_turns h = record { turns = turns_from (lists_of h) 0 h.heads.items; room = h.room }
 
--- each turn has its five lists, the room is there, and of the last two turns it is known whether they are quiet
+-- each turn has its five lists, the promised room is allocated, and the two flags say which of the last two turns are quiet
 pub record IsWhole (h : Inside) : Type 0 where
   pub heads : vec_len h.heads + h.room.turns ≤ vec_capacity h.heads
   pub posted : Fits (length h.heads.items) h.room.turns h.room.posted h.posted

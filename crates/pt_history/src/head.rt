@@ -1,6 +1,6 @@
-//! What is kept of a turn beside its lists.
+//! The readings and the count of a recorded turn.
 
-/// The first and the last reading of a turn, in microseconds, and how many turns it stands for.
+/// The first and the last reading of a recorded turn, in microseconds, and the number of turns it stands for.
 #[derive(Clone, Copy, Debug, PartialEq, Eq)]
 pub(crate) struct Head {
     pub first: u64,

@@ -1,22 +1,24 @@
-//! The turns of a platform, one after another.
+//! The recorded turns of a platform.
 
 ghost use Rattle.std.specs.Prelude.{◌≡◌, ◌↔◌, ◌+◌, ◌-◌, ◌<◌, ◌≤◌, ◌++◌, ◌∷◌, [], IsOk, MatchOption, OnErr, OnOk, Some, length, option_map, slice_get, take, true};
 ghost use Rattle.std.specs.List.{flat_map};
-ghost use Rattle.pt_pieces.specs.Lists.{on_last};
+ghost use Rattle.pt_history.specs.Lists.{on_last};
 ghost use Rattle.pt_semantics.specs.Turn.{is_quiet};
 ghost use Rattle.pt_semantics.specs.Kept.{kept_with, settled};
 ghost use Rattle.pt_history.specs.Turns.{claiming, entering, fresh, larger, posting, quiet, sending, taking};
 ghost use Rattle.pt_history.specs.Keeping.{Joins};
 
+use crate::Pieces;
 use crate::head::Head;
 use crate::room::Room;
-use pt_pieces::Pieces;
 use pt_tags::Memory;
 use pt_types::{Done, OnLink, RowAt, Task};
 use std::alloc::Global;
 use std::marker::Model;
 
-/// The turns of a platform, and for how much more room is kept: contracts see `turns` and `room`.
+/// The turns of a platform, numbered from 0, and the room reserved for more. Contracts see both as `turns` and `room`.
+///
+/// A run of quiet turns, in which nothing happened, is recorded as one turn with a count.
 #[derive(Drop)]
 pub struct History {
     heads: Vec<Head>,
@@ -26,9 +28,9 @@ pub struct History {
     claimed: Pieces<Task>,
     sent: Pieces<OnLink>,
     room: Room,
-    /// Whether the last turn is quiet; nothing is said where there is none.
+    /// Whether the last turn is quiet; means nothing if there is none.
     last_quiet: bool,
-    /// Whether the turn before the last is quiet; nothing is said where there is none.
+    /// Whether the turn before the last is quiet; means nothing if there is none.
     before_quiet: bool,
 }
 
@@ -45,7 +47,7 @@ impl Model for History {
 }
 
 impl History {
-    /// No turns, and no room.
+    /// A history without turns and without room.
     pub fn new(alloc: Global) -> History
         ensures turns { result.turns ≡ [] }
         ensures room { result.room ≡ record { turns = 0; posted = 0; rows = 0; taken = 0; claimed = 0; sent = 0 } }
@@ -70,14 +72,14 @@ impl History {
         }
     }
 
-    /// Whether so much room is kept at least.
+    /// Whether at least this much room is reserved.
     pub fn has_room(&self, room: Room) -> bool
         ensures { (result ≡ true) ↔ (larger self.now.room room ≡ self.now.room) }
     {
         self.room.holds(room)
     }
 
-    /// Keeps at least so much room. Where memory runs out all is unchanged.
+    /// Reserves at least this much room. If memory runs out, nothing changes.
     pub fn reserve(&mut self, room: Room) -> Result<(), Memory>
         ensures turns { self.new.turns ≡ self.old.turns }
         ensures room { OnOk result (self.new.room ≡ larger self.old.room room) }
@@ -100,9 +102,9 @@ impl History {
         Ok(())
     }
 
-    /// Begins a turn at a reading, in microseconds. The last turn is joined to the one before it where both are quiet
-    /// and 64 bits hold how many they are (this project's own choice: a history does not grow while nothing happens).
-    /// One place of the room is given up, and no memory is taken.
+    /// Begins a turn at a reading, in microseconds. First the last two turns are joined, if both are quiet and 64 bits hold
+    /// the sum of their counts (this project's own choice: a history does not grow while nothing happens).
+    /// This uses the room of one turn, and allocates nothing.
     pub fn begin(&mut self, reading: u64)
         requires { 0 < self.old.room.turns }
         ensures turns { self.new.turns ≡ kept_with self.old.turns (fresh reading) }
@@ -138,7 +140,7 @@ impl History {
         self.last_quiet = true;
     }
 
-    /// Puts a run and a quiet turn in the place of the last two turns, which are quiet.
+    /// Replaces the last two turns, which are quiet, by their joined run and a new quiet turn.
     fn join(&mut self, run: Head, head: Head)
         requires room { 0 < self.old.room.turns }
         requires joins { Joins self.old.turns (length self.old.turns - 2) run }
@@ -151,7 +153,7 @@ impl History {
         self.room.turns -= 1;
     }
 
-    /// The run that the last two turns make, where they are joined when another begins.
+    /// The joined head of the last two turns, if both are quiet and their count fits; else `None`.
     fn run(&self) -> Option<Head>
         ensures { MatchOption result (settled self.now.turns ≡ self.now.turns) (λ run. Joins self.now.turns (length self.now.turns - 2) run) }
     {
@@ -162,7 +164,7 @@ impl History {
         self.run_at(turns - 2, turns - 1)
     }
 
-    /// The same, where there are two turns at least.
+    /// The same, given the numbers of the last two turns.
     fn run_at(&self, before: usize, last: usize) -> Option<Head>
         requires next { last ≡ before + 1 }
         requires ends { last + 1 ≡ length self.now.turns }
@@ -194,7 +196,7 @@ impl History {
         self.last_quiet
     }
 
-    /// Appends results to those that the last turn posted. No memory is taken.
+    /// Appends results to those posted in the last turn. Allocates nothing.
     pub fn post(&mut self, dones: &[Done])
         requires room { length dones.now ≤ self.old.room.posted }
         requires begun { 0 < length self.old.turns }
@@ -206,7 +208,7 @@ impl History {
         self.last_quiet &= dones.is_empty();
     }
 
-    /// Appends rows to those that entered in the last turn. No memory is taken.
+    /// Appends rows to those entered in the last turn. Allocates nothing.
     pub fn enter(&mut self, rows: &[RowAt])
         requires room { length rows.now ≤ self.old.room.rows }
         requires begun { 0 < length self.old.turns }
@@ -218,7 +220,7 @@ impl History {
         self.last_quiet &= rows.is_empty();
     }
 
-    /// Appends messages to those that the last turn took. No memory is taken.
+    /// Appends messages to those taken in the last turn. Allocates nothing.
     pub fn take(&mut self, messages: &[OnLink])
         requires room { length messages.now ≤ self.old.room.taken }
         requires begun { 0 < length self.old.turns }
@@ -230,7 +232,7 @@ impl History {
         self.last_quiet &= messages.is_empty();
     }
 
-    /// Appends tasks to those that the last turn claimed. No memory is taken.
+    /// Appends tasks to those claimed in the last turn. Allocates nothing.
     pub fn claim(&mut self, tasks: &[Task])
         requires room { length tasks.now ≤ self.old.room.claimed }
         requires begun { 0 < length self.old.turns }
@@ -242,7 +244,7 @@ impl History {
         self.last_quiet &= tasks.is_empty();
     }
 
-    /// Appends messages to those that went out after the last turn. No memory is taken.
+    /// Appends messages to those sent after the last turn. Allocates nothing.
     pub fn send(&mut self, messages: &[OnLink])
         requires room { length messages.now ≤ self.old.room.sent }
         requires begun { 0 < length self.old.turns }
@@ -254,14 +256,14 @@ impl History {
         self.last_quiet &= messages.is_empty();
     }
 
-    /// How many turns are kept; a run of quiet ones counts as one.
+    /// The number of recorded turns; a run of quiet ones counts as one.
     pub fn turns(&self) -> usize
         ensures { result ≡ length self.now.turns }
     {
         self.heads.len()
     }
 
-    /// The first reading of a kept turn, in microseconds.
+    /// The first reading of a recorded turn, in microseconds.
     pub fn first(&self, number: usize) -> u64
         requires { number < length self.now.turns }
         ensures { option_map (λ turn. turn.first) (slice_get self.now.turns number) ≡ Some result }
@@ -269,7 +271,7 @@ impl History {
         self.heads[number].first
     }
 
-    /// The last reading of a kept turn, in microseconds.
+    /// The last reading of a recorded turn, in microseconds.
     pub fn last(&self, number: usize) -> u64
         requires { number < length self.now.turns }
         ensures { option_map (λ turn. turn.last) (slice_get self.now.turns number) ≡ Some result }
@@ -277,7 +279,7 @@ impl History {
         self.heads[number].last
     }
 
-    /// How many turns a kept turn stands for.
+    /// How many turns a recorded turn stands for.
     pub fn count(&self, number: usize) -> u64
         requires { number < length self.now.turns }
         ensures { option_map (λ turn. turn.count) (slice_get self.now.turns number) ≡ Some result }
@@ -285,7 +287,7 @@ impl History {
         self.heads[number].count
     }
 
-    /// The results that were posted in a kept turn.
+    /// The results posted in a recorded turn.
     pub fn posted(&self, number: usize) -> &[Done]
         requires { number < length self.now.turns }
         ensures { option_map (λ turn. turn.posted) (slice_get self.now.turns number) ≡ Some result.now }
@@ -293,7 +295,7 @@ impl History {
         self.posted.get(number)
     }
 
-    /// The rows that entered in a kept turn.
+    /// The rows entered in a recorded turn.
     pub fn rows(&self, number: usize) -> &[RowAt]
         requires { number < length self.now.turns }
         ensures { option_map (λ turn. turn.rows) (slice_get self.now.turns number) ≡ Some result.now }
@@ -301,7 +303,7 @@ impl History {
         self.rows.get(number)
     }
 
-    /// The messages that a kept turn took.
+    /// The messages taken in a recorded turn.
     pub fn taken(&self, number: usize) -> &[OnLink]
         requires { number < length self.now.turns }
         ensures { option_map (λ turn. turn.taken) (slice_get self.now.turns number) ≡ Some result.now }
@@ -309,14 +311,14 @@ impl History {
         self.taken.get(number)
     }
 
-    /// The messages that all kept turns took, in their order.
+    /// The messages taken in all recorded turns, in order.
     pub fn all_taken(&self) -> &[OnLink]
         ensures { result.now ≡ flat_map (λ turn. turn.taken) self.now.turns }
     {
         self.taken.all()
     }
 
-    /// The tasks that a kept turn claimed.
+    /// The tasks claimed in a recorded turn.
     pub fn claimed(&self, number: usize) -> &[Task]
         requires { number < length self.now.turns }
         ensures { option_map (λ turn. turn.claimed) (slice_get self.now.turns number) ≡ Some result.now }
@@ -324,7 +326,7 @@ impl History {
         self.claimed.get(number)
     }
 
-    /// The messages that went out after a kept turn and before the next.
+    /// The messages sent after a recorded turn and before the next one.
     pub fn sent(&self, number: usize) -> &[OnLink]
         requires { number < length self.now.turns }
         ensures { option_map (λ turn. turn.sent) (slice_get self.now.turns number) ≡ Some result.now }
@@ -332,7 +334,7 @@ impl History {
         self.sent.get(number)
     }
 
-    /// How many tasks all kept turns claimed.
+    /// The number of tasks claimed in all recorded turns.
     pub fn claims(&self) -> u64
         ensures { result ≡ length (flat_map (λ turn. turn.claimed) self.now.turns) }
     {

@@ -1,7 +1,8 @@
-//! The history of a platform: what was posted, entered, taken, claimed and sent in each of its turns.
+//! The history of a platform: what it posted, entered, took, claimed and sent in each turn.
 //!
-//! The five lists of all turns are kept flat. Runs of quiet turns are kept as one: contracts see the list of turns, and
-//! `begin` joins the last two where pt_semantics joins them. Room is made before, so that no turn takes memory.
+//! Each of the five lists is stored flat for all turns, as `Pieces`: one vector of items, and the index at which each turn's
+//! part ends. A run of quiet turns is stored as one turn: `begin` joins the last two as defined in pt_semantics.
+//! Memory is reserved before a turn, so that a turn allocates nothing.
 //!
 //! Read first: `History`, then `specs/Turns.antt`.
 #![tactic(auto)]
@@ -9,11 +10,10 @@
 mod head;
 mod history;
 mod miss;
+mod pieces;
 mod room;
 
 pub use history::History;
 pub use miss::Miss;
+pub use pieces::Pieces;
 pub use room::Room;
-
-#[cfg(test)]
-mod tests;

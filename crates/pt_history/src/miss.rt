@@ -1,15 +1,15 @@
-//! What came too late.
+//! Missed deadlines.
 
 use pt_tags::Tag;
 
-/// An actuator's result that was posted, or a sender's event that was sent, past the tag's time and the actor's slack.
+/// A result of an actuator posted, or an event of a sender sent, later than its tag's time plus the actor's slack.
 #[derive(Clone, Copy, Debug, PartialEq, Eq)]
 pub struct Miss {
     /// The actuator or the sender.
     pub actor: u32,
     pub tag: Tag,
-    /// The reading of its turn, in microseconds.
+    /// The reading of the turn, in microseconds.
     pub reading: u64,
-    /// The tag's time and the slack, in microseconds.
+    /// The tag's time plus the slack, in microseconds.
     pub limit: u64,
 }

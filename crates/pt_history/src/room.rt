@@ -1,9 +1,9 @@
-//! How much room a history has.
+//! The room of a history.
 
 ghost use Rattle.std.specs.Prelude.{◌≡◌, ◌↔◌, true};
 ghost use Rattle.pt_history.specs.Turns.{larger};
 
-/// For how many more turns there is room, and for how many more members of each of their lists.
+/// Room for more turns, and for more items in each of the five lists of all turns together.
 #[derive(Clone, Copy, Debug, PartialEq, Eq)]
 pub struct Room {
     pub turns: usize,
@@ -15,7 +15,7 @@ pub struct Room {
 }
 
 impl Room {
-    /// The greater of each number of the two.
+    /// The greater of the two, number by number.
     pub(crate) fn or_more(self, other: Room) -> Room
         ensures { result ≡ larger self other }
     {
@@ -29,7 +29,7 @@ impl Room {
         }
     }
 
-    /// Whether no number of another is greater.
+    /// Whether no number of `other` is greater.
     pub(crate) fn holds(self, other: Room) -> bool
         ensures { (result ≡ true) ↔ (larger self other ≡ self) }
     {

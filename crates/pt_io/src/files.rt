@@ -9,10 +9,9 @@ use std::fs;
 use std::io::Read;
 use std::rt::Files;
 
-/// Files by their paths, as the system reads a path from the current folder.
+/// Files by their paths. The system resolves a path from the current folder.
 ///
-/// It tells no content: no clause can say what a file holds. A read that gives nothing is the end of the
-/// file.
+/// Clauses can't name the contents of files. A read that gives no bytes is the end of the file.
 #[derive(Drop)]
 pub struct FileSource<R: Files + Drop> {
     files: R,
@@ -20,14 +19,14 @@ pub struct FileSource<R: Files + Drop> {
 }
 
 impl<R: Files + Drop> FileSource<R> {
-    /// The files that `files` opens. It takes no memory.
+    /// The files that `files` opens. It needs no memory.
     pub fn new(files: R) -> FileSource<R>
         ensures faults { result.faults ≡ 0 }
     {
         FileSource { files, faults: 0 }
     }
 
-    /// How many calls have failed.
+    /// The number of calls that failed.
     pub fn faults(&self) -> u64
         ensures { result ≡ self.now.faults }
     {

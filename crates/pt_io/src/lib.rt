@@ -1,8 +1,7 @@
 //! Where a run reads and where it writes: a source of named contents, and sinks of bytes.
 //!
-//! A trait says what every source or sink promises. `Shelf` and `Page` keep all in memory and tell it, so
-//! that a clause can speak of what was read and written; `FileSource`, `OutSink` and `NotesSink` are the
-//! system's files and streams, of which no clause can tell the bytes.
+//! A trait says what every source or sink promises. `Shelf` and `Page` are in memory: clauses can name what is read and
+//! written. `FileSource`, `OutSink` and `NotesSink` are the system's files and streams: no clause can name their bytes.
 //!
 //! Read first: `Source::fetch` and `Sink::put`. The words of their clauses are in `specs/Causes.antt`.
 #![tactic(auto)]
@@ -13,8 +12,6 @@ mod page;
 mod shelf;
 mod sink;
 mod source;
-#[cfg(test)]
-mod tests;
 
 pub use files::FileSource;
 pub use outputs::{NotesSink, OutSink};

@@ -1,4 +1,4 @@
-//! Writers as sinks, as the standard output and the standard error.
+//! Writers as sinks: the standard output and the standard error.
 
 ghost use Rattle.std.specs.Prelude.{◌≡◌, ◌-◌, ◌≤◌, [], None, IfOk, OnOk, OnErr, drop, is_err, IsOk, length, take, vec_capacity, vec_len};
 ghost use Rattle.std.specs.Io.KnownBytes.{Appends, Keeps, append_known};
@@ -10,18 +10,18 @@ use pt_tags::Memory;
 use std::alloc::Global;
 use std::io::Write;
 
-/// How many bytes are held back at least before any is written.
+/// The least capacity of the buffer, in bytes.
 const ROOM: usize = 65536;
 
-/// A writer behind a buffer, as the standard output.
+/// A buffered writer, for the standard output.
 ///
-/// It tells no bytes: no clause can say what reaches the system. Where a writer tells what it took, that and then what is
-/// held back is all that was put. A write that takes nothing of a piece that isn't empty is a fault. What a failed
-/// write leaves is held back still; what is held back when the sink is dropped is lost.
+/// Clauses can't name the bytes that reach the system. If the writer reports its bytes, then these followed by the buffer
+/// are all bytes that were put. A write that takes no bytes of a nonempty piece is a fault. Bytes that a failed write
+/// leaves stay in the buffer; bytes in the buffer are lost when the sink is dropped.
 #[derive(Drop)]
 pub struct OutSink<W: Write + Drop> {
     out: W,
-    /// What was put and isn't written yet.
+    /// The buffer: bytes that were put and are not written yet.
     held: Vec<u8>,
     faults: u64,
 }
@@ -33,24 +33,22 @@ impl<W: Write + Drop> OutSink<W> {
         ensures held { IfOk result (λ s. s.held.items ≡ []) }
         ensures faults { IfOk result (λ s. s.faults ≡ 0) }
     {
-        match Vec::with_capacity(alloc, ROOM) {
-            Ok(held) => Ok(OutSink {
-                out,
-                held,
-                faults: 0,
-            }),
-            Err(_) => Err(Memory),
-        }
+        let held = Vec::with_capacity(alloc, ROOM)?;
+        Ok(OutSink {
+            out,
+            held,
+            faults: 0,
+        })
     }
 
-    /// How many calls have failed.
+    /// The number of calls that failed.
     pub fn faults(&self) -> u64
         ensures { result ≡ self.now.faults }
     {
         self.faults
     }
 
-    /// Writes what is held back.
+    /// Writes the buffer.
     fn write_held(&mut self) -> Result<(), PutFault>
         ensures empty { OnOk result (self.new.held.items ≡ []) }
         ensures none { OnOk result (vec_len self.new.held ≡ 0) }
@@ -67,7 +65,7 @@ impl<W: Write + Drop> OutSink<W> {
         Ok(())
     }
 
-    /// Writes a piece past the buffer, which is empty.
+    /// Writes a piece without the buffer, which is empty.
     fn write_past(&mut self, bytes: &[u8]) -> Result<(), PutFault>
         requires { self.old.held.items ≡ [] }
         ensures held { self.new.held ≡ self.old.held }
@@ -130,9 +128,9 @@ impl<W: Write + Drop> Sink for OutSink<W> {
     }
 }
 
-/// The standard error, where notes for the user go. It holds nothing back.
+/// The standard error, for notes to the user. It has no buffer.
 ///
-/// It is a sink under its own name, so that it can't be taken for the output.
+/// It is a type of its own, so that it can't be taken for the output.
 #[derive(Drop)]
 pub struct NotesSink<W: Write + Drop> {
     out: W,
@@ -140,7 +138,7 @@ pub struct NotesSink<W: Write + Drop> {
 }
 
 impl<W: Write + Drop> NotesSink<W> {
-    /// A sink that writes to `out`. It takes no memory.
+    /// A sink that writes to `out`. It needs no memory.
     pub fn new(out: W) -> NotesSink<W>
         ensures out { result.out ≡ out }
         ensures faults { result.faults ≡ 0 }
@@ -148,7 +146,7 @@ impl<W: Write + Drop> NotesSink<W> {
         NotesSink { out, faults: 0 }
     }
 
-    /// How many calls have failed.
+    /// The number of calls that failed.
     pub fn faults(&self) -> u64
         ensures { result ≡ self.now.faults }
     {
@@ -187,7 +185,7 @@ impl<W: Write + Drop> Sink for NotesSink<W> {
     }
 }
 
-/// Writes bytes, and gives how many were written: all, or fewer where a write failed or took nothing.
+/// Writes bytes, and gives the number written: all, or fewer if a write failed or took none.
 fn write_out<W: Write>(bytes: &[u8], out: &mut W) -> usize
     ensures within { result ≤ length bytes.now }
     ensures bytes { Appends (W.contents out.old) (W.contents out.new) (take result bytes.now) }

@@ -8,13 +8,12 @@ use crate::sink::{PutFault, Sink};
 use pt_tags::Memory;
 use std::alloc::Global;
 
-/// A sink in memory. It has room for so many bytes, takes nothing past them, and fails at calls of given
-/// numbers, from 0.
+/// A sink in memory. It has room for a fixed number of bytes, and the calls of given numbers, from 0, fail.
 #[derive(Drop)]
 pub struct Page {
     bytes: Vec<u8>,
     room: usize,
-    /// The number of a call that fails, and how many bytes that call takes at most.
+    /// The number of a call that fails, and the most bytes that this call takes.
     failing: Vec<(u64, usize)>,
     calls: u64,
     faults: u64,
@@ -22,8 +21,8 @@ pub struct Page {
 }
 
 impl Page {
-    /// An empty page with room for so many bytes. Each entry of `failing` is the number of a call that
-    /// fails, and how many bytes that call takes at most. All the memory is taken here, and none by a put.
+    /// An empty page with room for `room` bytes. Each entry of `failing` is the number of a call that
+    /// fails, and the most bytes that it takes. All memory is taken here, none by a put.
     pub fn new(alloc: Global, room: usize, failing: Vec<(u64, usize)>) -> Result<Page, Memory>
         ensures empty { IfOk result (λ p. p.bytes.items ≡ []) }
         ensures room { IfOk result (λ p. p.room ≡ room) }
@@ -31,9 +30,7 @@ impl Page {
         ensures calls { IfOk result (λ p. p.calls ≡ 0) }
         ensures faults { IfOk result (λ p. p.faults ≡ 0) }
     {
-        let Ok(bytes) = Vec::with_capacity(alloc, room) else {
-            return Err(Memory);
-        };
+        let bytes = Vec::with_capacity(alloc, room)?;
         Ok(Page {
             bytes,
             room,
@@ -43,21 +40,21 @@ impl Page {
         })
     }
 
-    /// The bytes taken so far.
+    /// The bytes so far.
     pub fn bytes(&self) -> &[u8]
         ensures { result.now ≡ self.now.bytes.items }
     {
         self.bytes.as_slice()
     }
 
-    /// How many calls have failed.
+    /// The number of calls that failed.
     pub fn faults(&self) -> u64
         ensures { result ≡ self.now.faults }
     {
         self.faults
     }
 
-    /// How many bytes the next call takes at most, where it is one that fails.
+    /// The most bytes that the next call takes, if it is one that fails.
     fn limit(&self) -> Option<usize>
         ensures { result ≡ limit self.now.failing.items self.now.calls }
     {
@@ -96,7 +93,7 @@ impl Sink for Page {
         }
         Ok(())
     }
-    /// A page holds nothing back.
+    /// A page has no buffer.
     fn flush(&mut self) -> Result<(), PutFault>
         ensures ok { IsOk result }
         ensures unchanged { self.new ≡ self.old }

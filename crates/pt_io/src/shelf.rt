@@ -10,8 +10,8 @@ use std::alloc::{AllocError, Global};
 
 /// Named contents in memory, and the numbers of the calls that fail.
 ///
-/// The number of a call, from 0, is how many names were asked for before it. Of two contents with one name
-/// the first counts.
+/// The number of a call, from 0, is the number of names asked for
+/// before it. If two contents have one name, the first is given.
 #[derive(Drop)]
 pub struct Shelf {
     contents: Vec<(Name, List<u8>)>,
@@ -21,7 +21,7 @@ pub struct Shelf {
 }
 
 impl Shelf {
-    /// A shelf of these contents, whose calls of these numbers fail. It takes no memory.
+    /// A shelf with these contents; the calls with these numbers fail. It needs no memory.
     pub fn new(alloc: Global, contents: Vec<(Name, List<u8>)>, failing: Vec<u64>) -> Shelf
         ensures contents { result.contents ≡ contents }
         ensures failing { result.failing ≡ failing }
@@ -43,7 +43,7 @@ impl Shelf {
         self.asked.as_slice()
     }
 
-    /// How many calls have failed.
+    /// The number of calls that failed.
     pub fn faults(&self) -> u64
         ensures { result ≡ self.now.faults }
     {
@@ -109,7 +109,7 @@ impl Source for Shelf {
     }
 }
 
-/// The first `most + 1` of the bytes, or all of them where there are fewer.
+/// The first `most + 1` bytes, or all if there are fewer.
 fn first(alloc: Global, bytes: &[u8], most: usize) -> Result<Vec<u8>, AllocError>
     ensures { IfOk result (λ v. v.items ≡ take (most + 1) bytes.now) }
 {

@@ -5,33 +5,33 @@ ghost use Rattle.pt_io.specs.Causes.{Rose, AddsName};
 
 use std::alloc::Global;
 
-/// Why a fetch gave nothing.
+/// Why a fetch gave no bytes.
 #[derive(Clone, Copy, Debug, PartialEq, Eq)]
 pub enum FetchFault {
     /// The content couldn't be read. The source's count of faults rose in that call.
     Failed,
-    /// Memory ran out.
+    /// Out of memory.
     Memory,
 }
 
-/// Named contents, as files by their paths.
+/// Named contents: a shelf, or files by their paths.
 ///
-/// A source counts its faults. It may tell its contents and the names that it was asked for: where it
-/// does, clauses speak of them; where it doesn't, they claim nothing.
+/// A source counts its faults. It may report its contents and the names it was asked for: then clauses can name
+/// them, and else they say nothing about them.
 pub trait Source {
-    /// The content of a name, where the source tells it.
+    /// The content of a name, if the source reports it.
     ghost tells: { Self → List ℕ → Option (List ℕ) };
 
-    /// The names asked for so far, where the source tells them.
+    /// The names asked for so far, if the source reports them.
     ghost asked: { Self → Option (List (List ℕ)) };
 
-    /// How many calls have failed. The count stays at the greatest `u64`.
+    /// The number of calls that failed. The count stays at the greatest `u64`.
     ghost faults: { Self → ℕ };
 
-    /// The first `most + 1` bytes of the named content, or all of it where it is shorter.
+    /// The first `most + 1` bytes of the named content, or all if it is shorter.
     ///
-    /// The byte past `most` lets a reader see that the content is too long. A call that answers `Memory`
-    /// isn't counted and its name isn't kept.
+    /// The byte past `most` lets the caller see that the content is too long. A call that fails with `Memory`
+    /// isn't counted, and its name isn't recorded.
     fn fetch(&mut self, alloc: Global, name: &str, most: usize) -> Result<Vec<u8>, FetchFault>
         ensures bytes { IfOk result (λ v. IfSome (tells self.old name.now) (λ bytes. v.items ≡ take (most + 1) bytes)) }
         ensures keeps { tells self.new ≡ tells self.old }

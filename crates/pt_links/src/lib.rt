@@ -1,6 +1,6 @@
-//! Links between platforms: what carries the messages of a sender to its receiver, in their order.
+//! Links between platforms: they carry the messages of a sender to its receiver, in order.
 //!
-//! A `Pipe` is a link whose two ends are in one hand. It is a ring of 64 places, and takes no memory.
+//! A `Pipe` is a link whose two ends have the same owner. It is a ring of 64 places, and allocates nothing.
 //!
 //! Read first: `Pipe`.
 #![tactic(auto)]
@@ -8,6 +8,3 @@
 mod pipe;
 
 pub use pipe::{PLACES, Pipe};
-
-#[cfg(test)]
-mod tests;

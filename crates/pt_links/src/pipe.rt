@@ -1,18 +1,18 @@
-//! A link whose two ends are in one hand.
+//! A link whose two ends have the same owner.
 
 ghost use Rattle.std.specs.Prelude.{◌≡◌, ◌≤◌, ◌↔◌, ◌++◌, ◌∷◌, [], IfErr, IsErr, IsNone, OnErr, OnOk, length, option_map, option_to_list, slice_get};
 
 use pt_tags::Message;
 use std::marker::Model;
 
-/// How many messages a link holds at most.
+/// The greatest number of messages that a link holds.
 pub const PLACES: usize = 64;
 
-/// The messages that were pushed and not taken, which contracts see as their list, the oldest first.
+/// The messages pushed and not taken yet. Contracts see them as a list, the oldest first.
 #[derive(Drop)]
 pub struct Pipe {
     places: [Message; PLACES],
-    /// The place of the oldest message.
+    /// The index of the oldest message.
     oldest: usize,
     count: usize,
 }
@@ -31,7 +31,7 @@ impl Model for Pipe {
 }
 
 impl Pipe {
-    /// No messages.
+    /// An empty pipe.
     pub fn new() -> Pipe
         ensures { result ≡ [] }
     {
@@ -42,7 +42,7 @@ impl Pipe {
         }
     }
 
-    /// Appends a message, or gives it back where there is no place for it. No memory is taken.
+    /// Appends a message, or returns it if the pipe is full. Allocates nothing.
     pub fn push(&mut self, message: Message) -> Result<(), Message>
         ensures ok { OnOk result (self.new ≡ self.old ++ message ∷ []) }
         ensures given_back { IfErr result (λ back. back ≡ message) }
@@ -58,7 +58,7 @@ impl Pipe {
         Ok(())
     }
 
-    /// The oldest message, which stays; `None` exactly where there are none.
+    /// The oldest message, which stays in the pipe; `None` if there is none.
     pub fn peek(&self) -> Option<&Message>
         ensures { option_map (λ message. message.now) result ≡ slice_get self.now 0 }
     {
@@ -68,7 +68,7 @@ impl Pipe {
         Some(&self.places[self.oldest])
     }
 
-    /// Removes and gives the oldest message. No memory is taken.
+    /// Removes and returns the oldest message. Allocates nothing.
     pub fn take(&mut self) -> Option<Message>
         ensures oldest { self.old ≡ option_to_list result ++ self.new }
         ensures none { IsNone result ↔ (self.old ≡ []) }

@@ -4,8 +4,8 @@ use Rattle.std.proofs.lemmas.List.{append-nil, append_assoc, length-append}
 use Rattle.std.proofs.lemmas.Bool.Decides.{nat_tests}
 use Rattle.pt_types.specs.declared.rows.Row.{Row}
 use Rattle.pt_sensors.specs.declared.sensor_rows.SensorRows.{SensorRows}
-use Rattle.pt_meaning.specs.Opening.{rows_for}
-use Rattle.pt_recorded.specs.Places.{StandInPlace}
+use Rattle.pt_sensors.specs.Listed.{rows_for}
+use Rattle.pt_sensors.specs.Places.{StandInPlace}
 use Rattle.pt_made.specs.Input.{made_graph, made_rows}
 
 -- the entries of the first k actors

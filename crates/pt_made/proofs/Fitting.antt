@@ -4,10 +4,10 @@ use Rattle.std.specs.List.{range_with_len}
 use Rattle.std.proofs.lemmas.Bool.Decides.{nat_tests}
 use Rattle.pt_types.specs.declared.kind.Kind.TheVariants.{Sensor}
 use Rattle.pt_types.specs.declared.rows.Row.{Row}
-use Rattle.pt_semantics.specs.Edges.{kind_of}
+use Rattle.pt_types.specs.Lookups.{kind_of}
 use Rattle.pt_semantics.specs.Lists.{Each, IsIn}
 use Rattle.pt_semantics.specs.Rows.{FitRows, FitsRow, NeverFalls, TimesRise}
-use Rattle.pt_recorded.specs.Places.{of_run}
+use Rattle.pt_sensors.specs.Places.{of_run}
 use Rattle.pt_made.specs.Input.{made_graph, made_row, made_rows, row_count, sensor_rows}
 
 -- rows from k on

@@ -14,7 +14,9 @@ use Rattle.pt_types.specs.Ends.{is_send}
 use Rattle.pt_types.specs.Lawful.{IsLawful}
 use Rattle.pt_types.specs.Ports.{when}
 use Rattle.pt_semantics.specs.Lists.{IsIn}
-use Rattle.pt_semantics.specs.Edges.{Edge, edges, wires, kind_of, no_actor}
+use Rattle.pt_semantics.specs.Edges.{Edge, edges, wires}
+use Rattle.pt_types.specs.Groups.{no_actor}
+use Rattle.pt_types.specs.Lookups.{kind_of}
 use Rattle.pt_semantics.specs.Units.{groups, at_output, target}
 use Rattle.pt_semantics.specs.Bounds.{Feeds, bound_by, bound_of, link_bound}
 use Rattle.pt_semantics.specs.Cycles.{NoFreeCycle}

@@ -14,8 +14,10 @@ use Rattle.pt_types.specs.declared.kind.Kind.TheVariants.{Every}
 use Rattle.pt_types.specs.declared.rows.Row.{Row}
 use Rattle.pt_types.specs.Ports.{at_port, when}
 use Rattle.pt_semantics.specs.Lists.{IsIn, first_of}
-use Rattle.pt_semantics.specs.Edges.{Edge, edges, wires, links, kind_of, of_link, platform_of}
-use Rattle.pt_semantics.specs.Units.{at_input, at_output, groups, input_group, source}
+use Rattle.pt_semantics.specs.Edges.{Edge, edges, wires, links, of_link}
+use Rattle.pt_types.specs.Lookups.{kind_of, platform_of}
+use Rattle.pt_semantics.specs.Units.{at_input, at_output, groups, source}
+use Rattle.pt_types.specs.Groups.{input_group}
 use Rattle.pt_semantics.specs.Behaviours.{Firing, Rising, comes_along, firing_at}
 use Rattle.pt_semantics.specs.Counts.{actor_firings, sum_below, unit_firings}
 use Rattle.pt_semantics.specs.Firing.{any_present}
@@ -32,26 +34,27 @@ use Rattle.pt_semantics.specs.Taking.{value_of}
 use Rattle.pt_semantics.specs.Visits.{Together}
 use Rattle.pt_semantics.specs.Wired.{IsWired}
 use Rattle.pt_semantics.proofs.Acyclic.{levels_are_small}
-use Rattle.pt_semantics.proofs.Counting.{counted}
-use Rattle.pt_semantics.proofs.Finish as finish
-use Rattle.pt_semantics.proofs.Finish.{SourceKind, source_kind, link_in}
-use Rattle.pt_semantics.proofs.Flows.{flows}
-use Rattle.pt_semantics.proofs.Came.{in_messages}
+use Rattle.pt_laws.proofs.Counting.{counted}
+use Rattle.pt_laws.proofs.Finish as finish
+use Rattle.pt_laws.proofs.Finish.{SourceKind, source_kind, link_in}
+use Rattle.pt_laws.proofs.Flows.{flows}
+use Rattle.pt_laws.proofs.Came.{in_messages}
 use Rattle.pt_semantics.proofs.Longest.{levels_grow}
 use Rattle.pt_semantics.proofs.Lookups.{none_some, or_else_found, when_found, first_of_found, eight_found, Each-in, IsIn-append, IsIn-append_left, IsIn-append_right}
-use Rattle.pt_semantics.proofs.Onward.{Onward, round_onward}
-use Rattle.pt_semantics.proofs.PacedRuns.{run_onward, whole_of}
-use Rattle.pt_semantics.proofs.Steps.{messages_of}
-use Rattle.pt_semantics.proofs.Sums.{sum_le}
+use Rattle.pt_laws.proofs.Onward.{Onward, round_onward}
+use Rattle.pt_schedule.proofs.PacedRuns.{run_onward, whole_of}
+use Rattle.pt_laws.proofs.Steps.{messages_of}
+use Rattle.pt_laws.proofs.Sums.{sum_le}
 use Rattle.pt_semantics.proofs.Tags.{Before-irrefl, same_tag-true}
-use Rattle.pt_semantics.proofs.Threads.{Threaded}
-use Rattle.pt_semantics.proofs.Walks.{Whole}
+use Rattle.pt_laws.proofs.Threads.{Threaded}
+use Rattle.pt_laws.proofs.Walks.{Whole}
 use Rattle.pt_semantics.proofs.Words.{firing_at_head, firing_at_tail}
-use Rattle.pt_lawful.proofs.Edges.{wired}
-use Rattle.pt_recorded.specs.Places.{of_run}
+use Rattle.pt_semantics.proofs.LawfulEdges.{wired}
+use Rattle.pt_sensors.specs.Places.{of_run}
 use Rattle.pt_made.specs.Input.{made_graph, made_rows}
 use Rattle.pt_made.proofs.Fitting.{row_time, rows_fit}
 use Rattle.pt_made.proofs.Shape.{adds, feasible, lawful, is_plain, leads_up, plain}
+use Rattle.pt_types.specs.Limits.{most_claims}
 
 -- a tag at step 0, at a multiple of 100 microseconds up to the horizon
 pub record IsSteady (n : ℕ) (t : Tag) : Type 0 where
@@ -295,11 +298,11 @@ module _ (n : ℕ) (few : n ≤ 100) (level : ℕ → ℕ) (offset : Part → Op
         of_actor a false e = omega arith
 
 -- so no platform of a whole paced run makes all the claims that it may
-pub never_long : (n : ℕ) → n ≤ 100 → (level : ℕ → ℕ) (offset : Part → Option ℤ) → AreLevels (made_graph n) level → ((u : Part) → HasOffset (made_graph n) u (offset u)) → (y : Together) → IsWholeRun (made_graph n) level (of_run (made_graph n) (made_rows n)) y → (i : ℕ) → i < 4 → (y.at i).claims < 200000
+pub never_long : (n : ℕ) → n ≤ 100 → (level : ℕ → ℕ) (offset : Part → Option ℤ) → AreLevels (made_graph n) level → ((u : Part) → HasOffset (made_graph n) u (offset u)) → (y : Together) → IsWholeRun (made_graph n) level (of_run (made_graph n) (made_rows n)) y → (i : ℕ) → i < 4 → (y.at i).claims < most_claims
 never_long n few level offset are has y run i lt =
     below (y.at i).claims (platform_few n few level offset are has run.reading y on i lt)
   where
-    below : (k : ℕ) → k ≤ 18 * (100 * n + 5) → k < 200000
+    below : (k : ℕ) → k ≤ 18 * (100 * n + 5) → k < most_claims
     below k h = omega arith
 
     w : IsWired (made_graph n)

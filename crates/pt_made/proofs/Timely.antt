@@ -15,9 +15,9 @@ use Rattle.pt_semantics.specs.Turn.{Turn, is_quiet, joined}
 use Rattle.pt_semantics.specs.Units.{unit_of}
 use Rattle.pt_semantics.specs.Visits.{Together}
 use Rattle.pt_semantics.proofs.Lookups.{Each-in, Each-append}
-use Rattle.pt_semantics.proofs.PacedRuns.{missed_when_paced, timely_when_paced}
-use Rattle.pt_lawful.proofs.Edges.{wired}
-use Rattle.pt_recorded.specs.Places.{of_run}
+use Rattle.pt_schedule.proofs.PacedRuns.{missed_when_paced, timely_when_paced}
+use Rattle.pt_semantics.proofs.LawfulEdges.{wired}
+use Rattle.pt_sensors.specs.Places.{of_run}
 use Rattle.pt_made.specs.Input.{made_graph, made_rows}
 use Rattle.pt_made.proofs.Fitting.{rows_fit}
 use Rattle.pt_made.proofs.Shape.{feasible, lawful, offset_is, patient}

@@ -1,4 +1,4 @@
--- The input that a number makes: a graph that differs by its horizon alone, and the rows of its four sensors.
+-- The input made from a number: a graph, of which only the horizon depends on the number, and the rows of its four sensors.
 use Rattle.std.specs.Prelude.{ℕ, ◌+◌, ◌*◌, ◌%◌, ◌==◌, List, [], ◌∷◌, ◌++◌, codes, map, pos, if◌then◌else◌}
 use Rattle.std.specs.List.{range_with_len}
 use Rattle.pt_types.specs.declared.graph.Graph.{Graph}
@@ -14,13 +14,14 @@ use Rattle.pt_types.specs.Kinds.{visible_inputs, visible_outputs}
 abbrev pub actor : List ℕ → ℕ → Kind → Actor
 actor name platform kind = record { name = name; platform = platform; kind = kind; inputs = visible_inputs kind; outputs = visible_outputs kind }
 
--- the actors of each platform. A sensor's rows are seen within 10 microseconds; no file of its name is read
+-- the actors of platform p0; a sensor's rows are seen at most 10 microseconds after their times, and no file is read
 abbrev pub at_p0 : List Actor
 at_p0 =
     actor (codes "s0") 0 (Sensor (codes "s0.csv") 10)
     ∷ actor (codes "d0") 0 (Kind.Delay 100)
     ∷ actor (codes "w0") 0 (Send 0) ∷ []
 
+-- the actors of platform p1
 abbrev pub at_p1 : List Actor
 at_p1 =
     actor (codes "r1") 1 Receive
@@ -29,6 +30,7 @@ at_p1 =
     ∷ actor (codes "d1") 1 (Kind.Delay 100)
     ∷ actor (codes "w1") 1 (Send 0) ∷ []
 
+-- the actors of platform p2
 abbrev pub at_p2 : List Actor
 at_p2 =
     actor (codes "r2") 2 Receive
@@ -37,6 +39,7 @@ at_p2 =
     ∷ actor (codes "d2") 2 (Kind.Delay 100)
     ∷ actor (codes "w2") 2 (Send 0) ∷ []
 
+-- the actors of platform p3
 abbrev pub at_p3 : List Actor
 at_p3 =
     actor (codes "r3") 3 Receive
@@ -49,10 +52,11 @@ at_p3 =
 abbrev pub actors : List Actor
 actors = at_p0 ++ (at_p1 ++ (at_p2 ++ at_p3))
 
--- from output 0 of an actor to an input of another
+-- a wire from output 0 of an actor to an input of another
 abbrev pub wire : ℕ → ℕ → ℕ → Wire
 wire from to input = record { from = from; output = 0; to = to; input = input }
 
+-- the wires, platform by platform
 abbrev pub wires : List Wire
 wires =
     -- s0 to d0, d0 to w0
@@ -64,6 +68,7 @@ wires =
     -- r3 and s3 to a3, a3 to t, t to out
     ∷ wire 13 15 0 ∷ wire 14 15 1 ∷ wire 15 16 0 ∷ wire 16 17 0 ∷ []
 
+-- a link from a sender to a receiver, with a delay of 40 microseconds
 abbrev pub link : ℕ → ℕ → Link
 link from to = record { from = from; to = to; delay = 40 }
 
@@ -71,14 +76,15 @@ link from to = record { from = from; to = to; delay = 40 }
 abbrev pub links : List Link
 links = link 2 3 ∷ link 7 8 ∷ link 12 13 ∷ []
 
--- how many rows each sensor has
+-- the number of rows of each sensor
 abbrev pub row_count : ℕ → ℕ
 row_count n = 100 * n
 
+-- the names of the platforms
 abbrev pub platforms : List (List ℕ)
 platforms = codes "p0" ∷ codes "p1" ∷ codes "p2" ∷ codes "p3" ∷ []
 
--- the graph of the number n: its last event can come 400 microseconds after the last row
+-- the graph made from n: its horizon is 400 microseconds after the last row
 abbrev pub made_graph : ℕ → Graph
 made_graph n = record {
   until = 100 * row_count n + 400;
@@ -90,11 +96,11 @@ made_graph n = record {
   clock_errors = [];
 }
 
--- row k of sensor i, counted from 1
+-- row k, from 1, of sensor i, from 0
 abbrev pub made_row : ℕ → ℕ → ℕ → Row
 made_row n i k = record { time = 100 * k; seen = 100 * k + k % 11; value = pos ((n * k + i) % 100) }
 
--- the rows of sensor i
+-- the rows of sensor i, from 0
 abbrev pub sensor_rows : ℕ → ℕ → List Row
 sensor_rows n i = map (made_row n i) (range_with_len 1 (row_count n))
 

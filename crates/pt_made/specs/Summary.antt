@@ -1,4 +1,4 @@
--- The summary of a run over the made input.
+-- The summary of a run over a made input.
 use Rattle.std.specs.Prelude.{ℕ, ◌*◌, ◌==◌, List, [], ◌∷◌, ◌++◌, Option, None, Some, codes, filter, length, if◌then◌else◌}
 use Rattle.std.specs.Fmt.{decimal, signed_decimal}
 use Rattle.pt_types.specs.declared.firing.ActorFiring.{ActorFiring}
@@ -10,21 +10,22 @@ use Rattle.pt_made.specs.Input.{row_count}
 abbrev pub actuations : List ActorFiring → List ActorFiring
 actuations xs = filter (λ (x : ActorFiring). x.actor == 17) xs
 
+-- the last of these firings, if there is one
 abbrev pub last_of : List ActorFiring → Option ActorFiring
 last_of [] = None
 last_of (x ∷ []) = Some x
 last_of (x ∷ y ∷ xs) = last_of (y ∷ xs)
 
--- TIME.STEP VALUE of a firing, by its input 0
+-- a firing as TIME.STEP VALUE, with its value at input 0; - without a firing
 abbrev pub firing_text : Option ActorFiring → List ℕ
 firing_text None = codes "-"
 firing_text (Some x) = decimal x.tag.time ++ 46 ∷ decimal x.tag.step ++ 32 ∷ signed_decimal (or_zero (at_port x.inputs 0))
 
--- a line of a word and what follows it
+-- a line: a word, a text and a line feed
 abbrev pub line : List ℕ → List ℕ → List ℕ
 line word text = word ++ text ++ 10 ∷ []
 
--- the summary of the number n, of these firings and of so many missed entries
+-- the summary for number n, these firings and this number of misses
 abbrev pub summary : ℕ → List ActorFiring → ℕ → List ℕ
 summary n xs missed =
     line (codes "make ") (decimal n)
@@ -34,7 +35,7 @@ summary n xs missed =
     ++ line (codes "last out ") (firing_text (last_of (actuations xs)))
     ++ line (codes "missed ") (decimal missed)
 
--- a firing, where it is one of `out`
+-- a firing, if it is one of `out`
 abbrev pub if_out : Option ActorFiring → Option ActorFiring
 if_out None = None
 if_out (Some x) = if x.actor == 17 then Some x else None

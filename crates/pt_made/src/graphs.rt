@@ -1,6 +1,6 @@
-//! The graph.
+//! The graph of a made input.
 
-ghost use Rattle.std.specs.Prelude.{◌≡◌, ◌≤◌, ◌++◌, IfOk, OnOk};
+ghost use Rattle.std.specs.Prelude.{◌≡◌, ◌≤◌, ◌++◌, IfOk};
 ghost use Rattle.pt_types.specs.Kinds.{visible_inputs, visible_outputs};
 ghost use Rattle.pt_made.specs.Input as made;
 
@@ -8,14 +8,14 @@ use pt_tags::{List, Name};
 use pt_types::{Actor, Graph, Kind, Link, Wire};
 use std::alloc::{AllocError, Global};
 
-/// How many rows each sensor has, for a number from 1 to 100.
+/// The number of rows of each sensor, for a number from 1 to 100.
 pub(crate) fn row_count(number: u32) -> u64
     ensures { result ≡ made.row_count number }
 {
     100 * number as u64
 }
 
-/// The graph that a number makes.
+/// The graph made from a number.
 pub fn made_graph(alloc: Global, number: u32) -> Result<Graph, AllocError>
     requires { number ≤ 100 }
     ensures { IfOk result (λ graph. graph ≡ made.made_graph number) }
@@ -67,7 +67,7 @@ fn actor(alloc: Global, text: &str, platform: u32, kind: Kind) -> Result<Actor, 
     })
 }
 
-/// The kind of a sensor whose rows are seen within 10 microseconds. No file of that name is read.
+/// The kind of a sensor whose rows are seen at most 10 microseconds after their times. No file of that name is read.
 fn sensor(alloc: Global, file: &str) -> Result<Kind, AllocError>
     ensures { IfOk result (λ kind. kind ≡ Kind.Sensor file.now 10) }
 {
@@ -75,7 +75,7 @@ fn sensor(alloc: Global, file: &str) -> Result<Kind, AllocError>
     Ok(Kind::Sensor { file, bound: 10 })
 }
 
-/// The actors, platform after platform.
+/// The actors, platform by platform.
 fn actors(alloc: Global) -> Result<Vec<Actor>, AllocError>
     ensures { IfOk result (λ actors. actors.items ≡ made.actors) }
 {
@@ -140,7 +140,7 @@ fn wire(from: u32, to: u32, input: u32) -> Wire
     }
 }
 
-/// The wires, platform after platform.
+/// The wires, platform by platform.
 fn wires(alloc: Global) -> Result<Vec<Wire>, AllocError>
     ensures { IfOk result (λ wires. wires.items ≡ made.wires) }
 {
@@ -162,7 +162,7 @@ fn wires(alloc: Global) -> Result<Vec<Wire>, AllocError>
     ]?)
 }
 
-/// A link from a sender to a receiver.
+/// A link from a sender to a receiver, with a delay of 40 microseconds.
 fn link(from: u32, to: u32) -> Link
     ensures { result ≡ made.link from to }
 {

@@ -1,6 +1,6 @@
-//! The input that a number makes: a graph of 18 actors on four platforms, and rows for its four sensors.
+//! Made inputs: from a number, a graph of 18 actors on four platforms, and rows for its four sensors.
 //!
-//! It is defined in `specs/Input.antt`, and the summary of a run over it in `specs/Summary.antt`.
+//! The input is defined in `specs/Input.antt`, and the summary of a run over it in `specs/Summary.antt`.
 //!
 //! Read first: `made_graph` and `made_rows`, then `made_graphs_can_run`, `made_runs_are_short` and `made_runs_miss_nothing`.
 #![tactic(auto)]

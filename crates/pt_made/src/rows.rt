@@ -1,10 +1,9 @@
-//! The rows.
+//! The rows of a made input.
 
-ghost use Rattle.std.specs.Prelude.{◌≡◌, ◌≤◌, ◌<◌, IfOk, map, option_map};
-ghost use Rattle.std.specs.List.{range_with_len};
+ghost use Rattle.std.specs.Prelude.{◌≡◌, ◌≤◌, ◌<◌, IfOk};
 ghost use Rattle.pt_types.specs.declared.rows.Row.{Row};
-ghost use Rattle.pt_recorded.specs.Places.{StandInPlace, of_run};
-ghost use Rattle.pt_meaning.specs.Opening.{rows_for};
+ghost use Rattle.pt_sensors.specs.Places.{StandInPlace, of_run};
+ghost use Rattle.pt_sensors.specs.Listed.{rows_for};
 ghost use Rattle.pt_semantics.specs.Rows.{FitRows};
 ghost use Rattle.pt_made.specs.Input as made;
 
@@ -14,10 +13,10 @@ use pt_tags::List;
 use pt_types::Row;
 use std::alloc::{AllocError, Global};
 
-/// How many actors the graph has.
+/// The number of actors of the graph.
 const ACTORS: u32 = 18;
 
-/// Row `k` of sensor number `sensor`, counted from 1.
+/// Row `k`, from 1, of sensor `sensor`, from 0.
 fn row(number: u32, sensor: u32, k: u64) -> Row
     requires number { number ≤ 100 }
     requires sensor { sensor ≤ 3 }
@@ -46,7 +45,7 @@ fn sensor_rows(alloc: Global, number: u32, sensor: u32) -> Result<List<Row>, All
     Ok(List::new(rows))
 }
 
-/// The rows of an actor: none where it is no sensor.
+/// The rows of an actor: none if it is not a sensor.
 fn rows_of(alloc: Global, number: u32, actor: u32) -> Result<List<Row>, AllocError>
     requires { number ≤ 100 }
     ensures { IfOk result (λ rows. rows ≡ made.made_rows number actor) }
@@ -60,7 +59,7 @@ fn rows_of(alloc: Global, number: u32, actor: u32) -> Result<List<Row>, AllocErr
     }
 }
 
-/// The rows that a number makes, an entry for each actor. None is late.
+/// The rows made from a number, one entry for each actor. None is late.
 pub fn made_rows(alloc: Global, number: u32) -> Result<Vec<SensorRows>, AllocError>
     requires { number ≤ 100 }
     ensures places { IfOk result (λ all. StandInPlace (made.made_graph number) all.items) }

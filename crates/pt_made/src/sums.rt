@@ -1,19 +1,19 @@
-//! The summary of a run.
+//! The summary of a run over a made input.
 
 ghost use Rattle.std.specs.Prelude.{◌≡◌, ◌≤◌, ◌++◌, IfOk, OnOk, length, slice_get, string_bytes, codes};
 ghost use Rattle.std.specs.Fmt.{decimal};
 ghost use Rattle.pt_made.specs.Summary as text;
 
 use crate::graphs::row_count;
-use pt_firings::Firings;
+use pt_meaning::Firings;
 use pt_tags::Tag;
 use pt_types::ActorFiring;
 use std::alloc::{AllocError, Global};
 
-/// The actuator `out`.
+/// The number of the actuator `out`.
 const OUT: u32 = 17;
 
-/// The summary of a run over the input that a number makes: these are all firings, and so many entries were missed.
+/// The summary of a run over the input made from `number`, given all its firings and the number of its misses.
 pub fn summary(
     alloc: Global,
     number: u32,
@@ -34,7 +34,7 @@ pub fn summary(
     Ok(summary)
 }
 
-/// Appends a line of a word, with a space after it, and a number.
+/// Appends a line: a word, which ends with a space, and a number.
 fn push_line(summary: &mut String, word: &str, value: u64) -> Result<(), AllocError>
     ensures { OnOk result (string_bytes summary.new ≡ string_bytes summary.old ++ text.line word.now (decimal value)) }
 {
@@ -69,7 +69,7 @@ fn count_actuations(firings: &Firings) -> (usize, Option<ActorFiring>)
     (count, last)
 }
 
-/// The firing of a number, where it is one of `out`.
+/// Firing `number`, if it is one of `out`.
 fn actuation(firings: &Firings, number: usize) -> Option<ActorFiring>
     ensures { result ≡ text.if_out (slice_get firings.now number) }
 {

@@ -1,8 +1,10 @@
+pub mod Filling
+pub mod Lists
 pub mod Places
 pub mod Taking
 pub mod Both
 pub mod Emitting
 pub mod Earlies
 pub mod Opens
-pub mod Firings
+pub mod FiredOn
 pub mod Runnable

@@ -11,12 +11,14 @@ use Rattle.pt_types.specs.declared.kind.Kind.{Kind}
 use Rattle.pt_types.specs.declared.kind.Kind.TheVariants.{Every}
 use Rattle.pt_types.specs.Ports.{when}
 use Rattle.pt_semantics.specs.Lists.{or_else}
-use Rattle.pt_semantics.specs.Edges.{kind_of, no_actor}
+use Rattle.pt_types.specs.Groups.{no_actor}
+use Rattle.pt_types.specs.Lookups.{kind_of}
 use Rattle.pt_semantics.specs.Meaning.{Values, added, at_time, start_at, row_at, rows_until, opening}
 use Rattle.pt_sensors.specs.declared.sensor_rows.SensorRows.{SensorRows}
 use Rattle.pt_meaning.specs.declared.pending.Place.{Place}
 use Rattle.pt_meaning.specs.Waiting.{value_at}
-use Rattle.pt_meaning.specs.Opening.{start_of, start_one, starts_below, rows_of_actor, rows_from_sensors, rows_for}
+use Rattle.pt_meaning.specs.Opening.{start_of, start_one, starts_below, rows_of_actor, rows_from_sensors}
+use Rattle.pt_sensors.specs.Listed.{rows_for}
 
 flip : (p : ℕ) → (0 == p) ≡ (p == 0)
 flip p = grind (arith, nat_tests)

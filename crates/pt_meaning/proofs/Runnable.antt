@@ -19,7 +19,8 @@ use Rattle.pt_types.specs.Groups.{held}
 use Rattle.pt_types.specs.Lawful.{IsLawful, actor_is_lawful, wire_is_lawful, link_is_lawful}
 use Rattle.pt_types.specs.Ports.{eight}
 use Rattle.pt_semantics.specs.Lists.{Each}
-use Rattle.pt_semantics.specs.Edges.{weight, kind_of, of_wire, of_link, wires, links}
+use Rattle.pt_semantics.specs.Edges.{weight, of_wire, of_link, wires, links}
+use Rattle.pt_types.specs.Lookups.{kind_of}
 use Rattle.pt_semantics.specs.Firing.{any_present}
 use Rattle.pt_meaning.specs.Emission.{IsUsable}
 use Rattle.pt_meaning.specs.Running.{IsRunnable}

@@ -1,4 +1,4 @@
--- The events from the start and those sent since, as all that waits.
+-- The events known at the start and those sent since, together.
 use Rattle.std.specs.Prelude.{ℕ, ◌≤◌}
 use Rattle.pt_semantics.specs.Meaning.{Values, added}
 use Rattle.pt_meaning.specs.declared.pending.Place.{Place}
@@ -6,15 +6,15 @@ use Rattle.pt_meaning.specs.declared.world.Waiting.{Waiting}
 use Rattle.pt_meaning.specs.Early.{early_waits, left, IsOrderly}
 use Rattle.pt_meaning.specs.Waiting.{waits_in, IsSound}
 
--- what waits in either; where both have an event at a place, the early one
+-- the value that waits at each input and tag, in either part; if both have one, the early one
 abbrev pub all_waits : (ℕ → ℕ) → Waiting → Values
 all_waits rank w = added (early_waits (left w.early)) (waits_in rank w.late.events)
 
--- all events of both are where they belong
+-- the events of both parts are sound
 pub record AreSound (rank : ℕ → ℕ) (actors steps : ℕ) (w : Waiting) : Type 0 where
   pub early : IsOrderly rank actors (left w.early)
   pub late : IsSound rank actors steps w.late.events
 
--- a place that is not after another, by its parts
+-- place x does not come after place y, by tag, rank and actor
 abbrev pub IsUpTo : Place → Place → Type 0
 IsUpTo x y = (x.tag.time ≤ y.tag.time) × (y.tag.time ≤ x.tag.time → (x.tag.step ≤ y.tag.step) × (y.tag.step ≤ x.tag.step → (x.rank ≤ y.rank) × (y.rank ≤ x.rank → x.actor ≤ y.actor)))

@@ -1,4 +1,4 @@
--- The events that are there from the start.
+-- The events known at the start.
 use Rattle.std.specs.Prelude.{◌≡◌, ℕ, ℤ, ◌<◌, ◌≤◌, ◌==◌, ◌&&◌, Bool, true, false, List, [], ◌∷◌, None, drop}
 use Rattle.std.specs.declared.cmp.Ordering.{Ordering}
 use Rattle.std.specs.Ordering.{nat_cmp, ordering_then}
@@ -11,6 +11,7 @@ use Rattle.pt_meaning.specs.declared.early.Early.{Early}
 use Rattle.pt_meaning.specs.declared.early.EarlyList.{EarlyList}
 use Rattle.pt_meaning.specs.Opening.{start_of}
 
+-- when an event fires
 abbrev pub moment_of : Early → Moment
 moment_of e = e.moment
 
@@ -18,27 +19,29 @@ moment_of e = e.moment
 abbrev pub moment_cmp : Moment → Moment → Ordering
 moment_cmp x y = ordering_then (nat_cmp x.time y.time) (ordering_then (nat_cmp x.rank y.rank) (nat_cmp x.actor y.actor))
 
--- what waits, where of events at one place the first counts
+-- the value that waits at each input and tag; if several events are at one, the first
 abbrev pub early_waits : List Early → Values
 early_waits [] a p t = None
 early_waits (e ∷ events) a p t = added (start_of e.moment.actor e.moment.time e.value) (early_waits events) a p t
 
--- the events that were not taken
+-- the events not taken yet
 abbrev pub left : EarlyList → List Early
 left list = drop list.next list.events.items
 
+-- the place of a starting event: step 0 of its time, and input 0 of its actor
 abbrev pub place_of_early : Early → Place
 place_of_early e = record { tag = at_time e.moment.time; rank = e.moment.rank; actor = e.moment.actor; port = 0 }
 
--- an event stands at its actor's rank, at one of so many actors
+-- an event has its actor's rank, and its actor is one of that many
 pub record IsEarly (rank : ℕ → ℕ) (actors : ℕ) (e : Early) : Type 0 where
   pub rank_is : e.moment.rank ≡ rank e.moment.actor
   pub actor : e.moment.actor < actors
 
+-- each event has its actor's rank and one of that many actors
 abbrev pub AreEarly : (ℕ → ℕ) → ℕ → List Early → Type 0
 AreEarly rank actors events = Each (IsEarly rank actors) events
 
--- e is not after f
+-- e does not come after f
 abbrev pub NotLater : Early → Early → Type 0
 NotLater e f = (e.moment.time ≤ f.moment.time) × (f.moment.time ≤ e.moment.time → (e.moment.rank ≤ f.moment.rank) × (f.moment.rank ≤ e.moment.rank → e.moment.actor ≤ f.moment.actor))
 
@@ -47,22 +50,23 @@ abbrev pub Rising : List Early → Type 0
 Rising [] = Unit {0}
 Rising (e ∷ events) = Each (NotLater e) events × Rising events
 
+-- the events are such, and in the order in which they fire
 pub record IsOrderly (rank : ℕ → ℕ) (actors : ℕ) (events : List Early) : Type 0 where
   pub placed : AreEarly rank actors events
   pub rising : Rising events
 
--- an event is of that tag and actor
+-- an event is of this tag and actor
 abbrev pub is_at : Tag → ℕ → Early → Bool
 is_at t a e = e.moment.actor == a && e.moment.time == t.time && t.step == 0
 
--- the first of the old events is of that tag and actor, and the new ones are the others
+-- the first of the old events is of this tag and actor and has this value, and the new events are the rest
 pub record Heads (t : Tag) (a : ℕ) (value : ℤ) (old new : List Early) : Type 0 where
   pub event : Early
   pub is : old ≡ event ∷ new
   pub at : is_at t a event ≡ true
   pub value_is : event.value ≡ value
 
--- the first event, where there is one, isn't of that tag and actor
+-- the first event, if there is one, isn't of this tag and actor
 abbrev pub NotAtHead : Tag → ℕ → List Early → Type 0
 NotAtHead t a [] = Unit {0}
 NotAtHead t a (e ∷ events) = is_at t a e ≡ false

@@ -1,4 +1,4 @@
--- Edges that a program can walk.
+-- Edges that the program can follow.
 use Rattle.std.specs.Prelude.{ℕ, ◌<◌, ◌≤◌}
 use Rattle.pt_types.specs.declared.graph.Edge.{Edge}
 
@@ -6,7 +6,7 @@ use Rattle.pt_types.specs.declared.graph.Edge.{Edge}
 abbrev pub AddsOneStep : Edge → Type 0
 AddsOneStep e = e.weight.step ≤ 1
 
--- an edge leads to one of so many actors, at one of eight ports, and adds at most one step
+-- an edge leads to one of that many actors, at one of eight ports, and adds at most one step
 pub record IsUsable (actors : ℕ) (e : Edge) : Type 0 where
   pub to : e.to < actors
   pub port : e.input < 8

@@ -1,4 +1,4 @@
--- The events in front of a map, which is ordered by places.
+-- The first events of a map ordered by place.
 use Rattle.std.specs.Prelude.{◌≡◌, ℕ, Some, None, IsSome, ◌==◌, ◌&&◌, false, Bool, cond, ℤ, ◌⊎◌}
 use Rattle.std.specs.Ordering.{is_eq}
 use Rattle.std.specs.BTreeMap as tree
@@ -10,15 +10,15 @@ use Rattle.pt_semantics.specs.Lists.{or_else}
 use Rattle.pt_meaning.specs.declared.pending.Place.{Place}
 use Rattle.pt_meaning.specs.Waiting.{place_cmp}
 
--- an event has this value in the new map; the others are the old one's
+-- the new map has this value at the place, and elsewhere what the old map has
 abbrev pub Replaces : Place → ℤ → BTreeMap Place ℤ → BTreeMap Place ℤ → Type 0
 Replaces place value old new = (q : Place) → tree.get place_cmp new q ≡ cond (is_eq (place_cmp place q)) (Some value) (tree.get place_cmp old q)
 
--- the new map has what the old one has, and this event where the old one has none at its place
+-- the new map has what the old one has, and this event too, unless the old one has one at its place
 abbrev pub Enters : Place → ℤ → BTreeMap Place ℤ → BTreeMap Place ℤ → Type 0
 Enters place value old new = (q : Place) → tree.get place_cmp new q ≡ or_else (tree.get place_cmp old q) (when (is_eq (place_cmp place q)) (Some value))
 
--- an event of that tag and actor, with this input and value, is in the old map and no longer in the new one
+-- an event of this tag and actor, with this input and value, is in the old map; the new map is the old one without it
 pub record Leaves (t : Tag) (actor port : ℕ) (value : ℤ) (old new : BTreeMap Place ℤ) : Type 0 where
   pub place : Place
   pub tag : place.tag ≡ t
@@ -27,11 +27,11 @@ pub record Leaves (t : Tag) (actor port : ℕ) (value : ℤ) (old new : BTreeMap
   pub was : tree.get place_cmp old place ≡ Some value
   pub others : (q : Place) → tree.get place_cmp new q ≡ cond (is_eq (place_cmp place q)) None (tree.get place_cmp old q)
 
--- an event is of that tag and actor
+-- a place is of this tag and actor
 abbrev pub is_of : Tag → ℕ → Place → Bool
 is_of t actor x = x.actor == actor && same_tag t x.tag
 
--- the first event, where there is one, isn't of that tag and actor
+-- there is no event, or the first one isn't of this tag and actor
 abbrev pub NoneInFront : Tag → ℕ → BTreeMap Place ℤ → Type 0
 NoneInFront t actor events = ((q : Place) → tree.get place_cmp events q ≡ None)
     ⊎ ((first : Place) × IsSome (tree.get place_cmp events first) × (is_of t actor first ≡ false) × IsLowerBound place_cmp events first)

@@ -1,3 +1,5 @@
+pub mod Flat
+pub mod Marks
 pub mod Waiting
 pub mod Front
 pub mod Early

@@ -1,19 +1,20 @@
--- What waits at the start, as a program comes to it: actor by actor, sensor by sensor, row by row.
+-- The events known at the start, in the program's order: actor by actor, sensor by sensor, row by row.
 use Rattle.std.specs.Prelude.{ℕ, ◌<◌, ◌==◌, ◌&&◌, nat_lt, List, [], ◌∷◌, ◌++◌, Some, ℤ, if◌then◌else◌}
 use Rattle.pt_tags.specs.Tags.{same_tag}
 use Rattle.pt_types.specs.declared.graph.Graph.{Graph}
 use Rattle.pt_types.specs.declared.rows.Row.{Row}
 use Rattle.pt_types.specs.declared.kind.Kind.{Kind}
 use Rattle.pt_types.specs.Ports.{when}
-use Rattle.pt_semantics.specs.Edges.{kind_of}
+use Rattle.pt_types.specs.Lookups.{kind_of}
 use Rattle.pt_semantics.specs.Meaning.{Values, at_time, start_at, row_at, rows_until}
 use Rattle.pt_sensors.specs.declared.sensor_rows.SensorRows.{SensorRows}
+use Rattle.pt_sensors.specs.Listed.{rows_for}
 
--- one event at input 0 of an actor
+-- one event at input 0 of an actor, at step 0 of a time
 abbrev pub start_of : ℕ → ℕ → ℤ → Values
 start_of actor time value a p t = when (actor == a && p == 0 && same_tag (at_time time) t) (Some value)
 
--- the starting event of an actor of a kind
+-- the starting event of an actor of this kind, if the kind has one
 abbrev pub start_one : Graph → ℕ → Kind → Values
 start_one g actor kind a p t = when (actor == a && p == 0) (start_at g kind t)
 
@@ -25,15 +26,6 @@ starts_below g n a p t = when (nat_lt a n && p == 0) (start_at g (kind_of g a) t
 abbrev pub rows_of_actor : ℕ → ℕ → List Row → Values
 rows_of_actor until actor rows a p t = when (actor == a && p == 0) (row_at (rows_until until rows) t)
 
--- the rows that are listed for an actor
-abbrev pub rows_for : List SensorRows → ℕ → List Row
-rows_for [] a = []
-rows_for (s ∷ sensors) a = (if s.actor == a then s.rows else []) ++ rows_for sensors a
-
 -- the rows of all sensors up to the horizon
 abbrev pub rows_from_sensors : ℕ → List SensorRows → Values
 rows_from_sensors until sensors a p t = when (p == 0) (row_at (rows_until until (rows_for sensors a)) t)
-
--- a sensor is one of so many actors
-abbrev pub IsOfActors : ℕ → SensorRows → Type 0
-IsOfActors actors s = s.actor < actors

@@ -1,4 +1,4 @@
--- A program's view of the global list, and graphs that it can run.
+-- The program's view of the global list, and the graphs that it can run.
 use Rattle.std.specs.Prelude.{◌≡◌, ℕ, ◌<◌, ◌^◌, true, List, Option, length, slice_index_or, ℤ, pos}
 use Rattle.std.specs.List.{list_all}
 use Rattle.pt_types.specs.declared.graph.Graph.{Graph}
@@ -7,22 +7,23 @@ use Rattle.pt_types.specs.Kinds.{kind_is_lawful}
 use Rattle.pt_tags.specs.declared.tag.Tag.{Tag}
 use Rattle.pt_semantics.specs.Lists.{Each}
 use Rattle.pt_semantics.specs.Firing.{fired}
-use Rattle.pt_semantics.specs.Edges.{edges, first_state, kind_of}
+use Rattle.pt_semantics.specs.Edges.{edges, first_state}
+use Rattle.pt_types.specs.Lookups.{kind_of}
 use Rattle.pt_semantics.specs.Meaning.{World, ActorFiring}
 use Rattle.pt_meaning.specs.declared.world.Waiting.{Waiting}
 use Rattle.pt_meaning.specs.Both.{all_waits}
 use Rattle.pt_meaning.specs.Waiting.{rank_in}
 use Rattle.pt_meaning.specs.Emission.{IsUsable}
 
--- the state of each actor, in a list of states
+-- the state of each actor, from a list of states
 abbrev pub states_in : List ℤ → ℕ → ℤ
 states_in states a = slice_index_or states a (pos 0)
 
--- the world that these events and a list of states stand for
+-- the world represented by the events that wait and a list of states
 abbrev pub world_in : List ℕ → Waiting → List ℤ → World
 world_in ranks waiting states = record { waits = all_waits (rank_in ranks) waiting; states = states_in states }
 
--- a graph with few actors, lawful kinds, and edges that lead to its actors' ports
+-- a graph with fewer than 2^32 actors, lawful kinds, and edges that lead to its actors' ports
 pub record IsRunnable (g : Graph) : Type 0 where
   pub few : length g.actors < 2 ^ 32
   pub kinds : list_all (λ (a : Actor). kind_is_lawful a.kind) g.actors ≡ true
@@ -32,7 +33,7 @@ pub record IsRunnable (g : Graph) : Type 0 where
 unfoldable pub state_at_start : Actor → ℤ
 state_at_start a = first_state a.kind
 
--- what an actor does in these states with these inputs
+-- the firing of an actor at a tag, in these states and with these inputs
 abbrev pub firing_of : Graph → (ℕ → ℤ) → ℕ → Tag → List (Option ℤ) → ActorFiring
 firing_of g states a t inputs = record {
   actor = a;

@@ -1,4 +1,4 @@
--- A map of events as what waits at each actor, input and tag.
+-- A map of events, seen as the value that waits at each input and tag.
 use Rattle.std.specs.Prelude.{◌≡◌, ℕ, ◌<◌, ◌≤◌, List, slice_index_or, ◌==◌, ◌&&◌, Some, IsSome, ℤ}
 use Rattle.std.specs.declared.cmp.Ordering.{Ordering}
 use Rattle.std.specs.Ordering.{nat_cmp, ordering_then}
@@ -18,25 +18,25 @@ place_cmp x y = ordering_then (ordering_then (nat_cmp x.tag.time y.tag.time) (na
 abbrev pub place_of : (ℕ → ℕ) → ℕ → ℕ → Tag → Place
 place_of rank a p t = record { tag = t; rank = rank a; actor = a; port = p }
 
--- what waits, where each event stands at its actor's rank
+-- the value that waits at each input and tag, given each actor's rank
 abbrev pub waits_in : (ℕ → ℕ) → BTreeMap Place ℤ → Values
 waits_in rank events a p t = tree.get place_cmp events (place_of rank a p t)
 
--- the value of one event at its place
+-- the value of an event at its place, for an actor, an input and a tag
 abbrev pub value_at : Place → ℤ → Values
 value_at place value a p t = when (place.actor == a && place.port == p && same_tag place.tag t) (Some value)
 
--- an event stands at its actor's rank, at one of so many actors, at one of eight ports and at a step up to a bound
+-- a place has its actor's rank, one of that many actors, one of eight ports, and a step of at most `steps`
 pub record IsPlaced (rank : ℕ → ℕ) (actors steps : ℕ) (x : Place) : Type 0 where
   pub rank_is : x.rank ≡ rank x.actor
   pub actor : x.actor < actors
   pub port : x.port < 8
   pub step : x.tag.step ≤ steps
 
--- each event does
+-- each event of the map is at such a place
 abbrev pub IsSound : (ℕ → ℕ) → ℕ → ℕ → BTreeMap Place ℤ → Type 0
 IsSound rank actors steps events = (x : Place) → IsSome (tree.get place_cmp events x) → IsPlaced rank actors steps x
 
--- the rank of each actor, in a list of ranks
+-- the rank of each actor, from a list of ranks
 abbrev pub rank_in : List ℕ → ℕ → ℕ
 rank_in ranks a = slice_index_or ranks a 0

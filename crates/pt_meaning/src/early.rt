@@ -1,20 +1,17 @@
-//! The events that wait from the start, in the order in which they fire.
+//! The events known at the start, in the order in which they fire.
 
-ghost use Rattle.std.specs.Prelude.{◌≡◌, ◌<◌, ℕ, IfOk, IfSome, IfNone, MatchOption, OnOk, Some, [], ◌∷◌, List, length, true};
+ghost use Rattle.std.specs.Prelude.{◌≡◌, ◌<◌, ℕ, IfOk, IfSome, IfNone, MatchOption, OnOk, Some, [], ◌∷◌, List};
 ghost use Rattle.std.specs.List.Sorted.{IsPermutation, IsSortedByKey, IsStableByKey};
-ghost use Rattle.pt_types.specs.Ports.{when};
-ghost use Rattle.pt_semantics.specs.Firing.{any_present};
 ghost use Rattle.pt_semantics.specs.Lists.{or_else};
 ghost use Rattle.pt_meaning.specs.declared.early.Early.{Early};
 ghost use Rattle.pt_semantics.specs.Meaning.{IsFirst, waiting, without};
-ghost use Rattle.pt_meaning.specs.Waiting.{IsPlaced};
 ghost use Rattle.pt_meaning.specs.Early.{moment_of, moment_cmp, early_waits, is_at, left, place_of_early, AreEarly, Heads, IsOrderly, NotAtHead};
 
 use crate::pending::Place;
 use pt_tags::{Memory, Tag};
 use pt_types::Ports;
 
-/// When an event fires that is there from the start: the order of moments is the order in which they fire.
+/// When a starting event fires: moments are ordered by time, rank and actor, as the events fire.
 #[derive(Clone, Copy, Debug, PartialEq, Eq, PartialOrd, Ord)]
 pub struct Moment {
     pub time: u64,
@@ -22,34 +19,32 @@ pub struct Moment {
     pub actor: u32,
 }
 
-/// An event that is there from the start, at input 0 of an actor at the first step of a time.
+/// A starting event, at input 0 of an actor at step 0 of a time (in microseconds).
 #[derive(Clone, Copy, Debug, PartialEq, Eq)]
 pub struct Early {
     pub moment: Moment,
     pub value: i64,
 }
 
-/// The events from the start, in the order in which they fire; those before `next` were taken.
+/// The starting events in the order in which they fire; those before index `next` are taken.
 #[derive(Drop)]
 pub struct EarlyList {
     pub events: Vec<Early>,
     pub next: usize,
 }
 
-/// Brings events into the order in which they fire; those of one moment keep their order.
+/// Sorts events into the order in which they fire; those of one moment keep their order.
 fn sort(events: &mut Vec<Early>) -> Result<(), Memory>
     ensures sorted { OnOk result (IsSortedByKey moment_of moment_cmp events.new.items) }
     ensures stable { OnOk result (IsStableByKey moment_of moment_cmp events.old.items events.new.items) }
     ensures permutation { IsPermutation events.old.items events.new.items }
 {
-    match events.sort_by_key(|event| event.moment) {
-        Ok(()) => Ok(()),
-        Err(_) => Err(Memory),
-    }
+    events.sort_by_key(|event| event.moment)?;
+    Ok(())
 }
 
 impl EarlyList {
-    /// These events, of which at one place the first counts, brought into order.
+    /// Sorts these events. If several are of one moment, the first counts.
     pub fn new(events: Vec<Early>) -> Result<EarlyList, Memory>
         ensures waits { IfOk result (λ list. (rank : ℕ → ℕ) (actors : ℕ) → AreEarly rank actors events.items → early_waits (left list) ≡ early_waits events.items) }
         ensures orderly { IfOk result (λ list. (rank : ℕ → ℕ) (actors : ℕ) → AreEarly rank actors events.items → IsOrderly rank actors (left list)) }
@@ -59,7 +54,7 @@ impl EarlyList {
         Ok(EarlyList { events, next: 0 })
     }
 
-    /// The first event.
+    /// The first event not taken yet.
     fn head(&self) -> Option<Early>
         ensures { MatchOption result (left self.now ≡ []) (λ event. (rest : List Early) × (left self.now ≡ event ∷ rest)) }
     {
@@ -70,7 +65,7 @@ impl EarlyList {
         }
     }
 
-    /// The place of the first event.
+    /// The place of the first event not taken yet.
     pub fn first(&self) -> Option<Place>
         ensures { MatchOption result (left self.now ≡ []) (λ place. (event : Early) × (rest : List Early) × (left self.now ≡ event ∷ rest) × (place ≡ place_of_early event)) }
     {
@@ -86,7 +81,7 @@ impl EarlyList {
         })
     }
 
-    /// Takes the first event, where it is of this tag and actor, and gives its value.
+    /// Takes the first event if it is of this tag and actor, and returns its value.
     fn take_first(&mut self, tag: Tag, actor: u32) -> Option<i64>
         ensures some { IfSome result (λ value. Heads tag actor value (left self.old) (left self.new)) }
         ensures none { IfNone result (NotAtHead tag actor (left self.old) × (left self.new ≡ left self.old)) }
@@ -99,7 +94,7 @@ impl EarlyList {
         Some(event.value)
     }
 
-    /// Takes an actor's events of a tag, which come first, and gives what waited at its inputs.
+    /// Takes an actor's events of a tag, which must be the first, and returns the values at its inputs.
     pub fn take(&mut self, tag: Tag, actor: u32) -> Ports
         ensures inputs { (rank : ℕ → ℕ) (actors : ℕ) → IsOrderly rank actors (left self.old) → IsFirst rank (early_waits (left self.old)) actor tag → result ≡ waiting (early_waits (left self.old)) actor tag }
         ensures waits { (rank : ℕ → ℕ) (actors : ℕ) → IsOrderly rank actors (left self.old) → IsFirst rank (early_waits (left self.old)) actor tag → early_waits (left self.new) ≡ without (early_waits (left self.old)) actor tag }
@@ -113,7 +108,7 @@ impl EarlyList {
     }
 }
 
-/// The first value; this one where there was none.
+/// `first` if it is a value, else `value`.
 fn kept(first: Option<i64>, value: i64) -> Option<i64>
     ensures { result ≡ or_else first (Some value) }
 {
@@ -123,7 +118,7 @@ fn kept(first: Option<i64>, value: i64) -> Option<i64>
     }
 }
 
-/// Whether an event is of that tag and actor.
+/// Whether an event is of this tag and actor.
 fn is_at(tag: Tag, actor: u32, event: &Early) -> bool
     ensures { result ≡ is_at tag actor event.now }
 {

@@ -1,6 +1,6 @@
-//! The outputs of a firing, on their way along the edges that leave its actor.
+//! Sending the outputs of a firing along the edges that leave its actor.
 
-ghost use Rattle.std.specs.Prelude.{◌≡◌, ◌<◌, ◌≤◌, ◌+◌, ◌^◌, ℕ, IfSome, IfNone, OnOk, [], ◌∷◌, slice_index_or};
+ghost use Rattle.std.specs.Prelude.{◌≡◌, ◌<◌, ◌≤◌, ◌+◌, ◌^◌, ℕ, IfSome, IfNone, OnOk, [], ◌∷◌};
 ghost use Rattle.pt_tags.specs.Tags.{plus};
 ghost use Rattle.pt_types.specs.declared.graph.Graph.{Graph};
 ghost use Rattle.pt_semantics.specs.Lists.{Each};
@@ -12,14 +12,14 @@ use crate::pending::{Pending, Place};
 use pt_tags::{Delay, Memory, Tag};
 use pt_types::{Edge, Ports};
 
-/// The rank of an actor.
+/// The rank of an actor; 0 past the table's end.
 pub fn rank_at(ranks: &[u32], actor: u32) -> u32
     ensures { result ≡ rank_in ranks.now actor }
 {
     ranks.get(actor as usize).copied().unwrap_or(0)
 }
 
-/// The tag that lies later by a weight, where it isn't past the horizon.
+/// The tag plus a weight, if that isn't past the horizon.
 fn within(tag: Tag, weight: Delay, until: u64) -> Option<Tag>
     requires { tag.step + weight.step < 2 ^ 64 }
     ensures some { IfSome result (λ later. (later ≡ plus tag weight) × (later.time ≤ until)) }
@@ -33,7 +33,7 @@ fn within(tag: Tag, weight: Delay, until: u64) -> Option<Tag>
     }
 }
 
-/// What goes along one edge, where it leaves the actor, has a value and isn't past the horizon.
+/// Sends the output along one edge, if the edge leaves the actor, the output has a value, and the tag isn't past the horizon.
 fn emit_along(
     pending: &mut Pending,
     ranks: &[u32],
@@ -67,7 +67,7 @@ fn emit_along(
     pending.add(place, value)
 }
 
-/// What goes along edges from an actor that fired at a tag.
+/// Sends the outputs of an actor that fired at a tag along those of these edges that leave it.
 pub fn emit(
     pending: &mut Pending,
     ranks: &[u32],

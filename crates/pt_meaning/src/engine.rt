@@ -1,13 +1,14 @@
-//! The global list: the first event's actor fires, again and again, until nothing waits.
+//! The global list: the actor of the first event fires, until nothing waits.
 
-ghost use Rattle.std.specs.Prelude.{◌≡◌, ◌<◌, ◌≤◌, ◌+◌, ◌^◌, ℕ, true, IfOk, IsErrOf, length, filter, map};
-ghost use Rattle.pt_semantics.specs.Edges.{edges, kind_of};
+ghost use Rattle.std.specs.Prelude.{◌≡◌, ◌<◌, ◌≤◌, ◌+◌, ◌^◌, ℕ, true, IfOk, length, filter, map};
+ghost use Rattle.pt_semantics.specs.Edges.{edges};
+ghost use Rattle.pt_types.specs.Lookups.{kind_of};
 ghost use Rattle.pt_semantics.specs.Lists.{Each};
-ghost use Rattle.pt_semantics.specs.Meaning.{Fires, IsFirst, IsMeaning, IsLonger, after_firing, at_start, leaves_actor, put_state, rows_until, waiting};
+ghost use Rattle.pt_semantics.specs.Meaning.{Fires, IsFirst, after_firing, at_start, leaves_actor, put_state, rows_until, waiting};
 ghost use Rattle.pt_semantics.specs.Firing.{any_present, fired};
 ghost use Rattle.pt_meaning.specs.Waiting.{rank_in};
 ghost use Rattle.pt_meaning.specs.Both.{all_waits, AreSound};
-ghost use Rattle.pt_meaning.specs.Opening.{rows_for, IsOfActors};
+ghost use Rattle.pt_sensors.specs.Listed.{rows_for, IsOfActors};
 ghost use Rattle.pt_meaning.specs.Running.{world_in, states_in, state_at_start, firing_of, IsRunnable};
 
 use crate::emission::emit;
@@ -20,7 +21,7 @@ use pt_tags::{Memory, Tag};
 use pt_types::{Actor, ActorFiring, Edge, Fired, Graph, Kind, Ports};
 use std::alloc::{AllocError, Global};
 
-/// The events that wait and the states of the actors.
+/// The events that wait, and the states of the actors.
 #[derive(Drop)]
 pub struct GlobalList {
     pub waiting: Waiting,
@@ -49,7 +50,7 @@ fn states(alloc: Global, graph: &Graph) -> Result<Vec<i64>, AllocError>
     Ok(states)
 }
 
-/// What waits and what is kept before anything fires.
+/// The events and the states before anything fires.
 pub fn begin(
     alloc: Global,
     graph: &Graph,
@@ -65,13 +66,11 @@ pub fn begin(
     let early = opening(alloc, graph, ranks, sensors)?;
     let late = Pending::new(alloc);
     let waiting = Waiting { early, late };
-    match states(alloc, graph) {
-        Ok(states) => Ok(GlobalList { waiting, states }),
-        Err(_) => Err(Memory),
-    }
+    let states = states(alloc, graph)?;
+    Ok(GlobalList { waiting, states })
 }
 
-/// What an actor does with these inputs.
+/// The firing of an actor at a tag with these inputs.
 fn firing(graph: &Graph, states: &[i64], actor: u32, tag: Tag, inputs: Ports) -> ActorFiring
     requires runnable { IsRunnable graph.now }
     requires actor { actor < length graph.now.actors }
@@ -90,7 +89,7 @@ fn firing(graph: &Graph, states: &[i64], actor: u32, tag: Tag, inputs: Ports) ->
     }
 }
 
-/// What the actor of that number gives in a state on these inputs.
+/// The new state and the outputs of an actor that fires in a state with these inputs.
 fn fire_actor(graph: &Graph, actor: u32, state: i64, inputs: &Ports) -> Fired
     requires runnable { IsRunnable graph.now }
     requires actor { actor < length graph.now.actors }
@@ -100,6 +99,7 @@ fn fire_actor(graph: &Graph, actor: u32, state: i64, inputs: &Ports) -> Fired
     fire_kind(kind, state, inputs)
 }
 
+/// Sets the state of an actor.
 fn set_state(states: &mut Vec<i64>, actor: u32, value: i64)
     requires { actor < length states.old.items }
     ensures after { states_in states.new.items ≡ put_state (states_in states.old.items) actor value }
@@ -108,7 +108,7 @@ fn set_state(states: &mut Vec<i64>, actor: u32, value: i64)
     states[actor as usize] = value;
 }
 
-/// Fires the actor that comes first at its tag: its events are taken, and its outputs are put where they lead.
+/// Fires an actor, which must be the first, at its tag: takes its events, sets its state, and sends its outputs.
 pub fn fire_next(
     list: &mut GlobalList,
     graph: &Graph,

@@ -1,18 +1,25 @@
-//! The meaning as a program: one global list of events, of which the first fires, again and again.
+//! The meaning as a program: one global list of events, whose first event's actor fires, again and again.
 //!
-//! The list has two parts: the events that wait from the start are sorted once, and those that were sent since stand in a
-//! map in the same order, by tag, rank, actor and port. The first of both fires next. The definition is `IsMeaning` in
-//! `specs/Meaning.antt` of pt_semantics.
+//! The list has two parts. The events known at the start are sorted once; those sent since are in a map in the same order, by
+//! tag, rank, actor and port. The first of both parts fires next. The definition is `IsMeaning` in `specs/Meaning.antt` of
+//! pt_semantics.
 //!
-//! Read first: `reference`, then `engine.rt` and `world.rt`.
+//! The resulting list of firings is compact: only values that are present are stored, one after another, and consecutive
+//! firings at one tag share it. Contracts see the list of whole firings.
+//!
+//! Read first: `reference`, then `engine.rt`, `world.rt` and `Firings`.
 #![tactic(auto)]
 
+mod cells;
 mod early;
 mod emission;
 mod engine;
+mod firings;
 mod meaning;
+mod moments;
 mod opening;
 mod pending;
 mod world;
 
+pub use firings::Firings;
 pub use meaning::{MeaningFault, reference};

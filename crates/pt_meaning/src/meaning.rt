@@ -1,34 +1,35 @@
-//! The meaning of a graph and rows.
+//! The meaning of a graph and its rows.
 
 ghost use Rattle.std.specs.Prelude.{◌≡◌, ◌≤◌, IfOk, IsErrOf, length};
 ghost use Rattle.pt_types.specs.Lawful.{IsLawful};
 ghost use Rattle.pt_semantics.specs.Lists.{Each};
 ghost use Rattle.pt_semantics.specs.Meaning.{IsMeaning, IsLonger, rows_until};
 ghost use Rattle.pt_meaning.specs.Waiting.{rank_in};
-ghost use Rattle.pt_meaning.specs.Opening.{rows_for, IsOfActors};
+ghost use Rattle.pt_sensors.specs.Listed.{rows_for, IsOfActors};
 ghost use Rattle.pt_meaning.specs.Running.{IsRunnable};
-ghost use Rattle.pt_edges.specs.Wiring.{IsWiring};
+ghost use Rattle.pt_causality.specs.Wiring.{IsWiring};
 
+use crate::Firings;
 use crate::engine::{begin, fire_next};
-use pt_edges::{all_edges, outgoing};
-use pt_firings::Firings;
+use pt_causality::{all_edges, outgoing};
 use pt_sensors::SensorRows;
 use pt_tags::List;
 use pt_types::{Edge, Graph};
 use std::alloc::Global;
 
-/// Why the meaning could not be had.
+/// Why there is no result.
 #[derive(Clone, Copy, Debug, PartialEq, Eq)]
 pub enum MeaningFault {
     /// Memory ran out.
     Memory,
-    /// It has more firings than were asked for.
+    /// The meaning has more firings than `most`.
     Long,
 }
 
-/// The firings that are the meaning of a graph with these rows, in their order: by tag, then by rank, then by actor.
+/// The firings that are the meaning of a graph with these rows, in order: by tag, then rank, then actor.
 ///
-/// `ranks` are those of the graph's actors; rows past the horizon take no part. At most `most` firings are given.
+/// `ranks` has the rank of each actor of the graph. Rows past the horizon are left out. Fails with `Long` if there are more
+/// than `most` firings.
 pub fn reference(
     alloc: Global,
     graph: &Graph,

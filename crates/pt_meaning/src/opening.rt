@@ -1,4 +1,4 @@
-//! What waits at the start: the starting events of actors that begin by themselves, and the rows of the sensors.
+//! The events known at the start: the first events of actors that begin by themselves, and the rows of the sensors.
 
 ghost use Rattle.std.specs.Prelude.{◌≡◌, ◌<◌, ◌^◌, ℕ, IfOk, OnOk, None, [], ◌∷◌, length};
 ghost use Rattle.pt_types.specs.declared.graph.Graph.{Graph};
@@ -6,7 +6,8 @@ ghost use Rattle.pt_semantics.specs.Lists.{Each};
 ghost use Rattle.pt_semantics.specs.Meaning.{added, opening, rows_until};
 ghost use Rattle.pt_meaning.specs.Waiting.{rank_in};
 ghost use Rattle.pt_meaning.specs.Early.{early_waits, left, AreEarly, IsOrderly};
-ghost use Rattle.pt_meaning.specs.Opening.{start_of, start_one, starts_below, rows_of_actor, rows_from_sensors, rows_for, IsOfActors};
+ghost use Rattle.pt_meaning.specs.Opening.{start_of, start_one, starts_below, rows_of_actor, rows_from_sensors};
+ghost use Rattle.pt_sensors.specs.Listed.{rows_for, IsOfActors};
 
 use crate::early::{Early, EarlyList, Moment};
 use crate::emission::rank_at;
@@ -15,7 +16,7 @@ use pt_tags::Memory;
 use pt_types::{Graph, Kind};
 use std::alloc::Global;
 
-/// Lets an event wait at input 0 of an actor at the first step of a time.
+/// Adds an event at input 0 of an actor, at step 0 of a time.
 fn begin(
     events: &mut Vec<Early>,
     ranks: &[u32],
@@ -31,13 +32,11 @@ fn begin(
         rank: rank_at(ranks, actor),
         actor,
     };
-    match events.push(Early { moment, value }) {
-        Ok(()) => Ok(()),
-        Err(_) => Err(Memory),
-    }
+    events.push(Early { moment, value })?;
+    Ok(())
 }
 
-/// Lets the starting event of an actor wait, where it begins by itself and not past the horizon.
+/// Adds the starting event of an actor, if it begins by itself and not past the horizon.
 fn start(
     events: &mut Vec<Early>,
     ranks: &[u32],
@@ -60,7 +59,7 @@ fn start(
     }
 }
 
-/// Lets the starting events of all actors wait.
+/// Adds the starting events of all actors.
 fn starts(events: &mut Vec<Early>, ranks: &[u32], graph: &Graph) -> Result<(), Memory>
     requires { length graph.now.actors < 2 ^ 32 }
     ensures waits { OnOk result (early_waits events.old.items ≡ (λ a p t. None) → early_waits events.new.items ≡ starts_below graph.now (length graph.now.actors)) }
@@ -73,7 +72,7 @@ fn starts(events: &mut Vec<Early>, ranks: &[u32], graph: &Graph) -> Result<(), M
     Ok(())
 }
 
-/// Lets a row of a sensor wait, where it isn't past the horizon.
+/// Adds a row of a sensor, unless it is past the horizon.
 fn enter(
     events: &mut Vec<Early>,
     ranks: &[u32],
@@ -91,7 +90,7 @@ fn enter(
     }
 }
 
-/// Lets the rows of a sensor wait.
+/// Adds the rows of a sensor up to the horizon.
 fn enter_rows(
     events: &mut Vec<Early>,
     ranks: &[u32],
@@ -108,7 +107,7 @@ fn enter_rows(
     Ok(())
 }
 
-/// Lets the rows of all sensors wait.
+/// Adds the rows of all sensors up to the horizon.
 fn enter_sensors(
     events: &mut Vec<Early>,
     ranks: &[u32],
@@ -124,7 +123,7 @@ fn enter_sensors(
     Ok(())
 }
 
-/// What waits at the start.
+/// All events known at the start.
 pub fn opening(
     alloc: Global,
     graph: &Graph,

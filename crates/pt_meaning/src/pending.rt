@@ -1,9 +1,9 @@
-//! The events that wait, in the order in which they fire.
+//! The events sent since the start, in the order in which they fire.
 
 ghost use Rattle.std.specs.Prelude.{◌≡◌, ◌<◌, ◌≤◌, ℕ, IfSome, IfNone, OnOk, Some, None, true, slice_set};
 ghost use Rattle.std.specs.BTreeMap as tree;
 ghost use Rattle.pt_tags.specs.declared.tag.Tag.{Tag};
-ghost use Rattle.pt_semantics.specs.Meaning.{Values, IsFirst, added, waiting, without};
+ghost use Rattle.pt_semantics.specs.Meaning.{IsFirst, added, waiting, without};
 ghost use Rattle.pt_semantics.specs.Firing.{any_present};
 ghost use Rattle.pt_meaning.specs.Waiting.{waits_in, value_at, IsPlaced, IsSound};
 ghost use Rattle.pt_meaning.specs.Front.{Enters, Leaves, NoneInFront, Replaces, is_of};
@@ -13,7 +13,7 @@ use pt_types::Ports;
 use std::alloc::Global;
 use std::collections::BTreeMap;
 
-/// Where an event waits. The order of places is the order in which events fire.
+/// Where an event waits. Places are ordered as the events fire: by tag, rank, actor and port.
 #[derive(Clone, Copy, Debug, PartialEq, Eq, PartialOrd, Ord)]
 pub struct Place {
     pub tag: Tag,
@@ -22,14 +22,14 @@ pub struct Place {
     pub port: u32,
 }
 
-/// The events that wait.
+/// The events that wait, sent since the start.
 #[derive(Drop)]
 pub struct Pending {
     pub events: BTreeMap<Place, i64>,
 }
 
 impl Pending {
-    /// No event.
+    /// No events.
     pub fn new(alloc: Global) -> Pending
         ensures empty { (rank : ℕ → ℕ) → waits_in rank result.events ≡ (λ a p t. None) }
         ensures sound { (rank : ℕ → ℕ) (actors steps : ℕ) → IsSound rank actors steps result.events }
@@ -52,28 +52,25 @@ impl Pending {
         }
     }
 
-    /// Puts an event at its place; the one that was there stays.
+    /// Inserts an event; if its place has one already, that one stays.
     fn enter(&mut self, place: Place, value: i64) -> Result<(), Memory>
         ensures { OnOk result (Enters place value self.old.events self.new.events) }
     {
-        match self.events.insert(place, value) {
-            Ok(None) => Ok(()),
-            Ok(Some(first)) => self.put_back(place, first),
-            Err(_) => Err(Memory),
+        match self.events.insert(place, value)? {
+            None => Ok(()),
+            Some(first) => self.put_back(place, first),
         }
     }
 
-    /// Writes a value at a place.
+    /// Sets the value at a place.
     fn put_back(&mut self, place: Place, value: i64) -> Result<(), Memory>
         ensures { OnOk result (Replaces place value self.old.events self.new.events) }
     {
-        match self.events.insert(place, value) {
-            Ok(_) => Ok(()),
-            Err(_) => Err(Memory),
-        }
+        self.events.insert(place, value)?;
+        Ok(())
     }
 
-    /// Lets an event wait, where none waits at its place.
+    /// Adds an event, unless one waits at its place.
     pub fn add(&mut self, place: Place, value: i64) -> Result<(), Memory>
         ensures waits { OnOk result ((rank : ℕ → ℕ) → place.rank ≡ rank place.actor → waits_in rank self.new.events ≡ added (waits_in rank self.old.events) (value_at place value)) }
         ensures sound { OnOk result ((rank : ℕ → ℕ) (actors steps : ℕ) → IsPlaced rank actors steps place → IsSound rank actors steps self.old.events → IsSound rank actors steps self.new.events) }
@@ -81,7 +78,7 @@ impl Pending {
         self.enter(place, value)
     }
 
-    /// Takes the first event, where it is of this tag and actor, and gives its input and value.
+    /// Takes the first event if it is of this tag and actor, and returns its input and value.
     fn take_first(&mut self, tag: Tag, actor: u32) -> Option<(u32, i64)>
         ensures some { IfSome result (λ taken. Leaves tag actor taken.0 taken.1 self.old.events self.new.events) }
         ensures fewer { IfSome result (λ _. tree.btree_map_len self.new.events < tree.btree_map_len self.old.events) }
@@ -95,7 +92,7 @@ impl Pending {
         Some((place.port, value))
     }
 
-    /// Takes an actor's events of a tag, which come first, and gives what waited at each of its inputs.
+    /// Takes an actor's events of a tag, which must be the first, and returns the values at its inputs.
     pub fn take(&mut self, tag: Tag, actor: u32) -> Ports
         ensures inputs { (rank : ℕ → ℕ) (actors steps : ℕ) → IsSound rank actors steps self.old.events → IsFirst rank (waits_in rank self.old.events) actor tag → result ≡ waiting (waits_in rank self.old.events) actor tag }
         ensures waits { (rank : ℕ → ℕ) (actors steps : ℕ) → IsSound rank actors steps self.old.events → IsFirst rank (waits_in rank self.old.events) actor tag → waits_in rank self.new.events ≡ without (waits_in rank self.old.events) actor tag }
@@ -109,14 +106,14 @@ impl Pending {
     }
 }
 
-/// Whether a place is of that tag and actor.
+/// Whether a place is of this tag and actor.
 fn is_of(tag: Tag, actor: u32, place: &Place) -> bool
     ensures { result ≡ is_of tag actor place.now }
 {
     place.actor == actor && tag == place.tag
 }
 
-/// Writes a value at a port; nothing where there is no such port.
+/// Writes a value at a port; does nothing if there is no such port.
 fn put_at(values: &mut [Option<i64>; 8], port: u32, value: i64)
     ensures { values.new ≡ slice_set values.old port (Some value) }
 {

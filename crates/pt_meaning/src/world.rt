@@ -1,4 +1,4 @@
-//! What waits: the events that are there from the start, and those that were sent since.
+//! The events that wait: those known at the start, and those sent since.
 
 ghost use Rattle.std.specs.Prelude.{◌≡◌, ◌<◌, ◌⊎◌, ℕ, IfSome, IfNone, None, true};
 ghost use Rattle.pt_tags.specs.declared.tag.Tag.{Tag};
@@ -6,7 +6,7 @@ ghost use Rattle.pt_types.specs.Ports.{at_port, eight};
 ghost use Rattle.pt_semantics.specs.Firing.{any_present};
 ghost use Rattle.pt_semantics.specs.Lists.{or_else};
 ghost use Rattle.pt_semantics.specs.Meaning.{IsFirst, waiting, without};
-ghost use Rattle.pt_meaning.specs.Waiting.{waits_in, IsPlaced, IsSound};
+ghost use Rattle.pt_meaning.specs.Waiting.{IsPlaced};
 ghost use Rattle.pt_meaning.specs.Both.{all_waits, AreSound, IsUpTo};
 
 use crate::early::EarlyList;
@@ -14,7 +14,8 @@ use crate::pending::{Pending, Place};
 use pt_tags::Tag;
 use pt_types::Ports;
 
-/// The events that wait: `early` are there from the start, `late` were sent since. At one place the early one counts.
+/// The events that wait: `early` were known at the start, `late` were sent since. If both have one at a place, the early
+/// one counts.
 #[derive(Drop)]
 pub struct Waiting {
     pub early: EarlyList,
@@ -38,7 +39,7 @@ impl Waiting {
         Some(sooner(early, late))
     }
 
-    /// Takes an actor's events of a tag, which come first, and gives what waited at each of its inputs.
+    /// Takes an actor's events of a tag, which must be the first, and returns the values at its inputs.
     pub fn take(&mut self, tag: Tag, actor: u32) -> Ports
         ensures inputs { (rank : ℕ → ℕ) (actors steps : ℕ) → AreSound rank actors steps self.old → IsFirst rank (all_waits rank self.old) actor tag → result ≡ waiting (all_waits rank self.old) actor tag }
         ensures waits { (rank : ℕ → ℕ) (actors steps : ℕ) → AreSound rank actors steps self.old → IsFirst rank (all_waits rank self.old) actor tag → all_waits rank self.new ≡ without (all_waits rank self.old) actor tag }
@@ -58,7 +59,7 @@ fn sooner(x: Place, y: Place) -> Place
     if x <= y { x } else { y }
 }
 
-/// The values at the ports, the first of two where both have one.
+/// The values at the ports; if both have one at a port, that of `x`.
 fn both(x: &Ports, y: &Ports) -> Ports
     ensures { result ≡ eight (λ p. or_else (at_port x.now p) (at_port y.now p)) }
 {
@@ -74,7 +75,7 @@ fn both(x: &Ports, y: &Ports) -> Ports
     ])
 }
 
-/// The first of two values that is there.
+/// `x` if it is a value, else `y`.
 fn one_of(x: Option<i64>, y: Option<i64>) -> Option<i64>
     ensures { result ≡ or_else x y }
 {

@@ -11,8 +11,8 @@ use Rattle.pt_types.specs.declared.graph.Graph.{Graph}
 use Rattle.pt_types.specs.declared.graph.Link.{Link}
 use Rattle.pt_types.specs.declared.kind.Kind.{Kind}
 use Rattle.pt_types.specs.declared.kind.Kind.TheVariants.{Actuator}
-use Rattle.pt_semantics.specs.Bounds.{slack_of}
-use Rattle.pt_semantics.specs.Edges.{kind_of}
+use Rattle.pt_types.specs.Lookups.{slack_of}
+use Rattle.pt_types.specs.Lookups.{kind_of}
 use Rattle.pt_semantics.specs.Lists.{IsIn}
 use Rattle.pt_semantics.specs.Missed.{IsMissed}
 use Rattle.pt_semantics.specs.Turn.{Turn}

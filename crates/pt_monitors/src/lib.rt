@@ -1,6 +1,6 @@
-//! What was missed: results of actuators and messages of senders that came past their tag's time and the slack.
+//! Misses: results of actuators posted, and events of senders sent, later than their tag's time plus the slack.
 //!
-//! A kept history tells it: the reading of the turn that posted the result, or after which the message was sent.
+//! The history shows them: it has the reading of the turn that posted the result, or after which the event was sent.
 //!
 //! Read first: `missed`, `missed_in`, then `specs/Misses.antt`.
 #![tactic(auto)]
@@ -10,6 +10,3 @@ mod turns;
 
 pub use platforms::missed;
 pub use turns::missed_in;
-
-#[cfg(test)]
-mod tests;

@@ -1,4 +1,4 @@
-//! The missed entries of platforms.
+//! The misses of platforms.
 
 ghost use Rattle.std.specs.Prelude.{◌≡◌, IfOk, flat_map};
 ghost use Rattle.pt_monitors.specs.Platforms.{missed_by};
@@ -9,8 +9,8 @@ use pt_tags::Memory;
 use pt_turn::Platform;
 use std::alloc::Global;
 
-/// All missed entries of some platforms, each by the graph of its plan: platform after platform, turn after turn, and in
-/// a turn the results before the messages.
+/// All misses of some platforms, each with the graph of its plan: platform by platform, turn by turn, and in a turn the
+/// results before the messages.
 pub fn missed(alloc: Global, platforms: &[Platform]) -> Result<Vec<Miss>, Memory>
     ensures { IfOk result (λ misses. misses.items ≡ flat_map missed_by platforms.now) }
 {

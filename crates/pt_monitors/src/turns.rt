@@ -1,17 +1,17 @@
-//! The missed entries of a history.
+//! The misses of a history.
 
 ghost use Rattle.std.specs.Prelude.{◌≡◌, ◌<◌, ◌++◌, OnOk, Some, filter_map, length, option_map, option_to_list, slice_get};
-ghost use Rattle.pt_semantics.specs.Bounds.{slack_of};
-ghost use Rattle.pt_semantics.specs.Edges.{kind_of};
+ghost use Rattle.pt_types.specs.Lookups.{slack_of};
 ghost use Rattle.pt_monitors.specs.Misses.{ListsMissed, miss_of_message, miss_of_result, miss_past, missed_at, missed_of};
 
 use pt_history::{History, Miss};
 use pt_tags::{Memory, Message, Tag};
 use pt_types::{Done, Graph, Kind, OnLink};
 
-/// Appends the missed entries of a platform's history: turn after turn, and in a turn the results before the messages.
+/// Appends the misses of a platform's history: turn by turn, and in a turn the results before the messages.
 ///
-/// A result or a message at exactly the tag's time and the slack is none. Where memory runs out some may be appended.
+/// With tag time 50 and slack 10, a reading of 60 is in time and one of 61 is a miss. If memory runs out, some may be
+/// appended.
 pub fn missed_in(graph: &Graph, history: &History, misses: &mut Vec<Miss>) -> Result<(), Memory>
     ensures missed { OnOk result (misses.new.items ≡ misses.old.items ++ missed_of graph.now history.now.turns) }
     ensures all { ListsMissed graph.now history.now.turns (missed_of graph.now history.now.turns) }
@@ -22,7 +22,7 @@ pub fn missed_in(graph: &Graph, history: &History, misses: &mut Vec<Miss>) -> Re
     Ok(())
 }
 
-/// Appends those of a kept turn.
+/// Appends the misses of a recorded turn.
 fn missed_at(
     graph: &Graph,
     history: &History,
@@ -37,7 +37,7 @@ fn missed_at(
     missed_messages(graph, reading, history.sent(number), misses)
 }
 
-/// Appends those of results that were posted at a reading.
+/// Appends the misses among results posted at a reading.
 fn missed_results(
     graph: &Graph,
     reading: u64,
@@ -52,7 +52,7 @@ fn missed_results(
     Ok(())
 }
 
-/// Appends those of messages that were sent at a reading.
+/// Appends the misses among messages sent at a reading.
 fn missed_messages(
     graph: &Graph,
     reading: u64,
@@ -67,20 +67,18 @@ fn missed_messages(
     Ok(())
 }
 
-/// Appends a missed entry, where there is one.
+/// Appends a miss, if there is one.
 fn push(misses: &mut Vec<Miss>, miss: Option<Miss>) -> Result<(), Memory>
     ensures { OnOk result (misses.new.items ≡ misses.old.items ++ option_to_list miss) }
 {
     let Some(miss) = miss else {
         return Ok(());
     };
-    match misses.push(miss) {
-        Ok(()) => Ok(()),
-        Err(_) => Err(Memory),
-    }
+    misses.push(miss)?;
+    Ok(())
 }
 
-/// The missed entry of a result: an actuator's that was posted past its limit.
+/// The miss of a result: an actuator's, posted past its limit.
 fn miss_of_result(graph: &Graph, reading: u64, done: &Done) -> Option<Miss>
     ensures { result ≡ miss_of_result graph.now reading done.now }
 {
@@ -92,20 +90,20 @@ fn miss_of_result(graph: &Graph, reading: u64, done: &Done) -> Option<Miss>
     }
 }
 
-/// The missed entry of a message: an event that was sent past its sender's limit.
+/// The miss of a message: an event sent past its sender's limit.
 fn miss_of_message(graph: &Graph, reading: u64, sent: &OnLink) -> Option<Miss>
     ensures { result ≡ miss_of_message graph.now reading sent.now }
 {
     let link = graph.links.as_slice().get(sent.link as usize)?;
     match sent.message {
         Message::Event { tag, .. } => {
-            miss_past(reading, link.from, tag, slack_at(graph, link.from))
+            miss_past(reading, link.from, tag, graph.slack_of(link.from))
         }
         Message::End => None,
     }
 }
 
-/// The missed entry of an actor at a tag, where the reading is past the tag's time and the slack.
+/// The miss of an actor at a tag, if the reading is past the tag's time plus the slack.
 fn miss_past(reading: u64, actor: u32, tag: Tag, slack: u64) -> Option<Miss>
     ensures { result ≡ miss_past reading actor tag slack }
 {
@@ -119,24 +117,4 @@ fn miss_past(reading: u64, actor: u32, tag: Tag, slack: u64) -> Option<Miss>
         reading,
         limit,
     })
-}
-
-/// The slack of an actor; 0 where it has none.
-fn slack_at(graph: &Graph, actor: u32) -> u64
-    ensures { result ≡ slack_of (kind_of graph.now actor) }
-{
-    match graph.actors.as_slice().get(actor as usize) {
-        Some(actor) => slack(&actor.kind),
-        None => 0,
-    }
-}
-
-/// The slack of a sender or an actuator; 0 for other kinds.
-fn slack(kind: &Kind) -> u64
-    ensures { result ≡ slack_of kind.now }
-{
-    match kind {
-        Kind::Send { slack } | Kind::Actuator { slack } => *slack,
-        _ => 0,
-    }
 }

@@ -7,7 +7,8 @@ use Rattle.pt_types.specs.declared.kind.Kind.{Kind}
 use Rattle.pt_types.specs.declared.kind.Kind.TheVariants.{Receive, Send}
 use Rattle.pt_types.specs.Lawful.{IsLawful}
 use Rattle.pt_semantics.specs.Bounds.{Feeds}
-use Rattle.pt_semantics.specs.Edges.{Edge, kind_of}
+use Rattle.pt_semantics.specs.Edges.{Edge}
+use Rattle.pt_types.specs.Lookups.{kind_of}
 use Rattle.pt_semantics.specs.Offsets.{HasOffset, IsFeasible}
 use Rattle.pt_semantics.specs.Ranks.{sum_along}
 use Rattle.pt_semantics.specs.Units.{at_output, groups}

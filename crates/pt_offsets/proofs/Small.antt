@@ -14,14 +14,16 @@ use Rattle.pt_types.specs.Kinds.{is_among, is_time, kind_is_lawful}
 use Rattle.pt_types.specs.Names.{is_file}
 use Rattle.pt_types.specs.Lawful.{IsLawful, link_is_lawful, pair_is_lawful}
 use Rattle.pt_types.specs.Ports.{when}
-use Rattle.pt_semantics.specs.Bounds.{bound_by, bound_of, error_of, link_bound, of_pair, slack_of}
-use Rattle.pt_semantics.specs.Edges.{kind_of, no_actor, platform_of}
+use Rattle.pt_semantics.specs.Bounds.{bound_by, bound_of, error_of, link_bound, of_pair}
+use Rattle.pt_types.specs.Lookups.{slack_of}
+use Rattle.pt_types.specs.Groups.{no_actor}
+use Rattle.pt_types.specs.Lookups.{kind_of, platform_of}
 use Rattle.pt_semantics.specs.Lists.{IsIn, first_of, or_else}
 use Rattle.std.proofs.lemmas.Bool.Decides.{nat_tests}
 use Rattle.pt_semantics.proofs.Words.{when-false}
 use Rattle.pt_semantics.proofs.Lookups.{first_of_found, same_some, when_found, none_some}
 use Rattle.pt_semantics.specs.Units.{groups}
-use Rattle.pt_graph.proofs.Actors.{any_kind}
+use Rattle.pt_types.proofs.LawfulActors.{any_kind}
 use Rattle.pt_offsets.specs.Bounded.{AreBounds, AreModest, bound_at}
 
 time_small : (t : ℕ) → is_time t ≡ true → t ≤ 1000000000000000

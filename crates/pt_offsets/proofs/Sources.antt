@@ -9,16 +9,18 @@ use Rattle.pt_types.specs.declared.kind.Kind.{Kind}
 use Rattle.pt_types.specs.declared.kind.Kind.TheVariants.{Lanes}
 use Rattle.pt_types.specs.Lawful.{IsLawful}
 use Rattle.pt_semantics.specs.Bounds.{Feeds}
-use Rattle.pt_semantics.specs.Edges.{Edge, kind_of, links, wires}
+use Rattle.pt_semantics.specs.Edges.{Edge, links, wires}
+use Rattle.pt_types.specs.Lookups.{kind_of}
 use Rattle.pt_semantics.specs.Offsets.{HasOffset, IsOffset}
 use Rattle.pt_semantics.specs.Paths.{Goes, IsLeast}
 use Rattle.pt_semantics.specs.Ranks.{sum_along}
-use Rattle.pt_semantics.specs.Units.{at_output, output_group, target}
+use Rattle.pt_semantics.specs.Units.{at_output, target}
+use Rattle.pt_types.specs.Groups.{output_group}
 use Rattle.pt_semantics.specs.Wired.{IsWired}
 use Rattle.pt_semantics.proofs.Lookups.{IsIn-append_left, none_some, same_some}
-use Rattle.pt_graph.proofs.Actors.{any_kind}
-use Rattle.pt_lawful.proofs.Edges.{wired}
-use Rattle.pt_delays.specs.Delays.{AreLeast, AreSmall, HasLeast, IsUnit}
+use Rattle.pt_types.proofs.LawfulActors.{any_kind}
+use Rattle.pt_semantics.proofs.LawfulEdges.{wired}
+use Rattle.pt_causality.specs.Delays.{AreLeast, AreSmall, HasLeast, IsUnit}
 use Rattle.pt_offsets.specs.Bounded.{AreBounds, AreModest, bound_at, offset_by, offset_from}
 use Rattle.pt_offsets.specs.Greatest.{HasGreatest, IsGreatest}
 use Rattle.pt_offsets.specs.Margins.{unit_at}

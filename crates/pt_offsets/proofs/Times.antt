@@ -9,10 +9,10 @@ use Rattle.pt_types.specs.Lawful.{IsLawful}
 use Rattle.pt_types.specs.declared.kind.Kind.{Kind}
 use Rattle.pt_types.specs.declared.kind.Kind.TheVariants.{Send}
 use Rattle.pt_semantics.specs.Bounds.{bound_of}
-use Rattle.pt_semantics.specs.Edges.{kind_of}
+use Rattle.pt_types.specs.Lookups.{kind_of}
 use Rattle.pt_semantics.specs.Offsets.{HasOffset, IsOffset}
 use Rattle.pt_semantics.specs.Units.{groups}
-use Rattle.pt_delays.specs.Delays.{AreLeast, AreSmall, IsUnit}
+use Rattle.pt_causality.specs.Delays.{AreLeast, AreSmall, IsUnit}
 use Rattle.pt_offsets.specs.Bounded.{AreBounds, AreModest, offset_from}
 use Rattle.pt_offsets.specs.Greatest.{HasGreatest, IsGreatest}
 use Rattle.pt_offsets.specs.Margins.{HasActorOffset, IsActorOffset, margin_of, unit_at}

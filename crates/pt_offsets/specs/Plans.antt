@@ -1,4 +1,4 @@
--- Plans: graphs that can run, with all that is known of them before a run.
+-- Plans: graphs that can run, with what is computed before a run.
 use Rattle.std.specs.Prelude.{◌≡◌, ℕ}
 use Rattle.pt_types.specs.declared.graph.Graph.{Graph}
 use Rattle.pt_types.specs.declared.graph.Unit.{Unit as Part}
@@ -7,10 +7,10 @@ use Rattle.pt_semantics.specs.Bounds.{bound_of}
 use Rattle.pt_semantics.specs.Cycles.{NoFreeCycle}
 use Rattle.pt_semantics.specs.Offsets.{HasOffset, IsFeasible}
 use Rattle.pt_semantics.specs.Ranks.{AreLevels, AreRanks}
-use Rattle.pt_delays.specs.declared.least.Least.{Least}
-use Rattle.pt_delays.specs.Delays.{AreLeast, AreSmall, least_of}
-use Rattle.pt_ranks.specs.declared.ranks.Ranks.{Ranks}
-use Rattle.pt_ranks.specs.Ranked.{level_of, rank_of}
+use Rattle.pt_causality.specs.declared.least.Least.{Least}
+use Rattle.pt_causality.specs.Delays.{AreLeast, AreSmall, least_of}
+use Rattle.pt_causality.specs.declared.ranks.Ranks.{Ranks}
+use Rattle.pt_causality.specs.Ranked.{level_of, rank_of}
 use Rattle.pt_offsets.specs.declared.table.Offsets.{Offsets}
 use Rattle.pt_offsets.specs.Margins.{HasActorOffset, HasMargin}
 use Rattle.pt_offsets.specs.Timings.{actor_offset_of, bound_in, margin_in, offset_of}
@@ -22,14 +22,14 @@ pub record Parts : Type 0 where
   pub ranks : Ranks
   pub offsets : Offsets
 
--- the offsets of the graph's units and actors, its bounds and its margins
+-- these are the offsets of the graph's units and actors, its bounds and its margins
 pub record AreOffsets (g : Graph) (o : Offsets) : Type 0 where
   pub units : (u : Part) → HasOffset g u (offset_of o u)
   pub actors : (a : ℕ) → HasActorOffset g a (actor_offset_of o a)
   pub bounds : (a : ℕ) → bound_in o a ≡ bound_of g a
   pub margins : (a : ℕ) → HasMargin g a (margin_in o a)
 
--- the graph is admitted: each cycle takes time and each sender can send in time; the other parts are the graph's
+-- the graph is admitted: each cycle takes time, and each sender can send in time; the other parts belong to the graph
 pub record IsAdmitted (p : Parts) : Type 0 where
   pub lawful : IsLawful p.graph
   pub no_free_cycle : NoFreeCycle p.graph

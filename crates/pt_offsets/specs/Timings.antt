@@ -1,11 +1,11 @@
--- What a program keeps of each actor.
+-- The bounds, offsets and margins of actors as lists.
 use Rattle.std.specs.Prelude.{◌≡◌, ◌<ℤ◌, ◌≤ℤ◌, ◌+ℤ◌, ℕ, ℤ, pos, [], List, None, Option, Some, slice_index_or}
 use Rattle.pt_types.specs.declared.graph.Graph.{Graph}
 use Rattle.pt_types.specs.declared.graph.Unit.{Unit as Part}
 use Rattle.pt_types.specs.declared.kind.Kind.{Kind}
 use Rattle.pt_types.specs.declared.kind.Kind.TheVariants.{Send}
 use Rattle.pt_semantics.specs.Bounds.{bound_of}
-use Rattle.pt_semantics.specs.Edges.{kind_of}
+use Rattle.pt_types.specs.Lookups.{kind_of}
 use Rattle.pt_semantics.specs.Offsets.{HasOffset}
 use Rattle.pt_offsets.specs.declared.fault.OffsetFault.{OffsetFault}
 use Rattle.pt_offsets.specs.declared.fault.OffsetFault.TheVariants.{Infeasible, Memory}
@@ -13,43 +13,43 @@ use Rattle.pt_offsets.specs.declared.table.Offsets.{Offsets}
 use Rattle.pt_offsets.specs.declared.table.Timing.{Timing}
 use Rattle.pt_offsets.specs.Margins.{HasActorOffset, margin_of, unit_at}
 
--- what stands for an actor past the end
+-- the entry of an actor past the end: nothing is present
 abbrev pub no_timing : Timing
 no_timing = record { bound = None; offsets = []; offset = None; margin = None }
 
 abbrev pub timing_at : List Timing → ℕ → Timing
 timing_at timings a = slice_index_or timings a no_timing
 
--- the offset of each unit, and the greatest of an actor's units
+-- the offset of a unit, and the greatest offset of an actor's units
 unfoldable pub offset_of : Offsets → Part → Option ℤ
 offset_of o u = slice_index_or (timing_at o.actors.items u.actor).offsets u.group None
 
 unfoldable pub actor_offset_of : Offsets → ℕ → Option ℤ
 actor_offset_of o a = (timing_at o.actors.items a).offset
 
--- the bound and the margin of each actor
+-- the bound and the margin of an actor
 unfoldable pub bound_in : Offsets → ℕ → Option ℕ
 bound_in o a = (timing_at o.actors.items a).bound
 
 unfoldable pub margin_in : Offsets → ℕ → Option ℤ
 margin_in o a = (timing_at o.actors.items a).margin
 
--- these are the times of actor a
+-- this is the entry of actor a
 pub record IsTiming (g : Graph) (a : ℕ) (t : Timing) : Type 0 where
   pub bound : t.bound ≡ bound_of g a
   pub offsets : (group : ℕ) → HasOffset g (unit_at a group) (slice_index_or t.offsets group None)
   pub offset : HasActorOffset g a t.offset
   pub margin : t.margin ≡ margin_of (kind_of g a) t.offset
 
--- and these those of all actors
+-- these are the entries of all actors
 abbrev pub AreTimings : Graph → List Timing → Type 0
 AreTimings g timings = (a : ℕ) → IsTiming g a (timing_at timings a)
 
--- an actor of that kind and offset, where it is a sender, can send in time
+-- if the kind is a sender and there is an offset, it can send in time
 abbrev pub InTime : Kind → Option ℤ → Type 0
 InTime kind offset = (slack : ℕ) (o : ℤ) → kind ≡ Send slack → offset ≡ Some o → (o +ℤ pos 1) ≤ℤ pos slack
 
--- it is a sender that cannot
+-- it is a sender that can't send in time, and the fault names it
 abbrev pub IsLate : ℕ → Kind → Option ℤ → OffsetFault → Type 0
 IsLate a kind offset Memory = ⊥
 IsLate a kind offset (Infeasible send o slack) = (send ≡ a) × (kind ≡ Send slack) × (offset ≡ Some o) × (pos slack <ℤ (o +ℤ pos 1))

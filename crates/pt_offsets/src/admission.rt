@@ -1,13 +1,13 @@
-//! The offsets of a graph whose senders can all send in time.
+//! The offsets of a graph in which each sender can send in time.
 
-ghost use Rattle.std.specs.Prelude.{◌≡◌, ◌<◌, ◌^◌, ℕ, IfOk, IfErr, MatchBool, MatchResult, ◌≤ℤ◌, ◌<ℤ◌, ◌+ℤ◌, pos, length, true};
+ghost use Rattle.std.specs.Prelude.{◌≡◌, ◌<◌, ◌^◌, ℕ, IfOk, IfErr, MatchResult, ◌≤ℤ◌, ◌<ℤ◌, ◌+ℤ◌, true};
 ghost use Rattle.pt_types.specs.declared.graph.Unit.{Unit as Part};
 ghost use Rattle.pt_types.specs.Kinds.{kind_is_lawful};
 ghost use Rattle.pt_types.specs.declared.kind.Kind.TheVariants.{Send};
 ghost use Rattle.pt_types.specs.Lawful.{IsLawful};
 ghost use Rattle.pt_semantics.specs.Bounds.{bound_of};
 ghost use Rattle.pt_semantics.specs.Offsets.{HasOffset, IsFeasible};
-ghost use Rattle.pt_delays.specs.Delays.{AreLeast, AreSmall, least_of};
+ghost use Rattle.pt_causality.specs.Delays.{AreLeast, AreSmall, least_of};
 ghost use Rattle.pt_offsets.specs.Faults.{CauseOfOffset, Names};
 ghost use Rattle.pt_offsets.specs.Margins.{HasActorOffset, HasMargin, SendsInTime};
 ghost use Rattle.pt_offsets.specs.Timings.{AreTimings, InTime, IsLate, timing_at, actor_offset_of, bound_in, margin_in, offset_of};
@@ -15,14 +15,14 @@ ghost use Rattle.pt_offsets.specs.Timings.{AreTimings, InTime, IsLate, timing_at
 use crate::fault::OffsetFault;
 use crate::table::{Offsets, Timing};
 use crate::timing::timings;
-use pt_delays::Least;
+use pt_causality::Least;
 use pt_types::{Graph, Kind};
 use std::alloc::Global;
 
-/// The offsets of a graph, with its least delays, where each sender can send within its slack.
+/// The offsets of a graph, from its least delays; a fault if a sender can't send within its slack.
 ///
-/// An actor that is neither sensor nor receiver has no bound, one that is neither sender nor actuator no margin, and
-/// a unit that no sensor and no receiver reaches no offset.
+/// Only sensors and receivers have a bound, and only senders and actuators
+/// a margin. A unit that no sensor and no receiver leads to has no offset.
 pub fn offsets_of(alloc: Global, graph: &Graph, least: &Least) -> Result<Offsets, OffsetFault>
     requires lawful { IsLawful graph.now }
     requires least { AreLeast graph.now (least_of least.now) }
@@ -32,7 +32,7 @@ pub fn offsets_of(alloc: Global, graph: &Graph, least: &Least) -> Result<Offsets
     ensures bounds { IfOk result (λ o. (a : ℕ) → bound_in o a ≡ bound_of graph.now a) }
     ensures margins { IfOk result (λ o. (a : ℕ) → HasMargin graph.now a (margin_in o a)) }
 
-    // Each sender can send in time, or the first one that cannot is named.
+    // Each sender can send in time, or the fault names the first one that cannot.
     ensures feasible { IfOk result (λ _. IsFeasible graph.now) }
     ensures infeasible { IfErr result (λ f. CauseOfOffset f graph.now) }
 {
@@ -43,7 +43,7 @@ pub fn offsets_of(alloc: Global, graph: &Graph, least: &Least) -> Result<Offsets
     Ok(Offsets { actors })
 }
 
-/// Whether each sender can send in time.
+/// Checks that each sender can send in time.
 fn admit_all(graph: &Graph, timings: &[Timing]) -> Result<(), OffsetFault>
     requires lawful { IsLawful graph.now }
     requires timings { AreTimings graph.now timings.now }
@@ -56,7 +56,7 @@ fn admit_all(graph: &Graph, timings: &[Timing]) -> Result<(), OffsetFault>
     Ok(())
 }
 
-/// Whether the actor of that number, where it is a sender, can send in time.
+/// Checks that the actor with this number can send in time, if it is a sender.
 fn admit_at(graph: &Graph, timings: &[Timing], number: u32) -> Result<(), OffsetFault>
     requires lawful { IsLawful graph.now }
     requires timings { AreTimings graph.now timings.now }
@@ -68,14 +68,14 @@ fn admit_at(graph: &Graph, timings: &[Timing], number: u32) -> Result<(), Offset
     }
 }
 
-/// The offset of an actor; none past the end.
+/// The offset of an actor; `None` past the last actor.
 fn offset_at(timings: &[Timing], number: u32) -> Option<i64>
     ensures { result ≡ (timing_at timings.now number).offset }
 {
     timings.get(number as usize)?.offset
 }
 
-/// Whether an actor, where it is a sender, can send in time.
+/// Checks that an actor can send in time, if it is a sender.
 fn admit(number: u32, kind: &Kind, offset: Option<i64>) -> Result<(), OffsetFault>
     requires { kind_is_lawful kind.now ≡ true }
     ensures { MatchResult result (λ _. InTime kind.now offset) (IsLate number kind.now offset) }
@@ -86,7 +86,7 @@ fn admit(number: u32, kind: &Kind, offset: Option<i64>) -> Result<(), OffsetFaul
     }
 }
 
-/// Whether a sender can send in time.
+/// Checks that a sender can send in time.
 fn admit_sender(send: u32, slack: u64, offset: Option<i64>) -> Result<(), OffsetFault>
     requires { slack < 2 ^ 62 }
     ensures { MatchResult result (λ _. InTime (Send slack) offset) (IsLate send (Send slack) offset) }

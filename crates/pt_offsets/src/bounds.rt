@@ -1,15 +1,16 @@
 //! The bounds of sensors and receivers.
 
-ghost use Rattle.std.specs.Prelude.{◌≡◌, ◌+◌, ◌<◌, ◌≤◌, ◌^◌, ℕ, IfOk, length, slice_index_or, Some, None};
+ghost use Rattle.std.specs.Prelude.{◌≡◌, ◌+◌, ◌<◌, ◌≤◌, ◌^◌, ℕ, IfOk, Some, None};
 ghost use Rattle.pt_types.specs.Lawful.{IsLawful};
-ghost use Rattle.pt_semantics.specs.Bounds.{slack_of, error_of, link_bound, bound_by};
-ghost use Rattle.pt_semantics.specs.Edges.{kind_of, platform_of};
+ghost use Rattle.pt_semantics.specs.Bounds.{error_of, link_bound, bound_by};
+ghost use Rattle.pt_types.specs.Lookups.{slack_of};
+ghost use Rattle.pt_types.specs.Lookups.{platform_of};
 ghost use Rattle.pt_offsets.specs.Bounded.{AreBounds, bound_at, received};
 
 use pt_types::{Actor, Graph, Kind, Link};
 use std::alloc::{AllocError, Global};
 
-/// The bound of each actor in microseconds, none where it is neither a sensor nor a receiver.
+/// The bound of each actor in microseconds; `None` if it is neither a sensor nor a receiver.
 pub fn bounds_of(alloc: Global, graph: &Graph) -> Result<Vec<Option<u64>>, AllocError>
     requires { IsLawful graph.now }
     ensures { IfOk result (λ v. AreBounds graph.now v.items) }
@@ -21,14 +22,14 @@ pub fn bounds_of(alloc: Global, graph: &Graph) -> Result<Vec<Option<u64>>, Alloc
     Ok(bounds)
 }
 
-/// The bound at a place; none past the end.
+/// The bound of an actor; `None` past the last actor.
 pub fn bound_at(bounds: &[Option<u64>], number: u32) -> Option<u64>
     ensures { result ≡ bound_at bounds.now number }
 {
     *bounds.get(number as usize)?
 }
 
-/// The bound of an actor of that number and kind.
+/// The bound of an actor with this number and kind.
 fn bound(graph: &Graph, number: u32, kind: &Kind) -> Option<u64>
     requires { IsLawful graph.now }
     ensures { result ≡ bound_by graph.now number kind.now }
@@ -40,7 +41,7 @@ fn bound(graph: &Graph, number: u32, kind: &Kind) -> Option<u64>
     }
 }
 
-/// The bound that the link to a receiver gives it.
+/// The bound of a receiver, from its link.
 fn received(graph: &Graph, number: u32) -> Option<u64>
     requires { IsLawful graph.now }
     ensures { result ≡ received graph.now number }
@@ -53,48 +54,19 @@ fn received(graph: &Graph, number: u32) -> Option<u64>
     None
 }
 
-/// The slack of the sender, the link's greatest delay and the error of the two clocks, in microseconds.
+/// The slack of the sender, plus the link's delay, plus the clock error of the two platforms, in microseconds.
 fn link_bound(graph: &Graph, link: &Link) -> u64
     requires { link_bound graph.now link.now < 2 ^ 64 }
     ensures { result ≡ link_bound graph.now link.now }
 {
-    let error = error(graph, platform(graph, link.from), platform(graph, link.to));
-    slack_at(graph, link.from) + link.delay + error
+    let sender = graph.platform_of(link.from);
+    let receiver = graph.platform_of(link.to);
+    graph.slack_of(link.from) + link.delay + error(graph, sender, receiver)
 }
 
-/// How far the clocks of two platforms may stand apart.
+/// The clock error of two platforms, in microseconds.
 fn error(graph: &Graph, a: u32, b: u32) -> u64
     ensures { result ≡ error_of graph.now a b }
 {
     graph.error(a, b)
-}
-
-/// The platform of an actor; 0 where there is no such actor.
-fn platform(graph: &Graph, actor: u32) -> u32
-    ensures { result ≡ platform_of graph.now actor }
-{
-    match graph.actors.as_slice().get(actor as usize) {
-        Some(actor) => actor.platform,
-        None => 0,
-    }
-}
-
-/// The slack of an actor; 0 where it has none.
-fn slack_at(graph: &Graph, actor: u32) -> u64
-    ensures { result ≡ slack_of (kind_of graph.now actor) }
-{
-    match graph.actors.as_slice().get(actor as usize) {
-        Some(actor) => slack(&actor.kind),
-        None => 0,
-    }
-}
-
-/// The slack of a sender or an actuator; 0 for other kinds.
-fn slack(kind: &Kind) -> u64
-    ensures { result ≡ slack_of kind.now }
-{
-    match kind {
-        Kind::Send { slack } | Kind::Actuator { slack } => *slack,
-        _ => 0,
-    }
 }

@@ -1,10 +1,10 @@
-//! Offsets: how long after its tag the last event can come that bears on it, and whether each message is sent in time.
+//! Offsets: how long after a tag an event for it can still come, and whether each message can be sent in time.
 //!
-//! The offset of a unit is the greatest bound less least delay over the sensors and receivers that lead to it: once
-//! the clock has passed tag time + offset, all that comes before the tag is there (RTAS 2009).
-//! `HasOffset` in `specs/Offsets.antt` of pt_semantics is that definition.
+//! The offset of a unit is the greatest bound minus least delay, over the sensors and receivers that lead to it. Once the
+//! clock is past tag time plus offset, none of these can still give the unit an event at the tag or before it (RTAS 2009).
+//! `HasOffset` in `specs/Offsets.antt` of pt_semantics is the definition.
 //!
-//! Read first: `offsets_of`.
+//! Read first: `offsets_of`, then `Plan` and `plan_of`.
 #![tactic(auto)]
 
 mod admission;
@@ -12,14 +12,13 @@ mod bounds;
 mod fault;
 mod greatest;
 mod plan;
+mod planning;
 mod table;
 mod timing;
 mod unit_offsets;
 
 pub use admission::offsets_of;
-pub use fault::OffsetFault;
+pub use fault::{OffsetFault, PlanFault};
 pub use plan::Plan;
+pub use planning::{Unplanned, plan_of};
 pub use table::Offsets;
-
-#[cfg(test)]
-mod tests;

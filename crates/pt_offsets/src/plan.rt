@@ -6,42 +6,51 @@ ghost use Rattle.pt_types.specs.Lawful.{IsLawful};
 ghost use Rattle.pt_semantics.specs.Bounds.{bound_of};
 ghost use Rattle.pt_semantics.specs.Offsets.{HasOffset, IsFeasible};
 ghost use Rattle.pt_semantics.specs.Ranks.{AreLevels, AreRanks};
-ghost use Rattle.pt_delays.specs.Delays.{AreLeast, AreSmall, least_of};
-ghost use Rattle.pt_ranks.specs.Ranked.{level_of, rank_of};
+ghost use Rattle.pt_causality.specs.Branches.{AreBranches};
+ghost use Rattle.pt_causality.specs.Delays.{AreLeast, AreSmall, least_of};
+ghost use Rattle.pt_causality.specs.Ranked.{level_of, rank_of};
 ghost use Rattle.pt_offsets.specs.Timings.{actor_offset_of, bound_in, margin_in, offset_of};
 ghost use Rattle.pt_offsets.specs.Margins.{HasActorOffset, HasMargin};
 ghost use Rattle.pt_offsets.specs.Plans.{IsAdmitted};
 
 use crate::table::Offsets;
-use pt_delays::Least;
-use pt_ranks::Ranks;
+use pt_causality::{Branches, Least, Ranks};
 use pt_types::Graph;
 use std::marker::Model;
 
-/// A graph that is admitted, with its least delays, ranks and offsets.
+/// An admitted graph, with its least delays, ranks, offsets and branches.
 ///
-/// Contracts see its four parts; that they are one admitted graph's is kept by the type.
+/// Contracts see the graph, the least delays, the ranks and the offsets. The type guarantees that the graph is admitted and
+/// the other parts belong to it.
 #[derive(Drop)]
 pub struct Plan {
     graph: Graph,
     least: Least,
     ranks: Ranks,
     offsets: Offsets,
+    branches: Branches,
 }
 
 impl Model for Plan {
+    ghost use Rattle.pt_causality.specs.Branches.{AreBranches};
     ghost use Rattle.pt_offsets.specs.Plans.{Parts, IsAdmitted};
 
     ghost Value = { Parts };
 
     ghost view = { λ p. record { graph = p.graph; least = p.least; ranks = p.ranks; offsets = p.offsets } };
 
-    ghost invariant = { λ p. IsAdmitted (record { graph = p.graph; least = p.least; ranks = p.ranks; offsets = p.offsets }) };
+    ghost invariant = { λ p. IsAdmitted (record { graph = p.graph; least = p.least; ranks = p.ranks; offsets = p.offsets }) × AreBranches p.graph p.branches };
 }
 
 impl Plan {
-    /// The plan of a graph, of which these are the least delays, the ranks and the offsets.
-    pub fn new(graph: Graph, least: Least, ranks: Ranks, offsets: Offsets) -> Plan
+    /// The plan of a graph, from its least delays, ranks, offsets and branches.
+    pub fn new(
+        graph: Graph,
+        least: Least,
+        ranks: Ranks,
+        offsets: Offsets,
+        branches: Branches,
+    ) -> Plan
         requires lawful { IsLawful graph }
         requires least { AreLeast graph (least_of least) }
         requires small { AreSmall (least_of least) }
@@ -52,6 +61,7 @@ impl Plan {
         requires bounds { (a : ℕ) → bound_in offsets a ≡ bound_of graph a }
         requires margins { (a : ℕ) → HasMargin graph a (margin_in offsets a) }
         requires feasible { IsFeasible graph }
+        requires branches { AreBranches graph branches }
         ensures graph { result.graph ≡ graph }
         ensures least { result.least ≡ least }
         ensures ranks { result.ranks ≡ ranks }
@@ -62,6 +72,7 @@ impl Plan {
             least,
             ranks,
             offsets,
+            branches,
         }
     }
 
@@ -95,5 +106,12 @@ impl Plan {
         ensures admitted { IsAdmitted self.now }
     {
         &self.offsets
+    }
+
+    /// Where the wires of each actor are among those of the graph.
+    pub fn branches(&self) -> &Branches
+        ensures { AreBranches self.now.graph result.now }
+    {
+        &self.branches
     }
 }

@@ -1,18 +1,18 @@
-//! The times of all actors.
+//! The bounds, offsets and margins of all actors.
 
 ghost use Rattle.std.specs.Prelude.{◌≡◌};
 
 use pt_tags::List;
 use pt_types::Unit;
 
-/// What is known of an actor before a run.
+/// The bound, offsets and margin of one actor, in microseconds.
 #[derive(Drop)]
 pub(crate) struct Timing {
     /// The bound of a sensor or a receiver.
     pub(crate) bound: Option<u64>,
     /// The offset of each of its units, by group.
     pub(crate) offsets: List<Option<i64>>,
-    /// The greatest of them.
+    /// The greatest of these offsets.
     pub(crate) offset: Option<i64>,
     /// The margin of a sender or an actuator.
     pub(crate) margin: Option<i64>,
@@ -28,7 +28,7 @@ pub struct Offsets {
 impl Offsets {
     ghost use Rattle.pt_offsets.specs.Timings.{offset_of, actor_offset_of, bound_in, margin_in};
 
-    /// The offset of a unit; `None` where no sensor and no receiver leads to it.
+    /// The offset of a unit; `None` if no sensor and no receiver leads to it.
     #[tactic(auto, unfolding(crate::specs::Timings::offset_of))]
     pub fn of_unit(&self, unit: Unit) -> Option<i64>
         ensures { result ≡ offset_of self.now unit }
@@ -38,7 +38,7 @@ impl Offsets {
         offsets.get(unit.group as usize).copied().unwrap_or(None)
     }
 
-    /// The greatest offset of an actor's units; `None` where each is absent.
+    /// The greatest offset of an actor's units; `None` if none of them has an offset.
     #[tactic(auto, unfolding(crate::specs::Timings::actor_offset_of))]
     pub fn of(&self, actor: u32) -> Option<i64>
         ensures { result ≡ actor_offset_of self.now actor }
@@ -54,8 +54,8 @@ impl Offsets {
         self.actors.get(actor as usize)?.bound
     }
 
-    /// What a sender or an actuator has left of its slack, `slack - (offset + 1)`; `None` for other kinds and where
-    /// the offset is absent.
+    /// The margin of a sender or an actuator: `slack - (offset + 1)`. Slack 50 and offset 20 give margin 29. `None` for
+    /// other kinds, and if there is no offset.
     #[tactic(auto, unfolding(crate::specs::Timings::margin_in))]
     pub fn margin(&self, actor: u32) -> Option<i64>
         ensures { result ≡ margin_in self.now actor }

@@ -1,11 +1,11 @@
-//! The times of each actor.
+//! The bounds, offsets and margins of each actor.
 
-ghost use Rattle.std.specs.Prelude.{◌≡◌, ◌<◌, ◌^◌, ◌≤ℤ◌, ℕ, ℤ, IfOk, length, pos, neg_ℤ, true, option_map, ◌-ℤ◌, ◌+ℤ◌};
+ghost use Rattle.std.specs.Prelude.{◌≡◌, ◌<◌, ◌^◌, ◌≤ℤ◌, ℕ, ℤ, IfOk, length, pos, neg_ℤ, true, ◌-ℤ◌, ◌+ℤ◌};
 ghost use Rattle.std.specs.Option.{ForSome};
 ghost use Rattle.pt_types.specs.Kinds.{kind_is_lawful};
 ghost use Rattle.pt_types.specs.Lawful.{IsLawful};
-ghost use Rattle.pt_delays.specs.Delays.{AreLeast, AreSmall, least_of};
-ghost use Rattle.pt_semantics.specs.Edges.{kind_of};
+ghost use Rattle.pt_causality.specs.Delays.{AreLeast, AreSmall, least_of};
+ghost use Rattle.pt_types.specs.Lookups.{kind_of};
 ghost use Rattle.pt_offsets.specs.Bounded.{AreBounds};
 ghost use Rattle.pt_offsets.specs.Margins.{margin_of};
 ghost use Rattle.pt_offsets.specs.Timings.{AreTimings, IsTiming};
@@ -14,12 +14,12 @@ use crate::bounds::{bound_at, bounds_of};
 use crate::greatest::greatest;
 use crate::table::Timing;
 use crate::unit_offsets::unit_offsets;
-use pt_delays::Least;
+use pt_causality::Least;
 use pt_tags::List;
 use pt_types::{Graph, Kind};
 use std::alloc::{AllocError, Global};
 
-/// The times of all actors of a graph, with its least delays.
+/// The bounds, offsets and margins of all actors of a graph, from its least delays.
 pub fn timings(alloc: Global, graph: &Graph, least: &Least) -> Result<Vec<Timing>, AllocError>
     requires lawful { IsLawful graph.now }
     requires least { AreLeast graph.now (least_of least.now) }
@@ -42,7 +42,7 @@ pub fn timings(alloc: Global, graph: &Graph, least: &Least) -> Result<Vec<Timing
     Ok(timings)
 }
 
-/// The times of one actor.
+/// The bound, offsets and margin of one actor.
 fn timing(
     alloc: Global,
     graph: &Graph,
@@ -70,7 +70,7 @@ fn timing(
     })
 }
 
-/// What a sender or an actuator has left of its slack once its offset has passed.
+/// The margin of a sender or an actuator; `None` for other kinds.
 fn margin(kind: &Kind, offset: Option<i64>) -> Option<i64>
     requires kind { kind_is_lawful kind.now ≡ true }
     requires offset { ForSome offset (λ o. (neg_ℤ (pos (2 ^ 62)) ≤ℤ o) × (o ≤ℤ pos (2 ^ 62))) }
@@ -82,7 +82,7 @@ fn margin(kind: &Kind, offset: Option<i64>) -> Option<i64>
     }
 }
 
-/// What is left of a slack once an offset has passed.
+/// The part of a slack that is left after an offset and one microsecond.
 fn left(slack: u64, offset: i64) -> i64
     requires slack { slack < 2 ^ 62 }
     requires offset { (neg_ℤ (pos (2 ^ 62)) ≤ℤ offset) × (offset ≤ℤ pos (2 ^ 62)) }

@@ -2,19 +2,19 @@
 
 ghost use Rattle.std.specs.Prelude.{◌≡◌, ◌<◌, ◌^◌, ℕ, IfOk, length, slice_index_or, None};
 ghost use Rattle.std.specs.Option.{ForSome};
-ghost use Rattle.pt_delays.specs.Delays.{AreSmall, least_of};
+ghost use Rattle.pt_causality.specs.Delays.{AreSmall, least_of};
 ghost use Rattle.pt_offsets.specs.Bounded.{AreModest, offset_by, offset_from};
 ghost use Rattle.pt_offsets.specs.Greatest.{HasGreatest};
 ghost use Rattle.pt_offsets.specs.Margins.{unit_at};
 
 use crate::greatest::greater;
-use pt_delays::Least;
+use pt_causality::Least;
 use pt_types::Unit;
 use std::alloc::{AllocError, Global};
 
-/// The offsets of so many units of an actor, by group.
+/// The offsets of an actor's units, for groups 0 to `groups - 1`.
 ///
-/// `bounds` are those of all actors, in microseconds.
+/// `bounds` has the bounds of all actors, in microseconds.
 pub fn unit_offsets(
     alloc: Global,
     bounds: &[Option<u64>],
@@ -35,7 +35,7 @@ pub fn unit_offsets(
     Ok(offsets)
 }
 
-/// The offset of a unit: the greatest over all sources.
+/// The offset of a unit: the greatest for all sensors and receivers.
 fn unit_offset(bounds: &[Option<u64>], least: &Least, unit: Unit) -> Option<i64>
     requires few { length bounds.now < 2 ^ 32 }
     requires modest { AreModest bounds.now }
@@ -53,7 +53,7 @@ fn unit_offset(bounds: &[Option<u64>], least: &Least, unit: Unit) -> Option<i64>
     offset
 }
 
-/// The offset of a unit by one source: its bound less the least delay, where it has a bound and leads there.
+/// The offset of a unit for one source: bound minus least delay, if the source has a bound and leads to the unit.
 fn offset_by(least: &Least, bound: Option<u64>, source: Unit, unit: Unit) -> Option<i64>
     requires bound { ForSome bound (λ b. b < 2 ^ 62) }
     requires small { AreSmall (least_of least.now) }

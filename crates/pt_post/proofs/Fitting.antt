@@ -5,7 +5,7 @@ use Rattle.std.proofs.lemmas.Nat.{mul-le}
 use Rattle.pt_semantics.specs.Floor.{IsBounded}
 use Rattle.pt_semantics.proofs.Acyclic.{levels_are_small}
 use Rattle.pt_semantics.proofs.Lookups.{Each-in, Each-from}
-use Rattle.pt_delays.proofs.Lawful.{wires_are_light}
+use Rattle.pt_causality.proofs.Lawful.{wires_are_light}
 use Rattle.pt_state.specs.declared.fields.OpenClaim.{OpenClaim}
 use Rattle.pt_state.specs.State.{IsOpen}
 use Rattle.pt_post.specs.Sent.{SumsFit}

@@ -1,5 +1,5 @@
 -- What one wire more sends, and that nothing waits there.
-use Rattle.std.proofs.Common.{◌≡◌, ℕ, zero, suc, ◌+◌, ◌<◌, ◌≤◌, ◌==◌, ◌&&◌, ◌≢◌, Bool, true, false, nat_lt, List, [], ◌∷◌, ◌++◌, Option, Some, None, ℤ, map, take, get_or, length, slice_get, filter_map, arith, refl, sym, ap, ap₂, subst, ◌∙◌, eq-eqb, lt-ltb, ne_eqb, eqb-true, inl, inr, ⊎_elim, if◌then◌else◌, append-nil}
+use Rattle.std.proofs.Common.{◌≡◌, ℕ, zero, suc, ◌+◌, ◌<◌, ◌≤◌, ◌==◌, ◌&&◌, ◌≢◌, Bool, true, false, nat_lt, List, [], ◌∷◌, ◌++◌, Option, Some, None, ℤ, map, take, get_or, length, slice_get, filter_map, arith, refl, sym, ap, ap₂, subst, ◌∙◌, eq-eqb, lt-ltb, ne_eqb, eqb-true, ⊎_elim, if◌then◌else◌, append-nil}
 use Rattle.std.proofs.lemmas.Bool.{and_parts, and_from, cases_Bool}
 use Rattle.std.proofs.lemmas.Bool.Decides.{nat_tests}
 use Rattle.std.proofs.lemmas.List.Elements.{filter_map-append}
@@ -16,8 +16,11 @@ use Rattle.pt_types.specs.declared.graph.Unit.{Unit as Part}
 use Rattle.pt_tags.specs.Tags.{same_tag, plus}
 use Rattle.pt_semantics.specs.Lists.{first_of, or_else, IsIn}
 use Rattle.pt_types.specs.Ports.{when, at_port}
-use Rattle.pt_semantics.specs.Edges.{Edge, of_wire, kind_of, weight, no_actor, wires, links, edges}
-use Rattle.pt_semantics.specs.Units.{output_group, leaves_unit, at_input}
+use Rattle.pt_semantics.specs.Edges.{Edge, of_wire, weight, wires, links, edges}
+use Rattle.pt_types.specs.Groups.{no_actor}
+use Rattle.pt_types.specs.Lookups.{kind_of}
+use Rattle.pt_semantics.specs.Units.{leaves_unit, at_input}
+use Rattle.pt_types.specs.Groups.{output_group}
 use Rattle.pt_semantics.specs.Meaning.{Values, going, added}
 use Rattle.pt_semantics.specs.Posting.{message_from, as_message}
 use Rattle.pt_semantics.specs.Closing.{on_link}
@@ -25,7 +28,8 @@ use Rattle.pt_semantics.specs.Floor.{NothingThere}
 use Rattle.pt_semantics.proofs.Words.{when-true, when-false}
 use Rattle.pt_semantics.proofs.Tags.{same_tag-true, same_tag-refl}
 use Rattle.pt_semantics.proofs.Floor.{going_found, end_is}
-use Rattle.pt_delays.specs.Units.{IsUnit}
+use Rattle.pt_causality.specs.Units.{IsUnit}
+use Rattle.pt_causality.proofs.Branching.{at_in}
 use Rattle.pt_semantics.proofs.Lookups.{IsIn-append_left, or_else_found, or_else_none, or_else_assoc, when_or_else, when_none, when_found, first_of-append, first_of_none}
 use Rattle.pt_queue.specs.Events.{value_in}
 use Rattle.pt_semantics.specs.Wired.{IsWired}
@@ -107,11 +111,6 @@ in_front g (w ∷ ws) (suc i) d e mem =
     (λ (rest : IsIn e (map (of_wire g) (take i ws))). let r = in_front g ws i d e rest in let l : r.0 < i = r.1 in let k : r.0 < length ws = r.2 in (suc r.0, omega arith, omega arith, r.3))
     mem
 
-pub at_in : (g : Graph) (ws : List Wire) (i : ℕ) (d : Wire) → i < length ws → IsIn (of_wire g (get_or ws i d)) (map (of_wire g) ws)
-at_in g [] i d lt = absurd (omega arith)
-at_in g (w ∷ ws) zero d lt = inl refl
-at_in g (w ∷ ws) (suc i) d lt = inr (at_in g ws i d (omega arith))
-
 -- wires by their places among the edges
 wire_at : (g : Graph) (ws : List Wire) (rest : List Edge) (i : ℕ) (d : Wire) → i < length ws → slice_get (map (of_wire g) ws ++ rest) i ≡ Some (of_wire g (get_or ws i d))
 wire_at g [] rest i d lt = absurd (omega arith)
@@ -120,12 +119,6 @@ wire_at g (w ∷ ws) rest (suc i) d lt = wire_at g ws rest i d (omega arith)
 
 wire_once : (g : Graph) → IsWired g → (i j : ℕ) (d : Wire) → i < length g.wires → j < length g.wires → (get_or g.wires i d).to ≡ (get_or g.wires j d).to → (get_or g.wires i d).input ≡ (get_or g.wires j d).input → i ≡ j
 wire_once g wired i j d lt below to input = wired.fed_once i j (of_wire g (get_or g.wires i d)) (of_wire g (get_or g.wires j d)) (wire_at g g.wires (links g) i d lt) (wire_at g g.wires (links g) j d below) to input
-
-pub wire_in : (g : Graph) (ws : List Wire) (i : ℕ) (d : Wire) → ws ≡ g.wires → i < length ws → IsIn (of_wire g (get_or ws i d)) (edges g)
-wire_in g ws i d same lt = subst (λ l. IsIn (of_wire g (get_or ws i d)) (map (of_wire g) l ++ links g)) same (IsIn-append_left (of_wire g (get_or ws i d)) (map (of_wire g) ws) (links g) (at_in g ws i d lt))
-
-pub wire_among : (g : Graph) (ws : List Wire) (i : ℕ) (d : Wire) → ws ≡ g.wires → i < length ws → IsIn (of_wire g (get_or ws i d)) (wires g)
-wire_among g ws i d same lt = subst (λ l. IsIn (of_wire g (get_or ws i d)) (map (of_wire g) l)) same (at_in g ws i d lt)
 
 -- what goes along wires comes to units of the graph
 pub going_units : (g : Graph) (leaves : Edge → Bool) (t : Tag) (outputs : List (Option ℤ)) → IsWired g → (a p : ℕ) (x : Tag) (v : ℤ) → going g (wires g) leaves t outputs a p x ≡ Some v → IsUnit g (at_input g a p)

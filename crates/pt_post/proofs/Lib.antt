@@ -3,4 +3,4 @@ pub mod Opens
 pub mod Counted
 pub mod Posting
 pub mod Fitting
-pub mod Branching
+pub mod Skipping

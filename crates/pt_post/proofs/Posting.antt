@@ -8,7 +8,7 @@ use Rattle.pt_types.specs.declared.graph.Unit.{Unit as Part}
 use Rattle.pt_semantics.specs.Lists.{Each}
 use Rattle.pt_types.specs.Ports.{when}
 use Rattle.pt_semantics.specs.Firing.{fired}
-use Rattle.pt_semantics.specs.Edges.{kind_of}
+use Rattle.pt_types.specs.Lookups.{kind_of}
 use Rattle.pt_semantics.specs.Platform.{State, put_busy}
 use Rattle.pt_semantics.specs.Posting.{Posts, after_post}
 use Rattle.pt_semantics.specs.Units.{unit_of, same_part}

@@ -1,4 +1,3 @@
 pub mod Sent
 pub mod Room
 pub mod Posted
-pub mod Branches

@@ -1,4 +1,4 @@
--- Results in a row.
+-- Several results.
 use Rattle.std.specs.Prelude.{◌≡◌, ◌⊎◌, ℕ, List, [], ◌∷◌, ◌++◌, Option, Some, None}
 use Rattle.pt_types.specs.declared.graph.Graph.{Graph}
 use Rattle.pt_types.specs.declared.graph.Unit.{Unit as Part}
@@ -7,7 +7,8 @@ use Rattle.pt_types.specs.declared.firing.OnLink.{OnLink}
 use Rattle.pt_types.specs.declared.firing.Task.{Task}
 use Rattle.pt_types.specs.Lawful.{IsLawful}
 use Rattle.pt_semantics.specs.Behaviours.{Firings}
-use Rattle.pt_semantics.specs.Edges.{wires, kind_of}
+use Rattle.pt_semantics.specs.Edges.{wires}
+use Rattle.pt_types.specs.Lookups.{kind_of}
 use Rattle.pt_semantics.specs.Firing.{fired}
 use Rattle.pt_semantics.specs.Floor.{Bounded, NothingThere}
 use Rattle.pt_semantics.specs.Lists.{Each}
@@ -22,33 +23,34 @@ use Rattle.pt_state.specs.declared.fields.Fields.{Fields}
 use Rattle.pt_state.specs.State.{state_of, busy_in, IsSound}
 use Rattle.pt_post.specs.Sent.{SumsFit}
 
--- whatever was posted so far: what is posted next finds nothing where it goes
+-- after any results that can be posted, no event waits where those of the next result go
 abbrev pub NeverPosts : Graph → State → Type 0
 NeverPosts g s = (ds : List Done) (mid : State) (d : Done) → Posts g s ds mid → mid.busy (unit_of g d.task) ≡ Some d.task → NothingThere mid.waits (going g (wires g) (leaves_unit g (unit_of g d.task)) d.task.tag d.fired.outputs)
 
--- the tags of the open claims and what the wires from their actors add: 64 bits hold the sums
+-- for each open claim, 64 bits hold its tag plus what each wire from its actor adds
 abbrev pub ClaimsFit : Graph → List OpenClaim → Type 0
 ClaimsFit g claims = Each (λ (c : OpenClaim). SumsFit g c.task.actor c.task.tag) claims
 
--- where the tags of a state are bounded, as in every state that a history without a late turn leads to, they fit
+-- if the tags of a state are bounded, as in every state that a history without a late turn leads to, these sums fit
 abbrev pub OpenClaimsFit : Type 0
 OpenClaimsFit = (g : Graph) (level : ℕ → ℕ) (claimed : Firings) (f : Fields) (taken : List OnLink) → IsLawful g → IsWired g → AreLevels g level → IsSound g f → Bounded g level (state_of f taken) claimed → ClaimsFit g f.open_claims.items
 
--- a result is what the kind of its task's actor gives
+-- a result is what the kind of its task's actor gives for the task
 abbrev pub IsDone : Graph → Done → Type 0
 IsDone g d = d.fired ≡ fired (kind_of g d.task.actor) d.task.state d.task.inputs
 
+-- each result is what the kind of its task's actor gives
 abbrev pub AreDone : Graph → List Done → Type 0
 AreDone g dones = Each (IsDone g) dones
 
--- of these results, handed in one after another, those are posted whose task is the open claim of its unit then
+-- of these results, in order, exactly those are posted whose task is then the open claim of its unit
 abbrev pub ArePosted : Graph → (Part → Option Task) → List Done → List Done → Type 0
 ArePosted g busy [] posted = posted ≡ []
 ArePosted g busy (d ∷ ds) posted =
     ((busy (unit_of g d.task) ≡ Some d.task) × (rest : List Done) × (posted ≡ d ∷ rest) × ArePosted g (put_busy busy (unit_of g d.task) None) ds rest)
     ⊎ ((busy (unit_of g d.task) ≡ Some d.task → ⊥) × ArePosted g busy ds posted)
 
--- the results that were posted of those handed in: they are appended to what was kept before, and change the state
+-- the posted results are appended to the earlier ones and change the state, and the open claims left still fit
 pub record Posted (g : Graph) (old new : Fields) (dones before after : List Done) : Type 0 where
   pub posted : List Done
   pub appended : after ≡ before ++ posted

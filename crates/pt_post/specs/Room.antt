@@ -1,4 +1,4 @@
--- How many events results may send.
+-- How many events the results to come may send.
 use Rattle.std.specs.Prelude.{ℕ, List, Option, is_some}
 use Rattle.std.specs.List.{count_by}
 use Rattle.pt_types.specs.declared.graph.Graph.{Graph}
@@ -8,10 +8,10 @@ use Rattle.pt_types.specs.declared.firing.Task.{Task}
 use Rattle.pt_semantics.specs.Edges.{of_wire}
 use Rattle.pt_semantics.specs.Units.{leaves_unit, source}
 
--- how many of these wires leave a unit
+-- the number of these wires that leave a unit
 abbrev pub leaving : Graph → Part → List Wire → ℕ
 leaving g u ws = count_by (λ (w : Wire). leaves_unit g u (of_wire g w)) ws
 
--- how many of these wires leave a unit whose claim is open: each can still send one event
+-- the number of these wires that leave a unit with an open claim: each can still send one event
 abbrev pub leaving_open : Graph → (Part → Option Task) → List Wire → ℕ
 leaving_open g busy ws = count_by (λ (w : Wire). is_some (busy (source g (of_wire g w)))) ws

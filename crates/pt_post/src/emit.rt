@@ -1,35 +1,25 @@
-//! What a firing sends along wires.
+//! The events that a firing sends along wires.
 
 ghost use Rattle.std.specs.Prelude.{◌≡◌, ◌+◌, ◌<◌, ◌≤◌, ◌^◌, true, false, length};
 ghost use Rattle.pt_tags.specs.Tags.{Fits, plus};
 ghost use Rattle.pt_semantics.specs.Edges.{of_wire, wires};
 ghost use Rattle.pt_semantics.specs.Floor.{NothingThere};
 ghost use Rattle.pt_semantics.specs.Meaning.{added, going};
-ghost use Rattle.pt_semantics.specs.Units.{leaves_unit, output_group};
+ghost use Rattle.pt_semantics.specs.Units.{leaves_unit};
+ghost use Rattle.pt_types.specs.Groups.{output_group};
 ghost use Rattle.pt_semantics.specs.Wired.{IsWired};
 ghost use Rattle.pt_queue.specs.Events.{waiting_in};
 ghost use Rattle.pt_queue.specs.Groups.{AreGroups};
-ghost use Rattle.pt_post.specs.Branches.{AreBranches};
+ghost use Rattle.pt_causality.specs.Branches.{AreBranches};
 ghost use Rattle.pt_post.specs.Room.{leaving};
 ghost use Rattle.pt_post.specs.Sent.{along, sent, SumsFit};
 
-use crate::branches::Branches;
-use pt_edges::weight;
+use pt_causality::{Branches, weight};
 use pt_queue::Queue;
 use pt_tags::{Delay, Tag};
 use pt_types::{Event, Graph, Kind, Ports, Unit, Wire};
 
-/// The group of an output: the cell in `lanes`, 0 elsewhere.
-fn output_group(kind: &Kind, output: u32) -> u32
-    ensures { result ≡ output_group kind.now output }
-{
-    match kind {
-        Kind::Lanes { .. } => output,
-        _ => 0,
-    }
-}
-
-/// Puts an output's value in at the wire's end, unless that is past the horizon.
+/// Puts an output's value, if there is one, into the queue at the wire's end, unless its tag is past the horizon.
 fn send_one(queue: &mut Queue, wire: Wire, delay: Delay, until: u64, tag: Tag, output: Option<i64>)
     requires fits { Fits (plus tag delay) }
     requires spare { 0 < queue.old.spare }
@@ -60,7 +50,7 @@ fn send_one(queue: &mut Queue, wire: Wire, delay: Delay, until: u64, tag: Tag, o
     }
 }
 
-/// What a unit's outputs send along one wire.
+/// Sends a unit's output along one wire, if the wire leaves the unit.
 fn emit_along(queue: &mut Queue, graph: &Graph, unit: Unit, tag: Tag, outputs: &Ports, wire: Wire)
     requires fits { wire.from ≡ unit.actor → Fits (plus tag (of_wire graph.now wire).weight) }
     requires spare { leaves_unit graph.now unit (of_wire graph.now wire) ≡ true → 0 < queue.old.spare }
@@ -77,7 +67,7 @@ fn emit_along(queue: &mut Queue, graph: &Graph, unit: Unit, tag: Tag, outputs: &
         return;
     }
     let kind = &graph.actors.as_slice()[wire.from as usize].kind;
-    if output_group(kind, wire.output) != unit.group {
+    if kind.output_group(wire.output) != unit.group {
         return;
     }
     let delay = weight(kind, wire.output);
@@ -91,8 +81,7 @@ fn emit_along(queue: &mut Queue, graph: &Graph, unit: Unit, tag: Tag, outputs: &
     );
 }
 
-/// Sends the outputs of a unit's firing at a tag along its wires, into the queue. Only the wires of its actor are gone
-/// through.
+/// Sends the outputs of a unit's firing at a tag along its wires, into the queue. Visits the wires of its actor only.
 pub fn emit(
     queue: &mut Queue,
     graph: &Graph,

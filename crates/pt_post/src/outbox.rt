@@ -1,4 +1,4 @@
-//! What a firing sends along links.
+//! The messages that a firing sends along links.
 
 ghost use Rattle.std.specs.Prelude.{◌≡◌, ℕ, ◌+◌, ◌<◌, ◌≤◌, ◌^◌, ◌++◌, length, slice_get, vec_len, vec_capacity};
 ghost use Rattle.pt_semantics.specs.Closing.{on_link};
@@ -8,7 +8,7 @@ ghost use Rattle.pt_post.specs.Sent.{sent_on};
 use pt_tags::{Message, Tag};
 use pt_types::{Graph, Link, OnLink, Ports};
 
-/// Puts an actor's output 0 into the outbox, where the link is the actor's.
+/// Puts an actor's output 0, if it has a value, into the outbox, if the link leaves that actor.
 fn send_on(
     outbox: &mut Vec<OnLink>,
     number: u32,
@@ -40,7 +40,7 @@ fn send_on(
     }
 }
 
-/// Puts the output of a sender's firing at a tag into the outbox, for its link; nothing of other actors.
+/// Puts the output of a sender's firing at a tag into the outbox, for its link. Does nothing for other actors.
 pub fn send(outbox: &mut Vec<OnLink>, graph: &Graph, actor: u32, tag: Tag, outputs: &Ports)
     requires links { length graph.now.links < 2 ^ 32 }
     requires room { vec_len outbox.old + length graph.now.links ≤ vec_capacity outbox.old }

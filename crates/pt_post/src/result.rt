@@ -5,21 +5,21 @@ ghost use Rattle.pt_types.specs.declared.firing.OnLink.{OnLink};
 ghost use Rattle.pt_semantics.specs.Posting.{after_post};
 ghost use Rattle.pt_semantics.specs.Wired.{IsWired};
 ghost use Rattle.pt_state.specs.State.{state_of, busy_in, IsSound};
-ghost use Rattle.pt_post.specs.Branches.{AreBranches};
+ghost use Rattle.pt_causality.specs.Branches.{AreBranches};
 ghost use Rattle.pt_post.specs.Room.{leaving_open};
 ghost use Rattle.pt_post.specs.Sent.{FindsNothing, IsClaimed, SumsFit};
 
-use crate::branches::Branches;
 use crate::emit::emit;
 use crate::outbox::send;
+use pt_causality::Branches;
 use pt_state::{Fields, set_state};
 use pt_types::{Done, Graph};
 
-/// Posts a result, where its task is an open claim, and says whether it was: its claim is closed, the actor's state is
-/// set, and its outputs go along wires into the queue and along links into the outbox. Any other result changes nothing.
+/// Posts a result if its task is an open claim, and returns whether it was. Posting closes the claim, sets the actor's state,
+/// and sends the outputs along wires into the queue and along links into the outbox. Any other result changes nothing.
 ///
-/// The sums of the task's tag and the actor's delays have to stay in 64 bits, and where an output goes nothing may wait:
-/// both hold in every state that a history leads to, in which no message came late.
+/// 64 bits must hold the sums of the task's tag and the actor's delays, and no event may wait where an output goes. Both
+/// hold in every state that a history without late messages leads to.
 pub fn post(fields: &mut Fields, graph: &Graph, branches: &Branches, done: &Done) -> bool
     requires sound { IsSound graph.now fields.old }
     requires wired { IsWired graph.now }

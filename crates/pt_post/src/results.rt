@@ -1,23 +1,23 @@
-//! Results in a row.
+//! Several results.
 
 ghost use Rattle.std.specs.Prelude.{◌≡◌, ◌+◌, ◌*◌, ◌<◌, ◌≤◌, ◌^◌, List as Sequence, length, vec_len, vec_capacity};
 ghost use Rattle.pt_types.specs.declared.firing.OnLink.{OnLink};
 ghost use Rattle.pt_semantics.specs.Wired.{IsWired};
 ghost use Rattle.pt_state.specs.State.{state_of, busy_in, IsSound};
-ghost use Rattle.pt_post.specs.Branches.{AreBranches};
+ghost use Rattle.pt_causality.specs.Branches.{AreBranches};
 ghost use Rattle.pt_post.specs.Posted.{AreDone, ClaimsFit, NeverPosts, Posted};
 ghost use Rattle.pt_post.specs.Room.{leaving_open};
 
-use crate::branches::Branches;
 use crate::result::post;
 use pt_actors::Done;
+use pt_causality::Branches;
 use pt_state::Fields;
 use pt_types::{Done as Record, Graph};
 
-/// Posts those results whose tasks are open claims, one after another, and appends them to `kept`.
+/// Posts, in order, those of these results whose tasks are open claims, and appends them to `kept`.
 ///
-/// Every result has to be what its actor's kind gives for its task. All together need room for one event on each wire
-/// that leaves a unit with an open claim, since a claim is closed once; each may need room for a message on each link.
+/// Every result must be what its actor's kind gives for its task. Together they need room for one event on each wire
+/// that leaves a unit with an open claim, since a claim is closed only once. Each may need room for a message on each link.
 pub fn posts(
     fields: &mut Fields,
     graph: &Graph,

@@ -19,8 +19,8 @@ use Rattle.pt_semantics.proofs.Words.{when-true}
 use Rattle.pt_semantics.proofs.Lookups.{first_of_found, when_found, same_some, none_some, Each-in, same_part-true, same_part-refl}
 use Rattle.pt_semantics.proofs.Claiming.{event_found, has_event}
 use Rattle.pt_semantics.proofs.Least.{past_least}
-use Rattle.pt_delays.specs.Delays.{HasLeast, IsUnit}
-use Rattle.pt_delays.proofs.Lawful.{ends_are_units}
+use Rattle.pt_causality.specs.Delays.{HasLeast, IsUnit}
+use Rattle.pt_causality.proofs.Lawful.{ends_are_units}
 use Rattle.pt_queue.specs.declared.groups.Groups.{Groups}
 use Rattle.pt_queue.specs.Groups.{AreGroups}
 use Rattle.pt_queue.specs.Events.{waiting_in, value_in, IsPlaced, IsLeastTag, IsBlocked}

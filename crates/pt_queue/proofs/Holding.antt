@@ -16,7 +16,7 @@ use Rattle.pt_semantics.specs.Ranks.{sum_along}
 use Rattle.pt_semantics.specs.Meaning.{Values}
 use Rattle.pt_semantics.specs.Units.{HasEvent, same_part}
 use Rattle.pt_semantics.proofs.Lookups.{Each-in, same_part-refl, same_part_not}
-use Rattle.pt_delays.specs.Delays.{AreLeast, HasLeast, IsUnit}
+use Rattle.pt_causality.specs.Delays.{AreLeast, HasLeast, IsUnit}
 use Rattle.pt_queue.specs.declared.groups.Groups.{Groups}
 use Rattle.pt_queue.specs.declared.waiting.Waiting.{Waiting}
 use Rattle.pt_queue.specs.Groups.{AreGroups, groups_at}

@@ -1,5 +1,5 @@
 -- The list of units and the events.
-use Rattle.std.proofs.Common.{◌≡◌, ℕ, zero, suc, take, drop, get_or, ◌*◌, ◌<◌, ◌≤◌, ◌==◌, ◌⊎◌, true, false, if◌then◌else◌, List, [], ◌∷◌, Option, Some, None, length, refl, sym, ap, subst, ◌∙◌, inl, inr, ⊎_elim, ne_eqb, arith}
+use Rattle.std.proofs.Common.{◌≡◌, ℕ, ◌*◌, ◌<◌, ◌≤◌, ◌==◌, ◌⊎◌, true, false, if◌then◌else◌, List, [], ◌∷◌, Option, Some, None, length, refl, sym, ap, subst, ◌∙◌, inl, ⊎_elim, ne_eqb, arith}
 use Rattle.std.proofs.lemmas.Bool.{cases_Bool}
 use Rattle.pt_tags.specs.declared.tag.Tag.{Tag}
 use Rattle.pt_tags.specs.Tags.{UpTo}
@@ -8,16 +8,15 @@ use Rattle.pt_types.specs.declared.graph.Graph.{Graph}
 use Rattle.pt_types.specs.declared.graph.Unit.{Unit as Part}
 use Rattle.pt_semantics.specs.Lists.{Each, IsIn}
 use Rattle.pt_semantics.specs.Units.{HasEvent, same_part}
-use Rattle.pt_semantics.proofs.Lookups.{Each-from, Each-in, first_of_none, same_part-true}
+use Rattle.pt_semantics.proofs.Lookups.{Each-from, Each-in, same_part-true}
 use Rattle.pt_queue.specs.declared.groups.Groups.{Groups}
 use Rattle.pt_queue.specs.declared.waiting.Waiting.{Waiting}
 use Rattle.pt_queue.specs.Groups.{AreGroups, group_in}
-use Rattle.pt_queue.specs.Events.{AreWaiting, IsLeastTag, IsListed, IsPlaced, IsRising, UnitBefore, value_in, waiting_in}
-use Rattle.pt_queue.specs.Listed.{AreListed, FitsIn, IsPlace, tag_of}
+use Rattle.pt_queue.specs.Events.{AreWaiting, IsLeastTag, IsListed, IsPlaced, IsRising, waiting_in}
+use Rattle.pt_queue.specs.Listed.{AreListed, FitsIn, tag_of}
 use Rattle.pt_queue.specs.Scans.{is_of, least_from, sooner, sooner_if, unit_in}
-use Rattle.pt_queue.proofs.Found.{least_below, least_found, least_is, some_waits}
-use Rattle.pt_queue.proofs.Listing.{each_map, in_tag, tag_in}
-use Rattle.pt_queue.proofs.Views.{away}
+use Rattle.pt_queue.proofs.Found.{least_below, least_found, least_is}
+use Rattle.pt_queue.proofs.Listing.{in_tag, tag_in}
 
 -- an event's unit is listed, and a listed unit has an event
 

@@ -11,8 +11,10 @@ use Rattle.pt_types.specs.declared.kind.Kind.TheVariants.{Lanes}
 use Rattle.pt_types.specs.Kinds.{kind_is_lawful, is_among, visible_inputs, visible_outputs}
 use Rattle.pt_types.specs.Names.{is_name}
 use Rattle.pt_types.specs.Lawful.{IsLawful, actor_is_lawful}
-use Rattle.pt_semantics.specs.Edges.{kind_of, no_actor}
-use Rattle.pt_semantics.specs.Units.{cell_of, groups, input_group}
+use Rattle.pt_types.specs.Groups.{no_actor}
+use Rattle.pt_types.specs.Lookups.{kind_of}
+use Rattle.pt_semantics.specs.Units.{groups}
+use Rattle.pt_types.specs.Groups.{cell_of, input_group}
 use Rattle.pt_queue.specs.declared.groups.Groups.{Groups}
 use Rattle.pt_queue.specs.Groups.{groups_of, groups_at, group_in, one_unit, AreGroups}
 

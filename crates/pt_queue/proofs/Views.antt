@@ -5,8 +5,9 @@ use Rattle.pt_types.specs.declared.firing.Event.{Event}
 use Rattle.pt_types.specs.declared.graph.Graph.{Graph}
 use Rattle.pt_types.specs.declared.graph.Unit.{Unit as Part}
 use Rattle.pt_types.specs.Ports.{when, eight}
-use Rattle.pt_semantics.specs.Edges.{kind_of}
-use Rattle.pt_semantics.specs.Units.{input_group, unit_inputs}
+use Rattle.pt_types.specs.Lookups.{kind_of}
+use Rattle.pt_semantics.specs.Units.{unit_inputs}
+use Rattle.pt_types.specs.Groups.{input_group}
 use Rattle.pt_tags.specs.Tags.{same_tag}
 use Rattle.pt_semantics.specs.Claiming.{without_unit}
 use Rattle.pt_semantics.specs.Lists.{Each}

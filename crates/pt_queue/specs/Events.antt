@@ -1,4 +1,4 @@
--- A list of events as what waits at each input.
+-- A list of events, seen as the value that waits at each input and tag.
 use Rattle.std.specs.Prelude.{◌≡◌, ℕ, ℤ, ◌<◌, ◌≤◌, ◌==◌, ◌&&◌, List, [], ◌∷◌, Option, Some, None, length, ◌≢◌}
 use Rattle.pt_tags.specs.declared.tag.Tag.{Tag}
 use Rattle.pt_tags.specs.declared.tag.Delay.{Delay}
@@ -16,26 +16,26 @@ use Rattle.pt_semantics.specs.Units.{HasEvent}
 use Rattle.pt_queue.specs.declared.groups.Groups.{Groups}
 use Rattle.pt_queue.specs.declared.waiting.Waiting.{Waiting}
 
--- a queue as contracts see it: the groups of the actors' inputs, its events, and for how many more there is memory
+-- a queue as contracts see it: the groups of the actors' inputs, its events, and how many more events fit in memory
 pub record Queued : Type 0 where
   pub groups : List Groups
   pub events : List Event
   pub spare : ℕ
 
--- the value that one event is, for an actor, an input and a tag
+-- the value that an event brings to an actor's input at a tag
 abbrev pub value_in : Event → Values
 value_in e a p t = when (e.actor == a && e.port == p && same_tag e.tag t) (Some e.value)
 
--- what waits at each input, of a list of events
+-- the value that waits at each input and tag, for a list of events
 abbrev pub waiting_in : List Event → Values
 waiting_in events a p t = first_of (λ (e : Event). value_in e a p t) events
 
--- an event stands at one of the table's actors, at one of eight inputs
+-- an event is at one of the table's actors, at one of eight inputs
 pub record IsPlaced (table : List Groups) (e : Event) : Type 0 where
   pub actor : e.actor < length table
   pub port : e.port < 8
 
--- t is the least tag at which a unit has an event, or the unit has none
+-- t is the least tag at which a unit has an event; or, for None, the unit has no event
 abbrev pub IsLeastTag : Graph → Values → Part → Option Tag → Type 0
 IsLeastTag g waits u None = (t : Tag) → HasEvent g waits u t → ⊥
 IsLeastTag g waits u (Some t) = HasEvent g waits u t × ((w : Tag) → HasEvent g waits u w → UpTo t w)
@@ -44,12 +44,12 @@ IsLeastTag g waits u (Some t) = HasEvent g waits u t × ((w : Tag) → HasEvent 
 abbrev pub UnitBefore : Part → Part → Type 0
 UnitBefore u v = (u.actor ≤ v.actor) × (v.actor ≤ u.actor → u.group < v.group)
 
--- units in rising order
+-- the units rise by actor and group
 abbrev pub IsRising : List Waiting → Type 0
 IsRising [] = Unit {0}
 IsRising (w ∷ ws) = Each (λ (x : Waiting). UnitBefore w.unit x.unit) ws × IsRising ws
 
--- a unit is one of these
+-- a unit is in the list
 abbrev pub IsListed : Part → List Waiting → Type 0
 IsListed u listed = (w : Waiting) × IsIn w listed × (w.unit ≡ u)
 

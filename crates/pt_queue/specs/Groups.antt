@@ -1,9 +1,10 @@
--- The groups of the inputs of actors, as a table.
+-- The input groups of actors, as a table.
 use Rattle.std.specs.Prelude.{◌≡◌, ℕ, ◌<◌, List, [], ◌∷◌, length, slice_index_or}
 use Rattle.pt_types.specs.declared.graph.Graph.{Graph}
 use Rattle.pt_types.specs.declared.kind.Kind.{Kind}
-use Rattle.pt_semantics.specs.Edges.{kind_of}
-use Rattle.pt_semantics.specs.Units.{groups, input_group}
+use Rattle.pt_types.specs.Lookups.{kind_of}
+use Rattle.pt_semantics.specs.Units.{groups}
+use Rattle.pt_types.specs.Groups.{input_group}
 use Rattle.pt_queue.specs.declared.groups.Groups.{Groups}
 
 -- the groups of an actor of this kind
@@ -13,11 +14,11 @@ groups_of k = record {
   count = groups k;
 }
 
--- those of an actor that is one unit
+-- the groups of an actor that is a single unit
 abbrev pub one_unit : Groups
 one_unit = record { inputs = 0 ∷ 0 ∷ 0 ∷ 0 ∷ 0 ∷ 0 ∷ 0 ∷ 0 ∷ []; count = 1 }
 
--- the groups of the actor of that number
+-- the groups of actor a; past the table's end, those of a single unit
 abbrev pub groups_at : List Groups → ℕ → Groups
 groups_at table a = slice_index_or table a one_unit
 

@@ -1,4 +1,4 @@
--- The events of each input, one line after another.
+-- The lines: the events of each input.
 use Rattle.std.specs.Prelude.{◌≡◌, ℕ, ◌+◌, ◌*◌, List, [], ◌∷◌, ◌++◌, Option, Some, None, ℤ, length, slice_index_or, slice_set}
 use Rattle.std.specs.List.{flat_map}
 use Rattle.pt_tags.specs.declared.tag.Tag.{Tag}
@@ -19,23 +19,23 @@ abbrev pub first : List Event → Option Event
 first [] = None
 first (e ∷ es) = Some e
 
--- the value at a tag, of the events of a line
+-- the value at a tag, among the events of a line
 abbrev pub value_on : List Event → Tag → Option ℤ
 value_on line t = first_of (λ (e : Event). when (same_tag e.tag t) (Some e.value)) line
 
--- the number of the line that an event stands in
+-- the number of the line of an event's input
 abbrev pub line_of : Event → ℕ
 line_of e = 8 * e.actor + e.port
 
--- the events of the line of that number
+-- the events of line n
 abbrev pub line_at : List (List Event) → ℕ → List Event
 line_at lines n = slice_index_or lines n []
 
--- the lines after an event joined the end of its own
+-- the lines after an event is appended to its own
 abbrev pub joined_by : List (List Event) → Event → List (List Event)
 joined_by lines e = slice_set lines (line_of e) (line_at lines (line_of e) ++ e ∷ [])
 
--- the lines after these events joined them
+-- the lines after these events are appended, in order
 abbrev pub settled : List (List Event) → List Event → List (List Event)
 settled lines [] = lines
 settled lines (e ∷ es) = settled (joined_by lines e) es
@@ -44,16 +44,16 @@ settled lines (e ∷ es) = settled (joined_by lines e) es
 abbrev pub all_of : List (List Event) → List Event
 all_of lines = flat_map (λ (line : List Event). line) lines
 
--- an event stands in the line of its actor and input
+-- an event is in line n, the line of its actor and input
 pub record IsInLine (table : List Groups) (n : ℕ) (e : Event) : Type 0 where
   pub line : line_of e ≡ n
   pub placed : IsPlaced table e
 
--- each event stands in its line
+-- each event in a line belongs there
 abbrev pub AreInLines : List Groups → List (List Event) → Type 0
 AreInLines table lines = (n : ℕ) → Each (IsInLine table n) (line_at lines n)
 
--- the parts of a queue: eight lines for each actor, and the events that stand in no line yet
+-- the parts of a queue: eight lines for each actor, and the loose events, which are in no line yet
 pub record AreKept (table : List Groups) (lines : List (List Event)) (loose : List Event) : Type 0 where
   pub count : length lines ≡ 8 * length table
   pub in_lines : AreInLines table lines

@@ -4,7 +4,7 @@ use Rattle.pt_tags.specs.declared.tag.Tag.{Tag}
 use Rattle.pt_tags.specs.declared.tag.Delay.{Delay}
 use Rattle.pt_types.specs.declared.firing.Event.{Event}
 use Rattle.pt_types.specs.declared.graph.Unit.{Unit as Part}
-use Rattle.pt_semantics.specs.Lists.{Each, IsIn}
+use Rattle.pt_semantics.specs.Lists.{Each}
 use Rattle.pt_semantics.specs.Units.{same_part}
 use Rattle.pt_queue.specs.declared.groups.Groups.{Groups}
 use Rattle.pt_queue.specs.declared.waiting.Waiting.{Waiting}
@@ -12,44 +12,45 @@ use Rattle.pt_queue.specs.Groups.{groups_at, group_in}
 use Rattle.pt_queue.specs.Events.{IsRising, UnitBefore}
 use Rattle.pt_queue.specs.Scans.{least_from, reaches}
 
--- u comes before v by actor and group, as a test
+-- u comes before v by actor and group, as a Boolean
 abbrev pub unit_lt : Part → Part → Bool
 unit_lt u v = nat_lt u.actor v.actor || (u.actor == v.actor) && nat_lt u.group v.group
 
--- so many listed units come before u, and the others do not
+-- exactly the first n listed units come before u
 pub record IsPlace (u : Part) (listed : List Waiting) (n : ℕ) : Type 0 where
   pub within : n ≤ length listed
   pub before : Each (λ (w : Waiting). UnitBefore w.unit u) (take n listed)
   pub behind : Each (λ (w : Waiting). UnitBefore w.unit u → ⊥) (drop n listed)
 
--- the tag with which a unit is listed
+-- the tag of a unit in the list, if it is listed
 abbrev pub tag_of : List Waiting → Part → Option Tag
 tag_of [] u = None
 tag_of (w ∷ ws) u = if same_part w.unit u then Some w.tag else tag_of ws u
 
--- a unit is one of eight of an actor, where there are n such units of all actors
+-- a unit has its place among n units, eight for each actor
 abbrev pub FitsIn : ℕ → Part → Type 0
 FitsIn n u = (u.group < 8) × (8 * u.actor + 8 ≤ n)
 
--- the units that these events wait for are listed in rising order, each with its least tag
+-- exactly the units that have events are listed, in rising order, each with its least tag
 pub record AreListed (table : List Groups) (events : List Event) (listed : List Waiting) : Type 0 where
   pub rising : IsRising listed
   pub tags : (u : Part) → tag_of listed u ≡ least_from table u None events
 
--- so it is, and there is room for eight units of each actor, as which the table has its inputs
+-- the units that have events are so listed, with room for eight units of each actor, and each group number is below 8
 pub record AreKnown (table : List Groups) (events : List Event) (listed : List Waiting) (capacity : ℕ) : Type 0 where
   pub units : AreListed table events listed
   pub room : 8 * length table ≤ capacity
   pub few : (a p : ℕ) → p < 8 → group_in table a p < 8
 
--- a listed unit isn't this one, and its least tag leads to this one at t or before
+-- a listed unit differs from u, and its least tag leads to u at t or before
 abbrev pub holds_up : List Groups → (Part → Part → Option Delay) → Part → Tag → Waiting → Bool
 holds_up table least u t w = not (same_part w.unit u) && (reaches (least w.unit u) w.tag t && nat_lt w.unit.group (groups_at table w.unit.actor).count)
 
--- the same of a unit and the tag with which it is listed, where it is
+-- unit x differs from u, it has a tag in the list, and this leads to u at t or before
 abbrev pub tag_holds_up : List Groups → (Part → Part → Option Delay) → Part → Tag → Part → Option Tag → Bool
 tag_holds_up table least u t x None = false
 tag_holds_up table least u t x (Some w) = holds_up table least u t (record { unit = x; tag = w })
 
+-- unit x is listed, differs from u, and its least tag leads to u at t or before
 abbrev pub unit_holds_up : List Groups → (Part → Part → Option Delay) → Part → Tag → List Waiting → Part → Bool
 unit_holds_up table least u t listed x = tag_holds_up table least u t x (tag_of listed x)

@@ -1,4 +1,4 @@
--- How a program goes over a list of events.
+-- Searches through a list of events.
 use Rattle.std.specs.Prelude.{◌&&◌, Bool, false, not, List, [], ◌∷◌, Option, Some, None, if◌then◌else◌}
 use Rattle.pt_tags.specs.declared.tag.Tag.{Tag}
 use Rattle.pt_tags.specs.declared.tag.Delay.{Delay}
@@ -17,25 +17,25 @@ unit_in table e = record { actor = e.actor; group = group_in table e.actor e.por
 abbrev pub is_of : List Groups → Part → Event → Bool
 is_of table u e = same_part (unit_in table e) u
 
--- and at this tag
+-- an event waits for this unit at this tag
 abbrev pub is_at : List Groups → Part → Tag → Event → Bool
 is_at table u t e = is_of table u e && same_tag t e.tag
 
--- the lesser of the least tag so far and one more
+-- the lesser of the least tag so far and another tag
 abbrev pub sooner : Option Tag → Tag → Option Tag
 sooner None t = Some t
 sooner (Some b) t = if tag_lt t b then Some t else Some b
 
--- the least tag so far and after one event
+-- the lesser of the two if b is true, else the least tag so far
 abbrev pub sooner_if : Bool → Option Tag → Tag → Option Tag
 sooner_if b best t = if b then sooner best t else best
 
--- the least tag so far and after these events
+-- the least of the tag so far and the tags of the unit's events
 abbrev pub least_from : List Groups → Part → Option Tag → List Event → Option Tag
 least_from table u best [] = best
 least_from table u best (e ∷ events) = least_from table u (sooner_if (is_of table u e) best e.tag) events
 
--- an event at w leads to t or before, along a path of that delay
+-- an event at w leads to t or before, along a path of this delay; None means no path
 abbrev pub reaches : Option Delay → Tag → Tag → Bool
 reaches None w t = false
 reaches (Some d) w t = not (tag_lt t (plus w d))

@@ -1,8 +1,8 @@
-//! Which listed units lead to another in time.
+//! Which of the units that have events hold up another unit.
 
 ghost use Rattle.std.specs.Prelude.{◌≡◌, true, is_some};
 ghost use Rattle.std.specs.List.{list_any};
-ghost use Rattle.pt_delays.specs.Delays.{least_of};
+ghost use Rattle.pt_causality.specs.Delays.{least_of};
 ghost use Rattle.pt_queue.specs.Events.{IsRising};
 ghost use Rattle.pt_queue.specs.Listed.{holds_up, unit_holds_up};
 
@@ -10,13 +10,13 @@ use crate::events::reaches;
 use crate::groups::{Groups, count_at};
 use crate::holders::Holders;
 use crate::waiting::{Waiting, tag_of};
-use pt_delays::Least;
+use pt_causality::Least;
 use pt_tags::Tag;
 use pt_types::Unit;
 
-/// Whether a listed unit is another one, and its least tag leads to this unit at the tag or before.
+/// Whether a listed unit differs from this one, and its least tag leads here at the tag or before.
 ///
-/// Its later events lead there later.
+/// The least tag is enough: the unit's later events lead here later.
 fn holds_up(table: &[Groups], least: &Least, unit: Unit, tag: Tag, other: &Waiting) -> bool
     ensures { result ≡ holds_up table.now (least_of least.now) unit tag other.now }
 {
@@ -27,7 +27,7 @@ fn holds_up(table: &[Groups], least: &Least, unit: Unit, tag: Tag, other: &Waiti
         && other.unit.group < count_at(table, other.unit.actor)
 }
 
-/// One of the listed units that does.
+/// A listed unit that holds up this one; `None` if there is none.
 fn holder_listed(
     table: &[Groups],
     listed: &[Waiting],
@@ -45,7 +45,7 @@ fn holder_listed(
     None
 }
 
-/// Whether a unit is listed, and holds up another one.
+/// Whether `other` is listed and holds up this unit.
 fn unit_holds_up(
     table: &[Groups],
     listed: &[Waiting],
@@ -72,7 +72,7 @@ fn unit_holds_up(
     }
 }
 
-/// One of these units that does.
+/// A unit of `others` that holds up this one; `None` if there is none.
 fn holder_among(
     table: &[Groups],
     listed: &[Waiting],
@@ -92,9 +92,9 @@ fn holder_among(
     None
 }
 
-/// One of the listed units that holds up another one; `None` exactly where none does.
+/// A listed unit that holds up this one; `None` if there is none.
 ///
-/// The search goes over the units from which a path leads there, where these are known and fewer than the listed ones.
+/// Searches the units from which a path leads here, if these are known and fewer than the listed ones.
 fn holder(table: &[Groups], listed: &[Waiting], unit: Unit, tag: Tag, least: &Least) -> Option<Unit>
     requires rises { IsRising listed.now }
     ensures { is_some result ≡ list_any (holds_up table.now (least_of least.now) unit tag) listed.now }
@@ -107,7 +107,7 @@ fn holder(table: &[Groups], listed: &[Waiting], unit: Unit, tag: Tag, least: &Le
     holder_listed(table, listed, unit, tag, least)
 }
 
-/// Whether the unit that held up another one when that was last looked at does so still.
+/// Whether the unit that last held up this one still does.
 fn is_held_still(
     table: &[Groups],
     listed: &[Waiting],
@@ -125,9 +125,9 @@ fn is_held_still(
     }
 }
 
-/// Whether one of the listed units holds up another one.
+/// Whether a listed unit holds up this one.
 ///
-/// The one that did when that unit was last looked at is asked first, and which does so now is kept.
+/// The unit that held it up last is tried first. One found by a search is remembered.
 pub fn is_blocked(
     table: &[Groups],
     listed: &[Waiting],

@@ -35,7 +35,7 @@ fn is_at(table: &[Groups], unit: Unit, tag: Tag, event: &Event) -> bool
     is_of(table, unit, event) && tag == event.tag
 }
 
-/// Removes the events that wait for a unit at a tag.
+/// Removes the events of a tag that wait for a unit.
 pub fn remove(events: &mut VecDeque<Event>, table: &[Groups], unit: Unit, tag: Tag)
     ensures left { events.new.items ≡ filter (λ e. not (is_at table.now unit tag e)) events.old.items }
     ensures len { deque_len events.new ≤ deque_len events.old }
@@ -47,7 +47,7 @@ pub fn remove(events: &mut VecDeque<Event>, table: &[Groups], unit: Unit, tag: T
     events.retain(|event| !is_at(table, unit, tag, event));
 }
 
-/// The lesser of the least tag so far and one more.
+/// The lesser of the least tag so far and another tag.
 pub fn sooner(best: Option<Tag>, tag: Tag) -> Option<Tag>
     ensures { result ≡ sooner best tag }
 {
@@ -63,7 +63,7 @@ pub fn sooner(best: Option<Tag>, tag: Tag) -> Option<Tag>
     }
 }
 
-/// The least tag so far and of the events that wait for a unit.
+/// The least of `so_far` and the tags of the events that wait for a unit.
 pub fn least_tag(
     table: &[Groups],
     events: &VecDeque<Event>,
@@ -95,7 +95,8 @@ pub fn value_at(events: &VecDeque<Event>, actor: u32, port: u32, tag: Tag) -> Op
     None
 }
 
-/// Whether a tag is before the sum of another and a delay. A sum that 64 bits cannot hold is past each tag of that time.
+/// Whether a tag is before the sum of another tag and a delay. If the sum's time overflows 64 bits, each tag is before it; if
+/// only its step does, each tag up to that time is.
 fn is_before_sum(tag: Tag, from: Tag, delay: Delay) -> bool
     ensures { result ≡ tag_lt tag (plus from delay) }
 {
@@ -108,7 +109,7 @@ fn is_before_sum(tag: Tag, from: Tag, delay: Delay) -> bool
     }
 }
 
-/// Whether an event at `from` leads to `tag` or before, along a path of that delay.
+/// Whether an event at `from` leads to `tag` or before, along a path of this delay (`None`: no path).
 pub fn reaches(delay: Option<Delay>, from: Tag, tag: Tag) -> bool
     ensures { result ≡ reaches delay from tag }
 {

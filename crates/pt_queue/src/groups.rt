@@ -1,20 +1,20 @@
 //! The groups of the inputs of each actor.
 
-ghost use Rattle.std.specs.Prelude.{◌≡◌, ◌≤◌, IfOk, slice_index_or};
+ghost use Rattle.std.specs.Prelude.{◌≡◌, ◌≤◌, IfOk};
 ghost use Rattle.pt_types.specs.Lawful.{IsLawful};
-ghost use Rattle.pt_semantics.specs.Units.{groups, input_group};
+ghost use Rattle.pt_semantics.specs.Units.{groups};
+ghost use Rattle.pt_types.specs.Groups.{input_group};
 ghost use Rattle.pt_queue.specs.Groups.{groups_of, groups_at, group_in, AreGroups};
 
 use pt_types::{Graph, Kind};
-use pt_units::input_group;
 use std::alloc::{AllocError, Global};
 
 /// How the inputs of an actor are grouped into units.
 #[derive(Clone, Copy)]
 pub struct Groups {
-    /// The group of each of eight inputs, hidden ones counted.
+    /// The group of each of the eight inputs, hidden ones included.
     pub inputs: [u32; 8],
-    /// How many groups there are.
+    /// The number of groups.
     pub count: u32,
 }
 
@@ -23,10 +23,10 @@ fn group(kind: &Kind, input: u32) -> u32
     requires few { groups kind.now ≤ 8 }
     ensures { result ≡ input_group kind.now input }
 {
-    input_group(kind, input) as u32
+    kind.input_group(input) as u32
 }
 
-/// How many groups a kind has.
+/// The number of groups of a kind.
 fn count(kind: &Kind) -> u32
     requires few { groups kind.now ≤ 8 }
     ensures { result ≡ groups kind.now }
@@ -69,7 +69,7 @@ pub fn all_groups(alloc: Global, graph: &Graph) -> Result<Vec<Groups>, AllocErro
     Ok(groups)
 }
 
-/// How many groups an actor has; past the table's end one.
+/// The number of groups of an actor; 1 past the table's end.
 pub fn count_at(table: &[Groups], actor: u32) -> u32
     ensures { result ≡ (groups_at table.now actor).count }
 {
@@ -79,7 +79,7 @@ pub fn count_at(table: &[Groups], actor: u32) -> u32
     }
 }
 
-/// The group of an input of an actor; past the table's end, that of an actor that is one unit.
+/// The group of an input of an actor; 0 past the table's end.
 pub fn group_in(table: &[Groups], actor: u32, input: u32) -> u32
     ensures { result ≡ group_in table.now actor input }
 {

@@ -1,9 +1,8 @@
-//! The events that wait on a platform, taken unit by unit.
+//! The pending events of a platform, taken unit by unit.
 //!
-//! The queue keeps a line of events for each input of each actor, in rising order of tag, and a table of the groups of every
-//! actor's inputs. It keeps the units that have events too, each with its least tag, and for each unit the one that held it up when it
-//! was last looked at. Its contracts speak of what waits at each input and tag alone, so that they hold of any other way to
-//! keep the events.
+//! Each input of each actor has a line of events in rising order of tag, and a table gives the input groups of every actor.
+//! The queue also lists the units that have events, each with its least tag, and remembers for each unit which one held it
+//! up last. Contracts mention only which value waits at each input and tag, so another representation could meet them too.
 //!
 //! Read first: `Queue`, then `specs/Events.antt`.
 #![tactic(auto)]

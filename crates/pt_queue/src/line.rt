@@ -11,7 +11,7 @@ use std::alloc::Global;
 use std::collections::VecDeque;
 use std::marker::Model;
 
-/// The events of one input, which contracts see as their list.
+/// The events of one input. Contracts see them as a list.
 #[derive(Drop)]
 pub struct Line {
     events: VecDeque<Event>,
@@ -30,6 +30,7 @@ impl Model for Line {
 }
 
 impl Line {
+    /// An empty line.
     pub fn new(alloc: Global) -> Line
         ensures { result ≡ [] }
     {
@@ -46,13 +47,14 @@ impl Line {
         self.events.front().copied()
     }
 
+    /// Whether there are no events.
     pub fn is_empty(&self) -> bool
         ensures { result ≡ (length self.now == 0) }
     {
         self.events.is_empty()
     }
 
-    /// The value of the event at a tag.
+    /// The value of the event at a tag, if there is one.
     pub fn value(&self, tag: Tag) -> Option<i64>
         ensures { result ≡ value_on self.now tag }
     {
@@ -70,8 +72,8 @@ impl Line {
         }
     }
 
-    /// Puts an event behind all others, and says whether it did: its tag has to be the greatest, and there has to be room
-    /// for it. This takes no memory.
+    /// Appends an event, and returns whether it did. It does only if the event's tag is the greatest and there is room.
+    /// Allocates nothing.
     pub fn push(&mut self, event: Event) -> bool
         ensures { self.new ≡ (if result then self.old ++ event ∷ [] else self.old) }
     {
@@ -84,14 +86,14 @@ impl Line {
         self.events.push_back(event).is_ok()
     }
 
-    /// Makes room for one more event, if there is memory for it.
+    /// Makes room for one more event. Without memory for it, nothing changes.
     pub fn grow(&mut self)
         ensures { self.new ≡ self.old }
     {
         let _ = self.events.reserve(1);
     }
 
-    /// Removes the event at a tag.
+    /// Removes the event at a tag, if there is one.
     pub fn take(&mut self, tag: Tag)
         ensures { self.new ≡ filter (λ e. not (same_tag tag e.tag)) self.old }
     {
@@ -108,7 +110,7 @@ impl Line {
     }
 }
 
-/// The value at a tag, wherever it stands.
+/// The value at a tag, by a search from the front.
 fn value_among(events: &VecDeque<Event>, tag: Tag) -> Option<i64>
     ensures { result ≡ value_on events.now.items tag }
 {
@@ -121,7 +123,7 @@ fn value_among(events: &VecDeque<Event>, tag: Tag) -> Option<i64>
     None
 }
 
-/// Whether a tag is greater than those of all events.
+/// Whether a tag is greater than those of all events: `true` without events.
 fn comes_last(events: &VecDeque<Event>, tag: Tag) -> bool
     requires { InOrder events.now.items }
     ensures { result ≡ true → Each (λ e. Before e.tag tag) events.now.items }

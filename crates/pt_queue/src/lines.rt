@@ -10,7 +10,7 @@ use pt_types::Event;
 use std::alloc::{AllocError, Global};
 use std::marker::Model;
 
-/// The lines of all inputs of all actors: that of input `p` of actor `a` has the number `8 a + p`.
+/// The lines of all inputs of all actors: input `p` of actor `a` has line `8 a + p`.
 #[derive(Drop)]
 pub struct Lines {
     lines: Vec<Line>,
@@ -26,7 +26,7 @@ impl Model for Lines {
 }
 
 impl Lines {
-    /// So many lines without events.
+    /// `count` empty lines.
     pub fn new(alloc: Global, count: usize) -> Result<Lines, AllocError>
         ensures { IfOk result (λ lines. lines ≡ replicate count []) }
     {
@@ -58,7 +58,7 @@ impl Lines {
         }
     }
 
-    /// The value of the event at a tag in a line.
+    /// The value of the event at a tag in a line, if there is one.
     pub fn value(&self, line: usize, tag: Tag) -> Option<i64>
         ensures { result ≡ value_on (line_at self.now line) tag }
     {
@@ -68,8 +68,8 @@ impl Lines {
         }
     }
 
-    /// Puts an event at the end of its line, and says whether it did: its tag has to be the greatest there, and there has to
-    /// be room for it. This takes no memory.
+    /// Appends an event to its line, and returns whether it did. It does only if its tag is the greatest there and there is
+    /// room. Allocates nothing.
     pub fn push(&mut self, line: usize, event: Event) -> bool
         requires line { line ≡ line_of event }
         requires there { line < length self.old }
@@ -78,7 +78,7 @@ impl Lines {
         self.lines[line].push(event)
     }
 
-    /// Makes room for one more event in a line, if there is memory for it.
+    /// Makes room for one more event in a line. Without memory for it, nothing changes.
     pub fn grow(&mut self, line: usize)
         requires { line < length self.old }
         ensures { self.new ≡ self.old }
@@ -86,7 +86,7 @@ impl Lines {
         self.lines[line].grow();
     }
 
-    /// Makes room for one more event in a line, if there is such a line and memory for it.
+    /// Makes room for one more event in a line. Does nothing if there is no such line or no memory.
     pub fn widen(&mut self, line: usize)
         ensures { self.new ≡ self.old }
     {
@@ -95,7 +95,7 @@ impl Lines {
         }
     }
 
-    /// Removes the event at a tag from a line.
+    /// Removes the event at a tag from a line; does nothing if there is no such line.
     pub fn take(&mut self, line: usize, tag: Tag)
         ensures { self.new ≡ slice_set self.old line (filter (λ e. not (same_tag tag e.tag)) (line_at self.old line)) }
     {

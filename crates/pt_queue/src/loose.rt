@@ -1,4 +1,4 @@
-//! The events that stand in no line yet.
+//! The events that are in no line yet.
 
 ghost use Rattle.std.specs.Prelude.{◌≡◌, ◌≤◌, ◌<◌, List, length, if◌then◌else◌};
 ghost use Rattle.std.specs.VecDeque.{deque_len, deque_capacity};
@@ -11,7 +11,7 @@ use crate::scan::line_number;
 use pt_types::Event;
 use std::collections::VecDeque;
 
-/// Moves loose events into their lines, as far as there is memory for it.
+/// Moves loose events into their lines, in order, up to the first that does not fit.
 pub fn settle(lines: &mut Lines, loose: &mut VecDeque<Event>)
     requires { Each (λ e. line_of e < length lines.old) loose.old.items }
     ensures settled { settled lines.new loose.new.items ≡ settled lines.old loose.old.items }
@@ -30,14 +30,14 @@ pub fn settle(lines: &mut Lines, loose: &mut VecDeque<Event>)
     }
 }
 
-/// The first of the events.
+/// The first loose event.
 fn first(loose: &VecDeque<Event>) -> Option<Event>
     ensures { result ≡ first loose.now.items }
 {
     loose.front().copied()
 }
 
-/// Puts an event at the end of its line, and says whether it did, where there is memory for it.
+/// Appends an event to its line, growing it if there is memory, and returns whether it did.
 fn settle_one(lines: &mut Lines, event: Event) -> bool
     requires { line_of event < length lines.old }
     ensures { lines.new ≡ (if result then joined_by lines.old event else lines.old) }

@@ -8,7 +8,7 @@ ghost use Rattle.pt_semantics.specs.Claiming.{without_unit};
 ghost use Rattle.pt_semantics.specs.Lists.{Each};
 ghost use Rattle.pt_semantics.specs.Meaning.{added};
 ghost use Rattle.pt_semantics.specs.Units.{unit_inputs};
-ghost use Rattle.pt_delays.specs.Delays.{AreLeast, IsUnit, least_of};
+ghost use Rattle.pt_causality.specs.Delays.{AreLeast, IsUnit, least_of};
 ghost use Rattle.pt_queue.specs.Groups.{AreGroups};
 ghost use Rattle.pt_queue.specs.Events.{waiting_in, value_in, AreWaiting, IsPlaced, IsLeastTag, IsBlocked, IsClear};
 
@@ -21,20 +21,20 @@ use crate::loose::settle;
 use crate::scan::{line_number, remove_from_lines};
 use crate::waiting::{Waiting, lower, set, tag_of};
 use crate::whole::{least_of_unit, values_of};
-use pt_delays::Least;
+use pt_causality::Least;
 use pt_tags::{Memory, Tag};
 use pt_types::{Event, Graph, Ports, Unit};
 use std::alloc::Global;
 use std::collections::VecDeque;
 use std::marker::Model;
 
-/// The events that wait on a platform.
+/// The pending events of a platform.
 ///
-/// Contracts see the groups of the actors' inputs, the list of the events, and `spare`: for how many more there is memory.
+/// Contracts see the groups of the actors' inputs, the list of events, and `spare`: how many more events fit in memory.
 /// What they say of a graph holds for each graph whose actors have these groups.
 ///
-/// An event joins the line of its input. Where that would take memory, or where it comes out of order, it is loose until
-/// `reserve` makes room, or until it is taken.
+/// An event joins the line of its input. If that needs memory, or if the event comes out of order, it is loose until
+/// `reserve` moves it into its line, or until it is taken.
 #[derive(Drop)]
 pub struct Queue {
     groups: Vec<Groups>,
@@ -44,8 +44,8 @@ pub struct Queue {
     lines: Lines,
     loose: VecDeque<Event>,
     spare: usize,
-    /// The number of a line that had no room for an event, or of no line: `reserve` makes room there. An event that was
-    /// taken before it could join its line leaves this.
+    /// The line that last refused an event, to grow at the next `reserve`; `usize::MAX` for none. It stays set if the event
+    /// is taken before it joins its line.
     short: usize,
 }
 
@@ -70,18 +70,10 @@ impl Queue {
         ensures empty { IfOk result (λ queue. queue.events ≡ []) }
         ensures groups { IfOk result (λ queue. AreGroups graph.now queue.groups) }
     {
-        let Ok(groups) = all_groups(alloc, graph) else {
-            return Err(Memory);
-        };
-        let Ok(lines) = Lines::new(alloc, 8 * groups.len()) else {
-            return Err(Memory);
-        };
-        let Ok(waiting) = Vec::with_capacity(alloc, 8 * groups.len()) else {
-            return Err(Memory);
-        };
-        let Ok(holders) = Holders::new(alloc, 8 * groups.len()) else {
-            return Err(Memory);
-        };
+        let groups = all_groups(alloc, graph)?;
+        let lines = Lines::new(alloc, 8 * groups.len())?;
+        let waiting = Vec::with_capacity(alloc, 8 * groups.len())?;
+        let holders = Holders::new(alloc, 8 * groups.len())?;
         Ok(Queue {
             groups,
             waiting,
@@ -93,7 +85,7 @@ impl Queue {
         })
     }
 
-    /// Makes sure that there is memory for `count` more events at least; a refusal leaves all unchanged.
+    /// Reserves memory for at least `count` more events. An error leaves the events and `spare` as they were.
     pub fn reserve(&mut self, count: usize) -> Result<(), Memory>
         ensures spare { OnOk result (count ≤ self.new.spare) }
         ensures no_less { self.old.spare ≤ self.new.spare }
@@ -108,16 +100,12 @@ impl Queue {
         if self.spare >= count {
             return Ok(());
         }
-        match self.loose.reserve(count) {
-            Ok(()) => {
-                self.spare = count;
-                Ok(())
-            }
-            Err(_) => Err(Memory),
-        }
+        self.loose.reserve(count)?;
+        self.spare = count;
+        Ok(())
     }
 
-    /// Puts an event in where none waits. This takes no memory.
+    /// Inserts an event at an input and tag where none waits. Allocates nothing.
     pub fn insert(&mut self, event: Event)
         requires spare { 0 < self.old.spare }
         requires actor { event.actor < length self.old.groups }
@@ -140,7 +128,7 @@ impl Queue {
         }
     }
 
-    /// The least tag of the events at a unit's inputs; `None` exactly where there is none.
+    /// The least tag of the events at a unit's inputs; `None` if there are none.
     pub fn least(&self, unit: Unit) -> Option<Tag>
         ensures { (g : Graph) → AreGroups g self.now.groups → IsLeastTag g (waiting_in self.now.events) unit result }
     {
@@ -154,7 +142,7 @@ impl Queue {
         self.waiting.as_slice()
     }
 
-    /// Takes the events of a tag at a unit's inputs, and gives the values that they have.
+    /// Removes the events of a tag at a unit's inputs, and returns their values by input.
     pub fn take(&mut self, unit: Unit, tag: Tag) -> Ports
         ensures inputs { (g : Graph) → AreGroups g self.old.groups → result ≡ unit_inputs g (waiting_in self.old.events) unit tag }
         ensures waits { (g : Graph) → AreGroups g self.old.groups → waiting_in self.new.events ≡ without_unit g (waiting_in self.old.events) unit tag }
@@ -170,10 +158,10 @@ impl Queue {
         inputs
     }
 
-    /// Whether an event that waits for another unit leads to this one at the tag or before.
+    /// Whether an event that waits for another unit can lead to this one at the tag or before.
     ///
-    /// Where `least` has the least delays of a lawful graph with these groups, that is where the event's tag plus the least
-    /// delay from its unit is at most `tag`. (That such an event holds up a unit is from RTAS 2007.)
+    /// It can if the event's tag plus the least delay from its unit to this one is at most `tag`, provided that `least` gives
+    /// the least delays of a lawful graph with these groups. (That such an event holds up a unit is from RTAS 2007.)
     pub fn blocked(&self, unit: Unit, tag: Tag, least: &Least) -> bool
         ensures blocked { (g : Graph) → IsLawful g → AreGroups g self.now.groups → AreLeast g (least_of least.now) → IsUnit g unit
             → (result ≡ true) ↔ IsBlocked g (waiting_in self.now.events) unit tag }
@@ -190,7 +178,7 @@ impl Queue {
         )
     }
 
-    /// How many actors the graph has. Each event stands at one of them, at one of eight inputs.
+    /// The number of actors of the graph. Each event waits at one of them, at one of eight inputs.
     pub fn actors(&self) -> usize
         ensures actors { result ≡ length self.now.groups }
         ensures placed { Each (IsPlaced self.now.groups) self.now.events }
@@ -198,7 +186,7 @@ impl Queue {
         self.groups.len()
     }
 
-    /// Whether nothing waits.
+    /// Whether no event waits.
     pub fn is_empty(&self) -> bool
         ensures { (result ≡ true) ↔ ((a p : ℕ) (t : Tag) → waiting_in self.now.events a p t ≡ None) }
     {

@@ -1,7 +1,6 @@
-//! What the lines say of a unit, each by its first event.
+//! A unit's events among the lines.
 
-ghost use Rattle.std.specs.Prelude.{◌≡◌, ◌+◌, ◌*◌, ◌<◌, ◌==◌, false, None, [], not, filter, map, slice_set, List};
-ghost use Rattle.pt_types.specs.Ports.{when};
+ghost use Rattle.std.specs.Prelude.{◌≡◌, ◌+◌, ◌*◌, ◌<◌, ◌==◌, None, [], not, filter, map, slice_set};
 ghost use Rattle.pt_queue.specs.Groups.{group_in};
 ghost use Rattle.pt_queue.specs.Events.{waiting_in};
 ghost use Rattle.pt_queue.specs.Lines.{AreInLines, all_of, line_at};
@@ -13,14 +12,14 @@ use crate::lines::Lines;
 use pt_tags::Tag;
 use pt_types::Unit;
 
-/// The number of the line of an input.
+/// The line of an input: `8 * actor + port`.
 pub fn line_number(actor: u32, port: u32) -> usize
     ensures { result ≡ 8 * actor + port }
 {
     8 * actor as usize + port as usize
 }
 
-/// The lesser of the least tag so far and that of a line, where the line is one of the unit's.
+/// The lesser of `so_far` and the least tag of an input's line, if that input is one of the unit's.
 fn sooner_in_line(
     table: &[Groups],
     lines: &Lines,
@@ -44,7 +43,7 @@ fn sooner_in_line(
     }
 }
 
-/// The least tag of the events that stand in a unit's lines.
+/// The least tag of a unit's events in lines.
 pub fn least_in_lines(table: &[Groups], lines: &Lines, unit: Unit) -> Option<Tag>
     requires in_lines { AreInLines table.now lines.now }
     ensures { result ≡ least_from table.now unit None (all_of lines.now) }
@@ -56,7 +55,7 @@ pub fn least_in_lines(table: &[Groups], lines: &Lines, unit: Unit) -> Option<Tag
     best
 }
 
-/// The value that stands in the line of an input at a tag.
+/// The value in the line of an input at a tag, if there is one.
 pub fn value_in_lines(
     table: &[Groups],
     lines: &Lines,
@@ -71,7 +70,7 @@ pub fn value_in_lines(
     lines.value(line_number(actor, port), tag)
 }
 
-/// Removes the event of a unit at a tag from the line of one of the actor's inputs.
+/// Removes the event at a tag from the line of one input, if that input is one of the unit's.
 fn remove_from_line(lines: &mut Lines, table: &[Groups], unit: Unit, tag: Tag, port: u32)
     requires in_lines { AreInLines table.now lines.old }
     requires port { port < 8 }
@@ -86,7 +85,7 @@ fn remove_from_line(lines: &mut Lines, table: &[Groups], unit: Unit, tag: Tag, p
     }
 }
 
-/// Removes the events that wait for a unit at a tag from its lines.
+/// Removes a unit's events of a tag from its lines.
 pub fn remove_from_lines(lines: &mut Lines, table: &[Groups], unit: Unit, tag: Tag)
     requires in_lines { AreInLines table.now lines.old }
     ensures { lines.new ≡ map (filter (λ e. not (is_at table.now unit tag e))) lines.old }

@@ -11,11 +11,20 @@ ghost use Rattle.pt_queue.specs.Scans.{sooner};
 use pt_tags::Tag;
 use pt_types::Unit;
 
-/// A unit that has events, and the least tag of these.
+/// A unit that has events, and the least of their tags.
 #[derive(Clone, Copy, Debug, PartialEq, Eq)]
 pub struct Waiting {
     pub unit: Unit,
     pub tag: Tag,
+}
+
+impl Default for Waiting {
+    fn default() -> Waiting {
+        Waiting {
+            unit: Unit { actor: 0, group: 0 },
+            tag: Tag { time: 0, step: 0 },
+        }
+    }
 }
 
 /// Whether a unit comes before another, by actor and group.
@@ -25,7 +34,7 @@ fn is_before(a: Unit, b: Unit) -> bool
     a.actor < b.actor || a.actor == b.actor && a.group < b.group
 }
 
-/// How many of the listed units come before one.
+/// How many of the listed units come before this one: its place.
 fn place_of(listed: &[Waiting], unit: Unit) -> usize
     requires { IsRising listed.now }
     ensures { IsPlace unit listed.now result }
@@ -37,7 +46,7 @@ fn place_of(listed: &[Waiting], unit: Unit) -> usize
     )
 }
 
-/// The tag of a unit, where it stands at its place.
+/// The tag of a unit, if it is listed at `place`.
 fn tag_at(listed: &[Waiting], place: usize, unit: Unit) -> Option<Tag>
     requires rises { IsRising listed.now }
     requires place { IsPlace unit listed.now place }
@@ -55,7 +64,7 @@ fn tag_at(listed: &[Waiting], place: usize, unit: Unit) -> Option<Tag>
     }
 }
 
-/// The tag of a unit, where it is listed.
+/// The tag of a unit, if it is listed.
 pub fn tag_of(listed: &[Waiting], unit: Unit) -> Option<Tag>
     requires { IsRising listed.now }
     ensures { result ≡ tag_of listed.now unit }
@@ -63,7 +72,7 @@ pub fn tag_of(listed: &[Waiting], unit: Unit) -> Option<Tag>
     tag_at(listed, place_of(listed, unit), unit)
 }
 
-/// Lists a unit at its place, with a tag. This takes no memory.
+/// Lists a unit at its place, with a tag. Allocates nothing.
 fn put(listed: &mut Vec<Waiting>, place: usize, unit: Unit, tag: Tag)
     requires rises { IsRising listed.old.items }
     requires place { IsPlace unit listed.old.items place }
@@ -84,7 +93,7 @@ fn put(listed: &mut Vec<Waiting>, place: usize, unit: Unit, tag: Tag)
     }
 }
 
-/// The lesser of a tag and the least one so far.
+/// The lesser of a tag and the least tag so far.
 fn earlier(so_far: Option<Tag>, tag: Tag) -> Tag
     ensures { Some result ≡ sooner so_far tag }
 {
@@ -94,7 +103,7 @@ fn earlier(so_far: Option<Tag>, tag: Tag) -> Tag
     }
 }
 
-/// Lists a unit with a tag, or lowers its tag to that one. This takes no memory.
+/// Lists a unit with a tag, or lowers its tag to that one if it is greater. Allocates nothing.
 pub fn lower(listed: &mut Vec<Waiting>, unit: Unit, tag: Tag)
     requires rises { IsRising listed.old.items }
     requires room { Each (λ w. FitsIn (vec_capacity listed.old) w.unit) listed.old.items }
@@ -108,7 +117,7 @@ pub fn lower(listed: &mut Vec<Waiting>, unit: Unit, tag: Tag)
     put(listed, place, unit, earlier(so_far, tag));
 }
 
-/// Lists a unit with a tag. This takes no memory.
+/// Lists a unit with a tag. Allocates nothing.
 fn list(listed: &mut Vec<Waiting>, unit: Unit, tag: Tag)
     requires rises { IsRising listed.old.items }
     requires room { Each (λ w. FitsIn (vec_capacity listed.old) w.unit) listed.old.items }
@@ -121,7 +130,7 @@ fn list(listed: &mut Vec<Waiting>, unit: Unit, tag: Tag)
     put(listed, place, unit, tag);
 }
 
-/// Lists a unit no longer.
+/// Removes a unit from the list.
 fn unlist(listed: &mut Vec<Waiting>, unit: Unit)
     requires rises { IsRising listed.old.items }
     ensures rises { IsRising listed.new.items }
@@ -134,7 +143,7 @@ fn unlist(listed: &mut Vec<Waiting>, unit: Unit)
     }
 }
 
-/// Lists a unit with a tag, or no longer. This takes no memory.
+/// Lists a unit with a tag, or removes it for `None`. Allocates nothing.
 pub fn set(listed: &mut Vec<Waiting>, unit: Unit, tag: Option<Tag>)
     requires rises { IsRising listed.old.items }
     requires room { Each (λ w. FitsIn (vec_capacity listed.old) w.unit) listed.old.items }

@@ -1,4 +1,4 @@
-//! What all events say, those in lines and the loose ones.
+//! A unit's events among all: those in lines and the loose ones.
 
 ghost use Rattle.std.specs.Prelude.{◌≡◌, ◌+◌, ◌*◌, ◌<◌, ◌==◌, ◌++◌, None, slice_set};
 ghost use Rattle.pt_types.specs.Ports.{at_port, when, eight};
@@ -29,7 +29,7 @@ pub fn least_of_unit(
     least_tag(table, loose, unit, best)
 }
 
-/// The value that waits at an input of an actor at a tag.
+/// The value that waits at an input of an actor at a tag, if there is one.
 fn value_waiting(
     table: &[Groups],
     lines: &Lines,
@@ -49,7 +49,7 @@ fn value_waiting(
     value_at(loose, actor, port, tag)
 }
 
-/// The value that waits at an input at a tag, where the input is one of the unit's.
+/// The value that waits at an input at a tag, if that input is one of the unit's.
 fn value_of(
     table: &[Groups],
     lines: &Lines,
@@ -71,7 +71,7 @@ fn value_of(
     value_waiting(table, lines, loose, unit.actor, port, tag)
 }
 
-/// Puts a value at a port at which none stands, where it is there.
+/// Puts a value, if there is one, at a port that has none.
 fn put(values: &mut Ports, port: u32, value: Option<i64>)
     requires port { port < 8 }
     requires none { at_port values.old port ≡ None }

@@ -10,16 +10,16 @@ use Rattle.pt_semantics.specs.Lists.{IsIn}
 use Rattle.pt_semantics.specs.Visits.{Made, Together}
 use Rattle.pt_semantics.proofs.Acyclic.{levels_are_one}
 use Rattle.pt_semantics.proofs.Lookups.{none_some}
-use Rattle.pt_semantics.proofs.Onward.{cases_same}
-use Rattle.pt_ends.specs.WholeRuns.{IsEnd}
-use Rattle.pt_ends.proofs.OneRun.{runs_are_one}
-use Rattle.pt_lawful.proofs.Edges.{wired}
-use Rattle.pt_ranks.specs.Ranked.{level_of}
+use Rattle.pt_laws.proofs.Onward.{cases_same}
+use Rattle.pt_schedule.specs.WholeRuns.{IsEnd}
+use Rattle.pt_schedule.proofs.OneRun.{runs_are_one}
+use Rattle.pt_semantics.proofs.LawfulEdges.{wired}
+use Rattle.pt_causality.specs.Ranked.{level_of}
 use Rattle.pt_offsets.specs.Plans.{Parts}
 use Rattle.pt_offsets.specs.Timings.{offset_of}
 use Rattle.pt_turn.specs.declared.fault.TurnFault.TheVariants.{Long}
 use Rattle.pt_turn.specs.Platforms.{PlatformView}
-use Rattle.pt_platforms.specs.All.{histories_of}
+use Rattle.pt_turn.specs.All.{histories_of}
 use Rattle.pt_rounds.specs.Agreeing.{PacedRunsAgree}
 use Rattle.pt_rounds.specs.HaveRun.{EndsWith, HaveRun}
 use Rattle.pt_rounds.proofs.Listed.{member}

@@ -1,7 +1,7 @@
 -- A list with one member changed.
 use Rattle.std.proofs.Common.{◌≡◌, ◌≢◌, ◌⊎◌, ℕ, zero, suc, List, [], ◌∷◌, Some, refl, sym, ap, subst, ◌∙◌, inl, inr, ⊎_elim, set, slice_get}
 use Rattle.pt_semantics.proofs.Lookups.{none_some, same_some}
-use Rattle.pt_semantics.proofs.Onward.{cases_same}
+use Rattle.pt_laws.proofs.Onward.{cases_same}
 
 pub set_here : {X : Type 0} (xs : List X) (i : ℕ) (x old : X) → slice_get xs i ≡ Some old → slice_get (set xs i x) i ≡ Some x
 set_here [] i x old e = absurd (none_some old e)

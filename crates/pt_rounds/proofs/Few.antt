@@ -8,7 +8,7 @@ use Rattle.pt_types.specs.Lawful.{IsLawful}
 use Rattle.pt_semantics.specs.Counts.{sum_below}
 use Rattle.pt_semantics.specs.Lists.{Each}
 use Rattle.pt_semantics.specs.Rows.{FitRows, FitsRow, TimesRise}
-use Rattle.pt_ends.specs.Ending.{most_moves, most_rounds}
+use Rattle.pt_schedule.specs.Ending.{most_moves, most_rounds}
 
 -- times that rise and are no greater than a last one are few
 few_from : (g : Graph) (a t : ℕ) (rows : List Row) → Each (λ (row : Row). t < row.time) rows → TimesRise rows → Each (FitsRow g a) rows → t ≤ g.until → length rows + t ≤ g.until

@@ -4,7 +4,7 @@ use Rattle.std.proofs.lemmas.List.{map-append, replicate-append-replicate}
 use Rattle.std.specs.Global.{Vec}
 use Rattle.pt_types.specs.declared.firing.Done.{Done}
 use Rattle.pt_semantics.proofs.Lookups.{none_some, same_some}
-use Rattle.pt_semantics.proofs.Onward.{cases_same}
+use Rattle.pt_laws.proofs.Onward.{cases_same}
 use Rattle.pt_rounds.specs.Passing.{lists_of}
 
 pub set_same : {X : Type 0} (xs : List X) (i : ℕ) (x y : X) → slice_get xs i ≡ Some y → slice_get (set xs i x) i ≡ Some x

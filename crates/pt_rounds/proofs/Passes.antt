@@ -13,10 +13,10 @@ use Rattle.pt_semantics.specs.Turn.{is_quiet}
 use Rattle.pt_semantics.specs.Visits.{Made}
 use Rattle.pt_semantics.proofs.Acyclic.{levels_are_small}
 use Rattle.pt_semantics.proofs.Lookups.{Each-append, IsIn-append, IsIn-append_left, IsIn-append_right, same_some}
-use Rattle.pt_semantics.proofs.Onward.{Onward, cases_same, round_onward}
-use Rattle.pt_semantics.proofs.PacedRuns.{run_onward}
-use Rattle.pt_lawful.proofs.Edges.{wired}
-use Rattle.pt_ranks.specs.Ranked.{level_of}
+use Rattle.pt_laws.proofs.Onward.{Onward, cases_same, round_onward}
+use Rattle.pt_schedule.proofs.PacedRuns.{run_onward}
+use Rattle.pt_semantics.proofs.LawfulEdges.{wired}
+use Rattle.pt_causality.specs.Ranked.{level_of}
 use Rattle.pt_offsets.specs.Plans.{Parts}
 use Rattle.pt_offsets.specs.Timings.{offset_of}
 use Rattle.pt_turn.specs.declared.fault.TurnFault.{TurnFault}

@@ -8,7 +8,7 @@ use Rattle.pt_types.specs.declared.graph.Graph.{Graph}
 use Rattle.pt_types.specs.declared.graph.Link.{Link}
 use Rattle.pt_types.specs.declared.firing.OnLink.{OnLink}
 use Rattle.pt_semantics.specs.Closing.{on_link}
-use Rattle.pt_semantics.specs.Edges.{platform_of}
+use Rattle.pt_types.specs.Lookups.{platform_of}
 use Rattle.pt_semantics.specs.Lists.{Each, IsIn}
 use Rattle.pt_semantics.specs.Visits.{LinkByLink}
 use Rattle.pt_semantics.proofs.Lookups.{IsIn-append}

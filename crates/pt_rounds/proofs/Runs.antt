@@ -7,7 +7,7 @@ use Rattle.pt_tags.specs.declared.message.Message.{Message}
 use Rattle.pt_types.specs.declared.firing.Done.{Done}
 use Rattle.pt_types.specs.declared.graph.Unit.{Unit as Part}
 use Rattle.pt_types.specs.declared.rows.Row.{Row}
-use Rattle.pt_semantics.specs.Edges.{platform_of}
+use Rattle.pt_types.specs.Lookups.{platform_of}
 use Rattle.pt_semantics.specs.History.{IsLegal, LegalOnTime, claims_of}
 use Rattle.pt_semantics.specs.Kept.{kept}
 use Rattle.pt_semantics.specs.Linked.{AreLinked, AreMatched, IsFinished, all_claims, all_sent, all_taken}
@@ -22,19 +22,19 @@ use Rattle.pt_semantics.specs.Visits.{AreFinished, Made, Together, together_at_s
 use Rattle.pt_semantics.specs.Counts.{unit_firings}
 use Rattle.pt_semantics.specs.Parts.{parts}
 use Rattle.pt_semantics.specs.Wired.{IsWired}
-use Rattle.pt_semantics.proofs.Long.{long_exactly}
+use Rattle.pt_schedule.proofs.Long.{long_exactly}
 use Rattle.pt_semantics.proofs.Lookups.{Each-in, none_some}
-use Rattle.pt_semantics.proofs.PacedKept.{paced_are_legal}
-use Rattle.pt_semantics.proofs.Quiet.{quiet_ends}
-use Rattle.pt_ends.specs.Schedule.{IsOnSchedule, SendsWithinSlack}
-use Rattle.pt_ends.specs.WholeRuns.{IsEnd, kept_by}
-use Rattle.pt_ends.proofs.Existing.{meanings_exist}
-use Rattle.pt_ends.proofs.Kept.{all_on_schedule, all_within_slack, claimed_as_meant, missed_as_meant, none_is_late}
-use Rattle.pt_lawful.proofs.Edges.{wired}
-use Rattle.pt_ranks.specs.Ranked.{level_of, rank_of}
+use Rattle.pt_schedule.proofs.PacedKept.{paced_are_legal}
+use Rattle.pt_schedule.proofs.Quiet.{quiet_ends}
+use Rattle.pt_schedule.specs.Schedule.{IsOnSchedule, SendsWithinSlack}
+use Rattle.pt_schedule.specs.WholeRuns.{IsEnd, kept_by}
+use Rattle.pt_schedule.proofs.Existing.{meanings_exist}
+use Rattle.pt_schedule.proofs.Kept.{all_on_schedule, all_within_slack, claimed_as_meant, missed_as_meant, none_is_late}
+use Rattle.pt_semantics.proofs.LawfulEdges.{wired}
+use Rattle.pt_causality.specs.Ranked.{level_of, rank_of}
 use Rattle.pt_offsets.specs.Plans.{IsAdmitted, Parts}
 use Rattle.pt_offsets.specs.Timings.{offset_of}
-use Rattle.pt_platforms.specs.All.{AreReady, histories_of}
+use Rattle.pt_turn.specs.All.{AreReady, histories_of}
 use Rattle.pt_turn.specs.Platforms.{PlatformView, state_at}
 use Rattle.pt_rounds.specs.Asked.{AreAllFinished, AreLegal, HaveNoFault, IsFirstFault, IsLeastOf, NoneIsOpen}
 use Rattle.pt_rounds.specs.HaveRun.{EndsWith, HaveRun, IsLongOn}
@@ -43,6 +43,7 @@ use Rattle.pt_rounds.specs.Shown.{AreShown}
 use Rattle.pt_rounds.proofs.Listed.{member, none_in}
 use Rattle.pt_rounds.proofs.Showing.{start_shows}
 use Rattle.pt_rounds.proofs.Steps.{one_round}
+use Rattle.pt_types.specs.Limits.{most_claims}
 
 -- what is so of all platforms together is so of each as it shows itself
 module _ (plan : Parts) (rows : ℕ → List Row) (x : Together) (platforms : List PlatformView) (pipes : List (List Message)) (results : List (List Done)) (shown : AreShown plan rows x platforms pipes results) where
@@ -221,8 +222,8 @@ module _ (plan : Parts) (rows : ℕ → List Row) (count c : ℕ) (olds : List P
       (Some i) (first.view, first.at, long.1.all_claims, first.before)
       (λ e. absurd (none_some i (sym e)))
       (λ rank xs ranks meaning.
-      subst (λ k. 200000 < unit_firings plan.graph k (parts plan.graph xs)) long.1.platform
-      (Each-in (λ (m : Made). m.fault ≡ true → 200000 < unit_firings plan.graph m.platform (parts plan.graph xs)) h.made
+      subst (λ k. most_claims < unit_firings plan.graph k (parts plan.graph xs)) long.1.platform
+      (Each-in (λ (m : Made). m.fault ≡ true → most_claims < unit_firings plan.graph m.platform (parts plan.graph xs)) h.made
       (long_exactly plan.graph (level_of plan.ranks) rank rows (offset_of plan.offsets) s.rounds c (length plan.graph.platforms) h.made h.together xs is_wired s.admitted.levels ranks s.fit s.admitted.feasible s.admitted.offsets.units in_round meaning).0
       long.1.turn long.1.there long.1.answers)))
       (h.faults i first.view first.at))

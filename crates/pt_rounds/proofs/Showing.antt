@@ -13,7 +13,7 @@ use Rattle.pt_types.specs.declared.graph.Unit.{Unit as Part}
 use Rattle.pt_types.specs.declared.rows.Row.{Row}
 use Rattle.pt_semantics.specs.Claiming.{Claims}
 use Rattle.pt_semantics.specs.Closing.{CanClose, Sends, on_link, shut}
-use Rattle.pt_semantics.specs.Edges.{platform_of}
+use Rattle.pt_types.specs.Lookups.{platform_of}
 use Rattle.pt_semantics.specs.Entering.{after_rows, all_due}
 use Rattle.pt_semantics.specs.History.{IsLegal, Legal}
 use Rattle.pt_semantics.specs.Kept.{kept, kept_with}
@@ -29,14 +29,14 @@ use Rattle.pt_semantics.specs.Turn.{IsLast, IsTurn, Turn}
 use Rattle.pt_semantics.specs.Visits.{LinkByLink, Made, NumbersRise, Together, together_at_start}
 use Rattle.pt_semantics.specs.Wired.{IsWired}
 use Rattle.pt_semantics.proofs.Acyclic.{levels_are_small}
-use Rattle.pt_semantics.proofs.Bounds.{outgoing_orderly}
+use Rattle.pt_laws.proofs.Bounds.{outgoing_orderly}
 use Rattle.pt_semantics.proofs.Lookups.{Each-from, IsIn-append_left, none_some, same_some}
-use Rattle.pt_semantics.proofs.Onward.{Onward, cases_same, makes_onward}
-use Rattle.pt_semantics.proofs.PacedRuns.{whole_of}
-use Rattle.pt_semantics.proofs.Paces.{IsForeign, Later, Paces, SentLater, in_on_link, turn_paces}
-use Rattle.pt_graph.proofs.Wired.{joined}
-use Rattle.pt_lawful.proofs.Edges.{wired}
-use Rattle.pt_ranks.specs.Ranked.{level_of}
+use Rattle.pt_laws.proofs.Onward.{Onward, cases_same, makes_onward}
+use Rattle.pt_schedule.proofs.PacedRuns.{whole_of}
+use Rattle.pt_laws.proofs.Paces.{IsForeign, Later, Paces, SentLater, in_on_link, turn_paces}
+use Rattle.pt_types.proofs.LawfulEnds.{joined}
+use Rattle.pt_semantics.proofs.LawfulEdges.{wired}
+use Rattle.pt_causality.specs.Ranked.{level_of}
 use Rattle.pt_offsets.specs.Plans.{IsAdmitted, Parts}
 use Rattle.pt_offsets.specs.Timings.{offset_of}
 use Rattle.pt_state.specs.State.{busy_in}
@@ -44,13 +44,14 @@ use Rattle.pt_history.proofs.Gathered.{kept-push}
 use Rattle.pt_turn.specs.declared.fault.TurnFault.{TurnFault}
 use Rattle.pt_turn.specs.Platforms.{PlatformView, level_at, raised_to, rows_at, state_at}
 use Rattle.pt_turn.specs.Turned.{Ends, MayCome, is_late}
-use Rattle.pt_platforms.specs.All.{AreAll, AreReady}
+use Rattle.pt_turn.specs.All.{AreAll, AreReady}
 use Rattle.pt_visits.specs.Pipes.{arriving, emptied, leads_to}
 use Rattle.pt_visits.specs.Visited.{IsVisited}
 use Rattle.pt_rounds.specs.Shown.{AreOpen, AreResults, AreShown, is_fault}
 use Rattle.pt_rounds.proofs.Changed.{set_cases, set_elsewhere, set_here}
 use Rattle.pt_rounds.proofs.Piping.{both_parts, by_link, held, held_emptied, held_none, held_pushed, held_some, in_arriving, lead_of, leads_elsewhere, leads_there, length-emptied, on_arriving, there_or_not}
 use Rattle.pt_rounds.proofs.Opening.{all_posted, claims_open, none_open, numbers_rise, takes_busy, tasks_of}
+use Rattle.pt_types.specs.Limits.{most_claims}
 
 -- a front of an orderly list is orderly
 each_front : {X : Type 0} (P : X → Type 0) (xs ys : List X) → Each P (xs ++ ys) → Each P xs
@@ -90,7 +91,7 @@ same_turn g level i s t new end turn late e f is = record {
   ready = is.ready;
   claims = is.claims;
   idle_if_late = is.idle_if_late;
-  greedy = λ h. subst (λ (z : State). (late ≡ true) ⊎ (NothingSafe g is.ready.waits is.ready.busy turn.last ⊎ (200000 ≤ z.claims))) e (is.greedy h);
+  greedy = λ h. subst (λ (z : State). (late ≡ true) ⊎ (NothingSafe g is.ready.waits is.ready.busy turn.last ⊎ (most_claims ≤ z.claims))) e (is.greedy h);
   at_most = is.at_most;
   done = is.done;
   closes = is.closes;
@@ -317,7 +318,7 @@ module _ (rows : ℕ → List Row) (c : ℕ) (x : Together) (platforms : List Pl
     takes_first = λ l j link at home lt more. nothing_stays l link at home;
     takes_by_link = subst LinkByLink (sym took_all) (by_link v.plan.graph v.number pipes);
     claims_most = k.few;
-    claims_all = λ on_time. subst (λ n. NothingSafe v.plan.graph k.is.ready.waits k.is.ready.busy n ⊎ ((64 ≤ length k.turn.claimed) ⊎ (200000 ≤ k.is.ready.claims))) last_is (k.all_or on_time);
+    claims_all = λ on_time. subst (λ n. NothingSafe v.plan.graph k.is.ready.waits k.is.ready.busy n ⊎ ((64 ≤ length k.turn.claimed) ⊎ (most_claims ≤ k.is.ready.claims))) last_is (k.all_or on_time);
     sends = λ l. held_pushed k.is.done.outbox (emptied v.plan.graph v.number 0 pipes) piped k.turn.sent k.sent l;
     sends_all = sent_all;
     sends_by_link = k.sent.by_link;

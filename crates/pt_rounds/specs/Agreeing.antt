@@ -1,14 +1,14 @@
 -- Two paced runs over one graph and its rows.
 use Rattle.std.specs.Prelude.{◌≡◌, ℕ, List, Option}
 use Rattle.pt_types.specs.declared.rows.Row.{Row}
-use Rattle.pt_ranks.specs.Ranked.{level_of}
+use Rattle.pt_causality.specs.Ranked.{level_of}
 use Rattle.pt_offsets.specs.Plans.{Parts}
 use Rattle.pt_turn.specs.Platforms.{PlatformView}
-use Rattle.pt_platforms.specs.All.{histories_of}
+use Rattle.pt_turn.specs.All.{histories_of}
 use Rattle.pt_rounds.specs.HaveRun.{HaveRun}
 
--- they leave the same histories, and name the same platform where one had to claim more than it may: whatever made them, and
--- whatever the number of workers
+-- they leave the same histories, and name the same platform if one needed more claims than it may make: no matter what made
+-- them, and with how many workers
 abbrev pub PacedRunsAgree : Type 0
 PacedRunsAgree = (plan other : Parts) (rows : ℕ → List Row) (platforms others : List PlatformView) (fault stop : Option ℕ) → plan.graph ≡ other.graph →
     HaveRun plan (level_of plan.ranks) rows platforms fault → HaveRun other (level_of other.ranks) rows others stop →

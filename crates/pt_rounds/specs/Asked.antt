@@ -1,11 +1,11 @@
--- What the platforms of an engine answer between two rounds.
+-- What the engine asks the platforms between rounds.
 use Rattle.std.specs.Prelude.{◌≡◌, ◌<◌, ◌≤◌, ℕ, List, None, Option, Some, false, min, slice_get, true}
 use Rattle.pt_semantics.specs.History.{IsLegal}
 use Rattle.pt_semantics.specs.Linked.{IsFinished}
 use Rattle.pt_semantics.specs.Paced.{IsCandidate}
 use Rattle.pt_turn.specs.Platforms.{PlatformView, level_at, rows_at, state_at}
 
--- the kept turns of each are a legal history
+-- the recorded turns of each platform are a legal history
 abbrev pub AreLegal : List PlatformView → Type 0
 AreLegal platforms = (i : ℕ) (v : PlatformView) → slice_get platforms i ≡ Some v → IsLegal v.plan.graph (level_at v) v.number (rows_at v) v.turns (state_at v)
 
@@ -13,14 +13,14 @@ AreLegal platforms = (i : ℕ) (v : PlatformView) → slice_get platforms i ≡ 
 abbrev pub HaveNoFault : List PlatformView → Type 0
 HaveNoFault platforms = (i : ℕ) (v : PlatformView) → slice_get platforms i ≡ Some v → v.fault ≡ None
 
--- platform i is the first that has one
+-- platform i is the first with a fault
 pub record IsFirstFault (platforms : List PlatformView) (i : ℕ) : Type 0 where
   pub view : PlatformView
   pub at : slice_get platforms i ≡ Some view
   pub fault : view.fault ≡ None → ⊥
   pub before : (j : ℕ) (w : PlatformView) → j < i → slice_get platforms j ≡ Some w → w.fault ≡ None
 
--- all are finished
+-- all platforms are finished
 abbrev pub AreAllFinished : List PlatformView → Type 0
 AreAllFinished platforms = (i : ℕ) (v : PlatformView) → slice_get platforms i ≡ Some v → IsFinished v.plan.graph v.number (state_at v)
 
@@ -28,7 +28,7 @@ AreAllFinished platforms = (i : ℕ) (v : PlatformView) → slice_get platforms 
 abbrev pub NoneIsOpen : ℕ → List PlatformView → Type 0
 NoneIsOpen n platforms = (i : ℕ) (v : PlatformView) → i < n → slice_get platforms i ≡ Some v → v.closed ≡ true
 
--- b is the least next reading of those of the first n platforms that are open
+-- b is the least next reading of the open platforms among the first n
 pub record IsLeastOf (n : ℕ) (platforms : List PlatformView) (b : ℕ) : Type 0 where
   pub number : ℕ
   pub view : PlatformView
@@ -38,7 +38,7 @@ pub record IsLeastOf (n : ℕ) (platforms : List PlatformView) (b : ℕ) : Type 
   pub is : IsCandidate view.plan.graph view.number (state_at view) b
   pub least : (i d : ℕ) (v : PlatformView) → i < n → slice_get platforms i ≡ Some v → v.closed ≡ false → IsCandidate v.plan.graph v.number (state_at v) d → b ≤ d
 
--- the lesser of two numbers that may be absent
+-- the lesser of two numbers, or the one that is there
 abbrev pub lesser : Option ℕ → Option ℕ → Option ℕ
 lesser None b = b
 lesser (Some a) None = Some a

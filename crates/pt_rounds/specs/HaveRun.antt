@@ -1,4 +1,4 @@
--- Platforms after a paced run.
+-- The platforms after a paced run.
 use Rattle.std.specs.Prelude.{◌≡◌, ◌<◌, ◌≤◌, ◌↔◌, ℕ, List, Option, None, Some, false, length, slice_get}
 use Rattle.pt_types.specs.declared.graph.Graph.{Graph}
 use Rattle.pt_types.specs.declared.rows.Row.{Row}
@@ -14,15 +14,16 @@ use Rattle.pt_semantics.specs.Ranks.{AreRanks}
 use Rattle.pt_semantics.specs.Rounds.{IsWholeRun}
 use Rattle.pt_semantics.specs.Rows.{FitRows}
 use Rattle.pt_semantics.specs.Visits.{Made, Together}
-use Rattle.pt_ends.specs.Schedule.{AreAllClaimed, AreClaimedAsMeant, AreMissedAsMeant, IsOnSchedule, SendsWithinSlack}
-use Rattle.pt_ranks.specs.Ranked.{rank_of}
+use Rattle.pt_schedule.specs.Schedule.{AreAllClaimed, AreClaimedAsMeant, AreMissedAsMeant, IsOnSchedule, SendsWithinSlack}
+use Rattle.pt_causality.specs.Ranked.{rank_of}
 use Rattle.pt_offsets.specs.Plans.{IsAdmitted, Parts}
 use Rattle.pt_turn.specs.declared.fault.TurnFault.TheVariants.{Long}
 use Rattle.pt_turn.specs.Platforms.{PlatformView, state_at}
-use Rattle.pt_platforms.specs.All.{AreAll, histories_of}
+use Rattle.pt_turn.specs.All.{AreAll, histories_of}
+use Rattle.pt_types.specs.Limits.{most_claims}
 
--- the platforms stand as a whole paced run leaves them: their kept turns are the rounds' and lead to their states, and one has
--- a fault exactly where its turn in the last round answered it
+-- the platforms are as a whole paced run leaves them: their recorded turns and states are those of its rounds, and a platform
+-- has a fault exactly if one of its turns in the last round had
 pub record IsAfter (plan : Parts) (rows : ℕ → List Row) (level : ℕ → ℕ) (platforms : List PlatformView) : Type 0 where
   pub together : Together
   pub run : IsWholeRun plan.graph level rows together
@@ -30,40 +31,40 @@ pub record IsAfter (plan : Parts) (rows : ℕ → List Row) (level : ℕ → ℕ
   pub states : (i : ℕ) (v : PlatformView) → slice_get platforms i ≡ Some v → together.at i ≡ state_at v
   pub faults : (i : ℕ) (v : PlatformView) → slice_get platforms i ≡ Some v → (v.fault ≡ None) ↔ ((m : Made) → IsIn m run.made → m.platform ≡ i → m.fault ≡ false)
 
--- where no platform has a fault, all are finished; else this is the first that has one, and it made all its claims
+-- without a fault all platforms are finished; else i is the first with a fault, and it made all its claims
 abbrev pub EndsWith : Graph → List PlatformView → Option ℕ → Type 0
 EndsWith g platforms None = (i : ℕ) (v : PlatformView) → slice_get platforms i ≡ Some v → (v.fault ≡ None) × IsFinished g i (state_at v)
 EndsWith g platforms (Some i) = (v : PlatformView) × (slice_get platforms i ≡ Some v) × (v.fault ≡ Some Long) × ((j : ℕ) (w : PlatformView) → j < i → slice_get platforms j ≡ Some w → w.fault ≡ None)
 
--- more units fire in the meaning on that platform than it may claim; where there is none, on no platform
+-- the meaning has more firings of units on platform i than it may claim; or, for None, on no platform
 abbrev pub IsLongOn : Graph → List ActorFiring → Option ℕ → Type 0
-IsLongOn g xs None = (i : ℕ) → i < length g.platforms → unit_firings g i (parts g xs) ≤ 200000
-IsLongOn g xs (Some i) = 200000 < unit_firings g i (parts g xs)
+IsLongOn g xs None = (i : ℕ) → i < length g.platforms → unit_firings g i (parts g xs) ≤ most_claims
+IsLongOn g xs (Some i) = most_claims < unit_firings g i (parts g xs)
 
--- a fact of the meaning of a graph and its rows
+-- a fact about the meaning of a graph and its rows
 abbrev pub InMeaning : Graph → (ℕ → List Row) → (List ActorFiring → Type 0) → Type 0
 InMeaning g rows Fact = (rank : ℕ → ℕ) (xs : List ActorFiring) → AreRanks g rank → IsMeaning g rank rows xs → Fact xs
 
--- all platforms of a plan after a paced run over these rows
+-- all platforms of a plan, after a paced run over these rows
 pub record HaveRun (plan : Parts) (level : ℕ → ℕ) (rows : ℕ → List Row) (platforms : List PlatformView) (fault : Option ℕ) : Type 0 where
   pub admitted : IsAdmitted plan
   pub fit : FitRows plan.graph rows
   pub all : AreAll plan rows platforms
   pub after : IsAfter plan rows level platforms
   pub ends : EndsWith plan.graph platforms fault
-  -- what was taken was sent, and all that was sent was taken where they are finished
+  -- all messages taken were sent, and if the platforms are finished, all sent were taken
   pub matched : AreMatched plan.graph (histories_of platforms)
   pub linked : fault ≡ None → AreLinked plan.graph (histories_of platforms)
-  -- no message is late: the kept turns lead from the opening to the state, and none took one
+  -- no message is late: the recorded turns lead from the opening to the state, and none took a late one
   pub none_late : (i : ℕ) (v : PlatformView) → slice_get platforms i ≡ Some v → LegalOnTime plan.graph level i (opened plan.graph i rows) v.turns (state_at v)
   -- each claim is made at exactly the paced reading of its unit and tag, and no message is sent past its sender's slack
   pub on_schedule : (i : ℕ) (v : PlatformView) → slice_get platforms i ≡ Some v → Each (IsOnSchedule plan.graph) v.turns
   pub within_slack : (i : ℕ) (v : PlatformView) → slice_get platforms i ≡ Some v → Each (SendsWithinSlack plan.graph) v.turns
   -- the graph has a meaning with these rows
   pub meaning : (xs : List ActorFiring) × IsMeaning plan.graph (rank_of plan.ranks) rows xs
-  -- each unit's claims are the first of its parts of the meaning, and all of them where the platforms are finished
+  -- each unit's claims are the first of its parts of the meaning, and all of them if the platforms are finished
   pub claimed_as_meant : InMeaning plan.graph rows (λ xs. AreClaimedAsMeant plan.graph xs (histories_of platforms))
   pub all_claimed : fault ≡ None → InMeaning plan.graph rows (λ xs. AreAllClaimed plan.graph xs (histories_of platforms))
-  -- and what they missed then is told by the meaning and the paced readings
+  -- and then what they missed depends on the meaning and the paced readings alone
   pub missed_as_meant : fault ≡ None → InMeaning plan.graph rows (λ xs. AreMissedAsMeant plan.graph xs (histories_of platforms))
   pub long : InMeaning plan.graph rows (λ xs. IsLongOn plan.graph xs fault)

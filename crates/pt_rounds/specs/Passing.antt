@@ -1,10 +1,10 @@
--- What one visit and one round do to all that is in one hand.
+-- The effect of one visit and of one round on the engine's platforms, pipes and results.
 use Rattle.std.specs.Prelude.{◌≡◌, ◌<◌, ◌≤◌, ◌⊎◌, ◌↔◌, ℕ, Bool, List, None, Some, false, length, map, slice_get, true}
 use Rattle.std.specs.Global.{Vec}
 use Rattle.pt_tags.specs.declared.message.Message.{Message}
 use Rattle.pt_types.specs.declared.firing.Done.{Done}
 use Rattle.pt_types.specs.declared.rows.Row.{Row}
-use Rattle.pt_ranks.specs.Ranked.{level_of}
+use Rattle.pt_causality.specs.Ranked.{level_of}
 use Rattle.pt_semantics.specs.Lists.{Each, IsIn}
 use Rattle.pt_semantics.specs.Rounds.{IsPacedRun, IsQuietRound, Round}
 use Rattle.pt_semantics.specs.Rows.{FitRows}
@@ -17,16 +17,16 @@ use Rattle.pt_visits.specs.Visited.{IsVisited}
 use Rattle.pt_rounds.specs.Asked.{HaveNoFault}
 use Rattle.pt_rounds.specs.Shown.{AreShown}
 
--- the lists of vectors
+-- the items of each vector
 abbrev pub lists_of : List (Vec Done) → List (List Done)
 lists_of vectors = map (λ (v : Vec Done). v.items) vectors
 
--- a platform was visited; whether it did nothing and did not close
+-- a platform was visited, and `still` says whether it did nothing and did not close
 pub record WasVisited (r : ℕ) (dones results : List Done) (old new : PlatformView) (pipes piped : List (List Message)) (still : Bool) : Type 0 where
   pub visited : IsVisited r dones results old new pipes piped
   pub still_is : (still ≡ true) ↔ ((is_quiet visited.turn ≡ true) × (new.closed ≡ old.closed))
 
--- all that is in one hand stands where a paced run stands before a round at reading c, with so many rounds behind it
+-- the platforms, pipes and results are as in a paced run before a round at reading c, after `count` rounds
 pub record Stands (plan : Parts) (rows : ℕ → List Row) (count c : ℕ) (platforms : List PlatformView) (pipes : List (List Message)) (results : List (List Done)) : Type 0 where
   pub admitted : IsAdmitted plan
   pub fit : FitRows plan.graph rows
@@ -37,7 +37,7 @@ pub record Stands (plan : Parts) (rows : ℕ → List Row) (count c : ℕ) (plat
   pub shown : AreShown plan rows together platforms pipes results
   pub no_fault : HaveNoFault platforms
 
--- a platform has the fault that it made all its claims, which its turn in the round answered
+-- platform i has the fault that it made all its claims, and its turn in this round returned it
 pub record IsLong (made : List Made) (i : ℕ) (v : PlatformView) : Type 0 where
   pub all_claims : v.fault ≡ Some Long
   pub turn : Made
@@ -45,7 +45,7 @@ pub record IsLong (made : List Made) (i : ℕ) (v : PlatformView) : Type 0 where
   pub platform : turn.platform ≡ i
   pub answers : turn.fault ≡ true
 
--- the first n platforms were passed in a round that began at `before`
+-- the first n platforms are done in a round that began at `before`
 pub record HavePassed (plan : Parts) (rows : ℕ → List Row) (c : ℕ) (before : Together) (n : ℕ) (platforms : List PlatformView) (pipes : List (List Message)) (results : List (List Done)) (quiet : Bool) : Type 0 where
   pub made : List Made
   pub together : Together

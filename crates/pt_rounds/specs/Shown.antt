@@ -1,4 +1,4 @@
--- What the parts of an engine in one hand show of all platforms together, between two visits.
+-- How an engine's platforms, pipes and results represent all platforms together, between visits.
 use Rattle.std.specs.Prelude.{◌≡◌, ◌∷◌, [], ℕ, Bool, List, Option, None, Some, false, length, map, slice_get, true}
 use Rattle.pt_tags.specs.declared.message.Message.{Message}
 use Rattle.pt_types.specs.declared.firing.Done.{Done}
@@ -15,25 +15,25 @@ use Rattle.pt_post.specs.Posted.{AreDone}
 use Rattle.pt_state.specs.State.{busy_in}
 use Rattle.pt_turn.specs.declared.fault.TurnFault.{TurnFault}
 use Rattle.pt_turn.specs.Platforms.{PlatformView, state_at}
-use Rattle.pt_platforms.specs.All.{AreAll}
+use Rattle.pt_turn.specs.All.{AreAll}
 
 -- whether there is a fault
 abbrev pub is_fault : Option TurnFault → Bool
 is_fault None = false
 is_fault (Some fault) = true
 
--- these are all open claims: where they are closed one after another, none is left
+-- these are all the open claims: closing them in order leaves none
 abbrev pub AreOpen : Graph → (Part → Option Task) → List Task → Type 0
 AreOpen g busy [] = (u : Part) → busy u ≡ None
 AreOpen g busy (task ∷ tasks) = (busy (unit_of g task) ≡ Some task) × AreOpen g (put_busy busy (unit_of g task) None) tasks
 
--- the results in hand are those of all open claims, in the order of the claims
+-- the pending results are those of all open claims, in the order of the claims
 pub record AreResults (g : Graph) (v : PlatformView) (dones : List Done) : Type 0 where
   pub done : AreDone g dones
   pub open_claims : AreOpen g (busy_in v.open_claims) (map (λ (d : Done). d.task) dones)
   pub rise : NumbersRise dones
 
--- the platforms, the pipes and the results in hand are those of all platforms together
+-- the platforms, pipes and pending results represent all platforms together
 pub record AreShown (plan : Parts) (rows : ℕ → List Row) (x : Together) (platforms : List PlatformView) (pipes : List (List Message)) (results : List (List Done)) : Type 0 where
   pub all : AreAll plan rows platforms
   pub states : (i : ℕ) (v : PlatformView) → slice_get platforms i ≡ Some v → x.at i ≡ state_at v

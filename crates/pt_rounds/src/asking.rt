@@ -1,8 +1,7 @@
-//! What is asked of the platforms between two rounds.
+//! What the engine asks the platforms between rounds.
 
-ghost use Rattle.std.specs.Prelude.{◌≡◌, ◌<◌, ◌↔◌, ◌∷◌, ◌++◌, [], ℕ, List, MatchOption, None, length, slice_get, true};
+ghost use Rattle.std.specs.Prelude.{◌≡◌, ◌<◌, ◌↔◌, ◌∷◌, ◌++◌, [], ℕ, List, MatchOption, None, length, true};
 ghost use Rattle.pt_semantics.specs.Turn.{Turn, is_quiet};
-ghost use Rattle.pt_turn.specs.Platforms.{PlatformView};
 ghost use Rattle.pt_rounds.specs.Asked.{AreAllFinished, HaveNoFault, IsFirstFault, IsLeastOf, NoneIsOpen, lesser};
 
 use pt_turn::Platform;
@@ -39,7 +38,7 @@ pub fn are_finished(platforms: &[Platform]) -> bool
     true
 }
 
-/// The least next reading of all platforms that are not closed, in microseconds; `None` exactly where all are closed.
+/// The least next reading of the platforms that are not closed, in microseconds; `None` if all are closed.
 pub fn least_next(platforms: &[Platform]) -> Option<u64>
     ensures { MatchOption result (NoneIsOpen (length platforms.now) platforms.now) (IsLeastOf (length platforms.now) platforms.now) }
 {
@@ -50,7 +49,7 @@ pub fn least_next(platforms: &[Platform]) -> Option<u64>
     least
 }
 
-/// The least next reading of all platforms that are not closed, of which there is one.
+/// The least next reading of the platforms that are not closed, in microseconds; at least one is not.
 pub fn next_reading(platforms: &[Platform]) -> u64
     requires some_open { NoneIsOpen (length platforms.now) platforms.now → ⊥ }
     ensures { IsLeastOf (length platforms.now) platforms.now result }
@@ -61,7 +60,7 @@ pub fn next_reading(platforms: &[Platform]) -> u64
     }
 }
 
-/// The lesser of two numbers that may be absent.
+/// The lesser of two numbers, or the one that is there.
 fn lesser(a: Option<u64>, b: Option<u64>) -> Option<u64>
     ensures { result ≡ lesser a b }
 {

@@ -1,8 +1,8 @@
-//! Rounds, one after another.
+//! Rounds, until the platforms are finished.
 
 ghost use Rattle.std.specs.Prelude.{◌≡◌, IfOk, ℕ, List};
 ghost use Rattle.pt_types.specs.declared.rows.Row.{Row};
-ghost use Rattle.pt_ranks.specs.Ranked.{level_of};
+ghost use Rattle.pt_causality.specs.Ranked.{level_of};
 ghost use Rattle.pt_offsets.specs.Plans.{Parts};
 ghost use Rattle.pt_rounds.specs.HaveRun.{HaveRun};
 ghost use Rattle.pt_rounds.specs.Passing.{Stands, lists_of};
@@ -16,12 +16,12 @@ use pt_tags::Memory;
 use pt_turn::Platform;
 use pt_visits::Desk;
 
-/// No paced run has so many rounds: of three that follow one another at least one moves a platform, and 16 platforms, with
-/// at most one row for each microsecond up to 10 ^ 15 from each of 1,024 sensors, move fewer than 2 * 10 ^ 19 times.
+/// No paced run has this many rounds: of three in a row at least one changes a platform, and 16 platforms, with at most one
+/// row for each microsecond up to 10^15 from each of 1,024 sensors, change fewer than 2 * 10^19 times.
 const MOST_ROUNDS: u128 = 1_000_000_000_000_000_000_000;
 
-/// Makes rounds from a common reading on, until all platforms are finished, or until after a round in which one has a
-/// fault, and gives the first of those.
+/// Runs rounds, the first at reading `begins`, until all platforms are finished or one has a fault after a round; returns
+/// the first platform with a fault.
 pub fn go_on(
     platforms: &mut [Platform],
     pipes: &mut [Pipe],

@@ -1,7 +1,7 @@
-//! What is in one hand besides the platforms.
+//! The engine's state at the start: pipes and pending results.
 
 ghost use Rattle.std.specs.Prelude.{◌≡◌, [], IfOk, OnOk, length, replicate};
-ghost use Rattle.pt_platforms.specs.All.{AreNew};
+ghost use Rattle.pt_turn.specs.All.{AreNew};
 ghost use Rattle.pt_rounds.specs.Asked.{AreLegal};
 ghost use Rattle.pt_rounds.specs.Passing.{lists_of};
 
@@ -11,7 +11,7 @@ use pt_tags::Memory;
 use pt_turn::Platform;
 use std::alloc::Global;
 
-/// So many pipes, each empty.
+/// `count` empty pipes.
 pub fn pipes(alloc: Global, count: usize) -> Result<Vec<Pipe>, Memory>
     ensures { IfOk result (λ pipes. pipes.items ≡ replicate count []) }
 {
@@ -24,7 +24,7 @@ pub fn pipes(alloc: Global, count: usize) -> Result<Vec<Pipe>, Memory>
     Ok(pipes)
 }
 
-/// An empty list of results for each platform. None has made a turn, so each stands at its opening.
+/// An empty list of results for each platform. No platform has made a turn, so each is still in its opening state.
 pub fn no_results(alloc: Global, platforms: &[Platform]) -> Result<Vec<Vec<Done>>, Memory>
     requires fresh { AreNew platforms.now }
     ensures none { IfOk result (λ lists. lists_of lists.items ≡ replicate (length platforms.now) []) }

@@ -1,5 +1,5 @@
-//! The paced engine: all platforms of a plan go on in rounds at one common reading, until all are finished or one has made
-//! all its claims.
+//! The paced engine: it runs all platforms of a plan in rounds, each at one common reading, until all are finished or one has
+//! made all the claims that it may.
 //!
 //! Read first: `paced`, then `specs/HaveRun.antt`.
 #![tactic(auto)]

@@ -17,7 +17,7 @@ use pt_tags::Memory;
 use pt_turn::Platform;
 use pt_visits::{Desk, visit};
 
-/// Visits a platform, and tells whether that changed nothing but its reading.
+/// Visits a platform, and returns whether only its reading changed.
 fn visit_one(
     platform: &mut Platform,
     pipes: &mut [Pipe],
@@ -38,7 +38,7 @@ fn visit_one(
     Ok(platform.closed() == closed && was_quiet(platform))
 }
 
-/// A round at a common reading, in microseconds: each platform in order that is not finished is visited. Tells whether the
+/// A round at a common reading, in microseconds: visits each platform that is not finished, in order. Returns whether the
 /// round was quiet.
 pub fn pass(
     platforms: &mut [Platform],

@@ -1,10 +1,10 @@
-//! The rounds of all platforms.
+//! A paced run of all platforms.
 
 ghost use Rattle.std.specs.Prelude.{◌≡◌, ◌<◌, ℕ, IfOk, List, length};
 ghost use Rattle.pt_types.specs.declared.rows.Row.{Row};
-ghost use Rattle.pt_ranks.specs.Ranked.{level_of};
+ghost use Rattle.pt_causality.specs.Ranked.{level_of};
 ghost use Rattle.pt_offsets.specs.Plans.{Parts};
-ghost use Rattle.pt_platforms.specs.All.{AreReady, IsReady};
+ghost use Rattle.pt_turn.specs.All.{AreReady, IsReady};
 ghost use Rattle.pt_rounds.specs.HaveRun.{HaveRun};
 
 use crate::asking::next_reading;
@@ -16,18 +16,18 @@ use pt_turn::Platform;
 use pt_visits::Desk;
 use std::alloc::Global;
 
-/// The platforms after a run, in the order of the graph, and the first one that has a fault.
+/// The platforms after a run, in the order of the graph, and the first one with a fault.
 #[derive(Drop)]
 pub struct Rounds {
     pub platforms: Vec<Platform>,
     pub fault: Option<u32>,
 }
 
-/// Runs all platforms of one plan, newly opened and in the order of its graph, under the paced clock: in rounds at one
-/// common reading, until all are finished, or until after a round in which one had to claim more than it may.
+/// Runs all platforms of one plan, just opened and in the order of its graph, under the paced clock: in rounds at one common
+/// reading, until all are finished, or until after a round in which one needed more claims than it may make.
 ///
-/// The number of workers changes nothing: a round has at most 1,024 firings of some 10 nanoseconds, which no other thread
-/// could take over in less time, so the caller fires them all.
+/// `workers` has no effect: a round has at most 1,024 firings of some 10 nanoseconds each, which no other thread could take
+/// over in less time, so the caller fires them all.
 pub fn paced(
     alloc: Global,
     platforms: Vec<Platform>,

@@ -5,10 +5,10 @@ use Rattle.pt_blocks.specs.declared.blocks.Named.{Named}
 use Rattle.pt_graph_text.specs.declared.fault.GraphFault.{GraphFault}
 use Rattle.pt_graph.specs.GraphOf.{graph_of}
 use Rattle.pt_semantics.proofs.Lookups.{none_some, same_some}
-use Rattle.pt_platforms.specs.All.{histories_of}
-use Rattle.pt_recorded.specs.Asked.{Contents}
-use Rattle.pt_runs.specs.Agreeing.{TellsSensors}
-use Rattle.pt_runs.proofs.Agreeing.{finished_agree, runs_agree as left_agree}
+use Rattle.pt_turn.specs.All.{histories_of}
+use Rattle.pt_sensors.specs.Asked.{Contents}
+use Rattle.pt_run.specs.RunsAgreeing.{TellsSensors}
+use Rattle.pt_run.proofs.RunsAgreeing.{finished_agree, runs_agree as left_agree}
 use Rattle.pt_run.specs.Agreeing.{RunsAgree}
 use Rattle.pt_run.specs.Written.{IsRun, Leaves}
 

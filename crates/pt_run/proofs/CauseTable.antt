@@ -7,13 +7,13 @@ use Rattle.pt_blocks.specs.declared.blocks.Named.{Named}
 use Rattle.pt_graph_text.specs.declared.fault.GraphFault.{GraphFault}
 use Rattle.pt_graph.specs.GraphOf.{graph_of}
 use Rattle.pt_history.specs.declared.miss.Miss.{Miss}
-use Rattle.pt_ranks.specs.Ranked.{IsFreeCycle}
+use Rattle.pt_causality.specs.Ranked.{IsFreeCycle}
 use Rattle.pt_offsets.specs.Margins.{IsFirstInfeasible}
 use Rattle.pt_sensors.specs.declared.fault.RowFault.{RowFault}
 use Rattle.pt_semantics.specs.Cycles.{NoFreeCycle}
 use Rattle.pt_monitors.specs.Platforms.{missed_by}
-use Rattle.pt_recorded.specs.Asked.{Contents, ReadFails, Reading}
-use Rattle.pt_recorded.specs.Recorded.{SensorFails, SensorLate, SensorUnread}
+use Rattle.pt_sensors.specs.Asked.{Contents, ReadFails, Reading}
+use Rattle.pt_sensors.specs.Recorded.{SensorFails, SensorLate, SensorUnread}
 use Rattle.pt_run.specs.declared.fault.Fault.{Fault}
 use Rattle.pt_run.specs.declared.fault.Fault.TheVariants as fault
 use Rattle.pt_run.specs.declared.words.Command.{Command}

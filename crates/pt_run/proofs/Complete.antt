@@ -16,7 +16,7 @@ use Rattle.pt_history.specs.declared.miss.Miss.{Miss}
 use Rattle.pt_sensors.specs.declared.fault.RowFault.{RowFault}
 use Rattle.pt_sensors.specs.Late.{late_row}
 use Rattle.pt_sensors.specs.RowsOf.{rows_of}
-use Rattle.pt_semantics.specs.Edges.{kind_of}
+use Rattle.pt_types.specs.Lookups.{kind_of}
 use Rattle.pt_semantics.specs.Lists.{IsIn}
 use Rattle.pt_semantics.specs.Meaning.{IsMeaning}
 use Rattle.pt_semantics.specs.Offsets.{IsFeasible}
@@ -25,19 +25,19 @@ use Rattle.pt_semantics.specs.Parts.{parts}
 use Rattle.pt_semantics.specs.Ranks.{AreRanks, sum_along}
 use Rattle.pt_semantics.proofs.Acyclic.{ranks_are_one}
 use Rattle.pt_semantics.proofs.Lookups.{none_some}
-use Rattle.pt_semantics.proofs.Unique.{meaning_is_one}
-use Rattle.pt_ends.specs.Schedule.{IsMissedByMeaning}
-use Rattle.pt_ranks.specs.Ranked.{rank_of}
+use Rattle.pt_laws.proofs.Unique.{meaning_is_one}
+use Rattle.pt_schedule.specs.Schedule.{IsMissedByMeaning}
+use Rattle.pt_causality.specs.Ranked.{rank_of}
 use Rattle.pt_offsets.specs.Margins.{IsFirstInfeasible}
 use Rattle.pt_offsets.specs.Plans.{Parts}
 use Rattle.pt_turn.specs.Platforms.{PlatformView}
 use Rattle.pt_rounds.specs.HaveRun.{IsLongOn}
-use Rattle.pt_recorded.specs.declared.fault.LateRows.TheVariants.{Refused}
-use Rattle.pt_recorded.specs.Asked.{Contents, Reading}
-use Rattle.pt_recorded.specs.Places.{of_run}
-use Rattle.pt_recorded.specs.Recorded.{AreRows, InTime, RowsOfKind, SensorFails, SensorLate}
-use Rattle.pt_runs.proofs.Agreeing.{rows_are_one}
-use Rattle.pt_runs.specs.Runs.{HasRun, IsFinishedRun}
+use Rattle.pt_sensors.specs.declared.recorded_fault.LateRows.TheVariants.{Refused}
+use Rattle.pt_sensors.specs.Asked.{Contents, Reading}
+use Rattle.pt_sensors.specs.Places.{of_run}
+use Rattle.pt_sensors.specs.Recorded.{AreRows, InTime, RowsOfKind, SensorFails, SensorLate}
+use Rattle.pt_run.proofs.RunsAgreeing.{rows_are_one}
+use Rattle.pt_run.specs.Runs.{HasRun, IsFinishedRun}
 use Rattle.pt_run.specs.declared.fault.Fault.{Fault}
 use Rattle.pt_run.specs.declared.fault.Fault.TheVariants as fault
 use Rattle.pt_run.specs.declared.words.Command.TheVariants.{Run}
@@ -48,6 +48,7 @@ use Rattle.pt_run.specs.Statuses.{status_of}
 use Rattle.pt_run.specs.Texts.{EndsBy}
 use Rattle.pt_run.specs.Making.{Ends}
 use Rattle.pt_run.specs.Words.{Order}
+use Rattle.pt_types.specs.Limits.{most_claims}
 
 -- what a file defines that is told is one
 pub agrees : {R : Type 0} (read : List ℕ → R) (told : Option (List ℕ)) (bytes : List ℕ) (o p : R) → told ≡ Some bytes → IfSome told (λ bytes. read bytes ≡ o) → IfSome told (λ bytes. read bytes ≡ p) → o ≡ p
@@ -131,13 +132,13 @@ module _ (tells : Contents) (blocks : List Named) (name : List ℕ) (g : Graph) 
   stopped status left platform is h = inr (inr (inl (
     is,
     λ few.
-        let over : 200000 < unit_firings g platform (parts g xs) = subst (λ z. 200000 < unit_firings z platform (parts z xs)) h.graph (is_long h.plan left.platforms (Some platform) h.graph h.run) in
+        let over : most_claims < unit_firings g platform (parts g xs) = subst (λ z. most_claims < unit_firings z platform (parts z xs)) h.graph (is_long h.plan left.platforms (Some platform) h.graph h.run) in
         let view = h.run.kept.ends in
         let within : platform < length g.platforms = subst (λ z. platform < length z) (ap (λ (z : Graph). z.platforms) h.graph) (subst (λ n. platform < n) h.run.kept.all.count (slice_get_within left.platforms platform view.0 view.1)) in
         clash (unit_firings g platform (parts g xs)) over (few platform within),
   )))
     where
-      clash : (n : ℕ) → 200000 < n → n ≤ 200000 → ⊥
+      clash : (n : ℕ) → most_claims < n → n ≤ most_claims → ⊥
       clash n over le = omega arith
 
   module _ (status : ℕ) (left : Leaves) (workers : ℕ) (log : Bool) (r : Reading) (w : Writing) (reads : Rose r.before r.now → ⊥) (writes : Rose w.before w.now → ⊥) where

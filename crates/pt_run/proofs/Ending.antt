@@ -1,5 +1,5 @@
 -- How a command over a graph file ends, by how it ended over the graph.
-use Rattle.std.proofs.Common.{◌≡◌, ◌≢◌, ◌++◌, ℕ, ◌≤◌, Bool, List, [], ◌∷◌, Option, Some, None, Result, Ok, Err, IfSome, refl, sym, ap, subst, ◌∙◌, inl, inr, ⊎_elim}
+use Rattle.std.proofs.Common.{◌≡◌, ◌≢◌, ◌++◌, ℕ, ◌≤◌, List, [], ◌∷◌, Option, Some, None, Result, Ok, Err, IfSome, refl, sym, subst, ◌∙◌, inl, inr, ⊎_elim}
 use Rattle.std.specs.Prelude.{IfErr, IfOk, String, string_bytes}
 use Rattle.std.specs.declared.alloc.Global.{Global}
 use Rattle.pt_types.specs.declared.graph.Graph.{Graph}
@@ -7,11 +7,11 @@ use Rattle.pt_blocks.specs.declared.blocks.Named.{Named}
 use Rattle.pt_graph_text.specs.declared.fault.GraphFault.{GraphFault}
 use Rattle.pt_graph_text.specs.declared.fault.GraphFault.TheVariants as graph
 use Rattle.pt_graph.specs.GraphOf.{graph_of}
-use Rattle.pt_recorded.specs.declared.fault.LateRows.{LateRows}
-use Rattle.pt_recorded.specs.declared.fault.LateRows.TheVariants.{Refused, Taken}
-use Rattle.pt_recorded.specs.Asked.{Asks, AsksOrNot, Contents, Reading, files_before}
-use Rattle.pt_recorded.specs.Recorded.{SensorUnread}
-use Rattle.pt_recorded.proofs.Asking.{asks_more, read_after}
+use Rattle.pt_sensors.specs.declared.recorded_fault.LateRows.{LateRows}
+use Rattle.pt_sensors.specs.declared.recorded_fault.LateRows.TheVariants.{Refused, Taken}
+use Rattle.pt_sensors.specs.Asked.{Asks, AsksOrNot, Contents, Reading, files_before}
+use Rattle.pt_sensors.specs.Recorded.{SensorUnread}
+use Rattle.pt_sensors.proofs.Asking.{asks_more, read_after}
 use Rattle.pt_run.specs.declared.fault.Fault.{Fault}
 use Rattle.pt_run.specs.declared.fault.Fault.TheVariants as fault
 use Rattle.pt_run.specs.declared.fault.Outcome.{Outcome}
@@ -19,7 +19,7 @@ use Rattle.pt_run.specs.declared.words.Command.{Command}
 use Rattle.pt_run.specs.declared.words.Command.TheVariants.{Run, Check, Meaning}
 use Rattle.pt_run.specs.Faults.{fault_of_graph}
 use Rattle.pt_run.specs.Written.{Leaves, Writes, nothing}
-use Rattle.pt_run.specs.Causes.{CauseOf, CauseOfGraph, CauseOfMeaning, CauseOfRun, CauseOfText, IsCause, Writing}
+use Rattle.pt_run.specs.Causes.{CauseOf, CauseOfGraph, CauseOfMeaning, CauseOfRun, CauseOfText, Writing}
 use Rattle.pt_run.specs.Texts.{Answers, AsksBy, AsksFor, AsksInOrder, EndsBy, EndsOver, PutBy, files_for, left_by}
 
 -- a fault of the graph file

@@ -12,14 +12,14 @@ use Rattle.pt_types.specs.declared.rows.Row.{Row}
 use Rattle.pt_blocks.specs.declared.blocks.Named.{Named}
 use Rattle.pt_graph_text.specs.declared.fault.GraphFault.{GraphFault}
 use Rattle.pt_graph.specs.GraphOf.{graph_of}
-use Rattle.pt_ranks.specs.Ranked.{IsFreeCycle}
+use Rattle.pt_causality.specs.Ranked.{IsFreeCycle}
 use Rattle.pt_offsets.specs.Margins.{IsFirstInfeasible}
 use Rattle.pt_offsets.specs.Plans.{Parts}
 use Rattle.pt_sensors.specs.declared.fault.RowFault.{RowFault}
 use Rattle.pt_sensors.specs.Late.{late_row}
 use Rattle.pt_sensors.specs.RowsOf.{rows_of}
 use Rattle.pt_semantics.specs.Cycles.{NoFreeCycle}
-use Rattle.pt_semantics.specs.Edges.{kind_of}
+use Rattle.pt_types.specs.Lookups.{kind_of}
 use Rattle.pt_semantics.specs.Firing.{any_present, fired}
 use Rattle.pt_semantics.specs.Meaning.{Fires, IsLonger, IsMeaning, Runs, Steps, World, after_firing, at_start, waiting}
 use Rattle.pt_semantics.specs.Offsets.{IsFeasible, IsOffset}
@@ -27,14 +27,14 @@ use Rattle.pt_semantics.specs.Units.{at_output}
 use Rattle.pt_semantics.proofs.Acyclic.{ranks_are_one}
 use Rattle.pt_semantics.proofs.Lookups.{eight_found, none_some, same_some}
 use Rattle.pt_turn.specs.Platforms.{PlatformView}
-use Rattle.pt_recorded.specs.declared.fault.LateRows.{LateRows}
-use Rattle.pt_recorded.specs.declared.fault.LateRows.TheVariants.{Refused, Taken}
-use Rattle.pt_recorded.specs.Asked.{Contents, Reading}
-use Rattle.pt_recorded.specs.Places.{of_run}
-use Rattle.pt_recorded.specs.Recorded.{AllPass, AreRows, HaveRows, InTime, IsLateRow, RowsOfKind, SensorFails, SensorLate}
-use Rattle.pt_runs.specs.Agreeing.{TellsSensors}
-use Rattle.pt_runs.specs.Runs.{HasRun}
-use Rattle.pt_runs.proofs.Agreeing.{rows_are_one}
+use Rattle.pt_sensors.specs.declared.recorded_fault.LateRows.{LateRows}
+use Rattle.pt_sensors.specs.declared.recorded_fault.LateRows.TheVariants.{Refused, Taken}
+use Rattle.pt_sensors.specs.Asked.{Contents, Reading}
+use Rattle.pt_sensors.specs.Places.{of_run}
+use Rattle.pt_sensors.specs.Recorded.{AllPass, AreRows, HaveRows, InTime, IsLateRow, RowsOfKind, SensorFails, SensorLate}
+use Rattle.pt_run.specs.RunsAgreeing.{TellsSensors}
+use Rattle.pt_run.specs.Runs.{HasRun}
+use Rattle.pt_run.proofs.RunsAgreeing.{rows_are_one}
 use Rattle.pt_run.specs.declared.fault.Fault.{Fault}
 use Rattle.pt_run.specs.declared.fault.Fault.TheVariants as fault
 use Rattle.pt_run.specs.declared.words.Command.{Command}
@@ -47,6 +47,7 @@ use Rattle.pt_run.specs.Texts.{EndsBy}
 use Rattle.pt_run.specs.Words.{Order}
 use Rattle.pt_run.specs.Written.{GraphWith, IsMeant, Leaves, Writes}
 use Rattle.pt_run.proofs.Complete.{agrees, ok_err, same_ok, too_late}
+use Rattle.pt_types.specs.Limits.{most_claims}
 
 same_err : {X E : Type 0} (x y : E) → ◌≡◌ {A = Result X E} (Err x) (Err y) → x ≡ y
 same_err x y e = cc
@@ -197,7 +198,7 @@ meant_long : (tells : Contents) (g : Graph) (text : List ℕ) (rows : ℕ → Li
 meant_long tells g text rows told are meant too_long =
     let means = meant.tables.means in
     let meaning : IsMeaning g means.rank (of_run g rows) meant.tables.firings = subst (λ rs. IsMeaning g means.rank (of_run g rs) meant.tables.firings) (rows_are_one tells g meant.rows rows told meant.sensors are) means.meaning in
-    not_longer g too_long.rank (of_run g rows) meant.tables.firings (200000 * length g.platforms)
+    not_longer g too_long.rank (of_run g rows) meant.tables.firings (most_claims * length g.platforms)
     (subst (λ rank. IsMeaning g rank (of_run g rows) meant.tables.firings) (ranks_are_one g means.rank too_long.rank means.ranks too_long.ranks) meaning)
     meant.tables.fact too_long.longer
 

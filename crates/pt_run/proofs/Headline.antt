@@ -1,5 +1,5 @@
 -- The headline, of how a call ends.
-use Rattle.std.proofs.Common.{◌≡◌, ◌⊎◌, ◌++◌, ℕ, Bool, List, [], ◌∷◌, Option, Some, None, Ok, IfSome, refl, sym, ap, subst, ◌∙◌, arith, inl, inr}
+use Rattle.std.proofs.Common.{◌≡◌, ◌⊎◌, ◌++◌, ℕ, Bool, List, [], ◌∷◌, Option, Some, None, Ok, IfSome, refl, sym, subst, ◌∙◌, arith, inl, inr}
 use Rattle.pt_io.specs.Causes.{Appends}
 use Rattle.pt_types.specs.declared.graph.Graph.{Graph}
 use Rattle.pt_types.specs.declared.rows.Row.{Row}
@@ -7,10 +7,10 @@ use Rattle.pt_blocks.specs.declared.blocks.Named.{Named}
 use Rattle.pt_graph.specs.GraphOf.{graph_of}
 use Rattle.pt_history.specs.declared.miss.Miss.{Miss}
 use Rattle.pt_offsets.specs.Plans.{Parts}
-use Rattle.pt_recorded.specs.Asked.{Contents, Reading}
-use Rattle.pt_recorded.specs.Places.{of_run}
-use Rattle.pt_recorded.specs.Recorded.{SensorLate}
-use Rattle.pt_runs.specs.Runs.{HasRun}
+use Rattle.pt_sensors.specs.Asked.{Contents, Reading}
+use Rattle.pt_sensors.specs.Places.{of_run}
+use Rattle.pt_sensors.specs.Recorded.{SensorLate}
+use Rattle.pt_run.specs.Runs.{HasRun}
 use Rattle.pt_run.specs.declared.fault.Fault.{Fault}
 use Rattle.pt_run.specs.declared.fault.Fault.TheVariants as fault
 use Rattle.pt_run.specs.declared.words.Command.TheVariants.{Run}

@@ -8,3 +8,6 @@ pub mod Made
 pub mod Headline
 pub mod CauseTable
 pub mod Exact
+pub mod RunsAgreeing
+pub mod Finished
+pub mod Missed

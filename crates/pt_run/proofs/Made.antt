@@ -18,7 +18,7 @@ use Rattle.pt_semantics.specs.Rounds.{IsWholeRun}
 use Rattle.pt_semantics.specs.Rows.{FitRows}
 use Rattle.pt_semantics.proofs.Lookups.{none_some, same_some}
 use Rattle.pt_semantics.specs.Visits.{Together}
-use Rattle.pt_ranks.specs.Ranked.{level_of, rank_of}
+use Rattle.pt_causality.specs.Ranked.{level_of, rank_of}
 use Rattle.pt_offsets.specs.Plans.{IsAdmitted, Parts}
 use Rattle.pt_offsets.specs.Timings.{offset_of}
 use Rattle.pt_turn.specs.Platforms.{PlatformView, state_at}
@@ -28,10 +28,10 @@ use Rattle.pt_turn.specs.Running.{Shows, ShowsLong}
 use Rattle.pt_monitors.specs.Platforms.{missed_by}
 use Rattle.pt_monitors.proofs.Members.{in_flat_map}
 use Rattle.pt_monitors.proofs.Missing.{lists_missed}
-use Rattle.pt_recorded.specs.Places.{of_run}
+use Rattle.pt_sensors.specs.Places.{of_run}
 use Rattle.pt_rounds.specs.HaveRun.{HaveRun}
 use Rattle.pt_confluence.specs.Gathered.{HaveFinished}
-use Rattle.pt_runs.proofs.Finished.{have_finished}
+use Rattle.pt_run.proofs.Finished.{have_finished}
 use Rattle.pt_made.specs.Input.{made_graph, made_rows}
 use Rattle.pt_made.specs.Summary.{summary}
 use Rattle.pt_made.proofs.Fitting.{rows_fit}
@@ -40,7 +40,7 @@ use Rattle.pt_made.proofs.Steady.{never_long}
 use Rattle.pt_made.proofs.Timely.{never_missed}
 use Rattle.pt_run.specs.declared.fault.Fault.{Fault}
 use Rattle.pt_run.specs.declared.fault.Fault.TheVariants as fault
-use Rattle.pt_platforms.specs.All.{AreReady}
+use Rattle.pt_turn.specs.All.{AreReady}
 use Rattle.pt_io.specs.Causes.{Appends}
 use Rattle.pt_words.specs.Grammar as grammar
 use Rattle.pt_words.proofs.Numbers.{made_number}
@@ -49,31 +49,27 @@ use Rattle.pt_run.specs.declared.words.Asked.TheVariants.{Make}
 use Rattle.pt_run.specs.declared.words.Command.TheVariants.{Run, Check, Meaning}
 use Rattle.pt_run.specs.Asking.{in_words}
 use Rattle.pt_blocks.specs.declared.blocks.Named.{Named}
-use Rattle.pt_recorded.specs.Asked.{Contents}
-use Rattle.pt_recorded.proofs.Asking.{asks_none}
+use Rattle.pt_sensors.specs.Asked.{Contents}
+use Rattle.pt_sensors.proofs.Asking.{asks_none}
 use Rattle.pt_run.specs.Making.{AsksOf, IsMadeRun}
 use Rattle.pt_run.specs.Telling.{Tells}
-use Rattle.pt_run.specs.Texts.{CauseOfPlan}
+use Rattle.pt_offsets.specs.Faults.{CauseOfPlan}
+use Rattle.pt_offsets.specs.declared.fault.PlanFault.{PlanFault}
+use Rattle.pt_offsets.specs.declared.fault.PlanFault.TheVariants as unplanned
 use Rattle.pt_run.specs.Words.{make, order_by, order_of, over}
+use Rattle.pt_types.specs.Limits.{most_claims}
 
--- a made graph has no other fault than want of memory
-pub never_refused : (n : ℕ) (f : Fault) → CauseOfPlan f (made_graph n) → f ≢ fault.Memory → ⊥
-never_refused n (fault.Cycle actors) h other = no_cycle n h.first h.edge h.path h.cycle h.free
-never_refused n (fault.Infeasible send offset slack) h other =
+-- a made graph has a plan, unless memory runs out
+pub never_refused : (n : ℕ) (f : PlanFault) → CauseOfPlan f (made_graph n) → f ≢ unplanned.Memory → ⊥
+never_refused n (unplanned.Cycle actors) h other = no_cycle n h.first h.edge h.path h.cycle h.free
+never_refused n (unplanned.Infeasible send offset slack) h other =
     let late = h.1.infeasible in
     let (s, b, path, feeds, is) = late.offset_is.some in
     in_time b slack (sum_along path).time offset (feasible n send slack s b path late.sends feeds) is late.late
   where
     in_time : (b slack t : ℕ) (o : ℤ) → b + 1 ≤ slack + t → pos b -ℤ pos t ≡ o → pos slack <ℤ (o +ℤ pos 1) → ⊥
     in_time b slack t o le is late = omega (arith, ints)
-never_refused n fault.Memory h other = other refl
-never_refused n fault.Usage h other = absurd h
-never_refused n (fault.Graph e) h other = absurd h
-never_refused n (fault.Sensor actor e) h other = absurd h
-never_refused n (fault.LateRow actor row seen limit) h other = absurd h
-never_refused n (fault.Long platform) h other = absurd h
-never_refused n (fault.Read sensor) h other = absurd h
-never_refused n fault.Write h other = absurd h
+never_refused n unplanned.Memory h other = other refl
 
 place_of : {X : Type 0} (x : X) (xs : List X) → IsIn x xs → (i : ℕ) × (slice_get xs i ≡ Some x)
 place_of x [] h = absurd h
@@ -109,9 +105,9 @@ module _ (n : ℕ) (few : n ≤ 100) (plan : Parts) (is : plan.graph ≡ made_gr
   no_long fault run i v at g shows =
       let k = known fault run in
       let below = never_long n few (level_of plan.ranks) (offset_of plan.offsets) k.levels k.offsets run.after.together k.run i (number_in fault run i v at) in
-      past (state_at v).claims (subst (λ (s : State). s.claims < 200000) (run.after.states i v at) below) shows.all
+      past (state_at v).claims (subst (λ (s : State). s.claims < most_claims) (run.after.states i v at) below) shows.all
     where
-      past : (k : ℕ) → k < 200000 → 200000 ≤ k → ⊥
+      past : (k : ℕ) → k < most_claims → most_claims ≤ k → ⊥
       past k h all = omega arith
 
   -- the platform that was the first to make all its claims shows it

@@ -1,5 +1,5 @@
 -- How a run over a graph ends, by how it ends over its plan.
-use Rattle.std.proofs.Common.{◌≡◌, ℕ, Bool, List, [], Option, Some, None, Result, Ok, Err, IfOk, IfErr, refl, sym, ap, subst, ◌∙◌, inl, inr, ⊎_elim}
+use Rattle.std.proofs.Common.{◌≡◌, ℕ, Bool, List, [], Option, Some, None, Result, Ok, Err, IfOk, IfErr, refl, sym, subst, ◌∙◌, ⊎_elim}
 use Rattle.std.specs.Prelude.{IfSome, String, string_bytes}
 use Rattle.std.specs.declared.alloc.Global.{Global}
 use Rattle.pt_types.specs.declared.graph.Graph.{Graph}
@@ -10,29 +10,30 @@ use Rattle.pt_semantics.specs.Cycles.{NoFreeCycle}
 use Rattle.pt_semantics.specs.Offsets.{IsFeasible}
 use Rattle.pt_semantics.specs.Ranks.{AreLevels}
 use Rattle.pt_semantics.proofs.Acyclic.{levels_forbid_cycles}
-use Rattle.pt_offsets.specs.declared.fault.OffsetFault.{OffsetFault}
 use Rattle.pt_offsets.specs.declared.fault.OffsetFault.TheVariants as offset
-use Rattle.pt_offsets.specs.Faults.{CauseOfOffset}
+use Rattle.pt_offsets.specs.Faults.{CauseOfPlan}
+use Rattle.pt_offsets.specs.declared.fault.PlanFault.{PlanFault}
+use Rattle.pt_offsets.specs.declared.fault.PlanFault.TheVariants as plan
 use Rattle.pt_offsets.specs.Plans.{IsAdmitted, Parts}
-use Rattle.pt_recorded.specs.declared.fault.RecordedFault.{RecordedFault}
-use Rattle.pt_recorded.specs.declared.fault.RecordedFault.TheVariants as rows
-use Rattle.pt_recorded.specs.declared.fault.LateRows.TheVariants.{Refused}
-use Rattle.pt_recorded.specs.Asked.{Contents, Reading}
-use Rattle.pt_recorded.specs.Recorded.{CauseOfRows, SensorFails, SensorLate, SensorUnread}
-use Rattle.pt_runs.specs.declared.running.RunFault.{RunFault}
-use Rattle.pt_runs.specs.declared.running.RunFault.TheVariants as stop
-use Rattle.pt_runs.specs.declared.texts.Ran.{Ran}
-use Rattle.pt_runs.specs.Runs.{CauseOfRun as CauseOfStop, HasRun, IsFinishedRun, IsRun}
+use Rattle.pt_sensors.specs.declared.recorded_fault.RecordedFault.{RecordedFault}
+use Rattle.pt_sensors.specs.declared.recorded_fault.RecordedFault.TheVariants as rows
+use Rattle.pt_sensors.specs.declared.recorded_fault.LateRows.TheVariants.{Refused}
+use Rattle.pt_sensors.specs.Asked.{Contents, Reading}
+use Rattle.pt_sensors.specs.Recorded.{CauseOfRows, SensorFails, SensorLate, SensorUnread}
+use Rattle.pt_run.specs.declared.plan_run.RunFault.{RunFault}
+use Rattle.pt_run.specs.declared.plan_run.RunFault.TheVariants as stop
+use Rattle.pt_run.specs.declared.finished_run.Ran.{Ran}
+use Rattle.pt_run.specs.Runs.{CauseOfRun as CauseOfStop, IsRun}
 use Rattle.pt_run.specs.declared.fault.Fault.{Fault}
 use Rattle.pt_run.specs.declared.fault.Fault.TheVariants as fault
 use Rattle.pt_run.specs.declared.fault.Outcome.{Outcome}
 use Rattle.pt_run.specs.declared.words.Command.{Command}
 use Rattle.pt_run.specs.Telling.{Tells, TellsBy}
 use Rattle.pt_run.specs.declared.words.Command.TheVariants.{Check, Meaning, Run}
-use Rattle.pt_run.specs.Faults.{fault_of_offset, fault_of_rows}
-use Rattle.pt_run.specs.Written.{IsChecked, IsMeant, IsRun as IsRunOf, Leaves, Writes, nothing}
-use Rattle.pt_run.specs.Causes.{CauseOf, CauseOfMeaning, RunsLong, Writing}
-use Rattle.pt_run.specs.Texts.{CauseOfPlan, CheckFails, EndsOver, EndsPlan, IsStopped, MeaningFails, OrMemory, WroteRun, left_by}
+use Rattle.pt_run.specs.Faults.{fault_of_plan, fault_of_rows}
+use Rattle.pt_run.specs.Written.{IsChecked, IsMeant, Leaves, Writes, nothing}
+use Rattle.pt_run.specs.Causes.{CauseOf, Writing}
+use Rattle.pt_run.specs.Texts.{CheckFails, EndsOver, EndsPlan, IsStopped, MeaningFails, OrMemory, WroteRun, left_by}
 
 -- a run that finished was written
 pub wrote_plan : (ran : Ran) (o : Outcome) (log : Bool) (tells : Contents) (plan : Parts) (r : Reading) (w : Writing) → IsRun tells plan log ran → WroteRun ran o w → EndsPlan o.fault (left_by o) log tells plan r w
@@ -87,29 +88,17 @@ ends_plan o left workers log tells g plan r w admitted is ends = by_outcome o en
     by_outcome (Some (fault.Cycle actors)) h = absurd h
     by_outcome (Some (fault.Infeasible send offset slack)) h = absurd h
 
--- a graph without a plan was told
-pub unplanned : (f : Fault) (o : Outcome) (workers : ℕ) (log : Bool) (tells : Contents) (g : Graph) (r : Reading) (w : Writing) → CauseOfPlan f g → OrMemory o.fault f → left_by o ≡ nothing → w.written_now ≡ w.written_before → EndsOver o.fault (left_by o) (Run workers log) tells g r w
+-- a graph without a plan was reported
+pub unplanned : (f : PlanFault) (o : Outcome) (workers : ℕ) (log : Bool) (tells : Contents) (g : Graph) (r : Reading) (w : Writing) → CauseOfPlan f g → OrMemory o.fault (fault_of_plan f) → left_by o ≡ nothing → w.written_now ≡ w.written_before → EndsOver o.fault (left_by o) (Run workers log) tells g r w
 unplanned f o workers log tells g r w cause is none still = subst (λ left. EndsOver o.fault left (Run workers log) tells g r w) (sym none) (⊎_elim
-    (λ (it : o.fault ≡ Some f). subst (λ e. EndsOver e nothing (Run workers log) tells g r w) (sym it) (by_fault f cause))
+    (λ (it : o.fault ≡ Some (fault_of_plan f)). subst (λ e. EndsOver e nothing (Run workers log) tells g r w) (sym it) (by_fault f cause))
     (λ (it : o.fault ≡ Some fault.Memory). subst (λ e. EndsOver e nothing (Run workers log) tells g r w) (sym it) (refl, still))
     is)
   where
-    by_fault : (e : Fault) → CauseOfPlan e g → EndsOver (Some e) nothing (Run workers log) tells g r w
-    by_fault (fault.Cycle actors) k = ((k, refl), still)
-    by_fault (fault.Infeasible send offset slack) k = ((k.0, (k.1, refl)), still)
-    by_fault fault.Memory k = (refl, still)
-    by_fault fault.Usage k = absurd k
-    by_fault (fault.Graph e) k = absurd k
-    by_fault (fault.Sensor actor e) k = absurd k
-    by_fault (fault.LateRow actor row seen limit) k = absurd k
-    by_fault (fault.Long platform) k = absurd k
-    by_fault (fault.Read sensor) k = absurd k
-    by_fault fault.Write k = absurd k
-
--- the offsets of a graph that has levels show no plan
-pub offsets_fail : (g : Graph) (level : ℕ → ℕ) (f : OffsetFault) → AreLevels g level → CauseOfOffset f g → CauseOfPlan (fault_of_offset f) g
-offsets_fail g level offset.Memory levels h = tt
-offsets_fail g level (offset.Infeasible send o slack) levels h = (levels_forbid_cycles g level levels, h)
+    by_fault : (e : PlanFault) → CauseOfPlan e g → EndsOver (Some (fault_of_plan e)) nothing (Run workers log) tells g r w
+    by_fault (plan.Cycle actors) k = ((k, refl), still)
+    by_fault (plan.Infeasible send offset slack) k = ((k.0, (k.1, refl)), still)
+    by_fault plan.Memory k = (refl, still)
 
 -- `check` over a graph that has levels
 pub checked : (g : Graph) (level : ℕ → ℕ) (made : Result (String Global) Fault) → AreLevels g level → IfOk made (λ text. IsChecked g (string_bytes text)) → IfOk made (λ text. (tells : Contents) → Writes Check tells g nothing (string_bytes text))

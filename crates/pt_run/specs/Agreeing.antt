@@ -1,21 +1,21 @@
--- Two runs of one program.
+-- Two runs of the same files.
 use Rattle.std.specs.Prelude.{◌≡◌, ℕ, Bool, List, Ok, Some}
 use Rattle.pt_types.specs.declared.graph.Graph.{Graph}
 use Rattle.pt_blocks.specs.declared.blocks.Named.{Named}
 use Rattle.pt_graph.specs.GraphOf.{graph_of}
-use Rattle.pt_platforms.specs.All.{histories_of}
-use Rattle.pt_recorded.specs.Asked.{Contents}
-use Rattle.pt_runs.specs.Agreeing.{TellsSensors}
+use Rattle.pt_turn.specs.All.{histories_of}
+use Rattle.pt_sensors.specs.Asked.{Contents}
+use Rattle.pt_run.specs.RunsAgreeing.{TellsSensors}
 use Rattle.pt_run.specs.declared.words.Command.TheVariants.{Run}
 use Rattle.pt_run.specs.Written.{Leaves, Ran}
 
--- the source tells the graph file of that name and, where it defines a graph, the file of each sensor
+-- the contents of the graph file and, if it defines a graph, of the file of each sensor are known
 pub record TellsAll (tells : Contents) (blocks : List Named) (name : List ℕ) : Type 0 where
   pub bytes : List ℕ
   pub told : tells name ≡ Some bytes
   pub files : (g : Graph) → graph_of blocks bytes ≡ Ok g → TellsSensors tells g
 
--- what a run must write, the log included, what it misses and the histories that it leaves are one, whatever the number of
+-- the text of a run, the log included, its misses and its histories depend on these files alone, not on the number of
 -- workers
 abbrev pub RunsAgree : Type 0
 RunsAgree = (workers others : ℕ) (log : Bool) (tells : Contents) (blocks : List Named) (name : List ℕ) (left other : Leaves) (text written : List ℕ) → TellsAll tells blocks name →

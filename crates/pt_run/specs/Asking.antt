@@ -1,9 +1,9 @@
--- What the program's order says.
+-- The program's order, in terms of the specs.
 use Rattle.pt_run.specs.declared.words.Asked.{Asked}
 use Rattle.pt_run.specs.declared.words.Asked.TheVariants.{Over, Make}
 use Rattle.pt_run.specs.Words.{Order, over, make}
 
--- an order, with the graph file by the bytes of its name
+-- an order, with the name of the graph file as bytes
 abbrev pub in_words : Asked → Order
 in_words (Over command graph) = over command graph.now
 in_words (Make number workers) = make number workers

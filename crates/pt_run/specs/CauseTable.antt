@@ -1,4 +1,4 @@
--- The table of causes: of each answer why it came. They come in this order: an answer further down has none of the causes
+-- The table of causes: for each answer, why it came. The order matters: an answer further down has none of the causes
 -- before it.
 use Rattle.std.specs.Prelude.{◌≡◌, ◌≢◌, ◌↔◌, ℕ, ℤ, List, [], ◌∷◌, Option, Some, None, Err, IfSome, flat_map}
 use Rattle.pt_io.specs.Causes.{Rose}
@@ -6,15 +6,15 @@ use Rattle.pt_types.specs.declared.graph.Graph.{Graph}
 use Rattle.pt_blocks.specs.declared.blocks.Named.{Named}
 use Rattle.pt_graph_text.specs.declared.fault.GraphFault.{GraphFault}
 use Rattle.pt_graph.specs.GraphOf.{graph_of}
-use Rattle.pt_ranks.specs.Ranked.{IsFreeCycle}
+use Rattle.pt_causality.specs.Ranked.{IsFreeCycle}
 use Rattle.pt_offsets.specs.Margins.{IsFirstInfeasible}
 use Rattle.pt_sensors.specs.declared.fault.RowFault.{RowFault}
 use Rattle.pt_semantics.specs.Cycles.{NoFreeCycle}
 use Rattle.pt_monitors.specs.Platforms.{missed_by}
-use Rattle.pt_recorded.specs.declared.fault.LateRows.{LateRows}
-use Rattle.pt_recorded.specs.declared.fault.LateRows.TheVariants.{Refused, Taken}
-use Rattle.pt_recorded.specs.Asked.{Contents, ReadFails, Reading}
-use Rattle.pt_recorded.specs.Recorded.{SensorFails, SensorLate, SensorUnread}
+use Rattle.pt_sensors.specs.declared.recorded_fault.LateRows.{LateRows}
+use Rattle.pt_sensors.specs.declared.recorded_fault.LateRows.TheVariants.{Refused, Taken}
+use Rattle.pt_sensors.specs.Asked.{Contents, ReadFails, Reading}
+use Rattle.pt_sensors.specs.Recorded.{SensorFails, SensorLate, SensorUnread}
 use Rattle.pt_run.specs.declared.fault.Fault.{Fault}
 use Rattle.pt_run.specs.declared.fault.Fault.TheVariants as fault
 use Rattle.pt_run.specs.declared.words.Command.{Command}
@@ -23,43 +23,44 @@ use Rattle.pt_run.specs.Causes.{MeansLong, RunsLong, Writing}
 use Rattle.pt_run.specs.Words.{Order, over, make}
 use Rattle.pt_run.specs.Written.{GraphWith, Leaves}
 
--- the words are a command over a graph file, and a fact holds of the file's name
+-- the words are a command on a graph file, and a fact holds of the file's name
 abbrev pub OverFile : Option Order → (List ℕ → Type 0) → Type 0
 OverFile None Fact = ⊥
 OverFile (Some (make number workers)) Fact = ⊥
 OverFile (Some (over command name)) Fact = Fact name
 
--- and a fact holds of the command, of the file's name and of the graph that the file defines
+-- they are, and a fact holds of the command, the file's name and the graph that the file defines
 abbrev pub OverGraph : Option Order → Contents → List Named → (Command → List ℕ → Graph → Type 0) → Type 0
 OverGraph None tells blocks Fact = ⊥
 OverGraph (Some (make number workers)) tells blocks Fact = ⊥
 OverGraph (Some (over command name)) tells blocks Fact = GraphWith tells blocks name (Fact command name)
 
--- a command that reads the sensors' files: `run`, which refuses late rows, and `meaning`, which takes them
+-- a command that reads the sensors' files: `run`, which refuses late rows, or `meaning`, which accepts them
 abbrev pub OfRows : Command → (LateRows → Type 0) → Type 0
 OfRows (Run workers log) Fact = Fact Refused
 OfRows Meaning Fact = Fact Taken
 OfRows Check Fact = ⊥
 
+-- the table, for one call
 pub record CauseTable (status : ℕ) (outcome : Option Fault) (left : Leaves) (order : Option Order) (tells : Contents) (blocks : List Named) (r : Reading) (w : Writing) : Type 0 where
-  -- the words are no command
+  -- the words are not a valid command line
   pub usage : outcome ≡ Some fault.Usage → order ≡ None
-  -- the read of the graph file failed, the graph's text has that fault, or those actors are a cycle that takes no time
+  -- the graph file could not be read, its text has that fault, or those actors are a cycle that takes no time
   pub graph_unread : outcome ≡ Some (fault.Read None) → OverFile order (λ name. ReadFails [] name r)
   pub graph : (f : GraphFault) → outcome ≡ Some (fault.Graph f) → OverFile order (λ name. IfSome (tells name) (λ bytes. graph_of blocks bytes ≡ Err f))
   pub cycle : (actors : List ℕ) → outcome ≡ Some (fault.Cycle actors) → OverGraph order tells blocks (λ command name g. IsFreeCycle g actors)
   -- that sender is the first that can't send in time
   pub infeasible : (send : ℕ) (offset : ℤ) (slack : ℕ) → outcome ≡ Some (fault.Infeasible send offset slack) → OverGraph order tells blocks (λ command name g. NoFreeCycle g × IsFirstInfeasible g send offset slack)
-  -- that sensor is the first that gives no rows: the read of its file failed, the file has that fault, or that row is late
+  -- that sensor is the first without rows: its file could not be read, the file has that fault, or that row is late
   pub sensor_unread : (actor : ℕ) → outcome ≡ Some (fault.Read (Some actor)) → OverGraph order tells blocks (λ command name g. OfRows command (λ late. SensorUnread late tells g actor (name ∷ []) r))
   pub sensor : (actor : ℕ) (f : RowFault) → outcome ≡ Some (fault.Sensor actor f) → OverGraph order tells blocks (λ command name g. OfRows command (λ late. SensorFails late tells g actor f))
   pub late_row : (actor row seen limit : ℕ) → outcome ≡ Some (fault.LateRow actor row seen limit) → OverGraph order tells blocks (λ command name g. SensorLate tells g actor row seen limit)
-  -- that platform had to claim more than it may, as its kept turns show; or the meaning is too long
+  -- that platform needed more claims than it may make, as its recorded turns show; or the meaning is too long
   pub long : (platform : ℕ) → outcome ≡ Some (fault.Long (Some platform)) → OverGraph order tells blocks (λ command name g. RunsLong tells g left platform)
   pub long_meaning : outcome ≡ Some (fault.Long None) → OverGraph order tells blocks (λ command name g. MeansLong tells g)
-  -- the sink's count of faults rose; and only then is a part of the text written
+  -- the sink's count of faults rose; with any other fault nothing is written
   pub write : outcome ≡ Some fault.Write → Rose w.before w.now
   pub unwritten : (f : Fault) → outcome ≡ Some f → f ≢ fault.Write → w.written_now ≡ w.written_before
-  -- all is written, and something was missed: what the kept turns missed is what is told
+  -- everything is written, and something was missed; the misses given are those of the recorded turns
   pub missed : (status ≡ 5) ↔ ((outcome ≡ None) × (left.misses ≢ []))
   pub missed_are : outcome ≡ None → left.misses ≡ flat_map missed_by left.platforms

@@ -8,47 +8,49 @@ use Rattle.pt_graph.specs.GraphOf.{graph_of}
 use Rattle.pt_semantics.specs.Cycles.{NoFreeCycle}
 use Rattle.pt_semantics.specs.Offsets.{IsFeasible}
 use Rattle.pt_offsets.specs.Plans.{Parts}
-use Rattle.pt_ranks.specs.Ranked.{IsFreeCycle}
+use Rattle.pt_causality.specs.Ranked.{IsFreeCycle}
 use Rattle.pt_offsets.specs.Margins.{IsFirstInfeasible}
-use Rattle.pt_recorded.specs.declared.fault.LateRows.TheVariants.{Refused, Taken}
-use Rattle.pt_recorded.specs.Asked.{Contents, ReadFails, Reading}
-use Rattle.pt_recorded.specs.Recorded.{AreRows, SensorFails, SensorLate, SensorUnread}
-use Rattle.pt_runs.specs.Runs.{HasRun}
+use Rattle.pt_sensors.specs.declared.recorded_fault.LateRows.TheVariants.{Refused, Taken}
+use Rattle.pt_sensors.specs.Asked.{Contents, ReadFails, Reading}
+use Rattle.pt_sensors.specs.Recorded.{AreRows, SensorFails, SensorLate, SensorUnread}
+use Rattle.pt_run.specs.Runs.{HasRun}
 use Rattle.pt_run.specs.declared.fault.Fault.{Fault}
 use Rattle.pt_run.specs.declared.fault.Fault.TheVariants as fault
 use Rattle.pt_run.specs.declared.words.Command.{Command}
 use Rattle.pt_run.specs.declared.words.Command.TheVariants.{Run, Check, Meaning}
 use Rattle.pt_run.specs.Written.{GraphWith, IsTooLong, Leaves, WrotePart, nothing}
+use Rattle.pt_types.specs.Limits.{most_claims}
 
--- why the graph file of that name gave no graph
+-- why the graph file with this name gave no graph
 abbrev pub CauseOfGraph : Fault → Contents → List Named → List ℕ → Reading → Type 0
 CauseOfGraph (fault.Graph f) tells blocks name r = IfSome (tells name) (λ bytes. graph_of blocks bytes ≡ Err f)
 CauseOfGraph (fault.Read None) tells blocks name r = ReadFails [] name r
 CauseOfGraph fault.Memory tells blocks name r = Unit {0}
 CauseOfGraph _ tells blocks name r = ⊥
 
--- more actors fire than that for each platform
+-- the meaning has more firings than 200,000 times the number of platforms
 abbrev pub IsTooLongForAll : Graph → (ℕ → List Row) → Type 0
-IsTooLongForAll g rows = IsTooLong g rows (200000 * length g.platforms)
+IsTooLongForAll g rows = IsTooLong g rows (most_claims * length g.platforms)
 
--- a run over the rows of the sensors' files ended with a platform that had to claim more than it may, and left all as they were
+-- a run over the rows of the sensors' files ended with a platform that needed more claims than it may make, and it leaves all
+-- platforms as they were then
 pub record RunsLong (tells : Contents) (g : Graph) (left : Leaves) (platform : ℕ) : Type 0 where
   pub plan : Parts
   pub graph : plan.graph ≡ g
   pub run : HasRun tells plan left.platforms (Some platform)
   pub none_told : left.misses ≡ []
 
--- the meaning of the graph and of its sensors' rows is too long
+-- the meaning of the graph and its sensors' rows is too long
 pub record MeansLong (tells : Contents) (g : Graph) : Type 0 where
   pub rows : ℕ → List Row
   pub sensors : AreRows tells g rows
   pub longer : IsTooLongForAll g rows
 
--- the rows of a graph's sensors can't be had, where each sender can send in time, and nothing is left
+-- the rows of a graph's sensors are not available, though each sender can send in time, and nothing is left
 abbrev pub RowsFail : Graph → Leaves → Type 0 → Type 0
 RowsFail g left Fails = IsFeasible g × Fails × (left ≡ nothing)
 
--- why a run of a graph without a free cycle gave no text, where these others were asked for before the sensors' files
+-- why a run of a graph without a free cycle gave no text; `others` were asked for before the sensors' files
 abbrev pub CauseOfRun : Fault → Leaves → Contents → Graph → List (List ℕ) → Reading → Type 0
 CauseOfRun (fault.Infeasible send offset slack) left tells g others r = IsFirstInfeasible g send offset slack × (left ≡ nothing)
 CauseOfRun (fault.Read (Some actor)) left tells g others r = RowsFail g left (SensorUnread Refused tells g actor others r)
@@ -57,39 +59,39 @@ CauseOfRun (fault.LateRow actor row seen limit) left tells g others r = RowsFail
 CauseOfRun (fault.Long (Some platform)) left tells g others r = RunsLong tells g left platform
 CauseOfRun _ left tells g others r = ⊥
 
--- why `check` gave no text for such a graph
+-- why `check` gave no text for a graph without a free cycle
 abbrev pub CauseOfCheck : Fault → Graph → Type 0
 CauseOfCheck (fault.Infeasible send offset slack) g = IsFirstInfeasible g send offset slack
 CauseOfCheck _ g = ⊥
 
--- why `meaning` gave no text for such a graph
+-- why `meaning` gave no text for a graph without a free cycle
 abbrev pub CauseOfMeaning : Fault → Contents → Graph → List (List ℕ) → Reading → Type 0
 CauseOfMeaning (fault.Read (Some actor)) tells g others r = SensorUnread Taken tells g actor others r
 CauseOfMeaning (fault.Sensor actor f) tells g others r = SensorFails Taken tells g actor f
 CauseOfMeaning (fault.Long None) tells g others r = MeansLong tells g
 CauseOfMeaning _ tells g others r = ⊥
 
--- why a command gave no text for such a graph
+-- why a command gave no text for a graph without a free cycle
 abbrev pub CauseOfText : Command → Fault → Leaves → Contents → Graph → List (List ℕ) → Reading → Type 0
 CauseOfText (Run workers log) f left tells g others r = CauseOfRun f left tells g others r
 CauseOfText Check f left tells g others r = CauseOfCheck f g × (left ≡ nothing)
 CauseOfText Meaning f left tells g others r = CauseOfMeaning f tells g others r × (left ≡ nothing)
 
--- why a command gave no text for a graph: a cycle that takes no time comes before all else
+-- why a command gave no text for a graph: a cycle that takes no time comes before all other causes
 abbrev pub CauseOf : Command → Fault → Leaves → Contents → Graph → List (List ℕ) → Reading → Type 0
 CauseOf command (fault.Cycle actors) left tells g others r = IsFreeCycle g actors × (left ≡ nothing)
 CauseOf command fault.Memory left tells g others r = left ≡ nothing
 CauseOf command f left tells g others r = NoFreeCycle g × CauseOfText command f left tells g others r
 
--- what a call on a sink did: its count of faults and the bytes that it tells, before and after
+-- a sink before and after a call: its count of faults, and the bytes written to it, if these are known
 pub record Writing : Type 0 where
   pub before : ℕ
   pub now : ℕ
   pub written_before : Option (List ℕ)
   pub written_now : Option (List ℕ)
 
--- why a command over the graph file of that name ended with a fault, and what it leaves; a write may have failed after a
--- prefix of what the command must write, and every other fault leaves what was written as it was
+-- why a command on a graph file ended with a fault, and what it leaves: a failed write leaves a prefix of what the command
+-- must write, and every other fault writes nothing
 abbrev pub IsCause : Fault → Leaves → Command → Contents → List Named → List ℕ → Reading → Writing → Type 0
 IsCause fault.Usage left command tells blocks name r w = ⊥
 IsCause (fault.Graph f) left command tells blocks name r w = CauseOfGraph (fault.Graph f) tells blocks name r × (left ≡ nothing) × (w.written_now ≡ w.written_before)

@@ -1,4 +1,4 @@
--- Completeness: what the status of a run is, where nothing that it needs is wanting.
+-- Completeness: the status of a run in which no read, write or allocation fails.
 use Rattle.std.specs.Prelude.{◌≡◌, ◌<◌, ◌≤◌, ◌⊎◌, ℕ, Bool, List, Option, Ok, Some, length}
 use Rattle.pt_io.specs.Causes.{Rose}
 use Rattle.pt_tags.specs.declared.tag.Tag.{Tag}
@@ -11,18 +11,19 @@ use Rattle.pt_semantics.specs.Cycles.{NoFreeCycle}
 use Rattle.pt_semantics.specs.Meaning.{ActorFiring}
 use Rattle.pt_semantics.specs.Offsets.{IsFeasible}
 use Rattle.pt_semantics.specs.Parts.{parts}
-use Rattle.pt_ends.specs.Schedule.{IsMissedByMeaning}
-use Rattle.pt_recorded.specs.declared.fault.LateRows.TheVariants.{Refused}
-use Rattle.pt_recorded.specs.Asked.{Contents, Reading}
-use Rattle.pt_recorded.specs.Recorded.{AllPass, AreRows}
-use Rattle.pt_runs.specs.Agreeing.{TellsSensors}
+use Rattle.pt_schedule.specs.Schedule.{IsMissedByMeaning}
+use Rattle.pt_sensors.specs.declared.recorded_fault.LateRows.TheVariants.{Refused}
+use Rattle.pt_sensors.specs.Asked.{Contents, Reading}
+use Rattle.pt_sensors.specs.Recorded.{AllPass, AreRows}
+use Rattle.pt_run.specs.RunsAgreeing.{TellsSensors}
 use Rattle.pt_run.specs.declared.words.Command.TheVariants.{Run}
 use Rattle.pt_run.specs.Causes.{Writing}
 use Rattle.pt_run.specs.Written.{Means}
 use Rattle.pt_run.specs.Words.{Order, over}
+use Rattle.pt_types.specs.Limits.{most_claims}
 
--- the source tells a program that can run: the graph file of that name defines this graph, which is admitted, each sensor's
--- file has rows, of which none is late, and these firings are the meaning
+-- the files are known and their program can run: the graph file defines this graph, which is admitted, each sensor's file has
+-- rows, none of which is late, and these firings are the meaning
 pub record CanRun (tells : Contents) (blocks : List Named) (name : List ℕ) (g : Graph) (firings : List ActorFiring) : Type 0 where
   pub bytes : List ℕ
   pub told : tells name ≡ Some bytes
@@ -35,16 +36,16 @@ pub record CanRun (tells : Contents) (blocks : List Named) (name : List ℕ) (g 
   pub in_time : AllPass Refused g rows
   pub means : Means g rows firings
 
--- on each platform the meaning has as many firings of units as it may claim, or fewer
+-- on no platform does the meaning have more firings of units than the platform may claim
 abbrev pub FitsClaims : Graph → List ActorFiring → Type 0
-FitsClaims g firings = (i : ℕ) → i < length g.platforms → unit_firings g i (parts g firings) ≤ 200000
+FitsClaims g firings = (i : ℕ) → i < length g.platforms → unit_firings g i (parts g firings) ≤ most_claims
 
--- an actuator's firing has its paced reading past its tag's time and slack
+-- an actuator fires with its paced reading past its tag's time plus its slack
 abbrev pub MissesSome : Graph → List ActorFiring → Type 0
 MissesSome g firings = (actor : ℕ) × (tag : Tag) × (reading : ℕ) × (limit : ℕ) × IsMissedByMeaning g firings actor tag reading limit
 
--- the status is told by the meaning: 0, 5 where an actuator is missed, 6 where a platform has too many firings of units;
--- or memory ran out
+-- the status depends on the meaning alone: 0, or 5 if an actuator acts after its deadline, or 6 if a platform has too many
+-- firings of units; or memory ran out (9)
 abbrev pub StatusIsMeant : ℕ → Graph → List ActorFiring → Type 0
 StatusIsMeant status g firings =
     ((status ≡ 0) × FitsClaims g firings × (MissesSome g firings → ⊥))
@@ -52,7 +53,7 @@ StatusIsMeant status g firings =
     ⊎ (((status ≡ 6) × (FitsClaims g firings → ⊥))
     ⊎ (status ≡ 9)))
 
--- where the words are a run of such a program, and neither the source's nor the sink's count of faults rose
+-- for a run of such a program, if neither the source's nor the sink's count of faults rose
 abbrev pub IsComplete : ℕ → Option Order → Contents → List Named → Reading → Writing → Type 0
 IsComplete status order tells blocks r w = (workers : ℕ) (log : Bool) (name : List ℕ) (g : Graph) (firings : List ActorFiring) →
     order ≡ Some (over (Run workers log) name) → CanRun tells blocks name g firings → (Rose r.before r.now → ⊥) → (Rose w.before w.now → ⊥) → StatusIsMeant status g firings

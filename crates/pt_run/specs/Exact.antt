@@ -1,20 +1,20 @@
--- Where the words and the told files have a cause, and none before it in the order of `CauseTable`, the answer is that fault, or
--- one that no told file rules out. So with `CauseTable` each of these answers comes exactly where it has its cause; what else a
--- run ends with is told by `IsComplete`.
+-- If the words and the known files have a cause, and none before it in the order of `CauseTable`, the answer is that fault,
+-- or one that known files cannot rule out: out of memory, or a failed read. So with `CauseTable` each of these answers comes
+-- exactly if it has its cause. How else a run ends is in `IsComplete`.
 use Rattle.std.specs.Prelude.{◌≡◌, ◌≢◌, ◌⊎◌, ℕ, ℤ, Bool, List, Option, Some, None, Result, Ok, Err}
 use Rattle.pt_types.specs.declared.graph.Graph.{Graph}
 use Rattle.pt_types.specs.declared.rows.Row.{Row}
 use Rattle.pt_blocks.specs.declared.blocks.Named.{Named}
 use Rattle.pt_graph_text.specs.declared.fault.GraphFault.{GraphFault}
 use Rattle.pt_graph.specs.GraphOf.{graph_of}
-use Rattle.pt_ranks.specs.Ranked.{IsFreeCycle}
+use Rattle.pt_causality.specs.Ranked.{IsFreeCycle}
 use Rattle.pt_offsets.specs.Margins.{IsFirstInfeasible}
 use Rattle.pt_sensors.specs.declared.fault.RowFault.{RowFault}
 use Rattle.pt_semantics.specs.Cycles.{NoFreeCycle}
 use Rattle.pt_semantics.specs.Offsets.{IsFeasible}
-use Rattle.pt_recorded.specs.Asked.{Contents}
-use Rattle.pt_recorded.specs.Recorded.{AreRows, SensorFails, SensorLate}
-use Rattle.pt_runs.specs.Agreeing.{TellsSensors}
+use Rattle.pt_sensors.specs.Asked.{Contents}
+use Rattle.pt_sensors.specs.Recorded.{AreRows, SensorFails, SensorLate}
+use Rattle.pt_run.specs.RunsAgreeing.{TellsSensors}
 use Rattle.pt_run.specs.declared.fault.Fault.{Fault}
 use Rattle.pt_run.specs.declared.fault.Fault.TheVariants as fault
 use Rattle.pt_run.specs.declared.words.Command.{Command}
@@ -23,19 +23,19 @@ use Rattle.pt_run.specs.Causes.{IsTooLongForAll}
 use Rattle.pt_run.specs.CauseTable.{OfRows}
 use Rattle.pt_run.specs.Words.{Order, over}
 
--- memory ran out,
+-- memory ran out
 abbrev pub WantsMemory : Option Fault → Type 0
 WantsMemory outcome = outcome ≡ Some fault.Memory
 
--- or the read of the graph file failed, though the source tells it,
+-- memory ran out, or the graph file could not be read, though its content is known
 abbrev pub WantsGraph : Option Fault → Type 0
 WantsGraph outcome = WantsMemory outcome ⊎ (outcome ≡ Some (fault.Read None))
 
--- or that of a sensor's file
+-- the same, or a sensor's file could not be read
 abbrev pub WantsRows : Option Fault → Type 0
 WantsRows outcome = WantsGraph outcome ⊎ ((actor : ℕ) × (outcome ≡ Some (fault.Read (Some actor))))
 
--- the words are that command over a graph file, the source tells the file, and this is what it defines: a graph or a fault
+-- the words are this command on a graph file whose content is known, and it defines this graph or has this fault
 pub record Defines (order : Option Order) (tells : Contents) (blocks : List Named) (command : Command) (defined : Result Graph GraphFault) : Type 0 where
   pub name : List ℕ
   pub words : order ≡ Some (over command name)
@@ -43,24 +43,25 @@ pub record Defines (order : Option Order) (tells : Contents) (blocks : List Name
   pub told : tells name ≡ Some bytes
   pub defines : graph_of blocks bytes ≡ defined
 
--- the words are that command over a file that defines this graph, which has no cycle that takes no time; but for `meaning` each
--- sender can send in time; and the source tells the file of each sensor
+-- the words are this command on a file that defines this graph, in which each cycle takes time; each sender can send in
+-- time, which `meaning` does not require; and the contents of all sensors' files are known
 pub record ReadsRows (order : Option Order) (tells : Contents) (blocks : List Named) (command : Command) (g : Graph) : Type 0 where
   pub graph : Defines order tells blocks command (Ok g)
   pub no_free_cycle : NoFreeCycle g
   pub feasible : command ≢ Meaning → IsFeasible g
   pub files : TellsSensors tells g
 
+-- each cause that the words and the known files decide gives its answer
 pub record IsExact (outcome : Option Fault) (order : Option Order) (tells : Contents) (blocks : List Named) : Type 0 where
-  -- the words are no command
+  -- the words are not a valid command line
   pub usage : order ≡ None → (outcome ≡ Some fault.Usage) ⊎ WantsMemory outcome
   -- the graph's text has that fault, or some actors are a cycle that takes no time
   pub graph : (command : Command) (f : GraphFault) → Defines order tells blocks command (Err f) → (outcome ≡ Some (fault.Graph f)) ⊎ WantsGraph outcome
   pub cycle : (command : Command) (g : Graph) → Defines order tells blocks command (Ok g) → (NoFreeCycle g → ⊥) → ((actors : List ℕ) × IsFreeCycle g actors × (outcome ≡ Some (fault.Cycle actors))) ⊎ WantsGraph outcome
-  -- that sender is the first that can't send in time, which `meaning` takes
+  -- that sender is the first that can't send in time, which `meaning` accepts
   pub infeasible : (command : Command) (g : Graph) (send : ℕ) (offset : ℤ) (slack : ℕ) → command ≢ Meaning → Defines order tells blocks command (Ok g) → NoFreeCycle g → IsFirstInfeasible g send offset slack →
       (outcome ≡ Some (fault.Infeasible send offset slack)) ⊎ WantsGraph outcome
-  -- that sensor is the first that gives no rows: its file has that fault, or that row is late, which `meaning` takes
+  -- that sensor is the first without rows: its file has that fault, or that row is late, which `meaning` accepts
   pub sensor : (command : Command) (g : Graph) (actor : ℕ) (f : RowFault) → ReadsRows order tells blocks command g → OfRows command (λ late. SensorFails late tells g actor f) → (outcome ≡ Some (fault.Sensor actor f)) ⊎ WantsRows outcome
   pub late_row : (workers : ℕ) (log : Bool) (g : Graph) (actor row seen limit : ℕ) → ReadsRows order tells blocks (Run workers log) g → SensorLate tells g actor row seen limit → (outcome ≡ Some (fault.LateRow actor row seen limit)) ⊎ WantsRows outcome
   -- the meaning of these rows is too long

@@ -13,3 +13,5 @@ pub mod Asking
 pub mod Headline
 pub mod CauseTable
 pub mod Exact
+pub mod RunsAgreeing
+pub mod Runs

@@ -1,15 +1,15 @@
--- How a run of the input that a number makes ends, and how any call ends.
+-- How a run of a made input ends, and how any call ends.
 use Rattle.std.specs.Prelude.{◌≡◌, ℕ, List, [], Option, None, Some, flat_map, length}
 use Rattle.pt_io.specs.Causes.{Appends, AppendsPart, Rose}
 use Rattle.pt_blocks.specs.declared.blocks.Named.{Named}
 use Rattle.pt_history.specs.declared.miss.Miss.{Miss}
 use Rattle.pt_semantics.specs.Meaning.{ActorFiring, IsMeaning}
-use Rattle.pt_ranks.specs.Ranked.{level_of, rank_of}
+use Rattle.pt_causality.specs.Ranked.{level_of, rank_of}
 use Rattle.pt_offsets.specs.Plans.{IsAdmitted, Parts}
 use Rattle.pt_turn.specs.Platforms.{PlatformView}
 use Rattle.pt_monitors.specs.Platforms.{missed_by}
-use Rattle.pt_recorded.specs.Asked.{Asks, Contents, Reading}
-use Rattle.pt_recorded.specs.Places.{of_run}
+use Rattle.pt_sensors.specs.Asked.{Asks, Contents, Reading}
+use Rattle.pt_sensors.specs.Places.{of_run}
 use Rattle.pt_rounds.specs.HaveRun.{HaveRun}
 use Rattle.pt_made.specs.Input.{made_graph, made_rows}
 use Rattle.pt_made.specs.Summary.{summary}
@@ -21,8 +21,8 @@ use Rattle.pt_run.specs.Telling.{Tells, TellsBy}
 use Rattle.pt_run.specs.Texts.{AsksBy, EndsBy}
 use Rattle.pt_run.specs.Words.{Order, over, make}
 
--- what a run of the input that a number makes must write and leave: its platforms went on in paced rounds until all were
--- finished and missed nothing, and the text is the summary of the meaning
+-- what a run of the input made from n must write and leave: its platforms ran in paced rounds until all were finished and
+-- missed nothing, and the text is the summary of the meaning
 pub record IsMadeRun (n : ℕ) (platforms : List PlatformView) (text : List ℕ) : Type 0 where
   pub plan : Parts
   pub graph : plan.graph ≡ made_graph n
@@ -33,7 +33,7 @@ pub record IsMadeRun (n : ℕ) (platforms : List PlatformView) (text : List ℕ)
   pub none_missed : flat_map missed_by platforms ≡ []
   pub written : text ≡ summary n firings (length (flat_map missed_by platforms))
 
--- how such a run ends: it is written, a write fails after a prefix of it, or memory runs out
+-- how such a run ends: its text is written, a write fails after a prefix of it, or memory runs out
 abbrev pub EndsMade : Option Fault → Leaves → ℕ → Writing → Type 0
 EndsMade None left n w = (left.misses ≡ []) × (text : List ℕ) × IsMadeRun n left.platforms text × Appends w.written_before w.written_now text
 EndsMade (Some fault.Write) left n w = Rose w.before w.now × (left.misses ≡ []) × (text : List ℕ) × IsMadeRun n left.platforms text × AppendsPart w.written_before w.written_now text
@@ -46,13 +46,13 @@ Ends outcome left None tells blocks r w = EndsBy outcome left None tells blocks 
 Ends outcome left (Some (over command graph)) tells blocks r w = EndsBy outcome left (Some (command, graph)) tells blocks r w
 Ends outcome left (Some (make number workers)) tells blocks r w = EndsMade outcome left number w
 
--- what is asked for: a run of a made input asks for nothing
+-- which files are asked for: none for a made input
 abbrev pub AsksOf : Option Order → Contents → List Named → Reading → Type 0
 AsksOf None tells blocks r = AsksBy None tells blocks r
 AsksOf (Some (over command graph)) tells blocks r = AsksBy (Some (command, graph)) tells blocks r
 AsksOf (Some (make number workers)) tells blocks r = Asks r.asked_before r.asked_now []
 
--- what is told on notes: no line of such a run has a name in it
+-- what is put on notes: the lines of a run of a made input have no names
 abbrev pub TellsOf : Option Fault → List Miss → Option Order → Contents → List Named → Writing → Type 0
 TellsOf outcome misses None tells blocks w = TellsBy outcome misses None tells blocks w
 TellsOf outcome misses (Some (over command graph)) tells blocks w = TellsBy outcome misses (Some (command, graph)) tells blocks w

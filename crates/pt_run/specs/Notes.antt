@@ -1,18 +1,19 @@
--- The line that tells of a fault.
+-- The line that reports a fault.
 use Rattle.std.specs.Prelude.{ℕ, ℤ, List, [], ◌∷◌, ◌++◌, Option, Some, None, codes, slice_index_or}
 use Rattle.std.specs.Fmt.{decimal, signed_decimal}
 use Rattle.pt_types.specs.declared.graph.Graph.{Graph}
 use Rattle.pt_graph_text.specs.Lines as graph
 use Rattle.pt_sensors.specs.Lines as sensor
-use Rattle.pt_semantics.specs.Edges.{no_actor}
+use Rattle.pt_types.specs.Groups.{no_actor}
 use Rattle.pt_run.specs.declared.fault.Fault.{Fault}
 use Rattle.pt_run.specs.declared.fault.Fault.TheVariants as fault
 
--- the name of an actor or of a platform of the graph, where there is one
+-- the name of an actor of the graph; empty without a graph
 abbrev pub actor_name : Option Graph → ℕ → List ℕ
 actor_name None a = []
 actor_name (Some g) a = (slice_index_or g.actors a no_actor).name
 
+-- the name of a platform of the graph; empty without a graph
 abbrev pub platform_name : Option Graph → ℕ → List ℕ
 platform_name None p = []
 platform_name (Some g) p = slice_index_or g.platforms p []
@@ -22,6 +23,7 @@ abbrev pub names_of : Option Graph → List ℕ → List ℕ
 names_of g [] = []
 names_of g (a ∷ actors) = (32 ∷ actor_name g a) ++ names_of g actors
 
+-- graph: cycle NAME NAME ..
 abbrev pub cycle_line : Option Graph → List ℕ → List ℕ
 cycle_line g actors = codes "graph: cycle" ++ (names_of g actors ++ 10 ∷ [])
 
@@ -37,12 +39,12 @@ infeasible_line name offset slack = (codes "graph: infeasible " ++ name) ++ offs
 abbrev pub late_line : List ℕ → ℕ → ℕ → ℕ → List ℕ
 late_line name row seen limit = codes "late " ++ name ++ codes " row " ++ decimal row ++ codes ", seen " ++ decimal seen ++ codes " past " ++ decimal limit ++ 10 ∷ []
 
--- the line of a meaning that is too long: on that platform, or on all together
+-- the line of a meaning that is too long: on this platform, or in total
 abbrev pub long_line : Option ℕ → Option Graph → List ℕ
 long_line None g = codes "long meaning" ++ 10 ∷ []
 long_line (Some platform) g = codes "long " ++ platform_name g platform ++ 10 ∷ []
 
--- the line of a read that failed: that of the graph file, or that of a sensor's file
+-- the line of a failed read: that of the graph file, or that of a sensor's file
 abbrev pub read_line : Option ℕ → Option Graph → List ℕ
 read_line None g = codes "read fault: graph" ++ 10 ∷ []
 read_line (Some actor) g = codes "read fault: sensor " ++ actor_name g actor ++ 10 ∷ []

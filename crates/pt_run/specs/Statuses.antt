@@ -1,9 +1,10 @@
--- The status of each way to end.
+-- The status of each answer.
 use Rattle.std.specs.Prelude.{ℕ, List, [], ◌∷◌, Option, Some, None}
 use Rattle.pt_history.specs.declared.miss.Miss.{Miss}
 use Rattle.pt_run.specs.declared.fault.Fault.{Fault}
 use Rattle.pt_run.specs.declared.fault.Fault.TheVariants as fault
 
+-- the status of a fault
 abbrev pub status_of_fault : Fault → ℕ
 status_of_fault fault.Usage = 1
 status_of_fault (fault.Graph f) = 2
@@ -16,7 +17,7 @@ status_of_fault (fault.Read sensor) = 7
 status_of_fault fault.Write = 8
 status_of_fault fault.Memory = 9
 
--- without a fault it is 0, or 5 where something was missed
+-- without a fault it is 0, or 5 if something was missed
 abbrev pub status_of : Option Fault → List Miss → ℕ
 status_of None [] = 0
 status_of None (miss ∷ misses) = 5

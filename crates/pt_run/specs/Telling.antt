@@ -1,11 +1,11 @@
--- What is told on notes.
+-- What is put on notes.
 use Rattle.std.specs.Prelude.{◌⊎◌, [], ℕ, List, Option, None, Some, flat_map}
 use Rattle.pt_io.specs.Causes.{Appends, AppendsPart, Rose}
 use Rattle.pt_types.specs.declared.graph.Graph.{Graph}
 use Rattle.pt_blocks.specs.declared.blocks.Named.{Named}
 use Rattle.pt_history.specs.declared.miss.Miss.{Miss}
-use Rattle.pt_logs.specs.Misses.{miss_line}
-use Rattle.pt_recorded.specs.Asked.{Contents}
+use Rattle.pt_tables.specs.Misses.{miss_line}
+use Rattle.pt_sensors.specs.Asked.{Contents}
 use Rattle.pt_run.specs.declared.fault.Fault.{Fault}
 use Rattle.pt_run.specs.declared.fault.Fault.TheVariants as fault
 use Rattle.pt_run.specs.declared.words.Command.{Command}
@@ -13,22 +13,22 @@ use Rattle.pt_run.specs.Causes.{Writing}
 use Rattle.pt_run.specs.Written.{GraphWith}
 use Rattle.pt_run.specs.Notes.{note_line}
 
--- the notes of a call: the line of its fault, or a line for each missed entry
+-- the notes of a call: the line of its fault, or a line for each miss
 abbrev pub notes_of : Option Fault → List Miss → Option Graph → List ℕ
 notes_of (Some f) misses g = note_line f g
 notes_of None misses (Some g) = flat_map (miss_line g) misses
 notes_of None misses None = []
 
--- notes were put: all of them, or a prefix where a put failed
+-- a text was put: all of it, or a prefix if a put failed
 abbrev pub IsPut : List ℕ → Writing → Type 0
 IsPut text w = Appends w.written_before w.written_now text ⊎ (Rose w.before w.now × AppendsPart w.written_before w.written_now text)
 
--- the notes of a call over a graph, where there is one; where memory ran out they may be anything
+-- the notes of a call on a graph, if there is one; if memory ran out, they may be anything
 abbrev pub Tells : Option Fault → List Miss → Option Graph → Writing → Type 0
 Tells (Some fault.Memory) misses g w = Unit {0}
 Tells outcome misses g w = IsPut (notes_of outcome misses g) w
 
--- the notes of a call over some words: the names in them are those of the graph of the file that the words name
+-- the notes of a call for some words: names in them are those of the graph in the file that the words name
 abbrev pub TellsBy : Option Fault → List Miss → Option (Command × List ℕ) → Contents → List Named → Writing → Type 0
 TellsBy (Some fault.Memory) misses order tells blocks w = Unit {0}
 TellsBy (Some fault.Usage) misses order tells blocks w = Tells (Some fault.Usage) misses None w

@@ -1,4 +1,4 @@
--- How a call ends, and what it asks for.
+-- How a call ends, and which files it asks for.
 use Rattle.std.specs.Prelude.{◌≡◌, ◌⊎◌, ℕ, Bool, List, [], ◌∷◌, Option, Some, None, Result, Ok, Err, String, string_bytes}
 use Rattle.std.specs.declared.alloc.Global.{Global}
 use Rattle.pt_io.specs.Causes.{Rose, Appends, AppendsPart}
@@ -6,17 +6,14 @@ use Rattle.pt_types.specs.declared.graph.Graph.{Graph}
 use Rattle.pt_types.specs.declared.rows.Row.{Row}
 use Rattle.pt_blocks.specs.declared.blocks.Named.{Named}
 use Rattle.pt_history.specs.declared.miss.Miss.{Miss}
-use Rattle.pt_semantics.specs.Cycles.{NoFreeCycle}
-use Rattle.pt_ranks.specs.Ranked.{IsFreeCycle}
-use Rattle.pt_offsets.specs.Margins.{IsFirstInfeasible}
 use Rattle.pt_offsets.specs.Plans.{Parts}
-use Rattle.pt_recorded.specs.declared.fault.LateRows.TheVariants.{Refused}
-use Rattle.pt_recorded.specs.Asked.{Asks, Contents, Reading, files_before}
-use Rattle.pt_recorded.specs.Recorded.{SensorFails, SensorLate, SensorUnread}
-use Rattle.pt_runs.specs.declared.running.RunFault.{RunFault}
-use Rattle.pt_runs.specs.declared.running.RunFault.TheVariants as stop
-use Rattle.pt_runs.specs.declared.texts.Ran.{Ran}
-use Rattle.pt_runs.specs.Runs.{HasRun, IsFinishedRun}
+use Rattle.pt_sensors.specs.declared.recorded_fault.LateRows.TheVariants.{Refused}
+use Rattle.pt_sensors.specs.Asked.{Asks, Contents, Reading, files_before}
+use Rattle.pt_sensors.specs.Recorded.{SensorFails, SensorLate, SensorUnread}
+use Rattle.pt_run.specs.declared.plan_run.RunFault.{RunFault}
+use Rattle.pt_run.specs.declared.plan_run.RunFault.TheVariants as stop
+use Rattle.pt_run.specs.declared.finished_run.Ran.{Ran}
+use Rattle.pt_run.specs.Runs.{HasRun, IsFinishedRun}
 use Rattle.pt_run.specs.declared.fault.Fault.{Fault}
 use Rattle.pt_run.specs.declared.fault.Fault.TheVariants as fault
 use Rattle.pt_run.specs.declared.fault.Outcome.{Outcome}
@@ -26,27 +23,27 @@ use Rattle.pt_run.specs.declared.words.Command.TheVariants.{Check}
 use Rattle.pt_run.specs.Written.{GraphWith, Leaves, Writes, Wrote, nothing}
 use Rattle.pt_run.specs.Causes.{CauseOf, CauseOfCheck, CauseOfMeaning, IsCause, IsTooLongForAll, Writing}
 
--- of the files of a graph a command asks for those of the sensors, and `check` for none
+-- the sensors' files that a command asks for, among the first n actors of a graph: none for `check`
 abbrev pub files_for : Command → Graph → ℕ → List (List ℕ)
 files_for Check g n = []
 files_for _ g n = files_before g n
 
--- the files of the sensors among the first actors were asked for, as far as the command needs them
+-- the source was asked for these files, for some n
 abbrev pub AsksFor : Command → Graph → Option (List (List ℕ)) → Option (List (List ℕ)) → Type 0
 AsksFor command g before now = (n : ℕ) × Asks before now (files_for command g n)
 
--- what was asked for in all: nothing, the graph file alone, or the graph file and then the files of the sensors among the
--- first actors of its graph
+-- the source was asked for nothing, for the graph file only, or for the graph file and then for the files of the sensors
+-- among the first actors of its graph
 abbrev pub AsksInOrder : Command → Contents → List Named → List ℕ → Option (List (List ℕ)) → Option (List (List ℕ)) → Type 0
 AsksInOrder command tells blocks name before now =
     Asks before now [] ⊎ (Asks before now (name ∷ []) ⊎ GraphWith tells blocks name (λ g. (n : ℕ) × Asks before now (name ∷ files_for command g n)))
 
--- what was asked for: nothing where the words are no command
+-- what the source was asked for: nothing if the words are not a valid command line
 abbrev pub AsksBy : Option (Command × List ℕ) → Contents → List Named → Reading → Type 0
 AsksBy None tells blocks r = Asks r.asked_before r.asked_now []
 AsksBy (Some order) tells blocks r = AsksInOrder order.0 tells blocks order.1 r.asked_before r.asked_now
 
--- how a call ends: memory may run out; where the words are no command, with the usage; else with what the command must
+-- how a call ends: out of memory; if the words are not a valid command line, with the usage; else with what the command must
 -- write, or with a fault that has its cause
 abbrev pub EndsBy : Option Fault → Leaves → Option (Command × List ℕ) → Contents → List Named → Reading → Writing → Type 0
 EndsBy (Some fault.Memory) left order tells blocks r w = (left ≡ nothing) × (w.written_now ≡ w.written_before)
@@ -58,28 +55,28 @@ EndsBy (Some f) left (Some order) tells blocks r w = IsCause f left order.0 tell
 abbrev pub left_by : Outcome → Leaves
 left_by o = record { misses = o.misses; platforms = o.platforms.items }
 
--- how a command over a graph ends
+-- how a command on a graph ends
 abbrev pub EndsOver : Option Fault → Leaves → Command → Contents → Graph → Reading → Writing → Type 0
 EndsOver None left command tells g r w = (text : List ℕ) × Writes command tells g left text × Appends w.written_before w.written_now text
 EndsOver (Some fault.Write) left command tells g r w =
     Rose w.before w.now × (left.misses ≡ []) × (misses : List Miss) × (text : List ℕ) × Writes command tells g (record left { misses = misses }) text × AppendsPart w.written_before w.written_now text
 EndsOver (Some f) left command tells g r w = CauseOf command f left tells g [] r × (w.written_now ≡ w.written_before)
 
--- a text was put on a sink, all of it or a prefix
+-- a text was put on a sink: all of it, without a fault, or a prefix, if a put failed
 abbrev pub PutBy : Option Fault → List ℕ → Writing → Type 0
 PutBy None text w = Appends w.written_before w.written_now text
 PutBy (Some f) text w = (f ≡ fault.Write) × Rose w.before w.now × AppendsPart w.written_before w.written_now text
 
--- an outcome is a fault, or memory for its line ran out
+-- an outcome is this fault, or there was no memory for its line
 abbrev pub OrMemory : Option Fault → Fault → Type 0
 OrMemory outcome f = (outcome ≡ Some f) ⊎ (outcome ≡ Some fault.Memory)
 
--- how the answer to a question ends: its text is put, or its fault is told
+-- how `check` or `meaning` ends: its text is put, or its fault is reported
 abbrev pub Answers : Result (String Global) Fault → Outcome → Writing → Type 0
 Answers (Ok text) o w = (left_by o ≡ nothing) × PutBy o.fault (string_bytes text) w
 Answers (Err f) o w = (left_by o ≡ nothing) × OrMemory o.fault f × (w.written_now ≡ w.written_before)
 
--- how a run over a plan ends
+-- how a run of a plan ends
 abbrev pub EndsPlan : Option Fault → Leaves → Bool → Contents → Parts → Reading → Writing → Type 0
 EndsPlan None left log tells plan r w = (text : List ℕ) × IsFinishedRun tells plan log left.platforms left.misses text × Appends w.written_before w.written_now text
 EndsPlan (Some fault.Write) left log tells plan r w =
@@ -91,25 +88,18 @@ EndsPlan (Some (fault.Sensor actor f)) left log tells plan r w = SensorFails Ref
 EndsPlan (Some (fault.LateRow actor row seen limit)) left log tells plan r w = SensorLate tells plan.graph actor row seen limit × (left ≡ nothing) × (w.written_now ≡ w.written_before)
 EndsPlan (Some f) left log tells plan r w = ⊥
 
--- a run that finished was written, all of it or a prefix; where all is, its missed entries are told
+-- the text of a run that finished was put, all of it or a prefix; if all of it, the outcome has its misses
 abbrev pub WroteRun : Ran → Outcome → Writing → Type 0
 WroteRun ran o w =
     ((o.fault ≡ None) × (left_by o ≡ record { misses = ran.misses.items; platforms = ran.platforms.items }) × Appends w.written_before w.written_now (string_bytes ran.text))
     ⊎ ((o.fault ≡ Some fault.Write) × (left_by o ≡ record { misses = []; platforms = ran.platforms.items }) × Rose w.before w.now × AppendsPart w.written_before w.written_now (string_bytes ran.text))
 
--- a run that did not finish is told as a fault of the call
+-- the outcome of a run that did not finish
 abbrev pub IsStopped : RunFault → Outcome → Type 0
 IsStopped (stop.Rows f) o = OrMemory o.fault (fault_of_rows f) × (left_by o ≡ nothing)
 IsStopped (stop.Long platform platforms) o =
     ((o.fault ≡ Some (fault.Long (Some platform))) × (left_by o ≡ record { misses = []; platforms = platforms.items })) ⊎ ((o.fault ≡ Some fault.Memory) × (left_by o ≡ nothing))
 IsStopped stop.Memory o = (o.fault ≡ Some fault.Memory) × (left_by o ≡ nothing)
-
--- why a graph has no plan
-abbrev pub CauseOfPlan : Fault → Graph → Type 0
-CauseOfPlan (fault.Cycle actors) g = IsFreeCycle g actors
-CauseOfPlan (fault.Infeasible send offset slack) g = NoFreeCycle g × IsFirstInfeasible g send offset slack
-CauseOfPlan fault.Memory g = Unit {0}
-CauseOfPlan _ g = ⊥
 
 -- why there is no text of the margins
 abbrev pub CheckFails : Fault → Graph → Type 0

@@ -6,18 +6,18 @@ use Rattle.pt_words.specs.Grammar.{Request}
 use Rattle.pt_run.specs.declared.words.Command.{Command}
 use Rattle.pt_run.specs.declared.words.Command.TheVariants.{Run, Check, Meaning}
 
--- what words can ask for: a command over the graph file of that name, or a run of the input that a number makes
+-- what words can ask for: a command on the graph file with this name, or a run of an input made from a number
 pub data Order : Type 0 where
   over : (command : Command) (graph : List ℕ) → Order
   make : (number workers : ℕ) → Order
 
--- the order of a request; the clock changes nothing, since all runs are paced
+-- the order of a request; the clock is dropped, since all runs are paced
 abbrev pub order_by : Request → Order
 order_by (grammar.run graph workers clock log) = over (Run workers log) graph
 order_by (grammar.check graph) = over Check graph
 order_by (grammar.meaning graph) = over Meaning graph
 order_by (grammar.make number workers) = make number workers
 
--- what the words ask for by the grammar
+-- what the words ask for, by the grammar
 abbrev pub order_of : List (String Global) → Option Order
 order_of words = option_map order_by (grammar.order_of words)

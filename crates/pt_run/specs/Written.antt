@@ -14,23 +14,25 @@ use Rattle.pt_history.specs.declared.miss.Miss.{Miss}
 use Rattle.pt_turn.specs.Platforms.{PlatformView}
 use Rattle.pt_offsets.specs.Plans.{Parts}
 use Rattle.pt_offsets.specs.Margins.{HasActorOffset, HasMargin}
-use Rattle.pt_margins.specs.Text.{margins_text}
-use Rattle.pt_recorded.specs.Asked.{Contents}
-use Rattle.pt_recorded.specs.Places.{of_run}
-use Rattle.pt_recorded.specs.Recorded.{AreRows}
-use Rattle.pt_runs.specs.Runs.{IsFinishedRun}
+use Rattle.pt_tables.specs.Margins.{margins_text}
+use Rattle.pt_sensors.specs.Asked.{Contents}
+use Rattle.pt_sensors.specs.Places.{of_run}
+use Rattle.pt_sensors.specs.Recorded.{AreRows}
+use Rattle.pt_run.specs.Runs.{IsFinishedRun}
 use Rattle.pt_run.specs.declared.words.Command.{Command}
 use Rattle.pt_run.specs.declared.words.Command.TheVariants.{Run, Check, Meaning}
+use Rattle.pt_types.specs.Limits.{most_claims}
 
--- the graph file of that name defines a graph of which a fact holds
+-- the graph file with this name, if its content is known, defines a graph, and a fact holds of that graph
 abbrev pub GraphWith : Contents → List Named → List ℕ → (Graph → Type 0) → Type 0
 GraphWith tells blocks name Fact = (g : Graph) × IfSome (tells name) (λ bytes. graph_of blocks bytes ≡ Ok g) × Fact g
 
--- what a call leaves besides what it wrote: the missed entries and the platforms of a run
+-- what a call leaves besides what it wrote: the misses and the platforms of a run
 pub record Leaves : Type 0 where
   pub misses : List Miss
   pub platforms : List PlatformView
 
+-- no misses and no platforms
 abbrev pub nothing : Leaves
 nothing = record { misses = []; platforms = [] }
 
@@ -40,22 +42,22 @@ pub record Means (g : Graph) (rows : ℕ → List Row) (firings : List ActorFiri
   pub ranks : AreRanks g rank
   pub meaning : IsMeaning g rank (of_run g rows) firings
 
--- the meaning of a graph and these rows has more firings than that
+-- the meaning of a graph and these rows has more firings than `most`
 pub record IsTooLong (g : Graph) (rows : ℕ → List Row) (most : ℕ) : Type 0 where
   pub rank : ℕ → ℕ
   pub ranks : AreRanks g rank
   pub longer : IsLonger g rank (of_run g rows) most
 
--- the text is that of the tables of the meaning of a graph and these rows, of whose firings a fact holds
+-- the text is the tables of the meaning of a graph and these rows, and a fact holds of the firings
 pub record IsTables (g : Graph) (rows : ℕ → List Row) (Fact : List ActorFiring → Type 0) (text : List ℕ) : Type 0 where
   pub firings : List ActorFiring
   pub means : Means g rows firings
   pub fact : Fact firings
   pub tables : text ≡ tables_text g firings
 
--- no more actors fire than that for each platform
+-- there are at most 200,000 firings times the number of platforms
 abbrev pub FitOnAll : Graph → List ActorFiring → Type 0
-FitOnAll g firings = length firings ≤ 200000 * length g.platforms
+FitOnAll g firings = length firings ≤ most_claims * length g.platforms
 
 -- what a run of this graph must write and leave
 pub record IsRun (tells : Contents) (g : Graph) (log : Bool) (left : Leaves) (text : List ℕ) : Type 0 where
@@ -63,13 +65,13 @@ pub record IsRun (tells : Contents) (g : Graph) (log : Bool) (left : Leaves) (te
   pub graph : plan.graph ≡ g
   pub finished : IsFinishedRun tells plan log left.platforms left.misses text
 
--- what `meaning` must write for this graph: the same tables, whatever the bounds of its sensors
+-- what `meaning` must write for this graph: the tables of its meaning, whatever the bounds of its sensors
 pub record IsMeant (tells : Contents) (g : Graph) (text : List ℕ) : Type 0 where
   pub rows : ℕ → List Row
   pub sensors : AreRows tells g rows
   pub tables : IsTables g rows (FitOnAll g) text
 
--- what `check` must write for this graph, whose senders can all send in time: the offset and the margin of each actor
+-- what `check` must write for this graph: each sender can send in time, and the text has the offset and margin of each actor
 pub record IsChecked (g : Graph) (text : List ℕ) : Type 0 where
   pub feasible : IsFeasible g
   pub offset : ℕ → Option ℤ
@@ -84,19 +86,19 @@ WritesText (Run workers log) tells g left text = IsRun tells g log left text
 WritesText Check tells g left text = (left ≡ nothing) × IsChecked g text
 WritesText Meaning tells g left text = (left ≡ nothing) × IsMeant tells g text
 
--- what a command must write for a graph, which has no free cycle
+-- what a command must write for a graph, which has no free cycle, and what it leaves
 abbrev pub Writes : Command → Contents → Graph → Leaves → List ℕ → Type 0
 Writes command tells g left text = NoFreeCycle g × WritesText command tells g left text
 
--- what it must write for the graph file of that name
+-- what a command must write for the graph file with this name, and what it leaves
 abbrev pub Ran : Command → Contents → List Named → List ℕ → Leaves → List ℕ → Type 0
 Ran command tells blocks name left text = GraphWith tells blocks name (λ g. Writes command tells g left text)
 
--- the bytes that were told grew by that text
+-- the bytes written, if known, grew by such a text
 abbrev pub Wrote : Command → Contents → List Named → List ℕ → Leaves → Option (List ℕ) → Option (List ℕ) → Type 0
 Wrote command tells blocks name left before now = (text : List ℕ) × Ran command tells blocks name left text × Appends before now text
 
--- they grew by a prefix of it, and no missed entry is told
+-- the bytes written, if known, grew by a prefix of such a text, and no misses are given
 abbrev pub WrotePart : Command → Contents → List Named → List ℕ → Leaves → Option (List ℕ) → Option (List ℕ) → Type 0
 WrotePart command tells blocks name left before now =
     (left.misses ≡ []) × (misses : List Miss) × (text : List ℕ) × Ran command tells blocks name (record left { misses = misses }) text × AppendsPart before now text

@@ -1,19 +1,19 @@
-//! The graph file.
+//! Reading the graph file.
 
 ghost use Rattle.std.specs.Prelude.{◌≡◌, ◌≤◌, IfOk, IfErr, IfSome, Ok, [], ◌∷◌};
 ghost use Rattle.pt_types.specs.Lawful.{IsLawful};
 ghost use Rattle.pt_graph.specs.GraphOf.{graph_of};
-ghost use Rattle.pt_recorded.specs.Asked.{Asks, AsksOrNot};
+ghost use Rattle.pt_sensors.specs.Asked.{Asks, AsksOrNot};
 ghost use Rattle.pt_run.specs.Causes.{CauseOfGraph};
 
 use crate::fault::{Fault, fault_of_graph};
 use pt_blocks::Blocks;
-use pt_graph::{MOST_BYTES, read_graph};
+use pt_graph::read_graph;
 use pt_io::{FetchFault, Source};
-use pt_types::Graph;
+use pt_types::{Graph, MOST_GRAPH_BYTES};
 use std::alloc::Global;
 
-/// The graph of the file of that name.
+/// The graph in the file with this name.
 pub fn graph_at<S: Source>(
     alloc: Global,
     source: &mut S,
@@ -29,7 +29,7 @@ pub fn graph_at<S: Source>(
     ensures asks { IfOk result (λ g. Asks (S.asked source.old) (S.asked source.new) (name.now ∷ [])) }
     ensures asks_at_most { IfErr result (λ f. AsksOrNot (S.asked source.old) (S.asked source.new) (name.now ∷ [])) }
 {
-    let bytes = match source.fetch(alloc, name, MOST_BYTES) {
+    let bytes = match source.fetch(alloc, name, MOST_GRAPH_BYTES) {
         Ok(bytes) => bytes,
         Err(FetchFault::Failed) => return Err(Fault::Read { sensor: None }),
         Err(FetchFault::Memory) => return Err(Fault::Memory),

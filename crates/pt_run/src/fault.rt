@@ -4,26 +4,25 @@ ghost use Rattle.std.specs.Prelude.{◌≡◌, [], None, Some};
 ghost use Rattle.pt_run.specs.Written.{nothing};
 ghost use Rattle.pt_run.specs.Statuses.{status_of, status_of_fault};
 ghost use Rattle.pt_run.specs.Texts.{left_by};
-ghost use Rattle.pt_run.specs.Faults.{fault_of_cycle, fault_of_graph, fault_of_offset, fault_of_rows};
+ghost use Rattle.pt_run.specs.Faults.{fault_of_cycle, fault_of_graph, fault_of_offset, fault_of_plan, fault_of_rows};
 
+use pt_causality::CycleFault;
 use pt_graph::GraphFault;
 use pt_history::Miss;
-use pt_offsets::OffsetFault;
-use pt_ranks::CycleFault;
-use pt_recorded::RecordedFault;
-use pt_sensors::RowFault;
+use pt_offsets::{OffsetFault, PlanFault};
+use pt_sensors::{RecordedFault, RowFault};
 use pt_tags::List;
 use pt_turn::Platform;
 use std::alloc::Global;
 
-/// Why a call wrote no whole answer. Actors are named by their numbers in the graph, from 0; times are microseconds.
+/// Why a call did not write its whole answer. Actors are numbered as in the graph, from 0; times are microseconds.
 #[derive(Drop)]
 pub enum Fault {
-    /// The words are outside the grammar of the commands.
+    /// The command line is not valid.
     Usage,
     /// The graph file has this fault.
     Graph(GraphFault),
-    /// These actors are a cycle that takes no time, in its order; the first has the least number.
+    /// These actors form a cycle that takes no time, in its order; the first has the least number.
     Cycle(List<u32>),
     /// What reaches this sender may come too late for it to send within its slack: `offset + 1 > slack`.
     Infeasible {
@@ -36,22 +35,23 @@ pub enum Fault {
         actor: u32,
         fault: RowFault,
     },
-    /// A row (counted from 1) of the sensor is seen at `seen`, past `limit`, its time and the sensor's bound.
+    /// Row `row`, from 1, of the sensor is seen at `seen`, past `limit`, its time plus the sensor's bound.
     LateRow {
         actor: u32,
         row: u32,
         seen: u64,
         limit: u64,
     },
-    /// The meaning has more than 200,000 firings on that platform; without one, more than 200,000 for each platform.
+    /// The meaning has more than 200,000 firings of units on this platform; for `None`, it has more than 200,000 firings
+    /// times the number of platforms.
     Long {
         platform: Option<u32>,
     },
-    /// The graph file, or the file of that sensor, couldn't be read.
+    /// The graph file, for `None`, or the file of this sensor could not be read.
     Read {
         sensor: Option<u32>,
     },
-    /// The output couldn't be written in full.
+    /// The output could not be written in full.
     Write,
     /// Memory ran out.
     Memory,
@@ -60,17 +60,17 @@ pub enum Fault {
 /// How a call ended, and what a run left.
 #[derive(Drop)]
 pub struct Outcome {
-    /// 0 where all was written, 5 where something was missed besides, else that of the fault.
+    /// 0 if all was written, 5 if in addition something was missed, else the status of the fault.
     pub status: u8,
     pub fault: Option<Fault>,
-    /// All missed entries: platform after platform, turn after turn, results before messages. None but at 0 and 5.
+    /// All misses: platform by platform, turn by turn, results before messages. Empty unless the status is 5.
     pub misses: List<Miss>,
-    /// The platforms of the run as it left them, in the order of the graph. None where no run was begun.
+    /// The platforms as the run left them, in the order of the graph; none if no run began.
     pub platforms: Vec<Platform>,
 }
 
 impl Outcome {
-    /// A call that ended with a fault before a run was begun.
+    /// A call that ended with a fault before a run began.
     pub(crate) fn refused(alloc: Global, fault: Fault) -> Outcome
         ensures status { result.status ≡ status_of result.fault result.misses }
         ensures fault { result.fault ≡ Some fault }
@@ -98,7 +98,7 @@ impl Outcome {
         }
     }
 
-    /// A call that wrote all, with what a run missed and left.
+    /// A call that wrote everything, with the misses and the platforms of its run.
     pub(crate) fn done(misses: Vec<Miss>, platforms: Vec<Platform>) -> Outcome
         ensures status { result.status ≡ status_of result.fault result.misses }
         ensures fault { result.fault ≡ None }
@@ -131,7 +131,7 @@ pub fn status_of(fault: &Fault) -> u8
     }
 }
 
-/// The fault of a call whose graph file has this fault.
+/// The fault of a call, from that of the graph file.
 pub fn fault_of_graph(fault: GraphFault) -> Fault
     ensures { result ≡ fault_of_graph fault }
 {
@@ -141,7 +141,7 @@ pub fn fault_of_graph(fault: GraphFault) -> Fault
     }
 }
 
-/// The fault of a call whose graph has this fault.
+/// The fault of a call, from that of a graph with a cycle.
 pub fn fault_of_cycle(fault: CycleFault) -> Fault
     ensures { result ≡ fault_of_cycle fault }
 {
@@ -151,7 +151,7 @@ pub fn fault_of_cycle(fault: CycleFault) -> Fault
     }
 }
 
-/// The fault of a call whose graph has this fault.
+/// The fault of a call, from that of a graph whose offsets were computed.
 pub fn fault_of_offset(fault: OffsetFault) -> Fault
     ensures { result ≡ fault_of_offset fault }
 {
@@ -169,7 +169,26 @@ pub fn fault_of_offset(fault: OffsetFault) -> Fault
     }
 }
 
-/// The fault of a call whose sensors gave no rows.
+/// The fault of a call, from that of a graph without a plan.
+pub fn fault_of_plan(fault: PlanFault) -> Fault
+    ensures { result ≡ fault_of_plan fault }
+{
+    match fault {
+        PlanFault::Memory => Fault::Memory,
+        PlanFault::Cycle { actors } => Fault::Cycle(actors),
+        PlanFault::Infeasible {
+            send,
+            offset,
+            slack,
+        } => Fault::Infeasible {
+            send,
+            offset,
+            slack,
+        },
+    }
+}
+
+/// The fault of a call, from that of the sensors' files.
 pub fn fault_of_rows(fault: RecordedFault) -> Fault
     ensures { result ≡ fault_of_rows fault }
 {

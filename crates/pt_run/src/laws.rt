@@ -1,8 +1,8 @@
-//! A theorem of runs.
+//! A theorem about runs.
 
 ghost use Rattle.pt_run.specs.Agreeing.{RunsAgree};
 
-/// What a run must write and what it leaves are one function of the graph file and the files of its sensors.
+/// What a run must write and what it leaves is a function of the graph file and the files of its sensors.
 pub fn runs_agree()
     ensures { RunsAgree }
 {}

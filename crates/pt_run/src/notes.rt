@@ -1,4 +1,4 @@
-//! The line that tells of a fault.
+//! The line that reports a fault.
 
 ghost use Rattle.std.specs.Prelude.{◌≡◌, ◌⊎◌, ◌++◌, [], ◌∷◌, IfOk, None, OnOk, Some, option_map, string_bytes};
 ghost use Rattle.pt_run.specs.declared.fault.Fault.TheVariants.{Memory, Write};
@@ -12,11 +12,12 @@ use pt_sensors::fault_line as sensor_line;
 use pt_types::Graph;
 use std::alloc::{AllocError, Global};
 
+/// The line for a command line that is not valid.
 const USAGE: &str =
     "usage: ptides run GRAPH [--workers N] [--clock paced] [--log] | check GRAPH | meaning GRAPH | make NUMBER [--workers N]\n";
 
-/// Puts the line of a fault on notes, and gives the fault; where there is no memory for the line, it is want of memory.
-/// A put that fails changes nothing else.
+/// Puts the line of a fault on `notes`, and returns the fault; if there is no memory for the line, that becomes the fault.
+/// A failed put has no other effect.
 pub fn tell<E: Sink>(alloc: Global, notes: &mut E, fault: Fault, graph: Option<&Graph>) -> Fault
     ensures fault { (result ≡ fault) ⊎ (result ≡ Memory) }
     ensures told { Tells (Some result) [] (option_map (λ g. g.now) graph.entry)
@@ -34,7 +35,7 @@ pub fn tell<E: Sink>(alloc: Global, notes: &mut E, fault: Fault, graph: Option<&
     }
 }
 
-/// Puts the line of an output that couldn't be written. It needs no memory.
+/// Puts the line for an output that could not be written. This needs no memory.
 pub fn tell_write<E: Sink>(notes: &mut E)
     ensures { Tells (Some Write) [] None
         (record { before = E.faults notes.old; now = E.faults notes.new; written_before = E.written notes.old; written_now = E.written notes.new }) }
@@ -51,7 +52,7 @@ fn line_of(alloc: Global, fault: &Fault, graph: Option<&Graph>) -> Result<String
     Ok(line)
 }
 
-/// Appends the line of a fault. The names of actors and platforms are those of the graph, where there is one.
+/// Appends the line of a fault. The names of actors and platforms are those of the graph; without one they are empty.
 fn push_line(line: &mut String, fault: &Fault, graph: Option<&Graph>) -> Result<(), AllocError>
     ensures { OnOk result (string_bytes line.new ≡ string_bytes line.old ++ note_line fault.now (option_map (λ g. g.now) graph.entry)) }
 {
@@ -126,7 +127,7 @@ fn push_offset(line: &mut String, offset: &i64, slack: u64) -> Result<(), AllocE
     write!(line, ", offset {offset}, slack {slack}\n")
 }
 
-/// Appends two pieces.
+/// Appends two texts.
 fn push_words(line: &mut String, start: &str, name: &str) -> Result<(), AllocError>
     ensures { OnOk result (string_bytes line.new ≡ string_bytes line.old ++ (start.now ++ name.now)) }
 {
@@ -184,26 +185,22 @@ fn push_name(line: &mut String, start: &str, name: &str) -> Result<(), AllocErro
     line.push_str("\n")
 }
 
+/// The name of an actor of the graph; empty without a graph.
 fn actor_name(graph: Option<&Graph>, actor: u32) -> &str
     ensures { result.now ≡ actor_name (option_map (λ g. g.now) graph.entry) actor }
 {
     let Some(graph) = graph else {
         return "";
     };
-    match graph.actors.as_slice().get(actor as usize) {
-        Some(actor) => actor.name.as_str(),
-        None => "",
-    }
+    graph.actor_name(actor)
 }
 
+/// The name of a platform of the graph; empty without a graph.
 fn platform_name(graph: Option<&Graph>, platform: u32) -> &str
     ensures { result.now ≡ platform_name (option_map (λ g. g.now) graph.entry) platform }
 {
     let Some(graph) = graph else {
         return "";
     };
-    match graph.platforms.as_slice().get(platform as usize) {
-        Some(name) => name.as_str(),
-        None => "",
-    }
+    graph.platform_name(platform)
 }

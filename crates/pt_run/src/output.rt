@@ -1,4 +1,4 @@
-//! The output, line by line.
+//! Writing the output, line by line.
 
 ghost use Rattle.std.specs.Prelude.{◌≡◌, ◌<◌, ◌≤◌, length, OnOk, OnErr};
 ghost use Rattle.pt_io.specs.Causes.{Appends, AppendsPart, Rose};

@@ -13,12 +13,13 @@ ghost use Rattle.pt_run.specs.Telling.{Tells, TellsBy};
 ghost use Rattle.pt_run.specs.Texts.{Answers, AsksBy, AsksFor, EndsBy, EndsOver, left_by};
 
 use crate::admission::graph_at;
+use crate::check::check_answer;
 use crate::fault::{Fault, Outcome};
-use crate::making::make;
+use crate::make::make;
+use crate::meaning::meaning_answer;
 use crate::notes::{tell, tell_write};
 use crate::output::put_text;
-use crate::runs::run_graph;
-use crate::texts::{check_answer, meaning_answer};
+use crate::run::run_graph;
 use crate::words::{Asked, Command, order_of};
 use pt_blocks::Blocks;
 use pt_io::{Sink, Source};
@@ -28,9 +29,8 @@ use std::alloc::Global;
 /// Runs the command of these words, those after the program's name: `run GRAPH`, `check GRAPH`, `meaning GRAPH` or
 /// `make NUMBER`.
 ///
-/// Files are asked of the source by name; `make` asks for none. The text goes to `out`, line by line; where the call ends
-/// otherwise, one line on `notes` says why, and where a run missed something, one line for each missed entry says what.
-/// Actors may name these blocks.
+/// Files are read from the source by name; `make` reads none. The text goes to `out`, line by line. After a fault, one line
+/// on `notes` says why; after a run with misses, one line for each. `blocks` has the functions that actors may name.
 pub fn ptides<S: Source, K: Sink, E: Sink>(
     alloc: Global,
     words: &[String],
@@ -40,21 +40,21 @@ pub fn ptides<S: Source, K: Sink, E: Sink>(
     blocks: &Blocks,
 ) -> Outcome
     ensures status { result.status ≡ status_of result.fault result.misses }
-    // The source was asked for the graph file, then for the files of its sensors in order, and for nothing else.
+    // The source is asked for the graph file, then for the files of its sensors in order, and for nothing else.
     ensures asks { AsksOf (order_of words.now) (S.tells source.old) blocks.now.listed.items
         (record { asked_before = S.asked source.old; asked_now = S.asked source.new; before = S.faults source.old; now = S.faults source.new }) }
-    // The headline: what a run has written, what it keeps, at which readings, and why it ended with status 4.
+    // The headline: what a run has written, what it leaves, at which readings, and why it ended with status 4.
     ensures headline { IsHeadline result.status result.fault (left_by result) (order_of words.now) (S.tells source.old) blocks.now.listed.items
         (record { before = K.faults out.old; now = K.faults out.new; written_before = K.written out.old; written_now = K.written out.new }) }
-    // Why the call ended so: one field for each answer.
+    // Why the call ended as it did: one field for each answer.
     ensures causes { CauseTable result.status result.fault (left_by result) (order_of words.now) (S.tells source.old) blocks.now.listed.items
         (record { asked_before = S.asked source.old; asked_now = S.asked source.new; before = S.faults source.old; now = S.faults source.new })
         (record { before = K.faults out.old; now = K.faults out.new; written_before = K.written out.old; written_now = K.written out.new }) }
-    // And so it ends wherever the words and the files have that cause and none before it: one field for each answer that
-    // they tell.
+    // And it ends so whenever the words and the files have that cause and none before it: one field for each answer that
+    // depends on them alone.
     ensures exact { IsExact result.fault (order_of words.now) (S.tells source.old) blocks.now.listed.items }
-    // All of it, for every command: what was written and what is left, and why the call ended otherwise, by cases in `EndsBy`
-    // and `EndsMade`.
+    // All of it, for every command: what was written and what is left, and the cause of each fault, by cases in `EndsBy` and
+    // `EndsMade`.
     ensures ends { Ends result.fault (left_by result) (order_of words.now) (S.tells source.old) blocks.now.listed.items
         (record { asked_before = S.asked source.old; asked_now = S.asked source.new; before = S.faults source.old; now = S.faults source.new })
         (record { before = K.faults out.old; now = K.faults out.new; written_before = K.written out.old; written_now = K.written out.new }) }
@@ -62,16 +62,16 @@ pub fn ptides<S: Source, K: Sink, E: Sink>(
     ensures complete { IsComplete result.status (order_of words.now) (S.tells source.old) blocks.now.listed.items
         (record { asked_before = S.asked source.old; asked_now = S.asked source.new; before = S.faults source.old; now = S.faults source.new })
         (record { before = K.faults out.old; now = K.faults out.new; written_before = K.written out.old; written_now = K.written out.new }) }
-    // Where all was put, nothing is held back.
+    // Without a fault, all output is flushed.
     ensures flushed { result.fault ≡ None → K.flushed out.new }
-    // What was put on notes.
+    // What was put on `notes`.
     ensures notes { TellsOf result.fault result.misses (order_of words.now) (S.tells source.old) blocks.now.listed.items
         (record { before = E.faults notes.old; now = E.faults notes.new; written_before = E.written notes.old; written_now = E.written notes.new }) }
 {
     run_words(alloc, words, source, out, notes, blocks)
 }
 
-/// Runs the command of these words.
+/// Runs the command of these words. The other clauses of `ptides` follow from these.
 fn run_words<S: Source, K: Sink, E: Sink>(
     alloc: Global,
     words: &[String],
@@ -104,7 +104,7 @@ fn run_words<S: Source, K: Sink, E: Sink>(
     Outcome::refused(alloc, fault)
 }
 
-/// Runs a command over the graph of the file of that name.
+/// Runs a command on the graph in the file with this name.
 fn run_file<S: Source, K: Sink, E: Sink>(
     alloc: Global,
     command: Command,
@@ -133,7 +133,7 @@ fn run_file<S: Source, K: Sink, E: Sink>(
     }
 }
 
-/// Runs a command over a graph.
+/// Runs a command on a graph.
 fn run_command<S: Source, K: Sink, E: Sink>(
     alloc: Global,
     command: Command,
@@ -168,7 +168,7 @@ fn run_command<S: Source, K: Sink, E: Sink>(
     }
 }
 
-/// Puts an answer on `out`, or tells its fault.
+/// Puts a text on `out`, or reports its fault.
 fn give<K: Sink, E: Sink>(
     alloc: Global,
     answer: Result<String, Fault>,

@@ -8,30 +8,30 @@ ghost use Rattle.pt_words.specs.Views.{asked};
 use pt_words::Order;
 use std::alloc::{AllocError, Global};
 
-/// What is asked of a graph.
+/// A command on a graph.
 #[derive(Clone, Copy, Debug, PartialEq, Eq)]
 pub enum Command {
-    /// To run it over the rows of its sensors, on so many workers (1 to 64), and to write its tables and, where `log` holds,
+    /// Run it over the rows of its sensors with `workers` workers (1 to 64), and write its tables and, if `log` is true,
     /// what each platform did.
     Run { workers: u32, log: bool },
-    /// To see whether it is admitted, and to write the offset and the margin of each actor.
+    /// Check whether it is admitted, and write the offset and the margin of each actor.
     Check,
-    /// To write the tables of its meaning, whatever its bounds and slacks.
+    /// Write the tables of its meaning, whatever its bounds and slacks.
     Meaning,
 }
 
 /// What the words ask for.
 #[derive(Clone, Copy, Debug, PartialEq, Eq)]
 pub enum Asked<'a> {
-    /// A command over the graph file of that name.
+    /// A command on the graph file with this name.
     Over { command: Command, graph: &'a str },
-    /// A run of the input that this number (1 to 100) makes, on so many workers (1 to 64).
+    /// A run of the input made from `number` (1 to 100), with `workers` workers (1 to 64).
     Make { number: u32, workers: u32 },
 }
 
-/// What the words ask for, where they are a command line.
+/// What the words ask for; `None` if the command line is not valid.
 ///
-/// A run has a clock too: all runs are paced.
+/// The clock of a run is dropped, since all runs are paced.
 pub fn order_of<'a>(alloc: Global, words: &'a [String]) -> Result<Option<Asked<'a>>, AllocError>
     ensures { IfOk result (λ order. option_map in_words order ≡ order_of words.entry.now) }
 {

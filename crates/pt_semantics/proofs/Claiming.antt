@@ -8,8 +8,9 @@ use Rattle.pt_types.specs.declared.graph.Unit.{Unit as Part}
 use Rattle.pt_tags.specs.Tags.{Before, UpTo, same_tag, plus}
 use Rattle.pt_types.specs.Ports.{when}
 use Rattle.pt_semantics.specs.Lists.{IsIn}
-use Rattle.pt_semantics.specs.Edges.{kind_of}
-use Rattle.pt_semantics.specs.Units.{input_group, at_input, HasEvent, same_part}
+use Rattle.pt_types.specs.Lookups.{kind_of}
+use Rattle.pt_semantics.specs.Units.{at_input, HasEvent, same_part}
+use Rattle.pt_types.specs.Groups.{input_group}
 use Rattle.pt_semantics.specs.Meaning.{Values}
 use Rattle.pt_semantics.specs.Behaviours.{Firing, Firings, Rising}
 use Rattle.pt_semantics.specs.Ranks.{sum_along}

@@ -10,8 +10,10 @@ use Rattle.pt_types.specs.declared.graph.Unit.{Unit as Part}
 use Rattle.pt_tags.specs.Tags.{Before, UpTo, same_tag, plus, then, zero_delay}
 use Rattle.pt_types.specs.Ports.{when, at_port}
 use Rattle.pt_semantics.specs.Lists.{IsIn}
-use Rattle.pt_semantics.specs.Edges.{Edge, wires, links, kind_of}
-use Rattle.pt_semantics.specs.Units.{input_group, output_group, source, target, at_input, at_output, same_part, unit_of, leaves_unit}
+use Rattle.pt_semantics.specs.Edges.{Edge, wires, links}
+use Rattle.pt_types.specs.Lookups.{kind_of}
+use Rattle.pt_semantics.specs.Units.{source, target, at_input, at_output, same_part, unit_of, leaves_unit}
+use Rattle.pt_types.specs.Groups.{input_group, output_group}
 use Rattle.pt_semantics.specs.Meaning.{Values, row_at, at_time, going, added}
 use Rattle.pt_semantics.specs.Behaviours.{Firing, Firings}
 use Rattle.pt_semantics.specs.Ranks.{sum_along}

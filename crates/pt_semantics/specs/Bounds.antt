@@ -1,46 +1,41 @@
--- Bounds: how long after its time an event of a sensor or a receiver can still come.
+-- Bounds: how much later than its time an event of a sensor or a receiver can come.
 use Rattle.std.specs.Prelude.{◌≡◌, ◌==◌, ◌&&◌, ◌+◌, ◌||◌, ℕ, List, None, Option, Some, unwrap_or}
 use Rattle.pt_types.specs.declared.graph.Graph.{Graph}
 use Rattle.pt_types.specs.declared.kind.Kind.{Kind}
 use Rattle.pt_types.specs.declared.graph.Link.{Link}
 use Rattle.pt_types.specs.declared.graph.PairError.{PairError}
 use Rattle.pt_types.specs.declared.graph.Unit.{Unit as Part}
-use Rattle.pt_types.specs.declared.kind.Kind.TheVariants.{Receive, Send, Sensor}
+use Rattle.pt_types.specs.declared.kind.Kind.TheVariants.{Receive, Sensor}
 use Rattle.pt_types.specs.Ports.{when}
-use Rattle.pt_semantics.specs.Edges.{Edge, kind_of, platform_of}
+use Rattle.pt_semantics.specs.Edges.{Edge}
+use Rattle.pt_types.specs.Lookups.{kind_of, platform_of, slack_of}
 use Rattle.pt_semantics.specs.Paths.{Goes}
 use Rattle.pt_semantics.specs.Units.{at_output}
 use Rattle.pt_semantics.specs.Lists.{first_of}
 
--- the error of two platforms' clocks, where the pair is of these two
+-- the clock error that this pair states, if the pair is of platforms p and q
 abbrev pub of_pair : ℕ → ℕ → PairError → Option ℕ
 of_pair p q e = when (e.a == p && e.b == q || e.a == q && e.b == p) (Some e.error)
 
--- that of their pair, or that of the graph where no pair is stated
+-- the clock error of two platforms: that of their pair, or the graph's if no pair states it
 abbrev pub error_of : Graph → ℕ → ℕ → ℕ
 error_of g p q = unwrap_or (first_of (of_pair p q) g.clock_errors) g.clock_error
 
--- how long after its tag a sender or an actuator may act; 0 elsewhere
-abbrev pub slack_of : Kind → ℕ
-slack_of (Send slack) = slack
-slack_of (Kind.Actuator slack) = slack
-slack_of _ = 0
-
--- the bound that a link gives its receiver
+-- the bound of a link's receiver: the sender's slack, the delay of the network and the clock error
 abbrev pub link_bound : Graph → Link → ℕ
 link_bound g l = slack_of (kind_of g l.from) + l.delay + error_of g (platform_of g l.from) (platform_of g l.to)
 
--- the bound of a sensor or a receiver
+-- the bound of a sensor or a receiver; other kinds have none
 abbrev pub bound_by : Graph → ℕ → Kind → Option ℕ
 bound_by g a (Sensor file bound) = Some bound
 bound_by g a Receive = first_of (λ (l : Link). when (l.to == a) (Some (link_bound g l))) g.links
 bound_by g a _ = None
 
--- the bound of an actor that is a sensor or a receiver
+-- the bound of an actor, if it is a sensor or a receiver
 abbrev pub bound_of : Graph → ℕ → Option ℕ
 bound_of g a = bound_by g a (kind_of g a)
 
--- a sensor or receiver s with bound b leads to unit a along a path
+-- a path leads from a sensor or receiver s with bound b to unit a
 pub record Feeds (g : Graph) (s b : ℕ) (path : List Edge) (a : Part) : Type 0 where
   pub bound : bound_of g s ≡ Some b
   pub goes : Goes g (at_output g s 0) path a

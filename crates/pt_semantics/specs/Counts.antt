@@ -1,7 +1,7 @@
--- How many unit firings a platform has.
+-- The number of unit firings of a platform.
 use Rattle.std.specs.Prelude.{ℕ, zero, suc, ◌+◌, ◌==◌, if◌then◌else◌, length}
 use Rattle.pt_types.specs.declared.graph.Graph.{Graph}
-use Rattle.pt_semantics.specs.Edges.{kind_of, platform_of}
+use Rattle.pt_types.specs.Lookups.{kind_of, platform_of}
 use Rattle.pt_semantics.specs.Units.{groups}
 use Rattle.pt_semantics.specs.Behaviours.{Firings}
 
@@ -10,10 +10,10 @@ abbrev pub sum_below : (ℕ → ℕ) → ℕ → ℕ
 sum_below f zero = 0
 sum_below f (suc n) = f n + sum_below f n
 
--- the firings of all units of an actor
+-- the number of firings of all units of an actor
 abbrev pub actor_firings : Graph → Firings → ℕ → ℕ
 actor_firings g f a = sum_below (λ k. length (f (record { actor = a; group = k }))) (groups (kind_of g a))
 
--- the firings of all units of platform i
+-- the number of firings of all units on platform i
 abbrev pub unit_firings : Graph → ℕ → Firings → ℕ
 unit_firings g i f = sum_below (λ a. if platform_of g a == i then actor_firings g f a else 0) (length g.actors)

@@ -1,4 +1,4 @@
--- What each kind does with its state and its inputs.
+-- What each kind gives for its state and its inputs.
 use Rattle.std.specs.Prelude.{ℕ, zero, suc, Bool, true, false, ◌&&◌, List, [], ◌∷◌, take, drop, pos, ℤ, ◌+ℤ◌, ◌-ℤ◌, ◌*ℤ◌, int_lt, int_le, int_div, Option, Some, None, unwrap_or, is_some}
 use Rattle.std.specs.Ordering.{int_eq}
 use Rattle.pt_types.specs.declared.kind.Kind.{Kind}
@@ -14,12 +14,12 @@ use Rattle.pt_semantics.specs.Laws.{nearest, law_value}
 abbrev pub or_zero : Option ℤ → ℤ
 or_zero x = unwrap_or x (pos 0)
 
--- a machine's row without a guard may always be taken; one with a guard where the law of input and state is above 0
+-- a row without a guard can always be taken; one with a guard only if the law of input and state is greater than 0
 abbrev pub guard_holds : Option (ℕ × Law) → ℤ → ℤ → Bool
 guard_holds None a q = true
 guard_holds (Some guard) a q = int_lt (pos 0) (law_value guard.1 a q)
 
--- a row that fits the state q and the input a
+-- the row, if it fits the state q and the input a
 abbrev pub row_fits : ℤ → ℤ → MachineRow → Option MachineRow
 row_fits q a row = when (int_eq row.state q && int_le row.low a && int_le a row.high && guard_holds row.guard a q) (Some row)
 
@@ -27,12 +27,12 @@ abbrev pub emitted_by : Option (ℕ × ℤ) → ℕ → Option ℤ
 emitted_by None = nothing
 emitted_by (Some emit) = only emit.0 (Some emit.1)
 
--- a machine takes the first row that fits; where there is none, nothing changes and nothing is given
+-- a machine takes the first row that fits; if there is none, its state is unchanged and it gives nothing
 abbrev pub machine_step : ℤ → Option MachineRow → Fired
 machine_step q None = record { state = q; outputs = eight nothing }
 machine_step q (Some row) = record { state = row.next; outputs = eight (emitted_by row.emit) }
 
--- the sum of the values that are there
+-- the sum of the values that are present
 abbrev pub present_sum : List (Option ℤ) → ℤ
 present_sum [] = pos 0
 present_sum (None ∷ xs) = present_sum xs
@@ -43,7 +43,7 @@ any_present [] = false
 any_present (None ∷ xs) = any_present xs
 any_present (Some x ∷ xs) = true
 
--- each cell gives the sum of its inputs that are there, and nothing where none is
+-- each cell gives the sum of its inputs that are present, and nothing if none is
 abbrev pub lane_outputs : List ℕ → List (Option ℤ) → ℕ → Option ℤ
 lane_outputs [] inputs p = None
 lane_outputs (n ∷ ns) inputs zero = when (any_present (take n inputs)) (Some (nearest (present_sum (take n inputs))))
@@ -56,7 +56,7 @@ identity x = x
 abbrev pub gives : ℤ → Option ℤ → Fired
 gives q value = record { state = q; outputs = eight (only 0 value) }
 
--- what an actor that begins by itself gives: its count at output 0, and 0 at its hidden output 1
+-- an `every` gives its count at output 0, and 0 at its hidden output 1
 abbrev pub count_and_tick : ℤ → ℕ → Option ℤ
 count_and_tick q zero = Some q
 count_and_tick q (suc zero) = Some (pos 0)
@@ -70,7 +70,7 @@ abbrev pub keep_if : (ℤ → Bool) → Option ℤ → Option ℤ
 keep_if f None = None
 keep_if f (Some x) = when (f x) (Some x)
 
--- the new state and the outputs of an actor of this kind, by its state q and its inputs
+-- the new state and the outputs of an actor of this kind, for its state q and its inputs
 abbrev pub fired : Kind → ℤ → List (Option ℤ) → Fired
 fired (Sensor file bound) q inputs = gives q (at_port inputs 0)
 fired Receive q inputs = gives q (at_port inputs 0)

@@ -3,11 +3,11 @@ use Rattle.std.specs.Prelude.{◌-◌, ◌^◌, if◌then◌else◌, pos, negsuc
 use Rattle.pt_types.specs.declared.kind.Law.{Law}
 use Rattle.pt_types.specs.declared.kind.Law.TheVariants.{Least, Greatest, Middle, Deadband, Weighted}
 
--- the nearest number that an i64 holds
+-- the nearest number that fits in an i64
 abbrev pub nearest : ℤ → ℤ
 nearest x = if int_lt x (negsuc (2 ^ 63 - 1)) then negsuc (2 ^ 63 - 1) else (if int_lt (pos (2 ^ 63 - 1)) x then pos (2 ^ 63 - 1) else x)
 
--- what a law makes of two values
+-- the value of a law for a and b
 abbrev pub law_value : Law → ℤ → ℤ → ℤ
 law_value Least a b = if int_lt b a then b else a
 law_value Greatest a b = if int_lt a b then b else a

@@ -1,3 +1,4 @@
+pub mod LawfulGraphs
 pub mod Lists
 pub mod Edges
 pub mod Laws
@@ -37,8 +38,4 @@ pub mod Rounds
 pub mod FixedOrder
 pub mod Counts
 pub mod CycleTheorems
-pub mod MeaningTheorems
-pub mod HistoryTheorems
-pub mod TurnTheorems
-pub mod PacedTheorems
 pub mod Tables

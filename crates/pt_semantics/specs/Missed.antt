@@ -1,4 +1,4 @@
--- Late entries and missed entries.
+-- Late entries and missed entries of the log.
 use Rattle.std.specs.Prelude.{◌≡◌, ◌<◌, ◌∷◌, ◌++◌, ◌+◌, ◌⊎◌, [], ℕ, ℤ, List, Some, slice_get}
 use Rattle.pt_tags.specs.declared.message.Message.TheVariants.{Event}
 use Rattle.pt_tags.specs.declared.tag.Tag.{Tag}
@@ -10,10 +10,11 @@ use Rattle.pt_types.specs.declared.firing.OnLink.{OnLink}
 use Rattle.pt_semantics.specs.Lists.{IsIn}
 use Rattle.pt_semantics.specs.Platform.{State}
 use Rattle.pt_semantics.specs.Turn.{Turn}
-use Rattle.pt_semantics.specs.Edges.{kind_of}
-use Rattle.pt_semantics.specs.Bounds.{link_bound, slack_of}
+use Rattle.pt_types.specs.Lookups.{kind_of}
+use Rattle.pt_semantics.specs.Bounds.{link_bound}
+use Rattle.pt_types.specs.Lookups.{slack_of}
 
--- a late entry: the last taken message of a turn, past its time and the receiver's bound at the last reading before
+-- a late entry: before this turn the last reading was past the time plus the bound of the last message that it takes
 pub record IsLate (g : Graph) (s : State) (turn : Turn) (a : ℕ) (t : Tag) (p limit : ℕ) : Type 0 where
   pub before : List OnLink
   pub l : ℕ
@@ -26,7 +27,8 @@ pub record IsLate (g : Graph) (s : State) (turn : Turn) (a : ℕ) (t : Tag) (p l
   pub limit_is : limit ≡ t.time + link_bound g link
   pub late : limit < p
 
--- a missed entry: an actuator's result posted, or a sender's event message sent, past its tag's time and the slack
+-- a missed entry: in this turn an actuator's result is posted, or a
+-- sender's event is sent, later than its tag's time and the slack
 abbrev pub IsMissed : Graph → Turn → ℕ → Tag → ℕ → Type 0
 IsMissed g turn a t limit =
     (((d : Done) × IsIn d turn.posted × (d.task.actor ≡ a) × (d.task.tag ≡ t) × ((slack : ℕ) × (kind_of g a ≡ Actuator slack) × (limit ≡ t.time + slack)))

@@ -1,4 +1,4 @@
--- The parts that units have in the firings of actors.
+-- The parts: the firings of units within the firings of actors.
 use Rattle.std.specs.Prelude.{◌≡◌, ◌<◌, ◌==◌, ℕ, ℤ, List, Option, Some, filter_map}
 use Rattle.pt_types.specs.declared.graph.Graph.{Graph}
 use Rattle.pt_types.specs.declared.kind.Kind.{Kind}
@@ -8,26 +8,27 @@ use Rattle.pt_semantics.specs.Meaning.{ActorFiring}
 use Rattle.pt_semantics.specs.Behaviours.{Firing, Firings}
 use Rattle.pt_semantics.specs.Lists.{IsIn}
 use Rattle.pt_semantics.specs.Firing.{any_present, fired}
-use Rattle.pt_semantics.specs.Units.{at_input, input_group, output_group}
-use Rattle.pt_semantics.specs.Edges.{kind_of}
+use Rattle.pt_semantics.specs.Units.{at_input}
+use Rattle.pt_types.specs.Groups.{input_group, output_group}
+use Rattle.pt_types.specs.Lookups.{kind_of}
 
--- of the inputs of an actor's firing those of one group
+-- the inputs of one group, of all inputs of an actor's firing
 abbrev pub narrowed : Kind → ℕ → List (Option ℤ) → List (Option ℤ)
 narrowed kind group inputs = eight (λ p. when (input_group kind p == group) (at_port inputs p))
 
--- a part with these inputs, where one is present
+-- the part with these inputs, if one of them is present
 abbrev pub part_by : Kind → ActorFiring → List (Option ℤ) → Option Firing
 part_by kind x inputs = when (any_present inputs) (Some (record { tag = x.tag; inputs = inputs; before = x.before; after = (fired kind x.before inputs).state; outputs = (fired kind x.before inputs).outputs }))
 
--- the part that unit u has in a firing, where it has one
+-- the part of unit u in a firing of its actor, if it has one
 abbrev pub part_of : Graph → Part → ActorFiring → Option Firing
 part_of g u x = when (x.actor == u.actor) (part_by (kind_of g u.actor) x (narrowed (kind_of g u.actor) u.group x.inputs))
 
--- each unit's parts in a list of firings
+-- the parts of each unit in a list of firings
 abbrev pub parts : Graph → List ActorFiring → Firings
 parts g xs u = filter_map (part_of g u) xs
 
--- the same, actor by actor. A claim x of unit u is a part of a firing z of its actor
+-- a claim x of unit u is a part of a firing z of its actor
 pub record IsPartOf (g : Graph) (u : Part) (x : Firing) (z : ActorFiring) : Type 0 where
   pub actor : z.actor ≡ u.actor
   pub tag : z.tag ≡ x.tag

@@ -7,12 +7,13 @@ use Rattle.pt_types.specs.declared.rows.Row.{Row}
 use Rattle.pt_types.specs.declared.firing.Task.{Task}
 use Rattle.pt_types.specs.Ports.{when}
 use Rattle.pt_semantics.specs.Meaning.{Values, start_at}
-use Rattle.pt_semantics.specs.Edges.{first_state, kind_of, platform_of}
+use Rattle.pt_semantics.specs.Edges.{first_state}
+use Rattle.pt_types.specs.Lookups.{kind_of, platform_of}
 use Rattle.pt_semantics.specs.Units.{same_part}
 
--- a platform's state: what waits at each input, the open claim of each unit, a number for each actor, the rows left of
--- each sensor, the outbox of each outgoing link, what was taken on each incoming link, the last reading, whether it is
--- closed, and how many claims were made
+-- a platform's state: the pending value of each input and tag, the open claim of each unit, the state of each actor, the
+-- rows left of each sensor, the outbox of each outgoing link, the messages taken on each incoming link, the last reading,
+-- whether it is closed, and the number of claims so far
 pub record State : Type 0 where
   pub waits : Values
   pub busy : Part → Option Task
@@ -24,7 +25,7 @@ pub record State : Type 0 where
   pub closed : Bool
   pub claims : ℕ
 
--- the state that a platform opens in: its starting events wait, and all its rows are left
+-- the state of a platform before its first turn: its starting events are pending, and all its rows are left
 abbrev pub opened : Graph → ℕ → (ℕ → List Row) → State
 opened g i rows = record {
   waits = λ a p t. when (platform_of g a == i && p == 0) (start_at g (kind_of g a) t);
@@ -38,10 +39,10 @@ opened g i rows = record {
   claims = 0;
 }
 
--- the open claims with that of unit u set
+-- the open claims, with that of unit u set to x
 abbrev pub put_busy : (Part → Option Task) → Part → Option Task → Part → Option Task
 put_busy busy u x v = if same_part u v then x else busy v
 
--- the state with reading r
+-- the state with last reading r
 abbrev pub raised : State → ℕ → State
 raised s r = record s { reading = Some r }

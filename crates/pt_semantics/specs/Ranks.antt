@@ -6,7 +6,7 @@ use Rattle.pt_types.specs.declared.graph.Graph.{Graph}
 use Rattle.pt_semantics.specs.Lists.{IsIn}
 use Rattle.pt_semantics.specs.Edges.{Edge, edges}
 
--- the sum of the weights along a path; the empty path weighs nothing
+-- the sum of the weights along a path; zero for the empty path
 abbrev pub sum_along : List Edge → Delay
 sum_along [] = zero_delay
 sum_along (e ∷ es) = then e.weight (sum_along es)
@@ -16,7 +16,7 @@ abbrev pub Leads : Graph → ℕ → List Edge → ℕ → Type 0
 Leads g a [] b = a ≡ b
 Leads g a (e ∷ es) b = IsIn e (edges g) × (e.from ≡ a) × Leads g e.to es b
 
--- n is the number of edges on the longest path that ends at a and whose sum is such a delay
+-- n is the number of edges on the longest path that ends at a, of the paths whose sum satisfies `such`
 pub record IsLongest (g : Graph) (such : Delay → Type 0) (a n : ℕ) : Type 0 where
   pub one : (b : ℕ) × (path : List Edge) × Leads g b path a × such (sum_along path) × (length path ≡ n)
   pub longest : (b : ℕ) (path : List Edge) → Leads g b path a → such (sum_along path) → length path ≤ n
@@ -27,10 +27,10 @@ NoDelay d = (d.time ≡ 0) × (d.step ≡ 0)
 abbrev pub NoTime : Delay → Type 0
 NoTime d = d.time ≡ 0
 
--- the rank of each actor: over paths of no delay
+-- the rank of each actor: its longest path of no delay
 abbrev pub AreRanks : Graph → (ℕ → ℕ) → Type 0
 AreRanks g rank = (a : ℕ) → IsLongest g NoDelay a (rank a)
 
--- the level of each actor: over paths of no time
+-- the level of each actor: its longest path of no time
 abbrev pub AreLevels : Graph → (ℕ → ℕ) → Type 0
 AreLevels g level = (a : ℕ) → IsLongest g NoTime a (level a)

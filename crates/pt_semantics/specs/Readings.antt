@@ -1,4 +1,4 @@
--- A history that is read by a list of readings.
+-- Histories and the readings at which their turns were made.
 use Rattle.std.specs.Prelude.{◌≡◌, ◌++◌, ◌∷◌, if◌then◌else◌, [], ℕ, List, length, nat_le}
 use Rattle.pt_semantics.specs.Turn.{Turn}
 
@@ -6,12 +6,12 @@ use Rattle.pt_semantics.specs.Turn.{Turn}
 abbrev pub later_of : ℕ → ℕ → ℕ
 later_of p r = if nat_le p r then r else p
 
--- in each place the greatest reading up to there, where p is the greatest before
+-- each reading, raised to the greatest before it if that is greater; p is the greatest before the list
 abbrev pub raised_from : ℕ → List ℕ → List ℕ
 raised_from p [] = []
 raised_from p (r ∷ readings) = later_of p r ∷ raised_from (later_of p r) readings
 
--- the raised list of what a clock gave
+-- the raised readings of a clock: they never fall
 abbrev pub raised_list : List ℕ → List ℕ
 raised_list readings = raised_from 0 readings
 
@@ -20,17 +20,17 @@ abbrev pub greatest_of : ℕ → List ℕ → ℕ
 greatest_of p [] = p
 greatest_of p (r ∷ readings) = greatest_of (later_of p r) readings
 
--- a turn's piece has as many members as its count, and begins and ends with its first and last reading
+-- these readings are those of a turn: as many as it counts, from its first reading to its last
 pub record IsPiece (turn : Turn) (piece : List ℕ) : Type 0 where
   pub count : length piece ≡ turn.count
   pub first : (later : List ℕ) × (piece ≡ turn.first ∷ later)
   pub last : (before : List ℕ) × (piece ≡ before ++ turn.last ∷ [])
 
--- these readings are consecutive pieces, one for each turn
+-- the readings are split into consecutive pieces, one for each turn
 abbrev pub ArePieces : List Turn → List ℕ → Type 0
 ArePieces [] readings = readings ≡ []
 ArePieces (turn ∷ turns) readings = (piece : List ℕ) × (rest : List ℕ) × (readings ≡ piece ++ rest) × IsPiece turn piece × ArePieces turns rest
 
--- a history is read by a list of readings where its turns are pieces of the raised list
+-- a history is read by a list of readings: the raised readings, cut into pieces, are those of its turns
 abbrev pub IsReadBy : List Turn → List ℕ → Type 0
 IsReadBy turns readings = ArePieces turns (raised_list readings)

@@ -1,4 +1,4 @@
--- When a unit is safe.
+-- When a unit is safe to process.
 use Rattle.std.specs.Prelude.{◌≡◌, ◌<◌, Option, ◌≢◌, ◌+◌, ℕ, List, None, Some}
 use Rattle.pt_tags.specs.Tags.{Before, UpTo, plus}
 use Rattle.pt_tags.specs.declared.tag.Tag.{Tag}
@@ -12,14 +12,14 @@ use Rattle.pt_semantics.specs.Units.{HasEvent}
 use Rattle.pt_semantics.specs.Meaning.{Values}
 use Rattle.pt_semantics.specs.Ranks.{sum_along}
 
--- what waits and is open being given, unit u is safe at reading r, and t is its least pending tag
+-- unit u is safe to process at reading r, and t is its least tag; `waits` and `busy` are the pending events and open claims
 pub record IsSafe (g : Graph) (waits : Values) (busy : Part → Option Task) (r : ℕ) (u : Part) (t : Tag) : Type 0 where
   pub event : HasEvent g waits u t
   pub least : (w : Tag) → HasEvent g waits u w → UpTo t w
   pub free : busy u ≡ None
-  -- the reading is past the last moment at which a row or a message could still come to it at t or before
+  -- the reading is so late that no row and no message can still lead to an event at u at t or before
   pub bounds : (x b : ℕ) (path : List Edge) → Feeds g x b path u → t.time + b < r + (sum_along path).time
-  -- and nothing that waits or is being fired elsewhere leads to it at t or before
+  -- no event that waits elsewhere, and no open claim, leads to an event at u at t or before
   pub events : (x : Part) (w : Tag) (path : List Edge) → x ≢ u → HasEvent g waits x w → Goes g x path u → Before t (plus w (sum_along path))
   pub claims : (x : Part) (task : Task) (path : List Edge) → busy x ≡ Some task → Goes g x path u → Before t (plus task.tag (sum_along path))
 

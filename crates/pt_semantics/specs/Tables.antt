@@ -10,24 +10,24 @@ use Rattle.pt_types.specs.Ports.{at_port}
 use Rattle.pt_semantics.specs.Firing.{or_zero}
 use Rattle.pt_semantics.specs.Meaning.{ActorFiring}
 
--- actuator,time,step,value
+-- the head line: actuator,time,step,value
 abbrev pub head : List ℕ
 head = codes "actuator,time,step,value" ++ 10 ∷ []
 
--- NAME,TIME,STEP,VALUE
+-- a line: NAME,TIME,STEP,VALUE
 abbrev pub line : List ℕ → Tag → ℤ → List ℕ
 line name tag value = name ++ 44 ∷ decimal tag.time ++ 44 ∷ decimal tag.step ++ 44 ∷ signed_decimal value ++ 10 ∷ []
 
--- the line of a firing, where it is that actor's; the value is that of input 0
+-- the line of a firing of actor a, with the value of input 0; nothing for a firing of another actor
 abbrev pub line_of : ℕ → List ℕ → ActorFiring → List ℕ
 line_of a name x = if x.actor == a then line name x.tag (or_zero (at_port x.inputs 0)) else []
 
--- the lines of an actor's firings, in their order
+-- the lines of an actor's firings, in order
 abbrev pub lines_of : ℕ → List ℕ → List ActorFiring → List ℕ
 lines_of a name [] = []
 lines_of a name (x ∷ xs) = line_of a name x ++ lines_of a name xs
 
--- an actuator has a table, and every other actor none
+-- the table of an actuator; nothing for other kinds
 abbrev pub table_of : ℕ → List ℕ → Kind → List ActorFiring → List ℕ
 table_of a name (Actuator slack) xs = lines_of a name xs
 table_of a name _ xs = []
@@ -36,6 +36,6 @@ abbrev pub tables_from : ℕ → List Actor → List ActorFiring → List ℕ
 tables_from a [] xs = []
 tables_from a (actor ∷ more) xs = table_of a actor.name actor.kind xs ++ tables_from (suc a) more xs
 
--- the tables of the actuators in graph order
+-- the head line, and then the tables of all actuators in graph order
 abbrev pub tables_text : Graph → List ActorFiring → List ℕ
 tables_text g xs = head ++ tables_from 0 g.actors xs

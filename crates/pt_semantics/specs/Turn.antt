@@ -12,8 +12,9 @@ use Rattle.pt_semantics.specs.Posting.{Posts}
 use Rattle.pt_semantics.specs.Platform.{State, raised}
 use Rattle.pt_semantics.specs.Taking.{Takes}
 use Rattle.pt_semantics.specs.Entering.{after_rows, all_due}
+use Rattle.pt_types.specs.Limits.{most_claims}
 
--- a turn as a history keeps it: its first and last reading, how many turns it stands for, and what was posted,
+-- a turn as a history records it: its first and last reading, how many turns were joined to it, and what was posted,
 -- entered, taken, claimed and sent
 pub record Turn : Type 0 where
   pub first : ℕ
@@ -25,7 +26,7 @@ pub record Turn : Type 0 where
   pub claimed : List Task
   pub sent : List OnLink
 
--- a kept turn of platform i leads from s to new, at its last reading; late where a message was late
+-- a recorded turn of platform i leads from state s to state new, at its last reading; `late` if a message was late
 pub record IsTurn (g : Graph) (level : ℕ → ℕ) (i : ℕ) (s : State) (turn : Turn) (late : Bool) (new : State) : Type 0 where
   -- readings never fall
   pub rises : (p : ℕ) → s.reading ≡ Some p → p ≤ turn.first
@@ -38,22 +39,22 @@ pub record IsTurn (g : Graph) (level : ℕ → ℕ) (i : ℕ) (s : State) (turn 
   -- take
   pub got : State
   pub takes : Takes g level i (after_rows posted turn.last) turn.taken late got
-  -- claim a front of the greedy list, which is empty only where it must be
+  -- claim the first safe units; no unit is claimed only if a message was late, no unit is safe, or all claims were made
   pub ready : State
   pub claims : Claims g turn.last (raised got turn.last) turn.claimed ready
   pub idle_if_late : late ≡ true → turn.claimed ≡ []
-  pub greedy : turn.claimed ≡ [] → (late ≡ true) ⊎ (NothingSafe g ready.waits ready.busy turn.last ⊎ (200000 ≤ s.claims))
-  pub at_most : (length turn.claimed ≤ 64) × (ready.claims ≤ 200000)
+  pub greedy : turn.claimed ≡ [] → (late ≡ true) ⊎ (NothingSafe g ready.waits ready.busy turn.last ⊎ (most_claims ≤ s.claims))
+  pub at_most : (length turn.claimed ≤ 64) × (ready.claims ≤ most_claims)
   -- close, and send
   pub done : State
   pub closes : Closes g i ready turn.last late done
   pub sends : Sends done turn.sent new
 
--- a turn after which nothing comes: a late one, or one before which all claims were made while a unit is safe
+-- no turn follows this one: a message was late, or all claims were made before it and a unit is still safe
 abbrev pub IsLast : Graph → State → ℕ → Bool → State → Type 0
-IsLast g s r late ready = (late ≡ true) ⊎ ((200000 ≤ s.claims) × (NothingSafe g ready.waits ready.busy r → ⊥))
+IsLast g s r late ready = (late ≡ true) ⊎ ((most_claims ≤ s.claims) × (NothingSafe g ready.waits ready.busy r → ⊥))
 
--- a list has no members
+-- the list is empty
 abbrev pub is_empty : {X : Type 0} → List X → Bool
 is_empty [] = true
 is_empty (x ∷ xs) = false
@@ -62,6 +63,6 @@ is_empty (x ∷ xs) = false
 abbrev pub is_quiet : Turn → Bool
 is_quiet turn = is_empty turn.posted && is_empty turn.rows && is_empty turn.taken && is_empty turn.claimed && is_empty turn.sent
 
--- two quiet turns, one right after the other, are one quiet turn at the later reading
+-- two quiet turns in a row, joined to one quiet turn at the later reading
 abbrev pub joined : Turn → Turn → Turn
 joined x y = record y { first = x.first; count = x.count + y.count }

@@ -1,18 +1,18 @@
-//! Theorems of cycles, ranks and levels.
+//! Theorems about cycles, ranks and levels.
 
 ghost use Rattle.pt_semantics.specs.CycleTheorems.{RanksAreOne, LevelsAreOne, RanksExist, LevelsExist, LevelsForbidCycles, LevelsAreSmall};
 
-/// Where each cycle takes time, each actor has a rank: its longest path of no delay is found.
+/// If each cycle takes time, each actor has a rank: there is a longest path of no delay that ends at it.
 pub fn ranks_exist()
     ensures { RanksExist }
 {}
 
-/// Where each cycle takes time, each actor has a level: its longest path of no time is found.
+/// If each cycle takes time, each actor has a level: there is a longest path of no time that ends at it.
 pub fn levels_exist()
     ensures { LevelsExist }
 {}
 
-/// Where actors have levels, each cycle takes time.
+/// If actors have levels, each cycle takes time.
 pub fn levels_forbid_cycles()
     ensures { LevelsForbidCycles }
 {}
@@ -22,12 +22,12 @@ pub fn levels_are_small()
     ensures { LevelsAreSmall }
 {}
 
-/// An actor has one rank.
+/// An actor has at most one rank.
 pub fn ranks_are_one()
     ensures { RanksAreOne }
 {}
 
-/// An actor has one level.
+/// An actor has at most one level.
 pub fn levels_are_one()
     ensures { LevelsAreOne }
 {}

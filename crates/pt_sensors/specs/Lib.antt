@@ -1,6 +1,12 @@
+pub mod Faults
+pub mod Asked
+pub mod Recorded
+pub mod Places
+pub mod Files
 pub mod Late
 pub mod Lines
 pub mod Numbers
 pub mod Order
 pub mod Rows
 pub mod RowsOf
+pub mod Listed

@@ -1,10 +1,10 @@
--- The lines on notes about a sensor's rows.
+-- The lines that report faults of sensor files and late rows.
 use Rattle.std.specs.Prelude.{ℕ, List, [], ◌∷◌, ◌++◌, codes}
 use Rattle.std.specs.Fmt.{decimal}
 use Rattle.pt_sensors.specs.declared.fault.RowFault.{RowFault}
 use Rattle.pt_sensors.specs.declared.fault.RowFault.TheVariants as fault
 
--- what a fault says
+-- the text of a fault
 abbrev pub fault_text : RowFault → List ℕ
 fault_text fault.Memory = codes "memory"
 fault_text fault.TooLong = codes "too long"
@@ -16,10 +16,10 @@ fault_text (fault.SeenOrder n) = codes "seen order at row " ++ decimal n
 fault_text (fault.SeenEarly n) = codes "seen early at row " ++ decimal n
 fault_text fault.TooManyRows = codes "too many rows"
 
--- the line of a sensor's fault
+-- the line for a fault of a sensor's file
 abbrev pub fault_line : List ℕ → RowFault → List ℕ
 fault_line name e = codes "sensor " ++ name ++ codes ": " ++ fault_text e ++ 10 ∷ []
 
--- the line of a row that was seen past its limit
+-- the line for a late row
 abbrev pub late_line : List ℕ → ℕ → ℕ → ℕ → List ℕ
 late_line name row seen limit = codes "late " ++ name ++ codes " row " ++ decimal row ++ codes ", seen " ++ decimal seen ++ codes " past " ++ decimal limit ++ 10 ∷ []

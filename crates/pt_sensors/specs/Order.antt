@@ -1,20 +1,20 @@
--- What holds of the rows that a file gives.
+-- What holds of the rows of a file.
 use Rattle.std.specs.Prelude.{◌<◌, ◌≤◌, List, [], ◌∷◌, length, Option, Some, None}
 use Rattle.pt_types.specs.declared.rows.Row.{Row}
 
--- a row comes after the row before it, if there is one, and is seen no earlier
+-- a row is later than the row before it, if there is one, and is not seen earlier
 abbrev pub Follows : Option Row → Row → Type 0
 Follows None row = Unit {0}
 Follows (Some before) row = (before.time < row.time) × (before.seen ≤ row.seen)
 
--- a row of a file, after the row before it, if there is one
+-- a valid row of a file, after the row before it, if there is one
 pub record IsRow (before : Option Row) (row : Row) : Type 0 where
   pub time : row.time ≤ 1000000000000000
   pub seen : row.seen ≤ 10000000000000000
   pub seen_after : row.time ≤ row.seen
   pub follows : Follows before row
 
--- times rise, seens never fall, and no row is seen before its time
+-- all rows are valid: times rise, the readings at which rows are seen never fall, and no row is seen before its time
 abbrev pub InOrder : Option Row → List Row → Type 0
 InOrder before [] = Unit {0}
 InOrder before (row ∷ rows) = IsRow before row × InOrder (Some row) rows

@@ -1,4 +1,4 @@
--- What a reader of CSV stands before, and what a row may be.
+-- The state of a CSV reader, and which records are rows.
 use Rattle.std.specs.Prelude.{◌≡◌, ℕ, List, [], Bool, true, false, Option, Some, None, Result, Ok, Err, nat_le, nat_lt, option_and_then, if◌then◌else◌, codes, bytes_eq, ◌&&◌, ◌==◌, length, option_map, unwrap_or}
 use Rattle.csv.specs.Records.{field_at}
 use Rattle.csv.specs.Machine.{Read}
@@ -14,20 +14,20 @@ use Rattle.pt_sensors.specs.declared.fault.RowFault.TheVariants as fault
 abbrev pub left_of : {R : Type 0} → (R → Option (List ℕ)) → Reader R → List ℕ
 left_of rem reader = unwrap_or (source_of rem reader) []
 
--- a reader of known bytes that reads each record as it stands
+-- a reader of known bytes, with the default configuration and no trimming
 pub record IsPlain {R : Type 0} (rem : R → Option (List ℕ)) (reader : Reader R) : Type 0 where
   pub config : reader_config reader ≡ default_config
   pub trim : reader_trim reader ≡ trim.None
   pub ready : Ready reader
   pub known : source_of rem reader ≡ Some (left_of rem reader)
 
--- a read found the next record, or none
+-- a read found the next record, or there is none
 abbrev pub Finds : {R : Type 0} → (R → Option (List ℕ)) → Option Read → Bool → Reader R → List (List ℕ) → Type 0
 Finds rem None found reader fields = found ≡ false
 Finds rem (Some p) found reader fields =
     (found ≡ true) × (fields ≡ p.0) × IsPlain rem reader × (reader_state reader ≡ p.1) × (left_of rem reader ≡ p.2)
 
--- the three fields of a record, where it has three
+-- the three fields of a record, if it has three
 abbrev pub Cells : Type 0
 Cells = List ℕ × List ℕ × List ℕ
 
@@ -54,7 +54,7 @@ numbers_of c =
     option_and_then (λ value.
     Some (record { time = time; seen = seen; value = value })) (signed c.2)) (limited 10000000000000000 c.1)) (limited 1000000000000000 c.0)
 
--- the order of a row after the row before it, if there is one
+-- the first fault in the order of a row and the row before it, if there is one
 abbrev pub order_fault : ℕ → Option Row → Row → Option RowFault
 order_fault n None row = if nat_lt row.seen row.time then Some (fault.SeenEarly n) else None
 order_fault n (Some before) row =
@@ -67,7 +67,7 @@ abbrev pub unless : {A : Type 0} → Option RowFault → A → Result A RowFault
 unless None x = Ok x
 unless (Some e) x = Err e
 
--- the row of a record, of that number, or its first fault
+-- the row of record number n, or its first fault
 unfoldable pub row_of : ℕ → Option Row → List (List ℕ) → Result Row RowFault
 row_of n before fields = do
   three ← or_fault (fault.Fields n) (cells fields)

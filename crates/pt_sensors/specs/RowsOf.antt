@@ -22,17 +22,17 @@ abbrev pub ends : Option Read → Result (List Row) RowFault
 ends None = Ok []
 ends (Some p) = Err fault.TooManyRows
 
--- what the next record, if there is one, and those after it give
+-- the result from the next record on, if there is one
 abbrev pub goes_on : ℕ → Option Row → (Row → State → List ℕ → Result (List Row) RowFault) → Option Read → Result (List Row) RowFault
 goes_on n before rest None = Ok []
 goes_on n before rest (Some p) = row_of n before p.0 >>= λ row. in_front row (rest row p.1 p.2)
 
--- so many more rows may come, the next is the n-th
+-- the result from row n on, if as many more rows may come as the first number says
 unfoldable pub rows_from : ℕ → ℕ → Option Row → State → List ℕ → Result (List Row) RowFault
 rows_from zero n before s xs = ends (next s xs)
 rows_from (suc left) n before s xs = goes_on n before (λ row. rows_from left (n + 1) (Some row)) (next s xs)
 
--- the header first, and then the rows
+-- the header, and then the rows
 abbrev pub after_header : Option Read → Result (List Row) RowFault
 after_header None = Err fault.Header
 after_header (Some p) = if is_header p.0 then rows_from 100000 1 None p.1 p.2 else Err fault.Header
@@ -44,7 +44,7 @@ rows_in bytes = after_header (next st.StartRecord (strip_bom bytes))
 unfoldable pub rows_of : List ℕ → Result (List Row) RowFault
 rows_of bytes = if nat_lt 8388608 (length bytes) then Err fault.TooLong else rows_in bytes
 
--- what a reader returned is what the definition gives, unless memory ran out
+-- a reader's result is the one that the definition gives, unless memory ran out
 abbrev pub Gives : {A : Type 0} → Result A RowFault → Result A RowFault → Type 0
 Gives read (Ok x) = read ≡ Ok x
 Gives read (Err e) = e ≢ fault.Memory → read ≡ Err e

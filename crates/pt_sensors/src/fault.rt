@@ -1,24 +1,24 @@
-//! What may be wrong with a sensor file.
+//! The faults of a sensor file.
 
-/// The first fault of a sensor file. Rows are counted from 1.
+/// The first fault of a sensor file. Row numbers are from 1.
 #[derive(Clone, Copy, Debug, PartialEq, Eq)]
 pub enum RowFault {
-    /// Memory ran out.
+    /// Out of memory.
     Memory,
     /// The file has more than 8,388,608 bytes.
     TooLong,
-    /// There is no first record, or it isn't `time`, `seen`, `value`.
+    /// There is no first record, or it is not `time`, `seen`, `value`.
     Header,
-    /// The row hasn't three fields.
+    /// The row does not have three fields.
     Fields(u32),
-    /// A field isn't spelled as a number, or its number is out of range.
+    /// A field is not a number, or the number is out of its range.
     Number(u32),
-    /// The row's time isn't greater than that of the row before.
+    /// The row's time is not greater than that of the row before.
     TimeOrder(u32),
-    /// The row is seen before the row before it.
+    /// The row is seen earlier than the row before.
     SeenOrder(u32),
-    /// The row is seen before its time.
+    /// The row is seen earlier than its time.
     SeenEarly(u32),
-    /// A record follows the first 100,000 rows, which are good.
+    /// A record follows the first 100,000 rows, and these have no fault.
     TooManyRows,
 }

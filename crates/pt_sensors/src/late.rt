@@ -1,4 +1,4 @@
-//! Rows that come past their sensor's bound.
+//! Rows that are seen past their sensor's bound.
 
 ghost use Rattle.std.specs.Prelude.{◌≡◌, ◌+◌, ◌-◌, ◌^◌, ◌<◌, length, is_some, position, min};
 ghost use Rattle.pt_sensors.specs.Late.{is_late, late_row};
@@ -7,9 +7,9 @@ ghost use Rattle.pt_types.specs.declared.rows.Row.{Row};
 use pt_types::Row;
 
 /// The number, from 1, of the first row with a time up to `until` that is seen more than `bound` microseconds
-/// after its time.
+/// after its time. A row of time 50 with bound 10 is late if it is seen at 61, and not if it is seen at 60.
 ///
-/// A number that 32 bits can't hold is given as the greatest that they hold. That a sensor's rows are seen within
+/// A number that does not fit in 32 bits is given as the greatest that does. That the rows of a sensor are seen within
 /// a stated bound is this project's own rule.
 pub fn first_late(rows: &[Row], bound: u64, until: u64) -> Option<u32>
     ensures found { is_some result ≡ is_some (late_row bound until rows.now) }
@@ -21,14 +21,14 @@ pub fn first_late(rows: &[Row], bound: u64, until: u64) -> Option<u32>
     }
 }
 
-/// Where the first late row stands, from 0.
+/// The index of the first late row, from 0.
 fn late_index(rows: &[Row], bound: u64, until: u64) -> Option<usize>
     ensures { result ≡ position (λ (row : Row). is_late bound until row) rows.now }
 {
     rows.iter().position(|row| is_late(row, bound, until))
 }
 
-/// The number of a row, counted from 1, by its place.
+/// The number of a row, from 1, for its index.
 fn row_number(index: usize) -> u32
     ensures { result ≡ min (index + 1) (2 ^ 32 - 1) }
 {

@@ -1,17 +1,21 @@
-//! Reads the files of sensor rows, and finds the first row that comes too late.
+//! The rows of sensors: reads their files from a source in graph order, and finds the first late row.
 //!
-//! A sensor file is a table of comma-separated values with the columns `time`, `seen` and `value`. The rows of a
-//! text, or its first fault, are `rows_of` in `specs/RowsOf.antt`; what holds of rows that were given is
-//! `AreInOrder` in `specs/Order.antt`.
+//! A sensor file has comma-separated values, in the columns `time`, `seen` and `value`. The rows
+//! of a text, or its first fault, are `rows_of` in `specs/RowsOf.antt`; what holds of these rows
+//! is `AreInOrder` in `specs/Order.antt`. Each file is fetched, read and, if late rows are
+//! refused, checked for late rows, before the next is fetched. Reading stops at the first fault.
 //!
-//! Read first: `read_rows`.
+//! Read first: `recorded` with `specs/Recorded.antt`, then `read_rows`.
 #![tactic(auto)]
 
 mod fault;
+mod file;
 mod late;
 mod lines;
 mod numbers;
 mod reader;
+mod recorded_fault;
+mod recorded_rows;
 mod sensor_rows;
 
 pub use fault::RowFault;
@@ -19,7 +23,6 @@ pub use late::first_late;
 pub use lines::{fault_line, late_line};
 pub use pt_types::Row;
 pub use reader::{MOST_BYTES, read_rows};
+pub use recorded_fault::{LateRows, RecordedFault};
+pub use recorded_rows::recorded;
 pub use sensor_rows::SensorRows;
-
-#[cfg(test)]
-mod tests;

@@ -1,4 +1,4 @@
-//! The lines that tell a user what is wrong with a sensor's rows.
+//! The lines that report faults of sensor files and late rows.
 
 ghost use Rattle.std.specs.Prelude.{◌≡◌, ◌++◌, string_bytes, OnOk};
 ghost use Rattle.pt_sensors.specs.Lines.{fault_line, fault_text, late_line};
@@ -28,14 +28,14 @@ impl fmt::Display for RowFault {
     }
 }
 
-/// Appends the line of a sensor's fault.
+/// Appends the line for a fault of a sensor's file.
 pub fn fault_line(text: &mut String, name: &str, fault: &RowFault) -> Result<(), AllocError>
     ensures { OnOk result (string_bytes text.new ≡ string_bytes text.old ++ fault_line name.now fault.now) }
 {
     write!(text, "sensor {name}: {fault}\n")
 }
 
-/// Appends the line of a row that was seen past its limit. Times are microseconds.
+/// Appends the line for a late row. Times are in microseconds.
 pub fn late_line(
     text: &mut String,
     name: &str,

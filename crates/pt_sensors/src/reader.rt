@@ -14,16 +14,16 @@ use pt_tags::{List, Memory};
 use pt_types::Row;
 use std::alloc::Global;
 
-/// The longest sensor file.
+/// The most bytes of a sensor file.
 pub const MOST_BYTES: usize = 8_388_608;
 
-/// The most rows of a sensor.
+/// The most rows of a sensor file.
 pub const MOST_ROWS: u32 = 100_000;
 
 /// The rows of a sensor file, or its first fault.
 ///
-/// The faults are looked for in the order in which `RowFault` lists them: first those of the file and its header,
-/// then row after row. Times are whole microseconds. (The format is this project's own choice.)
+/// Faults are looked for in the order in which `RowFault` lists them: first those of the file and its header,
+/// then row by row. Times are whole microseconds. (The format is this project's own choice.)
 pub fn read_rows(alloc: Global, bytes: &[u8]) -> Result<List<Row>, RowFault>
     ensures rows { Gives (rows_of bytes.now) result }
     ensures order { IfOk result AreInOrder }
@@ -31,7 +31,7 @@ pub fn read_rows(alloc: Global, bytes: &[u8]) -> Result<List<Row>, RowFault>
     read(alloc, bytes)
 }
 
-/// The rows of a sensor file, or its first fault, by what csv reads.
+/// The rows of a sensor file, or its first fault, from the records that csv reads.
 #[tactic(auto, unfolding(crate::specs::RowsOf::rows_of))]
 fn read(alloc: Global, bytes: &[u8]) -> Result<List<Row>, RowFault>
     ensures { Gives (rows_of bytes.now) result }
@@ -68,7 +68,7 @@ fn advance(reader: &mut Reader<&[u8]>, line: &mut ByteRecord) -> Result<bool, Me
     }
 }
 
-/// The rows that a reader has left, of which the header was read.
+/// The rows that follow; the header was read.
 fn rows(
     alloc: Global,
     reader: &mut Reader<&[u8]>,
@@ -104,7 +104,7 @@ fn rows(
     }
 }
 
-/// The row of a line, or its first fault.
+/// The row of a record, or its first fault.
 #[tactic(auto, unfolding(crate::specs::Rows::row_of))]
 fn row(number: u32, before: Option<Row>, line: &ByteRecord) -> Result<Row, RowFault>
     ensures { result ≡ row_of number before (fields_of line.now) }
@@ -121,7 +121,7 @@ fn row(number: u32, before: Option<Row>, line: &ByteRecord) -> Result<Row, RowFa
     }
 }
 
-/// The three fields of a line, where it has three.
+/// The three fields of a record, if it has three.
 #[tactic(auto, unfolding(crate::specs::Rows::cells))]
 fn cells(line: &ByteRecord) -> Option<(&[u8], &[u8], &[u8])>
     ensures { option_map (λ c. (c.0.now, c.1.now, c.2.now)) result ≡ cells (fields_of line.now) }

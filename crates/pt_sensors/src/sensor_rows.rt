@@ -8,6 +8,6 @@ use pt_types::Row;
 pub struct SensorRows {
     /// The number of the sensor among the actors of the graph.
     pub actor: u32,
-    /// Its rows.
+    /// The rows of the sensor.
     pub rows: List<Row>,
 }

@@ -12,7 +12,7 @@ use Rattle.pt_semantics.specs.Meaning.{put_state}
 use Rattle.pt_semantics.specs.Platform.{put_busy}
 use Rattle.pt_semantics.specs.Units.{same_part, unit_of}
 use Rattle.pt_semantics.proofs.Lookups.{when_found, first_of_found, first_of-append, none_some, or_else_none, same_some, same_part-true, same_part-refl, same_part_not, Each-append, Each-in, Each-from, IsIn-append}
-use Rattle.pt_delays.specs.Units.{IsUnit}
+use Rattle.pt_causality.specs.Units.{IsUnit}
 use Rattle.pt_state.specs.declared.fields.OpenClaim.{OpenClaim}
 use Rattle.pt_state.specs.Others.{is_other, IsPlaceOf}
 use Rattle.pt_state.specs.Unposted.{AreApart}

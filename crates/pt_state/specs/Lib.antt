@@ -1,3 +1,4 @@
 pub mod State
 pub mod Others
 pub mod Unposted
+pub mod Sensors

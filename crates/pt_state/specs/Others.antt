@@ -4,11 +4,11 @@ use Rattle.pt_types.specs.declared.graph.Unit.{Unit as Part}
 use Rattle.pt_semantics.specs.Units.{same_part}
 use Rattle.pt_state.specs.declared.fields.OpenClaim.{OpenClaim}
 
--- an open claim is another unit's
+-- an open claim belongs to another unit
 abbrev pub is_other : Part → OpenClaim → Bool
 is_other u c = not (same_part c.unit u)
 
--- a claim of the unit stands at this place, or all are others'
+-- the claim at this index is the unit's; or, for None, every claim belongs to another unit
 abbrev pub IsPlaceOf : List OpenClaim → Part → Option ℕ → Type 0
 IsPlaceOf claims u None = (k : ℕ) (c : OpenClaim) → k < length claims → slice_index_or claims k c ≡ c → is_other u c ≡ true
 IsPlaceOf claims u (Some k) = (k < length claims) × ((c : OpenClaim) → slice_index_or claims k c ≡ c → is_other u c ≡ false)

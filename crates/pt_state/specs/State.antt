@@ -1,4 +1,4 @@
--- The state that the fields of a platform stand for.
+-- The state that the fields of a platform represent.
 use Rattle.std.specs.Prelude.{◌≡◌, ℕ, ◌==◌, List, [], Option, Some, None, ℤ, pos, drop, length, slice_index_or, unwrap_or}
 use Rattle.pt_tags.specs.declared.tag.Tag.{Tag}
 use Rattle.pt_types.specs.declared.graph.Graph.{Graph}
@@ -11,7 +11,7 @@ use Rattle.pt_semantics.specs.Lists.{first_of, Each, IsIn}
 use Rattle.pt_semantics.specs.Units.{at_input, same_part, unit_of}
 use Rattle.pt_semantics.specs.Platform.{State}
 use Rattle.pt_semantics.specs.Closing.{on_link}
-use Rattle.pt_delays.specs.Units.{IsUnit}
+use Rattle.pt_causality.specs.Units.{IsUnit}
 use Rattle.pt_queue.specs.Groups.{AreGroups}
 use Rattle.pt_queue.specs.Events.{waiting_in}
 use Rattle.pt_state.specs.declared.fields.OpenClaim.{OpenClaim}
@@ -22,23 +22,23 @@ use Rattle.pt_state.specs.declared.fields.Fields.{Fields}
 abbrev pub busy_in : List OpenClaim → Part → Option Task
 busy_in claims u = first_of (λ (c : OpenClaim). when (same_part c.unit u) (Some c.task)) claims
 
--- the number of each actor
+-- the state of each actor; 0 past the end of the list
 abbrev pub states_in : List ℤ → ℕ → ℤ
 states_in states a = slice_index_or states a (pos 0)
 
--- the rows left of a sensor, where the actor is this one
+-- the rows of a sensor that have not entered, if it is actor a
 abbrev pub rows_left : ℕ → Sensor → Option (List Row)
 rows_left a s = when (s.actor == a) (Some (drop s.entered s.rows))
 
--- the rows left of each sensor; an actor that is none of the sensors has none
+-- the rows of each sensor that have not entered; an actor that is none of these sensors has none
 abbrev pub left_in : List Sensor → ℕ → List Row
 left_in sensors a = unwrap_or (first_of (rows_left a) sensors) []
 
--- all rows of each sensor, those that entered too
+-- all rows of each sensor, those that have entered too
 abbrev pub rows_of : List Sensor → ℕ → List Row
 rows_of sensors a = unwrap_or (first_of (λ (s : Sensor). when (s.actor == a) (Some s.rows)) sensors) []
 
--- the state, by the fields and by all the messages that were taken
+-- the state represented by the fields and by all messages taken
 abbrev pub state_of : Fields → List OnLink → State
 state_of f taken = record {
   waits = waiting_in f.queue.events;
@@ -52,18 +52,18 @@ state_of f taken = record {
   claims = f.claims;
 }
 
--- an open claim is kept with its unit, which is one of the graph, and is what is found for that unit
+-- an open claim has the unit of its task, that unit is in the graph, and the claim is the one found for it
 pub record IsOpen (g : Graph) (claims : List OpenClaim) (c : OpenClaim) : Type 0 where
   pub unit : c.unit ≡ unit_of g c.task
   pub is_unit : IsUnit g c.unit
   pub found : busy_in claims c.unit ≡ Some c.task
 
--- the unit of an open claim that is this task, or no open claim is this task
+-- an open claim has this task and unit u; or, for None, no open claim has this task
 abbrev pub IsFound : List OpenClaim → Task → Option Part → Type 0
 IsFound claims task None = (c : OpenClaim) → IsIn c claims → c.task ≡ task → ⊥
 IsFound claims task (Some u) = (c : OpenClaim) × IsIn c claims × (c.unit ≡ u) × (c.task ≡ task)
 
--- what holds of the fields between two changes: they are of this graph, and what waits does so for one of its units
+-- the invariant of the fields: tables fit this graph, open claims are sound, and events wait only at inputs of its units
 pub record IsSound (g : Graph) (f : Fields) : Type 0 where
   pub groups : AreGroups g f.queue.groups
   pub states : length f.states.items ≡ length g.actors

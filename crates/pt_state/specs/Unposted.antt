@@ -4,12 +4,12 @@ use Rattle.pt_semantics.specs.Lists.{Each}
 use Rattle.pt_state.specs.declared.fields.OpenClaim.{OpenClaim}
 use Rattle.pt_state.specs.Others.{is_other}
 
--- open claims as contracts see them: the claims in their order, and for how many more there is memory
+-- open claims as contracts see them: the claims in order, and how many more fit in memory
 pub record Unposted : Type 0 where
   pub items : List OpenClaim
   pub spare : ℕ
 
--- no two of the claims are of one unit
+-- no two claims are of the same unit
 abbrev pub AreApart : List OpenClaim → Type 0
 AreApart [] = Unit {0}
 AreApart (c ∷ cs) = Each (λ (o : OpenClaim). is_other c.unit o ≡ true) cs × AreApart cs

@@ -1,43 +1,43 @@
-//! What a platform keeps of its state.
+//! The state of a platform, as plain fields.
 
 use crate::open_claims::OpenClaims;
 use pt_queue::Queue;
 use pt_tags::List;
 use pt_types::{OnLink, Row, Task, Unit};
 
-/// A claim whose result is not posted yet, with its unit.
+/// A claim whose result is not posted yet, and its unit.
 #[derive(Clone, Copy)]
 pub struct OpenClaim {
     pub unit: Unit,
     pub task: Task,
 }
 
-/// The rows of a sensor, of which the first `entered` were entered.
+/// The rows of a sensor; the first `entered` of them have entered.
 #[derive(Drop)]
 pub struct Sensor {
-    /// The number of the sensor among the actors of the graph.
+    /// The sensor's number among the actors of the graph, from 0.
     pub actor: u32,
     pub rows: List<Row>,
     pub entered: usize,
 }
 
-/// What a platform keeps of its state, but for the messages that it took.
+/// The state of a platform, except for the messages that it took.
 #[derive(Drop)]
 pub struct Fields {
-    /// The events that wait.
+    /// The events that wait at inputs.
     pub queue: Queue,
     /// The claims whose results are not posted yet.
     pub open_claims: OpenClaims,
-    /// The number that each actor of the graph keeps.
+    /// The state of each actor of the graph.
     pub states: Vec<i64>,
     /// The platform's sensors, in the order of the graph.
     pub sensors: Vec<Sensor>,
-    /// The messages that were not sent yet, of all outgoing links; those of one link in their order.
+    /// The messages not sent yet, of all outgoing links; those of one link are in order.
     pub outbox: Vec<OnLink>,
     /// The clock reading of the last turn, in microseconds; `None` before the first.
     pub reading: Option<u64>,
-    /// Whether no event can still come.
+    /// Whether the platform has closed: no event can still come.
     pub closed: bool,
-    /// How many claims were made.
+    /// The number of claims made so far.
     pub claims: u64,
 }

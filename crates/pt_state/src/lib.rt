@@ -1,7 +1,7 @@
-//! What a platform keeps of its state: plain fields, and the state that they stand for.
+//! The state of a platform: plain fields, and the abstract state that they represent.
 //!
-//! Each part of a turn is a function over `Fields`, whose contract says what it does to `state_of` them. What a platform
-//! took from its links is no field, since its history has it: so `state_of` is given it.
+//! Each part of a turn is a function over `Fields`, and its contract says how `state_of` changes. The messages that a
+//! platform took from its links are not a field, since its history has them; so `state_of` takes them as an argument.
 //!
 //! Read first: `Fields`, then `specs/State.antt`.
 #![tactic(auto)]
@@ -10,8 +10,6 @@ mod fields;
 mod open_claims;
 mod same;
 mod states;
-#[cfg(test)]
-mod tests;
 
 pub use fields::{Fields, OpenClaim, Sensor};
 pub use open_claims::OpenClaims;

@@ -1,12 +1,12 @@
-//! The open claims.
+//! The open claims: those whose results are not posted yet.
 
-ghost use Rattle.std.specs.Prelude.{◌≡◌, ◌+◌, ◌<◌, ◌≤◌, ◌==◌, ◌++◌, ◌∷◌, [], None, Some, filter, length, IfOk, IsOk, OnOk, OnErr, option_map, slice_get};
+ghost use Rattle.std.specs.Prelude.{◌≡◌, ◌+◌, ◌<◌, ◌≤◌, ◌==◌, ◌++◌, ◌∷◌, [], None, Some, filter, length, IsOk, OnOk, OnErr, option_map, slice_get};
 ghost use Rattle.std.specs.Option.{is_some};
 ghost use Rattle.pt_types.specs.declared.graph.Graph.{Graph};
 ghost use Rattle.pt_semantics.specs.Lists.{Each};
 ghost use Rattle.pt_semantics.specs.Platform.{put_busy};
 ghost use Rattle.pt_semantics.specs.Units.{unit_of};
-ghost use Rattle.pt_delays.specs.Units.{IsUnit};
+ghost use Rattle.pt_causality.specs.Units.{IsUnit};
 ghost use Rattle.pt_state.specs.Others.{is_other, IsPlaceOf};
 ghost use Rattle.pt_state.specs.State.{busy_in, IsOpen, IsFound};
 
@@ -18,10 +18,10 @@ use std::alloc::Global;
 use std::collections::VecDeque;
 use std::marker::Model;
 
-/// The open claims of a platform in the order in which they were made, at most one of each unit.
+/// The open claims of a platform in the order in which they were made, at most one for each unit.
 ///
-/// Contracts see the list of the claims, and `spare`: for how many more there is memory. Results mostly come in the order
-/// of their claims, so that the one that closes stands first.
+/// Contracts see the list of claims, and `spare`: how many more fit in memory. Results mostly come in the order of their
+/// claims, so the claim to close is usually the first.
 #[derive(Drop)]
 pub struct OpenClaims {
     claims: VecDeque<OpenClaim>,
@@ -40,7 +40,7 @@ impl Model for OpenClaims {
     ghost invariant = { λ o. AreApart o.claims.items × (o.spare + deque_len o.claims ≤ deque_capacity o.claims) };
 }
 
-/// Where the open claim of a unit stands; `None` exactly where it has none.
+/// The index of a unit's open claim; `None` if it has none.
 fn place_of(claims: &VecDeque<OpenClaim>, unit: Unit) -> Option<usize>
     ensures { IsPlaceOf claims.now.items unit result }
 {
@@ -64,7 +64,7 @@ impl OpenClaims {
         }
     }
 
-    /// Makes sure that there is memory for `count` more claims at least; a refusal leaves all unchanged.
+    /// Reserves memory for at least `count` more claims; an error leaves all unchanged.
     pub fn reserve(&mut self, count: usize) -> Result<(), Memory>
         ensures spare { OnOk result (count ≤ self.new.spare) }
         ensures no_less { self.old.spare ≤ self.new.spare }
@@ -75,16 +75,12 @@ impl OpenClaims {
         if self.spare >= count {
             return Ok(());
         }
-        match self.claims.reserve(count) {
-            Ok(()) => {
-                self.spare = count;
-                Ok(())
-            }
-            Err(_) => Err(Memory),
-        }
+        self.claims.reserve(count)?;
+        self.spare = count;
+        Ok(())
     }
 
-    /// Puts in the open claim of a unit that has none. This takes no memory.
+    /// Adds the open claim of a unit that has none. Allocates nothing.
     pub fn add(&mut self, claim: OpenClaim)
         requires spare { 0 < self.old.spare }
         requires free { busy_in self.old.items claim.unit ≡ None }
@@ -101,7 +97,7 @@ impl OpenClaims {
         }
     }
 
-    /// Removes the open claim of a unit, where it has one. This is quick where it stands first.
+    /// Removes the open claim of a unit, if it has one. This is quick if that claim is the first.
     pub fn close(&mut self, unit: Unit)
         ensures items { self.new.items ≡ filter (is_other unit) self.old.items }
         ensures busy { busy_in self.new.items ≡ put_busy (busy_in self.old.items) unit None }
@@ -116,7 +112,7 @@ impl OpenClaims {
         }
     }
 
-    /// The unit of the open claim that is this task; `None` exactly where no open claim is.
+    /// The unit of the open claim with this task; `None` if there is no such claim.
     pub fn find(&self, task: &Task) -> Option<Unit>
         ensures { IsFound self.now.items task.now result }
     {
@@ -136,7 +132,7 @@ impl OpenClaims {
         place_of(&self.claims, unit).is_some()
     }
 
-    /// How many claims are open.
+    /// The number of open claims.
     pub fn len(&self) -> usize
         ensures { result ≡ length self.now.items }
     {
@@ -150,14 +146,14 @@ impl OpenClaims {
         self.claims.is_empty()
     }
 
-    /// The open claim of that number, in the order in which they were made, from 0.
+    /// Open claim `number`, from 0, in the order in which they were made.
     pub fn get(&self, number: usize) -> Option<&OpenClaim>
         ensures { option_map (λ claim. claim.now) result ≡ slice_get self.now.items number }
     {
         self.claims.get(number)
     }
 
-    /// All open claims in their order, in two parts.
+    /// All open claims in order, as two slices.
     pub fn as_slices(&self) -> (&[OpenClaim], &[OpenClaim])
         ensures { result.0.now ++ result.1.now ≡ self.now.items }
     {

@@ -1,10 +1,10 @@
-//! The numbers of the actors.
+//! The states of the actors.
 
 ghost use Rattle.std.specs.Prelude.{◌≡◌, ◌<◌, length};
 ghost use Rattle.pt_semantics.specs.Meaning.{put_state};
 ghost use Rattle.pt_state.specs.State.{states_in};
 
-/// Sets the number of an actor.
+/// Sets the state of an actor.
 pub fn set_state(states: &mut Vec<i64>, actor: u32, value: i64)
     requires actor { actor < length states.old.items }
     ensures states { states_in states.new.items ≡ put_state (states_in states.old.items) actor value }

@@ -13,7 +13,7 @@ use Rattle.pt_types.specs.declared.firing.ActorFiring.{ActorFiring}
 use Rattle.pt_semantics.specs.Tables.{line, line_of, lines_of, table_of, tables_from}
 use Rattle.pt_types.specs.Ports.{at_port}
 use Rattle.pt_semantics.specs.Firing.{or_zero}
-use Rattle.pt_semantics.specs.Edges.{no_actor}
+use Rattle.pt_types.specs.Groups.{no_actor}
 use Rattle.pt_tables.specs.Gathered.{HasLine, has_table, is_actuator, texts_from}
 
 -- for each actor a table without a line

@@ -1,1 +1,4 @@
+pub mod Histories
+pub mod InOrder
+pub mod Written
 pub mod Gathering

@@ -1,1 +1,6 @@
+pub mod Log
+pub mod Misses
+pub mod Names
+pub mod Platforms
+pub mod Margins
 pub mod Gathered

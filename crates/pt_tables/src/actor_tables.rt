@@ -13,7 +13,7 @@ use pt_types::{Actor, Kind};
 use std::alloc::{AllocError, Global};
 use std::marker::Model;
 
-/// A table for each actor of a graph, of which only an actuator's gets lines. Contracts see each as its bytes.
+/// A table for each actor of a graph; only an actuator's gets lines. Contracts see each as its bytes.
 #[derive(Drop)]
 pub struct ActorTables {
     tables: Vec<Table>,
@@ -28,7 +28,7 @@ impl Model for ActorTables {
 }
 
 impl ActorTables {
-    /// A table without a line for each actor.
+    /// An empty table for each actor.
     pub fn new(alloc: Global, actors: &[Actor]) -> Result<ActorTables, AllocError>
         ensures { IfOk result (λ tables. tables ≡ texts_from 0 actors.now []) }
     {
@@ -39,8 +39,8 @@ impl ActorTables {
         Ok(ActorTables { tables })
     }
 
-    /// Appends the line of a firing of an actor, with this value at input 0, to its table; nothing where it is no
-    /// actuator of these.
+    /// Appends the line of a firing of an actor, with this value at input 0, to its table; does nothing if the actor is not
+    /// an actuator.
     pub fn push(
         &mut self,
         actors: &[Actor],
@@ -57,7 +57,7 @@ impl ActorTables {
         self.push_line(number, actors[number].name.as_str(), tag, value)
     }
 
-    /// Appends a line to the table of that number.
+    /// Appends a line to table `number`.
     fn push_line(
         &mut self,
         number: usize,
@@ -71,7 +71,7 @@ impl ActorTables {
         self.tables[number].push_line(name, tag, value)
     }
 
-    /// The tables as one text after the first line, `actuator,time,step,value`.
+    /// The header line `actuator,time,step,value`, and then the tables, as one text.
     pub fn text(&self, alloc: Global) -> Result<String, AllocError>
         ensures { IfOk result (λ text. (g : Graph) (xs : List ActorFiring) → self.now ≡ texts_from 0 g.actors xs → string_bytes text ≡ tables_text g xs) }
     {
@@ -82,7 +82,7 @@ impl ActorTables {
     }
 }
 
-/// Whether the actor of that number is an actuator.
+/// Whether actor `number` is an actuator.
 pub(crate) fn has_table(actors: &[Actor], number: u32) -> bool
     ensures { result ≡ has_table actors.now number }
 {
@@ -92,7 +92,7 @@ pub(crate) fn has_table(actors: &[Actor], number: u32) -> bool
     }
 }
 
-/// Appends the first line.
+/// Appends the header line.
 fn push_head(text: &mut String) -> Result<(), AllocError>
     ensures { OnOk result (string_bytes text.new ≡ string_bytes text.old ++ head) }
 {

@@ -1,14 +1,26 @@
-//! What a run writes: the tables of the actuators as text.
+//! The texts that commands write: the tables of the actuators, the log of histories, the lines of misses, and the margins
+//! of a graph.
 //!
-//! Each text is made by functions that append one line; loops call them. The texts are defined in
-//! `specs/Tables.antt` of pt_semantics.
+//! Each text is built by functions that append one line; loops call them. Tables are defined in `specs/Tables.antt` of
+//! pt_semantics, the log in `specs/Log.antt` and `specs/Platforms.antt`, misses in `specs/Misses.antt`, margins in
+//! `specs/Margins.antt`.
 //!
-//! Read first: `tables`, then `ActorTables`.
+//! Read first: `tables` and `ActorTables`, then `push_log`, `miss_lines` and `margins`.
 #![tactic(auto)]
 
 mod actor_tables;
+mod lines;
+mod margin_lines;
+mod miss;
+mod names;
+mod platforms;
 mod table;
 mod text;
+mod turns;
 
 pub use actor_tables::ActorTables;
+pub use margin_lines::margins;
+pub use miss::{miss_line, miss_lines};
+pub use platforms::push_log;
 pub use text::tables;
+pub use turns::{push_head, push_history, push_turn};

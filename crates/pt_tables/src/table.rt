@@ -7,7 +7,7 @@ use pt_tags::Tag;
 use std::alloc::{AllocError, Global};
 use std::marker::Model;
 
-/// The lines of one actor, which contracts see as their bytes.
+/// The lines of one actor. Contracts see them as bytes.
 #[derive(Drop)]
 pub(crate) struct Table {
     text: String,
@@ -22,7 +22,7 @@ impl Model for Table {
 }
 
 impl Table {
-    /// No line.
+    /// An empty table.
     pub(crate) fn new(alloc: Global) -> Table
         ensures { result ≡ [] }
     {
@@ -39,7 +39,7 @@ impl Table {
         write!(self.text, "{name},{time},{step},{value}\n")
     }
 
-    /// The lines.
+    /// All lines, as text.
     pub(crate) fn as_str(&self) -> &str
         ensures { result.now ≡ self.now }
     {

@@ -7,13 +7,13 @@ ghost use Rattle.pt_tables.specs.Gathered.{texts_from};
 ghost use Rattle.pt_semantics.specs.Tables.{tables_text};
 
 use crate::actor_tables::{ActorTables, has_table};
-use pt_firings::Firings;
+use pt_meaning::Firings;
 use pt_types::{Actor, ActorFiring, Graph};
 use std::alloc::{AllocError, Global};
 
-/// The tables of a graph's actuators as text, in graph order, from these firings in their order.
+/// The tables of a graph's actuators as text, in graph order, from these firings in order.
 ///
-/// The first line is `actuator,time,step,value`; each firing of an actuator is one line.
+/// The header line is `actuator,time,step,value`; each firing of an actuator is one line.
 pub fn tables(alloc: Global, graph: &Graph, firings: &Firings) -> Result<String, AllocError>
     ensures { IfOk result (λ text. string_bytes text ≡ tables_text graph.now firings.now) }
 {
@@ -25,8 +25,8 @@ pub fn tables(alloc: Global, graph: &Graph, firings: &Firings) -> Result<String,
     tables.text(alloc)
 }
 
-/// Appends the line of the firing at a place, where it is an actuator's, to that actuator's table. Other firings are not
-/// read out of the list.
+/// Appends the line of firing `place` to its actor's table, if that is an actuator. Other firings are not read from the
+/// list.
 fn push_firing(
     tables: &mut ActorTables,
     actors: &[Actor],
@@ -50,7 +50,7 @@ fn push_firing(
     }
 }
 
-/// The value at input 0.
+/// The value at input 0; 0 if there is none.
 fn input_value(firing: &ActorFiring) -> i64
     ensures { result ≡ or_zero (at_port firing.now.inputs 0) }
 {

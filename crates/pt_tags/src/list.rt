@@ -4,7 +4,7 @@ ghost use Rattle.std.specs.Prelude.{◌≡◌};
 
 use std::marker::Model;
 
-/// A list of items, which contracts see as the list alone.
+/// A list of items. Contracts see it as the list of these items.
 #[derive(Drop)]
 pub struct List<T> {
     items: Vec<T>,
@@ -33,7 +33,7 @@ impl<T> List<T> {
         self.items.as_slice()
     }
 
-    /// The items, given up by the list.
+    /// The items; the list is consumed.
     pub fn into_vec(self) -> Vec<T>
         ensures { result.items ≡ self }
     {

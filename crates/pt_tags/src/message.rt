@@ -1,21 +1,17 @@
-//! What a link carries.
+//! The messages on a link.
 
 use crate::tag::Tag;
 
 /// A message on a link.
 #[derive(Clone, Copy, Debug, PartialEq, Eq)]
 pub enum Message {
-    /// An event for the receiver, at the tag that it had at the sender.
+    /// An event for the receiver, at the tag that it has at the sender.
     Event {
-        /// When, in model time.
+        /// The tag of the event.
         tag: Tag,
         /// The value.
         value: i64,
     },
-    /// Nothing more comes on this link.
+    /// The last message: no other comes on this link.
     End,
 }
-
-/// Memory ran out.
-#[derive(Clone, Copy, Debug, PartialEq, Eq)]
-pub struct Memory;

@@ -4,7 +4,7 @@ ghost use Rattle.std.specs.Prelude.{◌≡◌, string_bytes};
 
 use std::marker::Model;
 
-/// A name, which contracts see as its bytes.
+/// A name. Contracts see it as the list of its bytes.
 #[derive(Drop)]
 pub struct Name {
     text: String,
@@ -19,7 +19,7 @@ impl Model for Name {
 }
 
 impl Name {
-    /// The name of these bytes.
+    /// The name with this text.
     pub fn new(text: String) -> Name
         ensures { result ≡ string_bytes text }
     {

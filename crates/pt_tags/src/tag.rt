@@ -3,10 +3,10 @@
 ghost use Rattle.std.specs.Prelude.{◌≡◌, ◌↔◌, IsTrue, IsSome, IfSome};
 ghost use Rattle.pt_tags.specs.Tags.{plus, then, tag_lt, Before, Fits, FitsDelay};
 
-/// A place in model time, written `150.0`.
+/// A tag: a place in model time, written `150.0`.
 ///
-/// The derived order goes by time and then by step (RTAS 2007 orders events by timestamp; the step is
-/// this project's own choice).
+/// The derived order is by time and then by step (RTAS 2007 orders
+/// events by timestamp; the step is this project's own choice).
 #[derive(Clone, Copy, Debug, PartialEq, Eq, PartialOrd, Ord)]
 pub struct Tag {
     /// Microseconds of model time.
@@ -15,7 +15,7 @@ pub struct Tag {
     pub step: u64,
 }
 
-/// What is added to a tag along a wire.
+/// What an edge adds to a tag: microseconds and microsteps.
 #[derive(Clone, Copy, Debug, PartialEq, Eq, PartialOrd, Ord)]
 pub struct Delay {
     /// Microseconds.
@@ -25,9 +25,9 @@ pub struct Delay {
 }
 
 impl Tag {
-    /// The tag that lies `delay` later, or `None` where its time or its step passes the greatest `u64`.
+    /// The tag that is `delay` later, or `None` if its time or its step doesn't fit in a `u64`.
     ///
-    /// From 50.0 a delay of 100 microseconds leads to 150.0, and a delay of one step leads to 50.1.
+    /// 50.0 plus 100 microseconds is 150.0. 50.0 plus one step is 50.1.
     pub fn plus(self, delay: Delay) -> Option<Tag>
         ensures some { IsSome result ↔ Fits (plus self delay) }
         ensures sum { IfSome result (λ later. later ≡ plus self delay) }
@@ -47,7 +47,7 @@ impl Tag {
 }
 
 impl Delay {
-    /// This delay and then the next, or `None` where time or step passes the greatest `u64`.
+    /// The sum of this delay and the next, or `None` if its time or its step doesn't fit in a `u64`.
     pub fn then(self, next: Delay) -> Option<Delay>
         ensures some { IsSome result ↔ FitsDelay (then self next) }
         ensures sum { IfSome result (λ both. both ≡ then self next) }

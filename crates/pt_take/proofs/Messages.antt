@@ -14,7 +14,8 @@ use Rattle.pt_types.specs.declared.firing.OnLink.{OnLink}
 use Rattle.pt_types.specs.Ports.{when}
 use Rattle.pt_semantics.specs.Bounds.{link_bound}
 use Rattle.pt_semantics.specs.Closing.{on_link}
-use Rattle.pt_semantics.specs.Edges.{platform_of, edges, links, wires, of_link}
+use Rattle.pt_semantics.specs.Edges.{edges, links, wires, of_link}
+use Rattle.pt_types.specs.Lookups.{platform_of}
 use Rattle.pt_semantics.specs.Lists.{Each, IsIn}
 use Rattle.pt_semantics.specs.Meaning.{Values, added}
 use Rattle.pt_semantics.specs.Orderly.{IsOrderly}
@@ -26,7 +27,7 @@ use Rattle.pt_semantics.proofs.Floor.{bound_of_link}
 use Rattle.pt_semantics.proofs.Lookups.{none_some, same_some, IsIn-append_right, or_else_found, when_found}
 use Rattle.pt_semantics.proofs.Tags.{same_tag-refl}
 use Rattle.pt_semantics.proofs.Words.{when-true}
-use Rattle.pt_delays.specs.Units.{IsUnit}
+use Rattle.pt_causality.specs.Units.{IsUnit}
 use Rattle.pt_queue.specs.Events.{value_in, waiting_in}
 use Rattle.pt_queue.specs.Groups.{AreGroups}
 use Rattle.pt_offsets.specs.declared.table.Offsets.{Offsets}

@@ -1,7 +1,7 @@
-//! Taking: messages come from incoming links, and the events that they carry wait at their receivers.
+//! Taking: messages arrive on incoming links, and the events that they carry wait at their receivers.
 //!
-//! Messages are taken in their order, up to and with the first that is late: that one is kept and does nothing. A message
-//! is late where the last reading before the turn is past its time and the bound of its receiver.
+//! Messages are taken in order, up to and including the first that is late, which is recorded but has no effect. A message is
+//! late if the last reading before the turn is past its time plus the bound of its receiver.
 //!
 //! Read first: `takes`, then `Takes` in `specs/Taking.antt` of pt_semantics.
 #![tactic(auto)]

@@ -7,7 +7,7 @@ ghost use Rattle.pt_offsets.specs.Timings.{bound_in};
 use pt_offsets::Offsets;
 use pt_tags::Message;
 
-/// The bound of a receiver, in microseconds; 0 where it has none.
+/// The bound of a receiver, in microseconds; 0 if it has none.
 pub fn bound(offsets: &Offsets, receiver: u32) -> u64
     ensures { (b : ℕ) → bound_in offsets.now receiver ≡ Some b → result ≡ b }
 {
@@ -18,6 +18,8 @@ pub fn bound(offsets: &Offsets, receiver: u32) -> u64
 }
 
 /// Whether a message is on time, by the last reading before the turn and its receiver's bound, in microseconds.
+///
+/// A message of time 50 to a receiver with bound 10 is late if that reading is 61 or more. `End` is never late.
 pub fn is_on_time(last: Option<u64>, bound: u64, message: Message) -> bool
     ensures { MatchBool result (IsOnTime last bound message) (IsOnTime last bound message → ⊥) }
 {

@@ -1,4 +1,4 @@
-//! Messages in a row.
+//! The messages that a turn takes.
 
 ghost use Rattle.std.specs.Prelude.{◌≡◌, ◌+◌, ◌<◌, ◌≤◌, length, vec_len, vec_capacity};
 ghost use Rattle.pt_semantics.specs.Floor.{NothingThere};
@@ -16,7 +16,7 @@ use pt_state::Fields;
 use pt_tags::Message;
 use pt_types::{Event, Graph, Link, OnLink};
 
-/// The event of a message waits at the link's receiver; `End` brings nothing.
+/// Lets the event of a message wait at the link's receiver; does nothing for `End`.
 fn deliver(queue: &mut Queue, link: Link, message: Message)
     requires spare { 0 < queue.old.spare }
     requires actor { link.to < length queue.old.groups }
@@ -38,11 +38,11 @@ fn deliver(queue: &mut Queue, link: Link, message: Message)
     }
 }
 
-/// Takes messages in order, up to and with the first that is late, and says whether one was late. Those that it took are
+/// Takes messages in order, up to and including the first that is late, and returns whether one was late. Those taken are
 /// appended to `kept`.
 ///
-/// Each message stands on a link to this platform, and carries on an orderly list there. Where one comes in time, nothing
-/// may wait there at its tag: this holds in every state that a history leads to, in which no message came late.
+/// Each message must be on a link to this platform, and must keep the messages of that link orderly. No event may wait where
+/// a message on time goes: this holds in every state that a history without late messages leads to.
 pub fn takes(
     fields: &mut Fields,
     graph: &Graph,

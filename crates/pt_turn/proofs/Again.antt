@@ -13,27 +13,27 @@ use Rattle.pt_semantics.specs.Platform.{State}
 use Rattle.pt_semantics.specs.Rows.{FitRows}
 use Rattle.pt_semantics.specs.Safe.{NothingSafe}
 use Rattle.pt_semantics.specs.Turn.{IsLast, IsTurn, Turn}
-use Rattle.pt_ranks.specs.Ranked.{level_of}
+use Rattle.pt_causality.specs.Ranked.{level_of}
 use Rattle.pt_offsets.specs.Plans.{Parts}
-use Rattle.pt_enter.specs.Sensors.{AreSensors}
+use Rattle.pt_state.specs.Sensors.{AreSensors}
 use Rattle.pt_history.specs.declared.history.History.{History}
 use Rattle.pt_state.specs.declared.fields.Fields.{Fields}
 use Rattle.pt_state.specs.State.{rows_of, state_of, IsSound}
-use Rattle.pt_steps.specs.declared.claimed.Ending.{Ending}
-use Rattle.pt_steps.specs.declared.claimed.Ending.TheVariants.{Long as LongEnd}
-use Rattle.pt_steps.specs.declared.steps.Lists.{Lists}
-use Rattle.pt_steps.specs.Steps.{AreEmpty, ShowsEnd, is_late as ends_late, turn_of}
+use Rattle.pt_turn.specs.declared.claim_step.Ending.{Ending}
+use Rattle.pt_turn.specs.declared.claim_step.Ending.TheVariants.{Long as LongEnd}
+use Rattle.pt_turn.specs.declared.steps.Lists.{Lists}
+use Rattle.pt_turn.specs.Steps.{AreEmpty, ShowsEnd, is_late as ends_late, turn_of, IsFront}
 use Rattle.pt_turn.specs.declared.fault.TurnFault.{TurnFault}
 use Rattle.pt_turn.specs.declared.room.Room.{Room}
 use Rattle.pt_turn.specs.declared.platform.Platform.TheInside.{Inside}
 use Rattle.pt_turn.specs.Making.{IsKept}
 use Rattle.pt_turn.specs.Platforms.{IsPlatform, IsRoomy, graph_of, messages_of, raised_to, view_of}
 use Rattle.pt_turn.specs.Running.{Ran, ShowsLong}
-use Rattle.pt_steps.specs.Steps.{IsFront}
 use Rattle.pt_turn.specs.Turned.{Ends, IsTurned, StaysThere, is_late}
 use Rattle.pt_turn.proofs.Onward.{ends_as, late_as, ran_on}
 use Rattle.pt_turn.proofs.Readiness.{basis_of, still_runs}
 use Rattle.pt_turn.proofs.Turns.{messages_more}
+use Rattle.pt_types.specs.Limits.{most_claims}
 
 -- all that a turn over the parts gives
 pub record IsDone (p : Inside) (r most : ℕ) (dones : List Done) (messages : List OnLink) (new : Fields) (history : History) (lists : Lists) (fault : Option TurnFault) (handed now : List Task) : Type 0 where
@@ -42,7 +42,7 @@ pub record IsDone (p : Inside) (r most : ℕ) (dones : List Done) (messages : Li
   pub sensors : AreSensors (graph_of p) new.sensors.items
   pub all_rows : (a : ℕ) → rows_of new.sensors.items a ≡ rows_of p.fields.sensors.items a
   pub reading : new.reading ≡ Some r
-  pub claims : new.claims ≤ 200000
+  pub claims : new.claims ≤ most_claims
   pub empty : AreEmpty lists
   pub sent : vec_len new.outbox ≤ history.room.sent
   pub fits : r < 2 ^ 64
@@ -50,7 +50,7 @@ pub record IsDone (p : Inside) (r most : ℕ) (dones : List Done) (messages : Li
 -- by the clauses of the call
 pub is_done : (p : Inside) (plan : Parts) (room : Room) (r most : ℕ) (dones : List Done) (messages : List OnLink) (new : Fields) (history : History) (lists : Lists) (fault : Option TurnFault) (handed now : List Task) → plan ≡ arc_value p.plan → IsRoomy p room → length dones ≤ room.done
     → IsKept plan (record { level = level_of plan.ranks; platform = p.number; taken = messages_of p.history.turns }) r most dones messages p.fields new p.history.turns history.turns handed now fault
-    → IsSound plan.graph new → AreSensors plan.graph new.sensors.items → ((a : ℕ) → rows_of new.sensors.items a ≡ rows_of p.fields.sensors.items a) → new.reading ≡ Some r → new.claims ≤ 200000 → AreEmpty lists
+    → IsSound plan.graph new → AreSensors plan.graph new.sensors.items → ((a : ℕ) → rows_of new.sensors.items a ≡ rows_of p.fields.sensors.items a) → new.reading ≡ Some r → new.claims ≤ most_claims → AreEmpty lists
     → vec_len new.outbox ≤ vec_len p.fields.outbox + length dones * length plan.graph.links + length plan.graph.links → history.room.sent ≡ p.history.room.sent → r < 2 ^ 64 → IsDone p r most dones messages new history lists fault handed now
 is_done p plan room r most dones messages new history lists fault handed now same roomy few kept sound sensors all_rows reading claims empty outbox sent fits =
     let bound : vec_len new.outbox ≤ vec_len p.fields.outbox + length dones * length (graph_of p).links + length (graph_of p).links = subst (λ (z : Parts). vec_len new.outbox ≤ vec_len p.fields.outbox + length dones * length z.graph.links + length z.graph.links) same outbox in
@@ -68,7 +68,7 @@ is_done p plan room r most dones messages new history lists fault handed now sam
     }
 
 abbrev pub after : Inside → Fields → History → Lists → Option TurnFault → Option ℕ → Inside
-after p fields history lists fault next = record { plan = p.plan; number = p.number; branches = p.branches; closing = p.closing; fields = fields; history = history; lists = lists; fault = fault; room = None; next = next }
+after p fields history lists fault next = record { plan = p.plan; number = p.number; closing = p.closing; fields = fields; history = history; lists = lists; fault = fault; room = None; next = next }
 
 shows_long : (g : Graph) (new : Fields) (taken : List OnLink) (r : ℕ) (ending : Ending) → new.reading ≡ Some r → ShowsEnd g r new ending → ending ≡ LongEnd → ShowsLong g (state_of new taken)
 shows_long g new taken r ending read full is =
@@ -99,14 +99,13 @@ is_again p r most dones messages new history lists fault next handed now is on d
       empty = d.empty;
       sent = d.sent;
       room = tt;
-      branches = is.branches;
       next = is_next;
     }
 
 -- a turn with what it claims and how it ends
 record TurnPart (g : Graph) (level : ℕ → ℕ) (i : ℕ) (s : State) (turn : Turn) (most : ℕ) (fault : Option TurnFault) (late : Bool) (new : State) : Type 0 where
   is : IsTurn g level i s turn late new
-  all_or : late ≡ false → NothingSafe g is.ready.waits is.ready.busy turn.last ⊎ ((most ≤ length turn.claimed) ⊎ (200000 ≤ is.ready.claims))
+  all_or : late ≡ false → NothingSafe g is.ready.waits is.ready.busy turn.last ⊎ ((most ≤ length turn.claimed) ⊎ (most_claims ≤ is.ready.claims))
   last : Ends fault (IsLast g s turn.last late is.ready)
 
 -- the turn that was made

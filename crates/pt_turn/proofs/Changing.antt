@@ -1,7 +1,7 @@
 -- The last turn of a history, changed again and again.
 use Rattle.std.proofs.Common.{◌≡◌, ◌+◌, ◌<◌, List, [], ◌∷◌, ◌++◌, length, ap, ◌∙◌, arith, length-append}
-use Rattle.pt_pieces.specs.Lists.{on_last}
-use Rattle.pt_pieces.proofs.LastMember.{on_last-push}
+use Rattle.pt_history.specs.Lists.{on_last}
+use Rattle.pt_history.proofs.LastMember.{on_last-push}
 use Rattle.pt_semantics.specs.Turn.{Turn}
 
 pub changed : (f : Turn → Turn) (turns new before : List Turn) (turn : Turn) → turns ≡ before ++ turn ∷ [] → new ≡ on_last f turns → new ≡ before ++ f turn ∷ []

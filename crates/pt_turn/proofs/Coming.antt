@@ -11,7 +11,7 @@ use Rattle.pt_types.specs.declared.graph.Link.{Link}
 use Rattle.pt_types.specs.declared.firing.OnLink.{OnLink}
 use Rattle.pt_types.specs.Ports.{when}
 use Rattle.pt_semantics.specs.Closing.{on_link}
-use Rattle.pt_semantics.specs.Edges.{platform_of}
+use Rattle.pt_types.specs.Lookups.{platform_of}
 use Rattle.pt_take.proofs.Messages.{on_more}
 use Rattle.pt_semantics.specs.Lists.{Each, IsIn}
 use Rattle.pt_semantics.specs.Orderly.{ComesAfter, FitsStep, InOrder, IsOrderly}

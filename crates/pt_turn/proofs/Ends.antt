@@ -1,9 +1,8 @@
 -- The ends that were taken.
 use Rattle.std.proofs.Common.{◌≡◌, pos, ℕ, ◌+◌, ◌<◌, ◌≤◌, Bool, true, false, List, [], ◌∷◌, Some, length, suc, get_or, refl, sym, ap, subst, ◌∙◌, arith, inl, inr, ⊎_elim, ◌⊎◌, eqb-true, eq-eqb}
 use Rattle.std.specs.List.{cons_option, list_any}
-use Rattle.std.specs.Prelude.{◌==◌, ◌&&◌, ◌||◌, option_map, slice_get}
+use Rattle.std.specs.Prelude.{◌==◌, ◌&&◌, ◌||◌, slice_get}
 use Rattle.std.proofs.lemmas.Bool.{cases_Bool, false≢true, eqb-false}
-use Rattle.std.proofs.lemmas.List.Folds.{list_any-append}
 use Rattle.std.proofs.lemmas.Option.{get_or_from_slice_get, slice_get-get_or, slice_get_within}
 use Rattle.pt_tags.specs.declared.message.Message.{Message}
 use Rattle.pt_tags.specs.declared.message.Message.TheVariants.{Event, End}
@@ -12,10 +11,9 @@ use Rattle.pt_types.specs.declared.graph.Link.{Link}
 use Rattle.pt_types.specs.declared.firing.OnLink.{OnLink}
 use Rattle.pt_types.specs.Ports.{when}
 use Rattle.pt_semantics.specs.Closing.{on_link}
-use Rattle.pt_semantics.specs.Edges.{platform_of}
+use Rattle.pt_types.specs.Lookups.{platform_of}
 use Rattle.pt_semantics.specs.Lists.{IsIn}
 use Rattle.pt_semantics.specs.Turn.{Turn}
-use Rattle.pt_semantics.proofs.Lookups.{same_some}
 use Rattle.pt_turn.specs.Finished.{HaveEnded, is_end, is_end_on}
 use Rattle.pt_turn.specs.Platforms.{messages_of}
 use Rattle.pt_turn.proofs.Leaving.{on_own}

@@ -19,23 +19,24 @@ use Rattle.pt_semantics.specs.Paced.{IsNextReading}
 use Rattle.pt_semantics.specs.Platform.{State, raised}
 use Rattle.pt_semantics.specs.Safe.{NothingSafe}
 use Rattle.pt_semantics.specs.Turn.{IsTurn, Turn}
-use Rattle.pt_semantics.proofs.Idle.{idle_before}
+use Rattle.pt_laws.proofs.Idle.{idle_before}
 use Rattle.pt_semantics.proofs.Lookups.{or_else_none, when_none}
-use Rattle.pt_semantics.proofs.Rows.{due_split}
-use Rattle.pt_ranks.specs.Ranked.{level_of}
+use Rattle.pt_laws.proofs.Rows.{due_split}
+use Rattle.pt_causality.specs.Ranked.{level_of}
 use Rattle.pt_offsets.specs.Timings.{offset_of}
 use Rattle.pt_history.specs.Turns.{fresh}
 use Rattle.pt_history.specs.declared.history.History.{History}
 use Rattle.pt_state.specs.declared.fields.Fields.{Fields}
 use Rattle.pt_state.specs.State.{state_of}
-use Rattle.pt_steps.specs.declared.claimed.Ending.TheVariants.{On}
-use Rattle.pt_steps.specs.declared.steps.Lists.{Lists}
-use Rattle.pt_steps.specs.Steps.{AreEmpty, IsMade, turn_of}
+use Rattle.pt_turn.specs.declared.claim_step.Ending.TheVariants.{On}
+use Rattle.pt_turn.specs.declared.steps.Lists.{Lists}
+use Rattle.pt_turn.specs.Steps.{AreEmpty, IsMade, turn_of}
 use Rattle.pt_turn.specs.declared.room.Room.{Room}
 use Rattle.pt_turn.specs.declared.platform.Platform.TheInside.{Inside}
 use Rattle.pt_turn.specs.Platforms.{IsPlatform, IsRoomy, graph_of, messages_of}
 use Rattle.pt_turn.proofs.Again.{IsDone}
 use Rattle.pt_turn.proofs.Readiness.{basis_of}
+use Rattle.pt_types.specs.Limits.{most_claims}
 
 -- no row enters where none is due,
 none_enters : (left : ℕ → List Row) (r : ℕ) → ((a : ℕ) → due r (left a) ≡ []) → (xs : List ℕ) → flat_map (λ c. map {B = RowAt} (λ (z : Row). record { sensor = c; row = z }) (due r (left c))) xs ≡ []
@@ -62,7 +63,7 @@ record IsIdle (g : Graph) (i : ℕ) (s : State) (r : ℕ) : Type 0 where
   safe : NothingSafe g s.waits s.busy r
   closes : CanClose g i s r → ⊥
 
-quiet_turn : (g : Graph) (level : ℕ → ℕ) (i : ℕ) (s : State) (r : ℕ) → ((p : ℕ) → s.reading ≡ Some p → p ≤ r) → s.claims ≤ 200000 → IsIdle g i s r → IsQuietTurn g level i s (fresh r) (raised s r)
+quiet_turn : (g : Graph) (level : ℕ → ℕ) (i : ℕ) (s : State) (r : ℕ) → ((p : ℕ) → s.reading ≡ Some p → p ≤ r) → s.claims ≤ most_claims → IsIdle g i s r → IsQuietTurn g level i s (fresh r) (raised s r)
 quiet_turn g level i s r rises few idle = record {
   is = record {
     rises = rises;
@@ -106,7 +107,7 @@ is_made p r most is rises idle =
       taken = record { rest = []; front = sym (append-nil p.lists.taken.items ∙ is.empty.taken); all = λ late. refl };
       few = subst (λ (ts : List Task). length ts ≤ most) (sym is.empty.claimed) (omega arith);
       all_or = λ late. inl safe;
-      last = λ h. ⊎_elim (λ (l : false ≡ true). false≢true l) (λ (m : (200000 ≤ p.fields.claims) × (NothingSafe g part.is.ready.waits part.is.ready.busy r → ⊥)). m.1 safe) h;
+      last = λ h. ⊎_elim (λ (l : false ≡ true). false≢true l) (λ (m : (most_claims ≤ p.fields.claims) × (NothingSafe g part.is.ready.waits part.is.ready.busy r → ⊥)). m.1 safe) h;
     }
 
 -- what always holds of the next reading
@@ -165,6 +166,5 @@ knows_next p next is known = record {
   empty = is.empty;
   sent = is.sent;
   room = roomy_still p (Some next) p.room is.room;
-  branches = is.branches;
   next = known;
 }

@@ -1,3 +1,9 @@
+pub mod Beginning
+pub mod HandedIn
+pub mod Opened
+pub mod Shares
+pub mod EveryOpened
+pub mod Joining
 pub mod Turns
 pub mod Changing
 pub mod Naming

@@ -6,9 +6,9 @@ use Rattle.std.specs.Arc.{arc_value}
 use Rattle.std.proofs.lemmas.Bool.{cases_Bool, eqb-false, ne_eqb}
 use Rattle.std.specs.List.{remove}
 use Rattle.pt_types.specs.declared.firing.OnLink.{OnLink}
-use Rattle.pt_pieces.specs.Lists.{on_last}
+use Rattle.pt_history.specs.Lists.{on_last}
 use Rattle.pt_semantics.specs.Closing.{on_link}
-use Rattle.pt_ranks.specs.Ranked.{level_of}
+use Rattle.pt_causality.specs.Ranked.{level_of}
 use Rattle.pt_history.specs.declared.history.History.{History}
 use Rattle.pt_history.specs.Turns.{sending}
 use Rattle.pt_state.specs.State.{rows_of, state_of}
@@ -130,7 +130,6 @@ is_lighter p l m outbox history is w =
       empty = is.empty;
       sent = omega (arith, w.len, sent, is.sent);
       room = room_still p l m outbox history p.room w is.room;
-      branches = is.branches;
       next = is.next;
     }
 

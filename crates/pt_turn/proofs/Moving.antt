@@ -4,7 +4,7 @@ use Rattle.std.proofs.lemmas.Bool.{false≢true}
 use Rattle.pt_types.specs.declared.graph.Graph.{Graph}
 use Rattle.pt_types.specs.declared.graph.Unit.{Unit as Part}
 use Rattle.pt_types.specs.declared.rows.Row.{Row}
-use Rattle.pt_lawful.proofs.Edges.{wired}
+use Rattle.pt_semantics.proofs.LawfulEdges.{wired}
 use Rattle.pt_semantics.specs.Candidates.{HasMoved}
 use Rattle.pt_semantics.specs.History.{Legal}
 use Rattle.pt_semantics.specs.Paced.{IsNextReading}
@@ -13,8 +13,8 @@ use Rattle.pt_semantics.specs.Ranks.{AreLevels}
 use Rattle.pt_semantics.specs.Rows.{FitRows}
 use Rattle.pt_semantics.specs.Turn.{IsTurn, Turn}
 use Rattle.pt_semantics.specs.Wired.{IsWired}
-use Rattle.pt_semantics.proofs.Progress.{turns_move}
-use Rattle.pt_semantics.proofs.Idle.{idle_before}
+use Rattle.pt_laws.proofs.Progress.{turns_move}
+use Rattle.pt_laws.proofs.Idle.{idle_before}
 use Rattle.pt_offsets.specs.Timings.{offset_of}
 use Rattle.pt_turn.specs.Laws.{PlatformsMove, PlatformsWait}
 use Rattle.pt_turn.specs.Platforms.{level_at, rows_at, state_at}

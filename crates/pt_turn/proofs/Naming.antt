@@ -9,7 +9,7 @@ use Rattle.pt_types.specs.declared.graph.Graph.{Graph}
 use Rattle.pt_types.specs.declared.graph.Link.{Link}
 use Rattle.pt_types.specs.declared.firing.OnLink.{OnLink}
 use Rattle.pt_types.specs.Lawful.{IsLawful}
-use Rattle.pt_lawful.proofs.Edges.{wired}
+use Rattle.pt_semantics.proofs.LawfulEdges.{wired}
 use Rattle.pt_semantics.specs.Bounds.{link_bound}
 use Rattle.pt_semantics.proofs.Lookups.{none_some}
 use Rattle.pt_offsets.specs.declared.table.Offsets.{Offsets}

@@ -7,9 +7,9 @@ use Rattle.pt_semantics.specs.Kept.{IsSingle, kept_with, settled}
 use Rattle.pt_semantics.specs.Platform.{State, opened}
 use Rattle.pt_semantics.specs.Turn.{IsLast, IsTurn, Turn}
 use Rattle.pt_history.proofs.Gathered.{kept-push}
-use Rattle.pt_steps.specs.declared.claimed.Ending.{Ending}
-use Rattle.pt_steps.specs.declared.claimed.Ending.TheVariants.{On, Late as LateEnd, Long as LongEnd}
-use Rattle.pt_steps.specs.Steps.{Ends as EndsBy, is_late as ends_late}
+use Rattle.pt_turn.specs.declared.claim_step.Ending.{Ending}
+use Rattle.pt_turn.specs.declared.claim_step.Ending.TheVariants.{On, Late as LateEnd, Long as LongEnd}
+use Rattle.pt_turn.specs.Steps.{Ends as EndsBy, is_late as ends_late}
 use Rattle.pt_turn.specs.declared.fault.TurnFault.{TurnFault}
 use Rattle.pt_turn.specs.declared.fault.TurnFault.TheVariants.{Late, Long}
 use Rattle.pt_turn.specs.Faults.{IsFaultOf}

@@ -4,10 +4,10 @@ use Rattle.std.specs.Prelude.{MatchOption}
 use Rattle.std.specs.Arc.{arc_value}
 use Rattle.pt_types.specs.declared.firing.Done.{Done}
 use Rattle.pt_types.specs.declared.firing.OnLink.{OnLink}
-use Rattle.pt_lawful.proofs.Edges.{wired}
+use Rattle.pt_semantics.proofs.LawfulEdges.{wired}
 use Rattle.pt_semantics.specs.Wired.{IsWired}
 use Rattle.pt_semantics.specs.History.{claims_of}
-use Rattle.pt_ranks.specs.Ranked.{level_of}
+use Rattle.pt_causality.specs.Ranked.{level_of}
 use Rattle.pt_state.specs.State.{rows_of, state_of}
 use Rattle.pt_post.specs.Posted.{AreDone}
 use Rattle.pt_post.proofs.Fitting.{open_claims_fit}

@@ -13,9 +13,9 @@ use Rattle.pt_semantics.specs.Readings.{later_of}
 use Rattle.pt_semantics.proofs.Lookups.{none_some}
 use Rattle.pt_state.specs.declared.fields.Fields.{Fields}
 use Rattle.pt_state.specs.State.{left_in}
-use Rattle.pt_enter.specs.Sensors.{at_sensor}
-use Rattle.pt_steps.specs.Steps.{HasRoom, count_due}
-use Rattle.pt_steps.specs.declared.steps.Lists.{Lists}
+use Rattle.pt_state.specs.Sensors.{at_sensor}
+use Rattle.pt_turn.specs.Steps.{HasRoom, count_due}
+use Rattle.pt_turn.specs.declared.steps.Lists.{Lists}
 use Rattle.pt_turn.specs.Platforms.{raised_to}
 
 -- a reading that is raised

@@ -4,8 +4,8 @@ use Rattle.pt_tags.specs.declared.message.Message.{Message}
 use Rattle.pt_types.specs.declared.graph.Graph.{Graph}
 use Rattle.pt_types.specs.declared.firing.OnLink.{OnLink}
 use Rattle.pt_types.specs.declared.rows.Row.{Row}
-use Rattle.pt_pieces.specs.Lists.{on_last}
-use Rattle.pt_pieces.proofs.LastMember.{on_last-push}
+use Rattle.pt_history.specs.Lists.{on_last}
+use Rattle.pt_history.proofs.LastMember.{on_last-push}
 use Rattle.pt_semantics.specs.Closing.{Sends, on_link, unsent}
 use Rattle.pt_semantics.specs.History.{Legal}
 use Rattle.pt_semantics.specs.Kept.{IsSingle, kept, settled}

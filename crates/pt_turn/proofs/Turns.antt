@@ -13,9 +13,9 @@ use Rattle.pt_semantics.specs.Ranks.{AreLevels}
 use Rattle.pt_semantics.specs.Rows.{FitRows}
 use Rattle.pt_semantics.specs.Turn.{IsLast, IsTurn, Turn, is_quiet, joined}
 use Rattle.pt_semantics.specs.Wired.{IsWired}
-use Rattle.pt_semantics.proofs.Once.{no_port_twice}
-use Rattle.pt_semantics.proofs.Bounds.{steps_bounded}
-use Rattle.pt_semantics.proofs.KeptTurns.{kept_is_legal}
+use Rattle.pt_laws.proofs.Once.{no_port_twice}
+use Rattle.pt_laws.proofs.Bounds.{steps_bounded}
+use Rattle.pt_laws.proofs.KeptTurns.{kept_is_legal}
 use Rattle.pt_history.proofs.Gathered.{taken_settled}
 use Rattle.pt_turn.specs.declared.fault.TurnFault.{TurnFault}
 use Rattle.pt_turn.specs.Platforms.{messages_of}

@@ -9,25 +9,26 @@ use Rattle.pt_semantics.specs.Closing.{on_link}
 use Rattle.pt_semantics.specs.Entering.{all_due}
 use Rattle.pt_semantics.specs.Lists.{Each}
 use Rattle.pt_semantics.specs.Rows.{FitRows}
-use Rattle.pt_ranks.specs.Ranked.{level_of}
-use Rattle.pt_enter.specs.Sensors.{AreSensors}
+use Rattle.pt_causality.specs.Ranked.{level_of}
+use Rattle.pt_state.specs.Sensors.{AreSensors}
 use Rattle.pt_history.specs.declared.history.History.{History}
 use Rattle.pt_post.specs.Room.{leaving_open}
 use Rattle.pt_queue.specs.Events.{waiting_in}
 use Rattle.pt_queue.specs.Groups.{AreGroups}
 use Rattle.pt_state.specs.declared.fields.Fields.{Fields}
 use Rattle.pt_state.specs.State.{busy_in, left_in, rows_of, state_of, states_in, IsOpen, IsSound}
-use Rattle.pt_steps.specs.declared.steps.Lists.{Lists}
-use Rattle.pt_steps.specs.Steps.{count_due}
+use Rattle.pt_turn.specs.declared.steps.Lists.{Lists}
+use Rattle.pt_turn.specs.Steps.{count_due}
 use Rattle.pt_turn.specs.declared.room.Room.{Room}
-use Rattle.pt_turn.specs.declared.making_room.Needs.{Needs}
+use Rattle.pt_turn.specs.declared.memory.Needs.{Needs}
 use Rattle.pt_turn.specs.declared.platform.Platform.TheInside.{Inside}
 use Rattle.pt_turn.specs.Growing.{AreEnough, AreWider, FieldsMeet, HistoryIsWider, HistoryMeets, ListsAreWider, ListsMeet}
 use Rattle.pt_turn.specs.Platforms.{IsPlatform, IsRoomy, graph_of, messages_of, raised_to}
 use Rattle.pt_turn.specs.Running.{Ran}
+use Rattle.pt_types.specs.Limits.{most_claims}
 
 abbrev pub wider : Inside → Fields → History → Lists → Option Room → Inside
-wider p fields history lists room = record { plan = p.plan; number = p.number; branches = p.branches; closing = p.closing; fields = fields; history = history; lists = lists; fault = p.fault; room = room; next = None }
+wider p fields history lists room = record { plan = p.plan; number = p.number; closing = p.closing; fields = fields; history = history; lists = lists; fault = p.fault; room = room; next = None }
 
 same_state : (old new : Fields) (taken : List OnLink) → AreWider old new → state_of new taken ≡ state_of old taken
 same_state old new taken w = λ i. record {
@@ -60,7 +61,7 @@ is_wider p fields history lists room is f h l roomy = record {
   sensors = subst (λ v. AreSensors (graph_of p) v.items) (sym f.sensors) is.sensors;
   fit = subst (λ v. FitRows (graph_of p) (rows_of v.items)) (sym f.sensors) is.fit;
   closing = is.closing;
-  claims = subst (λ n. n ≤ 200000) (sym f.claims) is.claims;
+  claims = subst (λ n. n ≤ most_claims) (sym f.claims) is.claims;
   ran = subst (λ v. Ran (graph_of p) (level_of (arc_value p.plan).ranks) p.number (rows_of v.items) history.turns (state_of fields (messages_of history.turns)) p.fault) (sym f.sensors)
       (subst (λ ts. Ran (graph_of p) (level_of (arc_value p.plan).ranks) p.number (rows_of p.fields.sensors.items) ts (state_of fields (messages_of ts)) p.fault) (sym h.turns)
       (subst (λ s. Ran (graph_of p) (level_of (arc_value p.plan).ranks) p.number (rows_of p.fields.sensors.items) p.history.turns s p.fault) (sym (same_state p.fields fields (messages_of p.history.turns) f)) is.ran));
@@ -72,7 +73,6 @@ is_wider p fields history lists room is f h l roomy = record {
   };
   sent = omega (arith, f.outbox.len, h.sent, is.sent);
   room = roomy;
-  branches = is.branches;
   next = tt;
 }
 

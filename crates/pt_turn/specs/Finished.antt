@@ -1,4 +1,4 @@
--- Whether the ends of a platform's incoming links were taken.
+-- Whether the incoming links of a platform have ended.
 use Rattle.std.specs.Prelude.{◌≡◌, ◌==◌, ◌&&◌, ℕ, Bool, true, false, List, Some, slice_get}
 use Rattle.pt_tags.specs.declared.message.Message.{Message}
 use Rattle.pt_tags.specs.declared.message.Message.TheVariants.{Event, End}
@@ -6,16 +6,17 @@ use Rattle.pt_types.specs.declared.graph.Graph.{Graph}
 use Rattle.pt_types.specs.declared.graph.Link.{Link}
 use Rattle.pt_types.specs.declared.firing.OnLink.{OnLink}
 use Rattle.pt_semantics.specs.Closing.{on_link}
-use Rattle.pt_semantics.specs.Edges.{platform_of}
+use Rattle.pt_types.specs.Lookups.{platform_of}
 use Rattle.pt_semantics.specs.Lists.{IsIn}
 use Rattle.pt_semantics.specs.Turn.{Turn}
 use Rattle.pt_turn.specs.Platforms.{messages_of}
 
--- the end of link l
+-- a message is End
 abbrev pub is_end : Message → Bool
 is_end End = true
 is_end (Event t v) = false
 
+-- a message is the End of link l
 abbrev pub is_end_on : ℕ → OnLink → Bool
 is_end_on l m = is_end m.message && m.link == l
 

@@ -1,8 +1,8 @@
--- A message that went out of a platform.
+-- A message that a platform sends.
 use Rattle.std.specs.Prelude.{◌≡◌, ◌∷◌, [], ℕ, List}
 use Rattle.pt_tags.specs.declared.message.Message.{Message}
 use Rattle.pt_types.specs.declared.firing.OnLink.{OnLink}
-use Rattle.pt_pieces.specs.Lists.{on_last}
+use Rattle.pt_history.specs.Lists.{on_last}
 use Rattle.pt_semantics.specs.Closing.{on_link}
 use Rattle.pt_semantics.specs.Turn.{Turn}
 use Rattle.pt_history.specs.Turns.{sending}
@@ -14,7 +14,7 @@ last_sent [] = []
 last_sent (x ∷ []) = x.sent
 last_sent (x ∷ y ∷ turns) = last_sent (y ∷ turns)
 
--- the first message of link l left the outbox and is sent after the last turn; all else stays
+-- the first message of link l leaves the outbox and is recorded as sent after the last turn; nothing else changes
 pub record HasGone (old new : PlatformView) (l : ℕ) : Type 0 where
   pub message : Message
   pub first : on_link l old.outbox ≡ message ∷ on_link l new.outbox

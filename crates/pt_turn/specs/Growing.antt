@@ -1,21 +1,21 @@
--- More memory for the same platform.
+-- Reserving memory, with nothing else changed.
 use Rattle.std.specs.Prelude.{◌≡◌, ℕ, ◌+◌, ◌-◌, ◌*◌, ◌^◌, ◌==◌, ◌≤◌, if◌then◌else◌, Vec, length, min, vec_len, vec_capacity}
 use Rattle.pt_types.specs.declared.graph.Graph.{Graph}
 use Rattle.pt_history.specs.declared.history.History.{History}
 use Rattle.pt_history.specs.declared.room.Room.{Room as HistoryRoom}
 use Rattle.pt_state.specs.declared.fields.Fields.{Fields}
-use Rattle.pt_steps.specs.declared.steps.Lists.{Lists}
-use Rattle.pt_steps.specs.Steps.{count_due}
-use Rattle.pt_turn.specs.declared.making_room.Needs.{Needs}
+use Rattle.pt_turn.specs.declared.steps.Lists.{Lists}
+use Rattle.pt_turn.specs.Steps.{count_due}
+use Rattle.pt_turn.specs.declared.memory.Needs.{Needs}
 use Rattle.pt_turn.specs.declared.room.Room.{Room}
 
--- the same members, with no less memory
+-- the same items, and no less capacity
 pub record IsWider {X Z : Type 0} (old new : Vec X Z) : Type 0 where
   pub items : new.items ≡ old.items
   pub len : vec_len new ≡ vec_len old
   pub capacity : vec_capacity old ≤ vec_capacity new
 
--- the same fields, with no less memory
+-- the same fields, and no less room
 pub record AreWider (old new : Fields) : Type 0 where
   pub events : new.queue.events ≡ old.queue.events
   pub groups : new.queue.groups ≡ old.queue.groups
@@ -29,12 +29,14 @@ pub record AreWider (old new : Fields) : Type 0 where
   pub closed : new.closed ≡ old.closed
   pub claims : new.claims ≡ old.claims
 
+-- the same lists of a turn, and no less capacity
 pub record ListsAreWider (old new : Lists) : Type 0 where
   pub posted : IsWider old.posted new.posted
   pub rows : IsWider old.rows new.rows
   pub taken : IsWider old.taken new.taken
   pub claimed : IsWider old.claimed new.claimed
 
+-- the same turns, and no less room
 pub record HistoryIsWider (old new : History) : Type 0 where
   pub turns : new.turns ≡ old.turns
   pub more_turns : old.room.turns ≤ new.room.turns
@@ -44,11 +46,11 @@ pub record HistoryIsWider (old new : History) : Type 0 where
   pub claimed : old.room.claimed ≤ new.room.claimed
   pub sent : old.room.sent ≤ new.room.sent
 
--- nothing for nothing, and else twice of what is asked and 64 more, as far as 64 bits hold it
+-- 0 for 0, else 2 n + 64, but at most the greatest 64-bit number
 unfoldable pub more_than : ℕ → ℕ
 more_than n = if n == 0 then 0 else min (2 * n + 64) (2 ^ 64 - 1)
 
--- so much room for each number of a room
+-- the room reserved when this much is asked for
 abbrev pub ahead_of : HistoryRoom → HistoryRoom
 ahead_of room = record {
   turns = more_than room.turns;
@@ -59,20 +61,20 @@ ahead_of room = record {
   sent = more_than room.sent;
 }
 
--- there is memory for all that is needed: in the fields,
+-- the fields have the memory that a turn needs
 pub record FieldsMeet (needs : Needs) (f : Fields) : Type 0 where
   pub events : needs.events ≤ f.queue.spare
   pub outbox : vec_len f.outbox + needs.messages ≤ vec_capacity f.outbox
   pub open_claims : needs.claimed ≤ f.open_claims.spare
 
--- the lists of a turn,
+-- the lists of a turn have the memory that it needs
 pub record ListsMeet (needs : Needs) (lists : Lists) : Type 0 where
   pub posted : vec_len lists.posted + needs.posted ≤ vec_capacity lists.posted
   pub rows : vec_len lists.rows + needs.rows ≤ vec_capacity lists.rows
   pub taken : vec_len lists.taken + needs.taken ≤ vec_capacity lists.taken
   pub claimed : vec_len lists.claimed + needs.claimed ≤ vec_capacity lists.claimed
 
--- and the history
+-- the history has the room that a turn needs
 pub record HistoryMeets (needs : Needs) (room : HistoryRoom) : Type 0 where
   pub turns : 1 ≤ room.turns
   pub posted : needs.posted ≤ room.posted
@@ -81,7 +83,7 @@ pub record HistoryMeets (needs : Needs) (room : HistoryRoom) : Type 0 where
   pub claimed : needs.claimed ≤ room.claimed
   pub sent : needs.sent ≤ room.sent
 
--- so much is enough for a turn at reading r
+-- these needs cover a turn at reading r
 pub record AreEnough (g : Graph) (f : Fields) (r : ℕ) (room : Room) (needs : Needs) : Type 0 where
   pub events : length g.wires + count_due g r f + room.taken ≤ needs.events
   pub messages : room.done * length g.links + length g.links ≤ needs.messages

@@ -1,3 +1,9 @@
+pub mod Handed
+pub mod Starting
+pub mod Sharing
+pub mod All
+pub mod Claiming
+pub mod Steps
 pub mod Running
 pub mod Platforms
 pub mod Turned

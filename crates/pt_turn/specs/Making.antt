@@ -1,4 +1,4 @@
--- A turn over the parts of a platform.
+-- A turn, run and recorded.
 use Rattle.std.specs.Prelude.{◌≡◌, ℕ, ◌<◌, ◌≤◌, ◌++◌, List, Option, Some, length}
 use Rattle.pt_types.specs.declared.firing.Done.{Done}
 use Rattle.pt_types.specs.declared.firing.OnLink.{OnLink}
@@ -10,16 +10,17 @@ use Rattle.pt_offsets.specs.Plans.{Parts}
 use Rattle.pt_state.specs.declared.fields.Fields.{Fields}
 use Rattle.pt_state.specs.State.{IsSound}
 use Rattle.pt_post.specs.Posted.{AreDone}
-use Rattle.pt_enter.specs.Sensors.{AreSensors}
+use Rattle.pt_state.specs.Sensors.{AreSensors}
 use Rattle.pt_take.specs.Taken.{Arrive, Basis}
 use Rattle.pt_history.specs.declared.room.Room.{Room as HistoryRoom}
-use Rattle.pt_steps.specs.declared.claimed.Ending.{Ending}
-use Rattle.pt_steps.specs.declared.steps.Lists.{Lists}
-use Rattle.pt_steps.specs.Steps.{AreEmpty, HasRoom, IsGround, IsMade, ShowsEnd, count_due, turn_of}
+use Rattle.pt_turn.specs.declared.claim_step.Ending.{Ending}
+use Rattle.pt_turn.specs.declared.steps.Lists.{Lists}
+use Rattle.pt_turn.specs.Steps.{AreEmpty, HasRoom, IsGround, IsMade, ShowsEnd, count_due, turn_of}
 use Rattle.pt_turn.specs.declared.fault.TurnFault.{TurnFault}
 use Rattle.pt_turn.specs.Faults.{IsFaultOf}
+use Rattle.pt_types.specs.Limits.{most_claims}
 
--- what a turn at reading r rests on
+-- what a turn at reading r requires
 pub record IsReady (plan : Parts) (w : Basis) (number close_at r n : ℕ) (results : List Done) (messages : List OnLink) (f : Fields) (lists : Lists) : Type 0 where
   pub sound : IsSound plan.graph f
   pub sensors : AreSensors plan.graph f.sensors.items
@@ -30,11 +31,11 @@ pub record IsReady (plan : Parts) (w : Basis) (number close_at r n : ℕ) (resul
   pub dones : AreDone plan.graph results
   pub arrive : Arrive plan.graph w messages
   pub most : (1 ≤ n) × (n ≤ 64)
-  pub claims : f.claims ≤ 200000
+  pub claims : f.claims ≤ most_claims
   pub room : HasRoom plan.graph f lists r (length results) (length messages) n
   pub empty : AreEmpty lists
 
--- a history has room for it
+-- a history has room for the turn
 pub record CanKeep (plan : Parts) (r dones messages most : ℕ) (f : Fields) (room : HistoryRoom) : Type 0 where
   pub turns : 0 < room.turns
   pub posted : dones ≤ room.posted
@@ -42,7 +43,7 @@ pub record CanKeep (plan : Parts) (r dones messages most : ℕ) (f : Fields) (ro
   pub taken : messages ≤ room.taken
   pub claimed : most ≤ room.claimed
 
--- the turn that was made and kept, and its fault
+-- the turn was made and recorded, its claims were appended to the tasks, and this is its fault
 pub record IsKept (plan : Parts) (w : Basis) (r most : ℕ) (dones : List Done) (messages : List OnLink) (old new : Fields) (before after : List Turn) (handed now : List Task) (fault : Option TurnFault) : Type 0 where
   pub lists : Lists
   pub ending : Ending

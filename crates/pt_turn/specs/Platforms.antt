@@ -1,4 +1,4 @@
--- What contracts see of a platform, and what always holds of it.
+-- A platform as contracts see it, and its invariant.
 use Rattle.std.specs.Prelude.{ℕ, ℤ, ◌+◌, ◌*◌, ◌<◌, ◌≤◌, Bool, List, Option, None, Some, MatchOption, length, vec_len}
 use Rattle.std.specs.Arc.{arc_value}
 use Rattle.std.specs.List.{flat_map}
@@ -12,22 +12,22 @@ use Rattle.pt_semantics.specs.Platform.{State}
 use Rattle.pt_semantics.specs.Readings.{later_of}
 use Rattle.pt_semantics.specs.Rows.{FitRows}
 use Rattle.pt_semantics.specs.Turn.{Turn}
-use Rattle.pt_ranks.specs.Ranked.{level_of}
+use Rattle.pt_causality.specs.Ranked.{level_of}
 use Rattle.pt_offsets.specs.Plans.{IsAdmitted, Parts}
 use Rattle.pt_state.specs.declared.fields.OpenClaim.{OpenClaim}
 use Rattle.pt_state.specs.declared.fields.Sensor.{Sensor}
 use Rattle.pt_queue.specs.Events.{waiting_in}
 use Rattle.pt_state.specs.State.{busy_in, left_in, rows_of, state_of, states_in, IsSound}
-use Rattle.pt_post.specs.Branches.{AreBranches}
-use Rattle.pt_enter.specs.Sensors.{AreSensors}
-use Rattle.pt_steps.specs.Steps.{AreEmpty, HasRoom, count_due}
+use Rattle.pt_state.specs.Sensors.{AreSensors}
+use Rattle.pt_turn.specs.Steps.{AreEmpty, HasRoom, count_due}
 use Rattle.pt_turn.specs.declared.fault.TurnFault.{TurnFault}
 use Rattle.pt_turn.specs.declared.room.Room.{Room}
 use Rattle.pt_turn.specs.declared.platform.Platform.TheInside.{Inside}
 use Rattle.pt_turn.specs.Running.{Ran}
+use Rattle.pt_types.specs.Limits.{most_claims}
 
--- the platform of a plan that has this number: its sensors with the rows that it opened with, its kept turns, the parts of
--- the state that they lead to, why no turn may follow, and for what it has memory
+-- platform `number` of a plan: its sensors with the rows that it opened with, its recorded turns, the parts of the state
+-- after them, why no turn may follow, and what turn it has memory for
 pub record PlatformView : Type 0 where
   pub plan : Parts
   pub number : ℕ
@@ -43,11 +43,11 @@ pub record PlatformView : Type 0 where
   pub fault : Option TurnFault
   pub room : Option Room
 
--- all messages that were taken in these turns
+-- all messages taken in these turns
 abbrev pub messages_of : List Turn → List OnLink
 messages_of turns = flat_map (λ (turn : Turn). turn.taken) turns
 
--- the state of a platform
+-- the abstract state of a platform
 abbrev pub state_at : PlatformView → State
 state_at v = record {
   waits = waiting_in v.events;
@@ -61,17 +61,19 @@ state_at v = record {
   claims = v.claims;
 }
 
--- the rows that it opened with
+-- the rows with which a platform opened
 abbrev pub rows_at : PlatformView → ℕ → List Row
 rows_at v = rows_of v.sensors
 
--- the levels of its actors
+-- the levels of the plan's actors
 abbrev pub level_at : PlatformView → ℕ → ℕ
 level_at v = level_of v.plan.ranks
 
+-- the graph of a platform's plan
 abbrev pub graph_of : Inside → Graph
 graph_of p = (arc_value p.plan).graph
 
+-- a platform as contracts see it, from its fields
 abbrev pub view_of : Inside → PlatformView
 view_of p = record {
   plan = arc_value p.plan;
@@ -89,12 +91,12 @@ view_of p = record {
   room = p.room;
 }
 
--- a reading handed in, raised to the last one
+-- the given reading, or the last one if that is greater
 abbrev pub raised_to : Option ℕ → ℕ → ℕ
 raised_to None r = r
 raised_to (Some p) r = later_of p r
 
--- there is memory for a turn at a reading, with so many results, messages and claims
+-- there is memory for a turn at this reading, with that many results, messages and claims
 pub record IsRoomy (p : Inside) (r : Room) : Type 0 where
   pub fields : HasRoom (graph_of p) p.fields p.lists (raised_to p.fields.reading r.reading) r.done r.taken r.most
   pub turns : 0 < p.history.room.turns
@@ -104,17 +106,16 @@ pub record IsRoomy (p : Inside) (r : Room) : Type 0 where
   pub claimed : r.most ≤ p.history.room.claimed
   pub sent : vec_len p.fields.outbox + r.done * length (graph_of p).links + length (graph_of p).links ≤ p.history.room.sent
 
--- what always holds of a platform: its turns follow one another from its opening, and lead to its state
+-- the invariant of a platform: its recorded turns follow one another from its opening, and lead to its state
 pub record IsPlatform (p : Inside) : Type 0 where
   pub admitted : IsAdmitted (arc_value p.plan)
   pub sound : IsSound (graph_of p) p.fields
   pub sensors : AreSensors (graph_of p) p.fields.sensors.items
   pub fit : FitRows (graph_of p) (rows_of p.fields.sensors.items)
   pub closing : IsClosing (graph_of p) p.number p.closing
-  pub claims : p.fields.claims ≤ 200000
+  pub claims : p.fields.claims ≤ most_claims
   pub ran : Ran (graph_of p) (level_of (arc_value p.plan).ranks) p.number (rows_of p.fields.sensors.items) p.history.turns (state_of p.fields (messages_of p.history.turns)) p.fault
   pub empty : AreEmpty p.lists
   pub sent : vec_len p.fields.outbox ≤ p.history.room.sent
   pub room : MatchOption p.room (Unit {0}) (IsRoomy p)
-  pub branches : AreBranches (graph_of p) p.branches
   pub next : MatchOption p.next (Unit {0}) (IsNextReading (graph_of p) p.number (state_of p.fields (messages_of p.history.turns)))

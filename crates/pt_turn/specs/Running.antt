@@ -15,21 +15,22 @@ use Rattle.pt_semantics.specs.Safe.{NothingSafe}
 use Rattle.pt_semantics.specs.Turn.{IsLast, IsTurn, Turn}
 use Rattle.pt_turn.specs.declared.fault.TurnFault.{TurnFault}
 use Rattle.pt_turn.specs.declared.fault.TurnFault.TheVariants.{Late, Long}
+use Rattle.pt_types.specs.Limits.{most_claims}
 
--- these turns of platform i follow one another from s to new, and after each of them another may come
+-- these turns of platform i lead from s to new; none is late, and after each of them another may follow
 abbrev pub GoesOn : Graph → (ℕ → ℕ) → ℕ → State → List Turn → State → Type 0
 GoesOn g level i s [] new = new ≡ s
 GoesOn g level i s (turn ∷ turns) new =
     (mid : State) × (is : IsTurn g level i s turn false mid) × (IsLast g s turn.last false is.ready → ⊥) × GoesOn g level i mid turns new
 
--- the last reading of kept turns
+-- the last reading of recorded turns
 abbrev pub last_reading : List Turn → Option ℕ
 last_reading [] = None
 last_reading (x ∷ []) = Some x.last
 last_reading (x ∷ y ∷ turns) = last_reading (y ∷ turns)
 
--- the last of these messages is late: it is an event for an actor at a tag, and the reading before was past its time and
--- its link's bound
+-- the last of these messages is late: it is an event for an actor at a tag, and the last reading before the turn was past
+-- the tag's time plus its link's bound
 pub record LastIsLate (g : Graph) (last : Option ℕ) (messages : List OnLink) (actor : ℕ) (tag : Tag) (reading limit : ℕ) : Type 0 where
   pub number : ℕ
   pub value : ℤ
@@ -42,7 +43,7 @@ pub record LastIsLate (g : Graph) (last : Option ℕ) (messages : List OnLink) (
   pub limit_is : limit ≡ tag.time + link_bound g link
   pub past : limit < reading
 
--- the last of the kept turns took a late message
+-- the last recorded turn took a late message
 pub record ShowsLate (g : Graph) (turns : List Turn) (actor : ℕ) (tag : Tag) (reading limit : ℕ) : Type 0 where
   pub before : List Turn
   pub turn : Turn
@@ -51,22 +52,22 @@ pub record ShowsLate (g : Graph) (turns : List Turn) (actor : ℕ) (tag : Tag) (
 
 -- all claims were made, and a unit is safe at the last reading
 pub record ShowsLong (g : Graph) (s : State) : Type 0 where
-  pub all : 200000 ≤ s.claims
+  pub all : most_claims ≤ s.claims
   pub reading : ℕ
   pub read : s.reading ≡ Some reading
   pub safe : NothingSafe g s.waits s.busy reading → ⊥
 
--- the kept turns and the state that they lead to show the cause of a fault
+-- the recorded turns and the state after them show the cause of a fault
 abbrev pub Shows : Graph → List Turn → State → TurnFault → Type 0
 Shows g turns s (Late actor tag reading limit) = ShowsLate g turns actor tag reading limit
 Shows g turns s Long = ShowsLong g s
 
--- turns of a platform from its opening: another may come after each of them, or the last one shows a fault
+-- turns of a platform since its opening: after each of them another may follow, or there is a fault and its cause is shown
 abbrev pub Leads : Graph → (ℕ → ℕ) → ℕ → State → List Turn → List Turn → State → Option TurnFault → Type 0
 Leads g level i start turns all s None = GoesOn g level i start all s
 Leads g level i start turns all s (Some fault) = Legal g level i start all s × Shows g turns s fault
 
--- the kept turns are all single turns since the platform opened, as a history keeps them
+-- the recorded turns are those of all single turns since the platform opened
 pub record Ran (g : Graph) (level : ℕ → ℕ) (i : ℕ) (rows : ℕ → List Row) (turns : List Turn) (s : State) (fault : Option TurnFault) : Type 0 where
   pub all : List Turn
   pub single : Each IsSingle all

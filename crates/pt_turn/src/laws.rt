@@ -1,13 +1,13 @@
-//! Laws of platforms.
+//! Theorems about platforms.
 
 ghost use Rattle.pt_turn.specs.Laws.{PlatformsMove, PlatformsWait};
 
-/// At its next reading or later a platform does something, where all results are handed in and all is sent.
+/// At its next reading or later, a platform does something, once all results are posted and all messages are sent.
 pub fn platforms_move()
     ensures { PlatformsMove }
 {}
 
-/// Before its next reading it has nothing to do.
+/// Before its next reading, a platform has nothing to do.
 pub fn platforms_wait()
     ensures { PlatformsWait }
 {}

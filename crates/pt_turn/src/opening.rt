@@ -1,26 +1,24 @@
-//! A platform that opens.
+//! Opening a platform, and its next reading.
 
 ghost use Rattle.std.specs.Prelude.{◌≡◌, [], None, IfOk, MatchOption, true, false};
 ghost use Rattle.std.specs.Arc.{arc_value};
 ghost use Rattle.pt_semantics.specs.Paced.{IsNextReading};
-ghost use Rattle.pt_open.specs.Handed.{rows_in, AreHanded};
+ghost use Rattle.pt_turn.specs.Handed.{rows_in, AreHanded};
 ghost use Rattle.pt_turn.specs.Platforms.{rows_at, state_at};
 
 use crate::platform::Platform;
+use crate::{Lists, open_fields};
+use pt_claim::{closing_reading, next_reading};
 use pt_history::History;
-use pt_next::{closing_reading, next_reading};
 use pt_offsets::Plan;
-use pt_open::open_fields;
-use pt_post::find_branches;
 use pt_sensors::SensorRows;
-use pt_steps::Lists;
 use pt_tags::Memory;
 use std::alloc::Global;
 use std::sync::Arc;
 
 impl Platform {
-    /// A platform of a plan, with the rows of its sensors in the order of the graph: each is on time and not past the
-    /// horizon. Its starting events wait, and no turn was made.
+    /// A platform of a plan, with the rows of its sensors in the order of the graph, each on time and not past the
+    /// horizon. Its starting events wait, and it has made no turn.
     pub fn open(
         alloc: Global,
         plan: Arc<Plan>,
@@ -36,11 +34,9 @@ impl Platform {
     {
         let fields = open_fields(alloc, &plan, platform, rows)?;
         let closing = closing_reading(&plan, platform);
-        let branches = find_branches(alloc, plan.graph())?;
         Ok(Platform {
             plan,
             number: platform,
-            branches,
             closing,
             fields,
             history: History::new(alloc),
@@ -56,8 +52,8 @@ impl Platform {
         })
     }
 
-    /// The least reading, in microseconds, at which something can happen: a row is seen, a unit comes to its paced
-    /// reading, or the platform can close. `None` exactly where it is closed.
+    /// The least reading, in microseconds, at which something can happen: a row is seen, a unit reaches its paced reading,
+    /// or the platform can close. `None` if it is closed.
     pub fn next_reading(&self) -> Option<u64>
         ensures { MatchOption result (self.now.closed ≡ true) (λ next. (self.now.closed ≡ false) × IsNextReading self.now.plan.graph self.now.number (state_at self.now) next) }
     {

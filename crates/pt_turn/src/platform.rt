@@ -6,36 +6,33 @@ ghost use Rattle.pt_semantics.specs.History.{IsLegal};
 ghost use Rattle.pt_turn.specs.Platforms.{level_at, rows_at, state_at};
 ghost use Rattle.pt_turn.specs.Running.{Shows};
 
+use crate::Lists;
 use crate::fault::TurnFault;
 use crate::room::Room;
 use pt_history::History;
 use pt_offsets::Plan;
-use pt_post::Branches;
 use pt_state::Fields;
-use pt_steps::Lists;
 use pt_types::Task;
 use std::marker::Model;
 use std::sync::Arc;
 
 /// A platform of a plan.
 ///
-/// Contracts see its plan and number, the rows that it opened with, its kept turns, the state that they lead to, its open
-/// claims, its fault, and for what it has memory.
+/// Contracts see its plan and number, the rows that it opened with, its recorded turns, the state after them, its open
+/// claims, its fault, and what turn it has memory for.
 #[derive(Drop)]
 pub struct Platform {
     pub(crate) plan: Arc<Plan>,
     pub(crate) number: u32,
-    /// Where the wires of its graph stand, actor by actor.
-    pub(crate) branches: Branches,
-    /// From this reading on it may close, in microseconds.
+    /// The reading from which on it may close, in microseconds.
     pub(crate) closing: u64,
     pub(crate) fields: Fields,
     pub(crate) history: History,
-    /// What the turn under way did; nothing between turns.
+    /// What the current turn has done; empty between turns.
     pub(crate) lists: Lists,
     pub(crate) fault: Option<TurnFault>,
     pub(crate) room: Option<Room>,
-    /// Its next reading, in microseconds, where that is known.
+    /// Its next reading, in microseconds, if it is known.
     pub(crate) next: Option<u64>,
 }
 
@@ -64,7 +61,7 @@ impl Platform {
         self.number
     }
 
-    /// Its kept turns: a legal history, from its opening to its state.
+    /// Its recorded turns: a legal history, from its opening to its state.
     pub fn history(&self) -> &History
         ensures turns { result.now.turns ≡ self.now.turns }
         ensures legal { IsLegal self.now.plan.graph (level_at self.now) self.now.number (rows_at self.now) self.now.turns (state_at self.now) }
@@ -72,7 +69,7 @@ impl Platform {
         &self.history
     }
 
-    /// The fault that a turn answered, which the kept turns show; `None` exactly where no turn answered one.
+    /// The fault that a turn returned, whose cause the recorded turns show; `None` if no turn returned one.
     pub fn fault(&self) -> Option<TurnFault>
         ensures fault { result ≡ self.now.fault }
         ensures shows { MatchOption result (Unit {0}) (Shows self.now.plan.graph self.now.turns (state_at self.now)) }
@@ -87,14 +84,14 @@ impl Platform {
         self.fields.closed
     }
 
-    /// How many claims are open.
+    /// The number of open claims.
     pub fn open_claims(&self) -> usize
         ensures { result ≡ length self.now.open_claims }
     {
         self.fields.open_claims.len()
     }
 
-    /// The open claim of a number, counted from 0; `None` exactly where there are not so many.
+    /// Open claim `number`, from 0; `None` if there is no such claim.
     pub fn open_claim(&self, number: usize) -> Option<&Task>
         ensures { option_map (λ task. task.now) result ≡ option_map (λ claim. claim.task) (slice_get self.now.open_claims number) }
     {

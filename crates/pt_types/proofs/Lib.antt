@@ -1,2 +1,10 @@
+pub mod SmallKinds
+pub mod Conditions
+pub mod Distinct
+pub mod HiddenWires
+pub mod LawfulActors
+pub mod LawfulWires
+pub mod LawfulLinks
+pub mod LawfulEnds
 pub mod Eight
 pub mod Cells

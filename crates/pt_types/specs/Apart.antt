@@ -1,27 +1,27 @@
--- Values kept apart from which of them are there.
+-- Eight optional values as two lists: which ones are present, and the values.
 use Rattle.std.specs.Prelude.{◌≡◌, Bool, true, false, List, [], ◌∷◌, Option, None, Some, ℤ, pos, map, is_some}
 use Rattle.pt_types.specs.Ports.{when}
 
--- a value, or 0 where there is none
+-- a value, or 0 if there is none
 abbrev pub or_zero : Option ℤ → ℤ
 or_zero None = pos 0
 or_zero (Some v) = v
 
--- which are there
+-- which values are present
 abbrev pub are_there : List (Option ℤ) → List Bool
 are_there ports = map is_some ports
 
--- the values, with 0 where there is none
+-- the values, with 0 for each that is absent
 abbrev pub values_or_zero : List (Option ℤ) → List ℤ
 values_or_zero ports = map or_zero ports
 
--- both together again
+-- the optional values again, from both lists
 abbrev pub together : List Bool → List ℤ → List (Option ℤ)
 together [] vs = []
 together (t ∷ ts) [] = []
 together (t ∷ ts) (v ∷ vs) = when t (Some v) ∷ together ts vs
 
--- as many of the one as of the other, and 0 where no value is there
+-- the lists are equally long, and the value is 0 where none is present
 abbrev pub AreApart : List Bool → List ℤ → Type 0
 AreApart [] [] = Unit {0}
 AreApart [] (v ∷ vs) = ⊥

@@ -1,4 +1,4 @@
--- The visible ports of each kind, and the ranges of its numbers.
+-- The visible ports of each kind, and the ranges of its parameters.
 use Rattle.std.specs.Prelude.{ℕ, ℤ, pos, negsuc, ◌&&◌, Bool, true, length, sum, nat_le, int_le, nat_lt, Option, Some, None}
 use Rattle.std.specs.List.{list_all}
 use Rattle.pt_types.specs.Names.{is_file}
@@ -8,7 +8,7 @@ use Rattle.pt_types.specs.declared.kind.Law.{Law}
 use Rattle.pt_types.specs.declared.kind.Law.TheVariants.{Least, Greatest, Middle, Deadband, Weighted}
 use Rattle.pt_types.specs.declared.kind.MachineRow.{MachineRow}
 
--- how many inputs an actor of this kind has for wires of the file
+-- the number of inputs that wires of the file can lead to
 abbrev pub visible_inputs : Kind → ℕ
 visible_inputs (Sensor file bound) = 0
 visible_inputs Receive = 0
@@ -21,7 +21,7 @@ visible_inputs (Merge n) = n
 visible_inputs (Lanes cells) = sum cells
 visible_inputs _ = 1
 
--- how many outputs
+-- the number of outputs that wires of the file can leave
 abbrev pub visible_outputs : Kind → ℕ
 visible_outputs (Send slack) = 0
 visible_outputs (Actuator slack) = 0
@@ -29,7 +29,7 @@ visible_outputs (Machine start outputs rows) = outputs
 visible_outputs (Lanes cells) = length cells
 visible_outputs _ = 1
 
--- all inputs: a row, a message or the next start comes in at a hidden input 0
+-- the number of inputs with hidden ones: a row, a message or the next start comes in at a hidden input 0
 abbrev pub all_inputs : Kind → ℕ
 all_inputs (Sensor file bound) = 1
 all_inputs Receive = 1
@@ -42,11 +42,11 @@ is_between low high z = int_le low z && int_le z high
 abbrev pub is_among : ℕ → ℕ → ℕ → Bool
 is_among low high n = nat_le low n && nat_le n high
 
--- a time in microseconds: at most 10 ^ 15, some 31 years
+-- a time in microseconds: at most 10 ^ 15, about 31 years
 abbrev pub is_time : ℕ → Bool
 is_time t = nat_le t 1000000000000000
 
--- the numbers of a law are in their ranges
+-- the parameters of a law are in their ranges
 abbrev pub law_in_range : Law → Bool
 law_in_range Least = true
 law_in_range Greatest = true
@@ -54,7 +54,7 @@ law_in_range (Middle low high) = int_le low high
 law_in_range (Deadband width) = int_le (pos 0) width
 law_in_range (Weighted num den) = int_le (pos 0) num && int_le num den && is_between (pos 1) (pos 1000000000) den
 
--- an output below the number of outputs
+-- the output is below the number of outputs
 abbrev pub emit_is_lawful : ℕ → Option (ℕ × ℤ) → Bool
 emit_is_lawful outputs None = true
 emit_is_lawful outputs (Some emit) = nat_lt emit.0 outputs
@@ -66,7 +66,7 @@ guard_is_lawful (Some guard) = law_in_range guard.1
 abbrev pub row_is_lawful : ℕ → MachineRow → Bool
 row_is_lawful outputs row = int_le row.low row.high && emit_is_lawful outputs row.emit && guard_is_lawful row.guard
 
--- the numbers of a kind are in their ranges
+-- the parameters of a kind are in their ranges
 abbrev pub kind_is_lawful : Kind → Bool
 kind_is_lawful (Sensor file bound) = is_file file && is_time bound
 kind_is_lawful (Send slack) = is_time slack

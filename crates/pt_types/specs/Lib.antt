@@ -4,5 +4,7 @@ pub mod Together
 pub mod Names
 pub mod Kinds
 pub mod Groups
+pub mod Lookups
+pub mod Limits
 pub mod Ends
 pub mod Lawful

@@ -1,9 +1,9 @@
-//! Events, and what firing an actor takes and gives.
+//! Events, and what an actor takes and gives when it fires.
 
 use crate::ports::Ports;
 use pt_tags::{Message, Tag};
 
-/// An event that waits at an input of an actor.
+/// A pending event: a value that waits at an input of an actor.
 #[derive(Clone, Copy, Debug, PartialEq, Eq)]
 pub struct Event {
     pub tag: Tag,
@@ -12,42 +12,42 @@ pub struct Event {
     pub value: i64,
 }
 
-/// A claim: the events of a unit at one tag, taken together.
+/// A claim: the events of a unit at one tag, taken together to be fired.
 #[derive(Clone, Copy, Debug, PartialEq, Eq)]
 pub struct Task {
-    /// How many claims its platform made before it.
+    /// The number of claims that its platform made before it.
     pub number: u64,
     pub actor: u32,
     pub tag: Tag,
     pub inputs: Ports,
-    /// The actor's state before it fires.
+    /// The actor's state before the firing.
     pub state: i64,
 }
 
-/// What a firing gives.
+/// The result of a firing.
 #[derive(Clone, Copy, Debug, PartialEq, Eq)]
 pub struct Fired {
-    /// The actor's state after it.
+    /// The actor's state after the firing.
     pub state: i64,
     pub outputs: Ports,
 }
 
-/// A task and what its firing gave.
+/// A task and the result of its firing.
 #[derive(Clone, Copy, Debug, PartialEq, Eq)]
 pub struct Done {
     pub task: Task,
     pub fired: Fired,
 }
 
-/// One firing of an actor in the meaning: all its events of a tag, and what it did with them.
+/// One firing of an actor in the meaning: all its events of a tag, and their result.
 #[derive(Clone, Copy, Debug, PartialEq, Eq)]
 pub struct ActorFiring {
     pub actor: u32,
     pub tag: Tag,
     pub inputs: Ports,
-    /// The actor's state before it.
+    /// The actor's state before the firing.
     pub before: i64,
-    /// The actor's state after it.
+    /// The actor's state after the firing.
     pub after: i64,
     pub outputs: Ports,
 }

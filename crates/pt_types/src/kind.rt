@@ -1,26 +1,26 @@
-//! What an actor may be.
+//! The kinds of actors.
 
 use pt_tags::{List, Name};
 
-/// The kind of an actor, with its numbers. Times are whole microseconds.
+/// The kind of an actor, with its parameters. Times are whole microseconds.
 #[derive(Drop)]
 pub enum Kind {
-    /// Gives the rows of a file. Each is seen at most `bound` after its time.
+    /// Gives the rows of a file. A row that is seen later than `bound` after its time is late.
     Sensor {
         file: Name,
         bound: u64,
     },
-    /// Gives what comes over its link.
+    /// Gives the events that come over its link.
     Receive,
-    /// Sends its input over its link, at most `slack` after the event's time.
+    /// Sends its input over its link. It is missed if it is sent later than `slack` after the event's time.
     Send {
         slack: u64,
     },
-    /// Acts on its input, at most `slack` after the event's time.
+    /// Acts on its input. It is missed if it acts later than `slack` after the event's time.
     Actuator {
         slack: u64,
     },
-    /// Gives its input times `num` over `den`, cut toward zero.
+    /// Gives its input times `num`, divided by `den` and cut toward zero. With `num` 3 and `den` 2, -5 gives -7.
     Scale {
         num: i64,
         den: i64,
@@ -31,72 +31,72 @@ pub enum Kind {
     },
     /// Gives the sum of its two inputs; an absent one counts as 0.
     Add,
-    /// Gives input 0 less input 1; an absent one counts as 0.
+    /// Gives input 0 minus input 1; an absent one counts as 0.
     Sub,
-    /// Gives its input where it is greater than `limit`.
+    /// Gives its input if it is greater than `limit`, and else nothing.
     Above {
         limit: i64,
     },
-    /// Gives the value of its lowest input that has one, of `n`.
+    /// Gives the value of the first of its `n` inputs that has one.
     Merge {
         n: u32,
     },
-    /// Gives its input `d` later, or one step later where `d` is 0.
+    /// Gives its input `d` later, or one step later if `d` is 0.
     Delay {
         d: u64,
     },
-    /// Gives how many events came.
+    /// Gives the number of events so far.
     Count,
-    /// Gives the sum of all values that came.
+    /// Gives the sum of all values so far.
     Sum,
-    /// Keeps what comes at input 0, and gives it when something comes at input 1.
+    /// Stores the value of input 0, and gives the stored value when an event comes at input 1.
     Latch,
-    /// Goes from state to state by the first row that fits.
+    /// A state machine: takes the first row that fits the state and the input.
     Machine {
         start: i64,
         outputs: u32,
         rows: List<MachineRow>,
     },
-    /// Gives 0, 1, 2 and so on, at `start` and each `period` after it.
+    /// Gives 0, 1, 2 and so on, at `start` and then every `period`.
     Every {
         start: u64,
         period: u64,
     },
-    /// Gives the value of the block of that number, whose law this is.
+    /// Gives the value that block number `block` computes, by its law.
     Block {
         block: u32,
         law: Law,
     },
-    /// Gives, for each cell, the sum of its inputs that are there. `cells` counts the inputs of each.
+    /// Gives, for each cell, the sum of its inputs that are present. `cells` has the number of inputs of each cell.
     Lanes {
         cells: List<u32>,
     },
 }
 
-/// A row of a machine: it fits in state `state` for an input from `low` to `high` where its guard holds.
+/// A row of a machine: it fits if the state is `state`, the input is from `low` to `high`, and the guard holds.
 #[derive(Clone, Copy, Debug, PartialEq, Eq)]
 pub struct MachineRow {
     pub state: i64,
     pub low: i64,
     pub high: i64,
-    /// The state after it.
+    /// The state after the row is taken.
     pub next: i64,
-    /// An output and its value.
+    /// An output and the value that it gets.
     pub emit: Option<(u32, i64)>,
-    /// A block's number and law: the law of the input and the state is greater than 0.
+    /// A block's number and law. The guard holds if the law's value of the input and the state is greater than 0.
     pub guard: Option<(u32, Law)>,
 }
 
-/// What a block computes of two values a and b.
+/// The law of a block: what it computes of two values a and b.
 #[derive(Clone, Copy, Debug, PartialEq, Eq)]
 pub enum Law {
-    /// The smaller of both.
+    /// The lesser of a and b.
     Least,
-    /// The greater of both.
+    /// The greater of a and b.
     Greatest,
-    /// a, brought between `low` and `high`.
+    /// a, raised to `low` or lowered to `high` if it is outside.
     Middle { low: i64, high: i64 },
-    /// 0 where a and b are at most `width` apart, else a less b.
+    /// 0 if a and b are at most `width` apart, else a minus b.
     Deadband { width: i64 },
     /// (a * num + b * (den - num)) / den, cut toward zero.
     Weighted { num: i64, den: i64 },

@@ -1,4 +1,4 @@
-//! The values at the eight ports of one side of an actor.
+//! The values at the eight inputs or the eight outputs of an actor.
 
 ghost use Rattle.std.specs.Prelude.{◌≡◌, ◌<◌, is_some, slice_set};
 ghost use Rattle.pt_types.specs.Apart.{or_zero};
@@ -6,14 +6,14 @@ ghost use Rattle.pt_types.specs.Ports.{eight, nothing, at_port, only};
 
 use std::marker::Model;
 
-/// A value or none at each of eight ports, which contracts see as the list of the eight.
+/// An optional value at each of eight ports. Contracts see it as the list of the eight.
 ///
-/// The values stand apart from which of them are there: as eight `Option<i64>` they would take 128 bytes in place of 72.
+/// Flags and values are two arrays: this takes 72 bytes, and eight `Option<i64>` would take 128.
 #[derive(Clone, Copy, Debug, PartialEq, Eq)]
 pub struct Ports {
-    /// At which ports there is a value.
+    /// Which ports have a value.
     there: [bool; 8],
-    /// The values; 0 where there is none.
+    /// The values; 0 at a port that has none.
     values: [i64; 8],
 }
 
@@ -45,7 +45,7 @@ impl Ports {
         }
     }
 
-    /// These values at the eight ports.
+    /// Ports with these eight values.
     pub fn from_values(values: [Option<i64>; 8]) -> Ports
         ensures { result ≡ values }
     {
@@ -73,7 +73,7 @@ impl Ports {
         }
     }
 
-    /// The value at a port; none where there is no such port.
+    /// The value at a port; `None` if there is no such port.
     pub fn get(&self, port: u32) -> Option<i64>
         ensures { result ≡ at_port self.now port }
     {
@@ -98,7 +98,7 @@ impl Ports {
         }
     }
 
-    /// This value at one port, and none at the others; none at all where there is no such port.
+    /// This value at one port, and none at the others; no value at all if there is no such port.
     pub fn only(port: u32, value: i64) -> Ports
         ensures { result ≡ eight (only port (Some value)) }
     {
@@ -109,7 +109,7 @@ impl Ports {
         ports
     }
 
-    /// A value at this port, in place of what was there.
+    /// Sets the value at a port.
     pub fn put(&mut self, port: u32, value: i64)
         requires { port < 8 }
         ensures { self.new ≡ slice_set self.old port (Some value) }
@@ -143,7 +143,7 @@ fn is_there(value: Option<i64>) -> bool
     value.is_some()
 }
 
-/// A value, or 0 where there is none.
+/// The value, or 0 if there is none.
 fn or_zero(value: Option<i64>) -> i64
     ensures { result ≡ or_zero value }
 {

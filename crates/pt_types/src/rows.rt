@@ -1,11 +1,11 @@
 //! Rows of sensors.
 
-/// An event of a sensor.
+/// A row: an event of a sensor.
 #[derive(Clone, Copy, Debug, PartialEq, Eq)]
 pub struct Row {
-    /// When it happened, in microseconds of model time.
+    /// The time of the event, in microseconds of model time.
     pub time: u64,
-    /// The clock reading, in microseconds, at which the platform sees it.
+    /// The clock reading at which the platform sees it, in microseconds.
     pub seen: u64,
     pub value: i64,
 }

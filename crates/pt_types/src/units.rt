@@ -1,4 +1,4 @@
-//! The ports of each kind, the units of an actor, and the error of two clocks.
+//! The ports of each kind, the units of an actor, and the clock error of two platforms.
 
 ghost use Rattle.std.specs.Prelude.{◌≡◌, option_map, sum, length, nat_lt, if◌then◌else◌, Some, None};
 ghost use Rattle.pt_types.specs.Groups.{held, actor_at, groups_of, cell_at, group_at, error_between};
@@ -8,7 +8,7 @@ use crate::graph::Graph;
 use crate::kind::Kind;
 
 impl Graph {
-    /// How many units the actor of that number is: one for each cell of `lanes`, and else one.
+    /// The number of units of an actor: one for each cell of `lanes`, 1 for other kinds or if there is no such actor.
     pub fn groups(&self, actor: u32) -> u32
         ensures { result ≡ held (groups_of (actor_at self.now.actors actor).kind) }
     {
@@ -18,7 +18,7 @@ impl Graph {
         }
     }
 
-    /// The group that has that input of the actor, hidden ones counted; `None` exactly where it has no such input.
+    /// The group of an actor's input, hidden inputs counted; `None` if the actor has no such input.
     pub fn group(&self, actor: u32, input: u32) -> Option<u32>
         ensures { result ≡ option_map held (group_at (actor_at self.now.actors actor).kind input) }
     {
@@ -28,9 +28,9 @@ impl Graph {
         }
     }
 
-    /// How far the clocks of two platforms may stand apart, in microseconds.
+    /// The clock error of two platforms: the greatest difference between their clocks, in microseconds.
     ///
-    /// That is what their pair states, or else the clock error of the graph.
+    /// It is the error that their pair states, or else the clock error of the graph.
     pub fn error(&self, a: u32, b: u32) -> u64
         ensures { result ≡ error_between self.now a b }
     {
@@ -46,7 +46,7 @@ impl Graph {
 impl crate::graph::PairError {
     ghost use Rattle.pt_types.specs.Groups.{is_of};
 
-    /// Whether these are its two platforms, in either order.
+    /// Whether the pair is of these two platforms, in either order.
     pub fn is_of(&self, a: u32, b: u32) -> bool
         ensures { result ≡ is_of a b self.now }
     {
@@ -55,7 +55,7 @@ impl crate::graph::PairError {
 }
 
 impl Kind {
-    /// How many inputs an actor of this kind has for wires of the file.
+    /// The number of inputs that wires of the file can lead to.
     pub fn visible_inputs(&self) -> u32
         ensures { result ≡ held (visible_inputs self.now) }
     {
@@ -68,7 +68,7 @@ impl Kind {
         }
     }
 
-    /// How many outputs it has for wires of the file.
+    /// The number of outputs that wires of the file can leave.
     pub fn visible_outputs(&self) -> u32
         ensures { result ≡ held (visible_outputs self.now) }
     {
@@ -117,7 +117,7 @@ fn group_at(kind: &Kind, input: u32) -> Option<u32>
     }
 }
 
-/// Group 0, which has so many inputs.
+/// Group 0 if the input is one of these `inputs`, else `None`.
 fn one_group(input: u32, inputs: u32) -> Option<u32>
     ensures { result ≡ (if nat_lt input inputs then Some 0 else None) }
 {

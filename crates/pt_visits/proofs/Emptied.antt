@@ -7,7 +7,7 @@ use Rattle.pt_tags.specs.declared.message.Message.{Message}
 use Rattle.pt_types.specs.declared.graph.Graph.{Graph}
 use Rattle.pt_types.specs.declared.graph.Link.{Link}
 use Rattle.pt_types.specs.declared.firing.OnLink.{OnLink}
-use Rattle.pt_semantics.specs.Edges.{platform_of}
+use Rattle.pt_types.specs.Lookups.{platform_of}
 use Rattle.pt_visits.specs.Pipes.{arriving, emptied, leads_to, put_on}
 
 -- one link more, whose pipe holds these messages

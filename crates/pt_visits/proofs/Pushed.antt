@@ -10,7 +10,7 @@ use Rattle.pt_semantics.specs.Closing.{on_link}
 use Rattle.pt_semantics.specs.Lists.{Each}
 use Rattle.pt_semantics.specs.Turn.{Turn}
 use Rattle.pt_semantics.specs.Visits.{LinkByLink}
-use Rattle.pt_pieces.proofs.LastMember.{length-on_last}
+use Rattle.pt_history.proofs.LastMember.{length-on_last}
 use Rattle.pt_history.specs.Turns.{sending}
 use Rattle.pt_turn.specs.Gone.{HasGone, last_sent}
 use Rattle.pt_turn.specs.Platforms.{PlatformView}

@@ -9,8 +9,8 @@ use Rattle.pt_types.specs.declared.firing.OnLink.{OnLink}
 use Rattle.pt_types.specs.declared.firing.Task.{Task}
 use Rattle.pt_offsets.specs.Plans.{Parts}
 use Rattle.pt_turn.specs.declared.room.Room.{Room}
-use Rattle.pt_pieces.specs.Lists.{on_last}
-use Rattle.pt_pieces.proofs.LastMember.{on_last-push}
+use Rattle.pt_history.specs.Lists.{on_last}
+use Rattle.pt_history.proofs.LastMember.{on_last-push}
 use Rattle.pt_semantics.specs.Closing.{Sends, on_link, unsent}
 use Rattle.pt_semantics.specs.Kept.{kept_with, settled}
 use Rattle.pt_semantics.specs.Platform.{State}

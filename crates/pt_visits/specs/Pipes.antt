@@ -1,11 +1,11 @@
--- What goes through the pipes at a visit.
+-- The messages that go through the pipes in a visit.
 use Rattle.std.specs.Prelude.{◌≡◌, ◌==◌, ◌++◌, ◌-◌, if◌then◌else◌, [], ◌∷◌, suc, ℕ, Bool, List, Option, None, Some, false, length, map, slice_get, take}
 use Rattle.pt_tags.specs.declared.message.Message.{Message}
 use Rattle.pt_types.specs.declared.graph.Graph.{Graph}
 use Rattle.pt_types.specs.declared.graph.Link.{Link}
 use Rattle.pt_types.specs.declared.firing.OnLink.{OnLink}
 use Rattle.pt_semantics.specs.Closing.{on_link}
-use Rattle.pt_semantics.specs.Edges.{platform_of}
+use Rattle.pt_types.specs.Lookups.{platform_of}
 use Rattle.pt_semantics.specs.Visits.{LinkByLink}
 
 -- whether this link leads to platform i
@@ -13,21 +13,21 @@ abbrev pub leads_to : Graph → ℕ → Option Link → Bool
 leads_to g i None = false
 leads_to g i (Some link) = platform_of g link.to == i
 
--- a message on link l
+-- a message, on link l
 abbrev pub put_on : ℕ → Message → OnLink
 put_on l m = record { link = l; message = m }
 
--- what the pipes of the links that lead to platform i hold, link by link, where the first pipe is that of link l
+-- the messages in the pipes of the links that lead to platform i, link by link; the first pipe is that of link l
 abbrev pub arriving : Graph → ℕ → ℕ → List (List Message) → List OnLink
 arriving g i l [] = []
 arriving g i l (pipe ∷ pipes) = (if leads_to g i (slice_get g.links l) then map (put_on l) pipe else []) ++ arriving g i (suc l) pipes
 
--- and the pipes without it
+-- the pipes without these messages
 abbrev pub emptied : Graph → ℕ → ℕ → List (List Message) → List (List Message)
 emptied g i l [] = []
 emptied g i l (pipe ∷ pipes) = (if leads_to g i (slice_get g.links l) then [] else pipe) ∷ emptied g i (suc l) pipes
 
--- these messages went into the pipes: link by link, from the front of each link's outbox, as many as its pipe has places for
+-- these messages went into the pipes, link by link: the first ones of each link's outbox, as many as its pipe had room for
 pub record HavePushed (outbox : ℕ → List Message) (old new : List (List Message)) (sent : List OnLink) : Type 0 where
   pub count : length new ≡ length old
   pub pipes : (l : ℕ) (pipe : List Message) → slice_get old l ≡ Some pipe → slice_get new l ≡ Some (pipe ++ on_link l sent)

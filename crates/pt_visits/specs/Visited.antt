@@ -1,9 +1,9 @@
--- A visit of a platform by an engine that has it and all links in one hand.
+-- A visit of a platform by an engine that owns it and all links.
 use Rattle.std.specs.Prelude.{◌≡◌, ◌≤◌, ◌⊎◌, ◌++◌, ℕ, false, List, length, map}
 use Rattle.pt_tags.specs.declared.message.Message.{Message}
 use Rattle.pt_types.specs.declared.firing.Done.{Done}
 use Rattle.pt_types.specs.declared.firing.OnLink.{OnLink}
-use Rattle.pt_pieces.specs.Lists.{on_last}
+use Rattle.pt_history.specs.Lists.{on_last}
 use Rattle.pt_semantics.specs.Closing.{on_link}
 use Rattle.pt_semantics.specs.Kept.{kept_with}
 use Rattle.pt_semantics.specs.Safe.{NothingSafe}
@@ -11,19 +11,20 @@ use Rattle.pt_semantics.specs.Turn.{IsLast, IsTurn, Turn}
 use Rattle.pt_state.specs.State.{busy_in}
 use Rattle.pt_history.specs.Turns.{sending}
 use Rattle.pt_post.specs.Posted.{AreDone, ArePosted}
-use Rattle.pt_steps.specs.Steps.{IsFront}
+use Rattle.pt_turn.specs.Steps.{IsFront}
 use Rattle.pt_turn.specs.Platforms.{PlatformView, level_at, raised_to, state_at}
 use Rattle.pt_turn.specs.Turned.{Ends, StaysThere, is_late}
 use Rattle.pt_visits.specs.Pipes.{HavePushed, arriving, emptied}
+use Rattle.pt_types.specs.Limits.{most_claims}
 
--- after its last turn a platform sent these messages, and has the rest of each outbox still to send
+-- after its last turn a platform sent these messages, and the rest of each outbox remains
 pub record HasSent (old new : PlatformView) (sent : List OnLink) : Type 0 where
   pub rest : (l : ℕ) → on_link l old.outbox ≡ on_link l sent ++ on_link l new.outbox
   pub turns : new.turns ≡ on_last (sending sent) old.turns
   pub stays : new ≡ record old { turns = new.turns; outbox = new.outbox }
 
--- a platform that had no fault was visited at reading r with these results: it took all that was on its way to it, made one
--- turn, and put what it sent on its way; its next results are those of the tasks that it claimed
+-- a platform was visited at reading r with these results: it took the messages that had arrived, made one turn, and sent
+-- what the pipes had room for; its next results are those of the tasks that it claimed
 pub record IsVisited (r : ℕ) (dones results : List Done) (old new : PlatformView) (pipes piped : List (List Message)) : Type 0 where
   pub turn : Turn
   pub at : (turn.first ≡ raised_to old.reading r) × (turn.last ≡ raised_to old.reading r) × (turn.count ≡ 1)
@@ -31,7 +32,7 @@ pub record IsVisited (r : ℕ) (dones results : List Done) (old new : PlatformVi
   pub posted : ArePosted old.plan.graph (busy_in old.open_claims) dones turn.posted
   pub taken : IsFront (arriving old.plan.graph old.number 0 pipes) turn.taken (is_late new.fault)
   pub few : length turn.claimed ≤ 64
-  pub all_or : is_late new.fault ≡ false → NothingSafe old.plan.graph is.ready.waits is.ready.busy turn.last ⊎ ((64 ≤ length turn.claimed) ⊎ (200000 ≤ is.ready.claims))
+  pub all_or : is_late new.fault ≡ false → NothingSafe old.plan.graph is.ready.waits is.ready.busy turn.last ⊎ ((64 ≤ length turn.claimed) ⊎ (most_claims ≤ is.ready.claims))
   pub last : Ends new.fault (IsLast old.plan.graph (state_at old) turn.last (is_late new.fault) is.ready)
   pub turns : new.turns ≡ kept_with old.turns turn
   pub sent : HavePushed is.done.outbox (emptied old.plan.graph old.number 0 pipes) piped turn.sent

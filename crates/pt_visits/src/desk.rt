@@ -1,10 +1,10 @@
-//! What a visit needs besides the platform.
+//! The buffers of a visit.
 
 use pt_actors::Tasks;
 use pt_types::OnLink;
 use std::alloc::Global;
 
-/// The messages and the tasks of the visit under way. Its memory serves all visits of an engine.
+/// The messages and the tasks of the current visit. All visits of an engine reuse its memory.
 #[derive(Drop)]
 pub struct Desk {
     pub taken: Vec<OnLink>,
@@ -12,7 +12,7 @@ pub struct Desk {
 }
 
 impl Desk {
-    /// A desk with nothing on it. No memory is taken.
+    /// An empty desk. Allocates nothing.
     pub fn new(alloc: Global) -> Desk {
         Desk {
             taken: Vec::new(alloc),

@@ -1,4 +1,4 @@
-//! What was claimed is fired.
+//! Firing the claimed tasks.
 
 ghost use Rattle.std.specs.Prelude.{◌≡◌, OnOk, map};
 ghost use Rattle.pt_types.specs.declared.firing.Done.{Done as Finished};
@@ -10,7 +10,7 @@ use pt_blocks::Blocks;
 use pt_tags::Memory;
 use pt_types::{Graph, Kind};
 
-/// Fires a task. Where the graph has no such actor it is fired as a receiver's, as the definitions have it.
+/// Fires a task. If the graph has no such actor, it fires as a receiver, as in the definitions.
 fn fire_one(blocks: &Blocks, graph: &Graph, task: &Task) -> Done
     requires lawful { IsLawful graph.now }
     ensures task { result.task ≡ task.now }
@@ -22,7 +22,7 @@ fn fire_one(blocks: &Blocks, graph: &Graph, task: &Task) -> Done
     }
 }
 
-/// Fires these tasks, one after another, and leaves their results alone in `results`.
+/// Fires these tasks in order, and replaces `results` by their results.
 pub fn fire_all(
     blocks: &Blocks,
     graph: &Graph,

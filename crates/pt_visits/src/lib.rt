@@ -1,5 +1,5 @@
-//! A visit of a platform by an engine that has the platform and all links in one hand: it takes what has come, makes one
-//! turn, pushes what goes out, and fires what was claimed.
+//! A visit of a platform by an engine that owns the platform and all links: it takes the messages that have arrived, makes
+//! one turn, pushes the messages to send, and fires the tasks that were claimed.
 //!
 //! Read first: `visit`, then `specs/Visited.antt`.
 #![tactic(auto)]

@@ -1,4 +1,4 @@
-//! What goes out of a platform.
+//! Pushing the messages of a platform.
 
 ghost use Rattle.std.specs.Prelude.{◌≡◌, ◌<◌, ◌≤◌, [], length};
 ghost use Rattle.pt_semantics.specs.Closing.{on_link};
@@ -22,8 +22,8 @@ fn push_from(platform: &mut Platform, link: u32, pipe: &mut Pipe)
     }
 }
 
-/// Pushes the messages of a platform's outboxes into the pipes, link by link in graph order: of each link until its outbox
-/// is empty or its pipe is full.
+/// Pushes the messages of a platform's outboxes into the pipes, link by link in graph order, each until its outbox is empty
+/// or its pipe is full.
 pub fn push_all(platform: &mut Platform, pipes: &mut [Pipe])
     requires begun { 0 < length platform.old.turns }
     requires nothing_sent { last_sent platform.old.turns ≡ [] }

@@ -1,23 +1,13 @@
-//! What has come to a platform.
+//! Taking the messages that have arrived at a platform.
 
 ghost use Rattle.std.specs.Prelude.{◌≡◌, ◌++◌, [], OnOk, length, map};
 ghost use Rattle.pt_types.specs.Lawful.{IsLawful};
-ghost use Rattle.pt_semantics.specs.Edges.{platform_of};
+ghost use Rattle.pt_types.specs.Lookups.{platform_of};
 ghost use Rattle.pt_visits.specs.Pipes.{arriving, emptied, put_on};
 
 use pt_links::Pipe;
 use pt_tags::Memory;
 use pt_types::{Graph, OnLink};
-
-/// The platform of an actor; 0 where there is no such actor.
-fn platform(graph: &Graph, actor: u32) -> u32
-    ensures { result ≡ platform_of graph.now actor }
-{
-    match graph.actors.as_slice().get(actor as usize) {
-        Some(actor) => actor.platform,
-        None => 0,
-    }
-}
 
 /// Takes all messages from the pipe of a link.
 fn take_from(pipe: &mut Pipe, link: u32, taken: &mut Vec<OnLink>) -> Result<(), Memory>
@@ -49,7 +39,7 @@ pub fn take_all(
         if pipes[l].peek().is_none() {
             continue;
         }
-        if platform(graph, links[l].to) == number {
+        if graph.platform_of(links[l].to) == number {
             take_from(&mut pipes[l], l as u32, taken)?;
         }
     }

@@ -19,11 +19,10 @@ use pt_tags::Memory;
 use pt_turn::{Platform, Room};
 use pt_types::OnLink;
 
-/// How many units a platform claims at most in one turn.
+/// The most units that a platform claims in one turn.
 const MOST: usize = 64;
 
-/// Makes the turn of a visit, if nothing has come, no result is in hand, and it is known at once that nothing is done in it.
-/// Tells whether it made one; else nothing is changed.
+/// Quick path: with no message and no result, tries an idle turn, and returns whether it made one. If not, nothing changes.
 fn rests(
     platform: &mut Platform,
     results: &[Done],
@@ -43,12 +42,12 @@ fn rests(
     platform.rest(reading)
 }
 
-/// Visits a platform at a reading, in microseconds, which is raised to the last one where it is smaller: takes all messages
-/// that have come to it, link by link, makes one turn with the results in hand, and pushes what goes out until each outbox
-/// is empty or its link is full. The tasks that it claimed are fired: their results are in hand for the next visit.
+/// Visits a platform at a reading, in microseconds, which is raised to the last one if it is smaller: takes all messages that
+/// have arrived, link by link, makes one turn with the pending results, and pushes messages to send until each outbox is
+/// empty or its link is full. The tasks that it claimed are fired: `results` then has their results, for the next visit.
 ///
-/// The platform tells by `fault` whether another visit may come. Where memory runs out none may: messages that were taken
-/// are lost.
+/// No further visit may follow if the platform then has a `fault`, or if memory ran out: messages already taken are lost
+/// then.
 pub fn visit(
     platform: &mut Platform,
     pipes: &mut [Pipe],

@@ -2,7 +2,7 @@
 use Rattle.std.proofs.Common.{◌≡◌, List, [], ◌∷◌, Bool, true, false, Option, Some, None, refl, sym, ap, ap₂, ◌∙◌, fold, cond}
 use Rattle.std.proofs.Math.Bool.{or-true}
 use Rattle.std.specs.Prelude.{is_some}
-use Rattle.clap.specs.Walk.{Row, Walk, finished, walked, with_default}
+use Rattle.clap.specs.Walk.{Row, Walk, finished, walked, with_default, idle}
 use Rattle.clap.specs.Simple.{App, entered, matches_of}
 use Rattle.clap.specs.Faults.{check_fault, defaults_fault, entered_fault, fault_of, settle_fault, walk_fault}
 use Rattle.clap.specs.Kinds.{Kinds, or_else}
@@ -13,7 +13,6 @@ use Rattle.pt_words.specs.Short.{has_short}
 use Rattle.pt_words.proofs.Agreeing.{Agrees, amid, clock_plain, last_rows, rest_fault, said_in, said_plain, short_plain, sim, workers_plain}
 use Rattle.pt_words.proofs.Shapes.{view, empty, dash, plain, ending, long, short}
 use Rattle.pt_words.proofs.Steps.{Text, app, at}
-use Rattle.clap.specs.Walk.{idle}
 
 no_more : (a : Kinds) → or_else a [] ≡ a
 no_more [] = refl

@@ -2,10 +2,9 @@
 use Rattle.std.proofs.Common.{◌≡◌, ℕ, List, [], ◌∷◌, Bool, true, false, Option, Some, None, refl}
 use Rattle.std.specs.Prelude.{codes, ◌==◌, ◌&&◌}
 use Rattle.std.specs.Str.{bytes_eq}
-use Rattle.clap.specs.Walk.{Walk, Held, Row, Waiting, walked, idle, option, positional, settled_rows}
+use Rattle.clap.specs.Walk.{Walk, Held, Row, Waiting, walked, idle, option, positional, settled_rows, Rule, arg_by_long, reading_by, takes_values, with_values}
 use Rattle.clap.specs.Simple.{App, built, filled}
 use Rattle.clap.specs.Lexer.{name_and_value}
-use Rattle.clap.specs.Walk.{Rule, arg_by_long, reading_by, takes_values, with_values}
 use Rattle.clap.specs.declared.builder.value_parser.Reading.{Reading}
 use Rattle.clap.specs.declared.error.kind.ErrorKind.{ErrorKind}
 use Rattle.clap.specs.declared.parser.matches.ValueSource.TheVariants.{CommandLine}

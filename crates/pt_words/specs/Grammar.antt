@@ -10,15 +10,15 @@ use Rattle.pt_words.specs.declared.orders.Command.{Command}
 use Rattle.pt_words.specs.declared.orders.Command.TheVariants.{Run, Check, Meaning, Make}
 use Rattle.pt_words.specs.Said.{Said, among, said}
 
--- what a command line asks for: a command with its graph file, and a run with its number of workers, its clock, and
--- whether the log is written too; or a run of the input that a number makes, with its number of workers
+-- what a command line asks for: a command on a graph file, where a run has its number of workers, its clock, and whether the
+-- log is written too; or a run of an input made from a number, with its number of workers
 pub data Request : Type 0 where
   run : (graph : List ℕ) (workers : ℕ) (clock : ClockChoice) (log : Bool) → Request
   check : (graph : List ℕ) → Request
   meaning : (graph : List ℕ) → Request
   make : (number : ℕ) (workers : ℕ) → Request
 
--- the command of that name
+-- the command with this name
 abbrev pub command_of : List ℕ → Option Command
 command_of word =
     if bytes_eq word (codes "run") then Some Run else (
@@ -26,23 +26,23 @@ command_of word =
     if bytes_eq word (codes "meaning") then Some Meaning else (
     if bytes_eq word (codes "make") then Some Make else None)))
 
--- digits with no sign and no leading zero, but for `0` itself
+-- digits without a sign, and without a leading zero unless it is `0`
 abbrev pub is_numeral : List ℕ → Bool
 is_numeral [] = false
 is_numeral (digit ∷ []) = is_ascii_digit digit
 is_numeral (digit ∷ next ∷ more) = not (digit == 48) && list_all is_ascii_digit (digit ∷ next ∷ more)
 
--- the number that a word writes in decimal digits, where it is from `low` to `high`
+-- the number that a word writes in decimal digits, if it is from `low` to `high`
 unfoldable pub number_within : ℕ → ℕ → List ℕ → Option ℕ
 number_within low high word =
     let number = digits_value 10 word in
     if is_numeral word && (nat_le low number && nat_le number high) then Some number else None
 
--- 1 to 64 workers
+-- the number of workers: 1 to 64
 unfoldable pub workers_of : List ℕ → Option ℕ
 workers_of value = number_within 1 64 value
 
--- 1 to 100 for the number that makes an input
+-- the number to make an input from: 1 to 100
 unfoldable pub made_number_of : List ℕ → Option ℕ
 made_number_of word = number_within 1 100 word
 
@@ -56,19 +56,19 @@ graph_in [] = None
 graph_in (word ∷ []) = if length word == 0 then None else Some word
 graph_in (word ∷ next ∷ more) = None
 
--- the number of workers: 4 where none is named, and at most one is
+-- the number of workers: 4 if none is given, and at most one may be
 abbrev pub workers_in : List (List ℕ) → Option ℕ
 workers_in [] = Some 4
 workers_in (value ∷ []) = workers_of value
 workers_in (value ∷ next ∷ more) = None
 
--- the clock: the paced one where none is named, and at most one is
+-- the clock: the paced one if none is given, and at most one may be
 abbrev pub clock_in : List (List ℕ) → Option ClockChoice
 clock_in [] = Some Paced
 clock_in (value ∷ []) = clock_of value
 clock_in (value ∷ next ∷ more) = None
 
--- whether the log is written too: `--log` stands at most once
+-- whether the log is written too: `--log` may be given at most once
 abbrev pub log_in : List (List ℕ) → Option Bool
 log_in [] = Some false
 log_in (word ∷ []) = Some true
@@ -79,31 +79,31 @@ abbrev pub run_of : Said → List ℕ → Option Request
 run_of words graph =
     option_and_then (λ workers. option_and_then (λ clock. option_map (λ log. run graph workers clock log) (log_in words.logs)) (clock_in words.clocks)) (workers_in words.workers)
 
--- there is no option
+-- no option is given
 abbrev pub is_bare : Said → Bool
 is_bare words = length words.workers == 0 && (length words.clocks == 0 && length words.logs == 0)
 
--- a run of the input that a number makes: its number of workers is the one option
+-- a run of an input made from a number: the number of workers is its only option
 abbrev pub make_of : Said → List ℕ → Option Request
 make_of words word =
     if length words.clocks == 0 && length words.logs == 0 then option_and_then (λ number. option_map (λ workers. make number workers) (workers_in words.workers)) (made_number_of word) else None
 
--- what is asked of a graph file, or of a number: runs alone have options
+-- the request of a command with its positional word: only runs have options
 abbrev pub request_over : Command → Said → List ℕ → Option Request
 request_over Run words graph = run_of words graph
 request_over Check words graph = if is_bare words then Some (check graph) else None
 request_over Meaning words graph = if is_bare words then Some (meaning graph) else None
 request_over Make words number = make_of words number
 
--- what a command asks with what the words after it say
+-- the request of a command with the values of the words after it
 abbrev pub request_of : Command → Said → Option Request
 request_of command words = option_and_then (request_over command words) (graph_in words.graphs)
 
--- a command and the words after it
+-- the request of a command and the words after it
 abbrev pub order_with : Command → List (List ℕ) → Option Request
 order_with command words = option_and_then (request_of command) (said among words)
 
--- all words: the first is the command
+-- the request of all words: the first is the command
 abbrev pub order_of : List (String Global) → Option Request
 order_of [] = None
 order_of (word ∷ words) = option_and_then (λ command. order_with command (map string_bytes words)) (command_of (string_bytes word))

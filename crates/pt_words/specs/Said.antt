@@ -1,4 +1,4 @@
--- What the words after the command say, from left to right, however often each option and a positional word stands.
+-- The values in the words after the command, from left to right, however often each option or positional word occurs.
 use Rattle.std.specs.Prelude.{ℕ, ◌==◌, Bool, false, List, [], ◌∷◌, Option, Some, None, option_map, codes, bytes_eq, if◌then◌else◌}
 use Rattle.clap.specs.Lexer.{long_of}
 
@@ -13,7 +13,7 @@ pub record Said : Type 0 where
 abbrev pub nothing : Said
 nothing = record { graphs = []; workers = []; clocks = []; logs = [] }
 
--- where a word stands: among the options, where the value of one is due, or after `--`
+-- the place of a word: among the options, where an option needs its value, or after `--`
 pub data Place : Type 0 where
   among : Place
   workers_due : Place
@@ -26,20 +26,23 @@ is_dashed [] = false
 is_dashed (byte ∷ []) = false
 is_dashed (byte ∷ next ∷ more) = byte == 45
 
--- one word more than what the words after it say
+-- one more positional word, in front of the values of the words after it
 abbrev pub with_graph : List ℕ → Option Said → Option Said
 with_graph word = option_map (λ (said : Said). record said { graphs = word ∷ said.graphs })
 
+-- one more number of workers, in front of them
 abbrev pub with_workers : List ℕ → Option Said → Option Said
 with_workers word = option_map (λ (said : Said). record said { workers = word ∷ said.workers })
 
+-- one more clock, in front of them
 abbrev pub with_clock : List ℕ → Option Said → Option Said
 with_clock word = option_map (λ (said : Said). record said { clocks = word ∷ said.clocks })
 
+-- one more `--log`, in front of them
 abbrev pub with_log : Option Said → Option Said
 with_log = option_map (λ (said : Said). record said { logs = [] ∷ said.logs })
 
--- an option, with its value in the same word, or without; `next` is what the words after it say, by where they stand
+-- an option, with its value in the same word, or without; `next` gives the values of the words after it, from a place on
 abbrev pub option_said : List ℕ → Option (List ℕ) → (Place → Option Said) → Option Said
 option_said name (Some value) next =
     if bytes_eq (codes "workers") name then with_workers value (next among) else (
@@ -54,7 +57,7 @@ abbrev pub dashed_said : Option (List ℕ × Option (List ℕ)) → (Place → O
 dashed_said None next = None
 dashed_said (Some p) next = option_said p.0 p.1 next
 
--- a word, and those after it: a word `--` ends the options, and a value that begins with `-` is refused
+-- a word, and those after it: a word `--` ends the options, and a value that begins with `-` and is longer is refused
 abbrev pub word_said : Place → List ℕ → (Place → Option Said) → Option Said
 word_said among word next =
     if bytes_eq word (45 ∷ 45 ∷ []) then next ended else (
@@ -63,14 +66,14 @@ word_said workers_due word next = if is_dashed word then None else with_workers 
 word_said clock_due word next = if is_dashed word then None else with_clock word (next among)
 word_said ended word next = with_graph word (next ended)
 
--- after the last word no value may be due
+-- after the last word no value may be missing
 abbrev pub end_said : Place → Option Said
 end_said among = Some nothing
 end_said workers_due = None
 end_said clock_due = None
 end_said ended = Some nothing
 
--- all words, from a place on
+-- the values of these words, the first of which is at this place
 abbrev pub said : Place → List (List ℕ) → Option Said
 said place [] = end_said place
 said place (word ∷ words) = word_said place word (λ next. said next words)

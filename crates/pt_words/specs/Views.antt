@@ -1,8 +1,7 @@
--- What the program's values say, in the words of the grammar.
+-- The program's values, in terms of the grammar.
 use Rattle.std.specs.Prelude.{ℕ, List, [], Option, map, option_map, unwrap_or}
 use Rattle.std.specs.Borrow.{Bor}
-use Rattle.clap.specs.Matches.{found_of}
-use Rattle.clap.specs.Matches.{matched_of, raw_values}
+use Rattle.clap.specs.Matches.{found_of, matched_of, raw_values}
 use Rattle.clap.specs.declared.parser.matches.ArgMatches.{ArgMatches}
 use Rattle.pt_words.specs.declared.orders.Order.{Order}
 use Rattle.pt_words.specs.declared.orders.Order.TheVariants.{Run, Check, Meaning, Make}
@@ -10,19 +9,19 @@ use Rattle.pt_words.specs.declared.words.Values.{Values}
 use Rattle.pt_words.specs.Grammar.{Request, run, check, meaning, make}
 use Rattle.pt_words.specs.Said.{Said}
 
--- the values of an argument, none where it is absent
+-- the values of an argument; none if it is absent
 abbrev pub texts_in : Option (Bor (List (Bor (List ℕ)))) → List (List ℕ)
 texts_in words = unwrap_or (option_map (λ words. map (λ word. word.now) words.now) words) []
 
--- what clap read, with the words by their bytes
+-- the values that clap read, as bytes
 abbrev pub told : Values → Said
 told values = record { graphs = texts_in values.graphs; workers = texts_in values.workers; clocks = texts_in values.clocks; logs = texts_in values.logs }
 
--- the values that matches have for an argument
+-- the values that clap's matches have for an argument
 abbrev pub values_of : ArgMatches → List ℕ → List (List ℕ)
 values_of matches id = unwrap_or (option_map raw_values (matched_of (found_of matches) id)) []
 
--- an order, with the graph file by the bytes of its name
+-- an order, with the name of the graph file as bytes
 abbrev pub asked : Order → Request
 asked (Run graph workers clock log) = run graph.now workers clock log
 asked (Check graph) = check graph.now

@@ -1,7 +1,7 @@
 //! The words of a command line: reads them as an order, or refuses them.
 //!
-//! The first word is the command, and clap reads the others. What clap would read as a bundle of short options is refused
-//! before. The grammar is `specs/Grammar.antt`, over what the words say (`specs/Said.antt`).
+//! The first word is the command, and clap reads the others. Words that clap would read as a bundle of short options are
+//! refused first. The grammar is `specs/Grammar.antt`, over the values that the words give (`specs/Said.antt`).
 //!
 //! Read first: `Order`, then `order_of`.
 #![tactic(auto)]
@@ -9,8 +9,6 @@
 mod orders;
 mod reading;
 mod short;
-#[cfg(test)]
-mod tests;
 mod values;
 mod words;
 

@@ -12,33 +12,33 @@ pub(crate) enum Command {
 /// The clock that the platforms of a run read.
 #[derive(Clone, Copy, Debug, PartialEq, Eq)]
 pub enum ClockChoice {
-    /// A clock that is paced by the events themselves.
+    /// A clock paced by the events themselves.
     Paced,
-    /// A clock that is `start` at its first reading, and `step` later at each further one, in microseconds.
+    /// A clock that reads `start` first, and `step` more at each further reading, in microseconds.
     Step { start: u64, step: u64 },
     /// The clock of the machine.
     Machine,
 }
 
-/// What is asked of the graph file of that name, or of the input that a number makes.
+/// A command on the graph file `graph`, or on an input made from a number.
 #[derive(Clone, Copy, Debug, PartialEq, Eq)]
 pub enum Order<'a> {
-    /// To run it on so many workers (1 to 64), with that clock, and to write the log too where `log` holds.
+    /// Run it with `workers` workers (1 to 64) and this clock, and write the log too if `log` is true.
     Run {
         graph: &'a str,
         workers: u32,
         clock: ClockChoice,
         log: bool,
     },
-    /// To see whether it is admitted.
+    /// Check whether it is admitted.
     Check {
         graph: &'a str,
     },
-    /// To write its meaning, whatever its bounds and slacks.
+    /// Write its meaning, whatever its bounds and slacks.
     Meaning {
         graph: &'a str,
     },
-    /// To run the input that this number (1 to 100) makes on so many workers (1 to 64), and to write its summary.
+    /// Run the input made from `number` (1 to 100) with `workers` workers (1 to 64), and write its summary.
     Make {
         number: u32,
         workers: u32,

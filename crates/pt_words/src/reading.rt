@@ -1,14 +1,14 @@
-//! The command by which clap reads the words.
+//! The clap command that reads the words.
 
-ghost use Rattle.std.specs.Prelude.{◌≡◌, IfOk, codes};
+ghost use Rattle.std.specs.Prelude.{◌≡◌, IfOk};
 ghost use Rattle.clap.specs.Words.{app_of, with_rule};
 ghost use Rattle.pt_words.specs.App.{bare_app, flag_rule, graph_rule, option_rule, words_app};
 
 use clap::{Arg, ArgAction, Command};
 use std::alloc::{AllocError, Global};
 
-/// The command that reads the words after the first: each option and the positional word however often, so that how often
-/// they stand is judged in one place, after the parse.
+/// The clap command that reads the words after the first. It accepts each option and positional word any number of times;
+/// how often they may occur is checked in one place, after parsing.
 pub(crate) fn words_command<'a>(alloc: Global) -> Result<Command<'a>, AllocError>
     ensures app { IfOk result (λ c. app_of c ≡ words_app) }
 {
@@ -18,7 +18,7 @@ pub(crate) fn words_command<'a>(alloc: Global) -> Result<Command<'a>, AllocError
     with_graph(alloc, command)
 }
 
-/// The command with no argument, with neither help nor version.
+/// The clap command without arguments, and without help and version.
 fn bare_command<'a>(alloc: Global) -> Command<'a>
     ensures { app_of result ≡ bare_app }
 {
@@ -29,7 +29,7 @@ fn bare_command<'a>(alloc: Global) -> Command<'a>
         .disable_help_subcommand(true)
 }
 
-/// The command with an option that takes a value.
+/// The clap command with one more option, which takes a value.
 fn with_option<'a>(
     alloc: Global,
     command: Command<'a>,
@@ -40,7 +40,7 @@ fn with_option<'a>(
     command.arg(Arg::new(alloc, name).long(name).action(ArgAction::Append))
 }
 
-/// The command with an option that takes none: an empty value stands for each time that it is there.
+/// The clap command with one more option without a value: each occurrence counts as an empty value.
 fn with_flag<'a>(
     alloc: Global,
     command: Command<'a>,
@@ -56,7 +56,7 @@ fn with_flag<'a>(
     command.arg(flag)
 }
 
-/// The command with its positional words.
+/// The clap command with positional words.
 fn with_graph<'a>(alloc: Global, command: Command<'a>) -> Result<Command<'a>, AllocError>
     ensures { IfOk result (λ c. app_of c ≡ with_rule (app_of command.entry) graph_rule) }
 {

@@ -3,7 +3,7 @@
 ghost use Rattle.std.specs.Prelude.{◌≡◌, map, string_bytes};
 ghost use Rattle.pt_words.specs.Short.{has_short, is_short};
 
-/// Whether a word before `--` begins with one `-` and is longer.
+/// Whether a word before `--` begins with a single `-` and is longer than that.
 pub(crate) fn has_short(words: &[String]) -> bool
     ensures { result ≡ has_short (map string_bytes words.now) }
 {
@@ -18,6 +18,7 @@ pub(crate) fn has_short(words: &[String]) -> bool
     false
 }
 
+/// Whether a word begins with a single `-` and is longer than that.
 fn is_short(word: &str) -> bool
     ensures { result ≡ is_short word.now }
 {

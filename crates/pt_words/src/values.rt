@@ -7,7 +7,7 @@ ghost use Rattle.pt_words.specs.Grammar.{clock_of, is_numeral, made_number_of, n
 
 use crate::orders::ClockChoice;
 
-/// Whether a word is a decimal number: digits with no sign and no leading zero, but for `0` itself.
+/// Whether a word is a decimal number: digits without a sign, and without a leading zero unless it is `0`.
 fn is_numeral(word: &str) -> bool
     ensures { result ≡ is_numeral word.now }
 {
@@ -19,14 +19,14 @@ fn is_numeral(word: &str) -> bool
     }
 }
 
-/// Whether all of some bytes are decimal digits.
+/// Whether all bytes are decimal digits.
 fn are_digits(bytes: &[u8]) -> bool
     ensures { result ≡ list_all is_ascii_digit bytes.now }
 {
     bytes.iter().all(|byte| byte.is_ascii_digit())
 }
 
-/// The number that a word writes in decimal digits, where it is from `low` to `high`.
+/// The number that a word writes in decimal digits, if it is from `low` to `high`.
 #[tactic(auto, unfolding(crate::specs::Grammar::number_within))]
 fn number_within(low: u64, high: u64, word: &str) -> Option<u64>
     ensures number { result ≡ number_within low high word.now }
@@ -45,7 +45,7 @@ fn number_within(low: u64, high: u64, word: &str) -> Option<u64>
     }
 }
 
-/// The number of workers that a value gives: 1 to 64.
+/// The number of workers that a value names: 1 to 64.
 #[tactic(auto, unfolding(crate::specs::Grammar::workers_of))]
 pub(crate) fn workers_of(value: &str) -> Option<u32>
     ensures { result ≡ workers_of value.now }
@@ -56,7 +56,7 @@ pub(crate) fn workers_of(value: &str) -> Option<u32>
     }
 }
 
-/// The number that makes an input: 1 to 100.
+/// The number to make an input from: 1 to 100.
 #[tactic(auto, unfolding(crate::specs::Grammar::made_number_of))]
 pub(crate) fn made_number_of(word: &str) -> Option<u32>
     ensures { result ≡ made_number_of word.now }

@@ -1,7 +1,7 @@
-//! The order that the words give.
+//! The order that the words ask for.
 
 ghost use Rattle.std.specs.Prelude.{◌≡◌, ◌==◌, IfOk, codes, length, map, option_map, string_bytes};
-ghost use Rattle.pt_words.specs.Grammar.{clock_in, command_of, graph_in, is_bare, log_in, make_of, order_of, order_with, request_of, request_over, run_of, workers_in};
+ghost use Rattle.pt_words.specs.Grammar.{clock_in, command_of, graph_in, is_bare, log_in, make_of, order_of, order_with, request_of, run_of, workers_in};
 ghost use Rattle.pt_words.specs.Views.{asked, texts_in, told, values_of};
 
 use crate::orders::{ClockChoice, Command, Order};
@@ -12,7 +12,7 @@ use clap::ArgMatches;
 use clap::error::ErrorKind;
 use std::alloc::{AllocError, Global};
 
-/// What clap read of the words after the command.
+/// The values that clap read from the words after the command.
 #[derive(Clone, Copy)]
 struct Values<'m, 'a> {
     graphs: Option<&'m [&'a str]>,
@@ -21,9 +21,9 @@ struct Values<'m, 'a> {
     logs: Option<&'m [&'a str]>,
 }
 
-/// The order that these words give, those after the program's name, or nothing where they are outside the grammar.
+/// The order that these words ask for, those after the program's name; `None` if the command line is not valid.
 ///
-/// The first word is the command. Options stand before or after the one positional word, the graph file or a number, in any
+/// The first word is the command. Options come before or after the one positional word, the graph file or a number, in any
 /// order, each at most once. A value is the next word, or follows `=` in the same word; `--log` takes none. A word
 /// `--` ends the options. Any other word that begins with `-` and is longer is refused, also as a value.
 pub fn order_of<'a>(alloc: Global, words: &'a [String]) -> Result<Option<Order<'a>>, AllocError>
@@ -38,7 +38,7 @@ pub fn order_of<'a>(alloc: Global, words: &'a [String]) -> Result<Option<Order<'
     }
 }
 
-/// The command of that name.
+/// The command with this name.
 fn command_of(word: &str) -> Option<Command>
     ensures { result ≡ command_of word.now }
 {
@@ -51,7 +51,7 @@ fn command_of(word: &str) -> Option<Command>
     }
 }
 
-/// The order that a command gives with these words.
+/// The order that a command asks for with these words.
 fn order_with<'a>(
     alloc: Global,
     command: Command,
@@ -72,7 +72,7 @@ fn order_with<'a>(
     }
 }
 
-/// What clap read.
+/// The values that clap read.
 fn values_in<'m, 'a>(matches: &'m ArgMatches<'a>) -> Values<'m, 'a>
     ensures graphs { texts_in result.graphs ≡ values_of matches.entry.now (codes "graph") }
     ensures workers { texts_in result.workers ≡ values_of matches.entry.now (codes "workers") }
@@ -87,7 +87,7 @@ fn values_in<'m, 'a>(matches: &'m ArgMatches<'a>) -> Values<'m, 'a>
     }
 }
 
-/// The order of a command with what clap read.
+/// The order that a command asks for with these values.
 fn request_of<'m, 'a>(command: Command, values: Values<'m, 'a>) -> Option<Order<'a>>
     ensures { option_map asked result ≡ request_of command (told values.entry) }
 {
@@ -101,7 +101,7 @@ fn request_of<'m, 'a>(command: Command, values: Values<'m, 'a>) -> Option<Order<
     }
 }
 
-/// The run of a graph file.
+/// A run of a graph file.
 fn run_of<'m, 'a>(values: Values<'m, 'a>, graph: &'a str) -> Option<Order<'a>>
     ensures { option_map asked result ≡ run_of (told values.entry) graph.entry.now }
 {
@@ -116,7 +116,7 @@ fn run_of<'m, 'a>(values: Values<'m, 'a>, graph: &'a str) -> Option<Order<'a>>
     })
 }
 
-/// The run of the input that a number makes.
+/// A run of an input made from a number.
 fn make_of<'m, 'a>(values: Values<'m, 'a>, word: &'a str) -> Option<Order<'a>>
     ensures { option_map asked result ≡ make_of (told values.entry) word.entry.now }
 {
@@ -128,14 +128,14 @@ fn make_of<'m, 'a>(values: Values<'m, 'a>, word: &'a str) -> Option<Order<'a>>
     Some(Order::Make { number, workers })
 }
 
-/// Whether there is no option.
+/// Whether no option is given.
 fn is_bare<'m, 'a>(values: Values<'m, 'a>) -> bool
     ensures { result ≡ is_bare (told values.entry) }
 {
     is_absent(values.workers) && is_absent(values.clocks) && is_absent(values.logs)
 }
 
-/// Whether an option is absent.
+/// Whether an option is not given.
 fn is_absent<'m, 'a>(words: Option<&'m [&'a str]>) -> bool
     ensures { result ≡ (length (texts_in words.entry) == 0) }
 {
@@ -145,7 +145,7 @@ fn is_absent<'m, 'a>(words: Option<&'m [&'a str]>) -> bool
     }
 }
 
-/// The one positional word, which isn't empty.
+/// The positional word, if there is exactly one and it isn't empty.
 fn graph_in<'m, 'a>(words: Option<&'m [&'a str]>) -> Option<&'a str>
     ensures { option_map (λ word. word.now) result ≡ graph_in (texts_in words.entry) }
 {
@@ -155,7 +155,7 @@ fn graph_in<'m, 'a>(words: Option<&'m [&'a str]>) -> Option<&'a str>
     }
 }
 
-/// The number of workers.
+/// The number of workers; 4 by default.
 fn workers_in<'m, 'a>(words: Option<&'m [&'a str]>) -> Option<u32>
     ensures { result ≡ workers_in (texts_in words.entry) }
 {
@@ -166,7 +166,7 @@ fn workers_in<'m, 'a>(words: Option<&'m [&'a str]>) -> Option<u32>
     }
 }
 
-/// The clock.
+/// The clock; paced by default.
 fn clock_in<'m, 'a>(words: Option<&'m [&'a str]>) -> Option<ClockChoice>
     ensures { result ≡ clock_in (texts_in words.entry) }
 {
@@ -177,7 +177,7 @@ fn clock_in<'m, 'a>(words: Option<&'m [&'a str]>) -> Option<ClockChoice>
     }
 }
 
-/// Whether the log is written too.
+/// Whether the log is written too; not by default.
 fn log_in<'m, 'a>(words: Option<&'m [&'a str]>) -> Option<bool>
     ensures { result ≡ log_in (texts_in words.entry) }
 {

@@ -1,7 +1,7 @@
-//! Runs a program in the current folder: the words are those of the command line.
+//! The program `ptides`: runs the command of its command line in the current folder.
 //!
-//! This makes the real source, sinks and blocks and hands them to the top call, `ptides` of pt_run; its clauses say
-//! what is written. The program ends with the status of the outcome.
+//! It makes the real source, sinks and blocks and passes them to the top call, `ptides` of pt_run, whose clauses say what is
+//! written. The program ends with the status of the outcome.
 #![tactic(auto)]
 
 ghost use Rattle.std.specs.Prelude.{◌≡◌, pos};
@@ -17,17 +17,17 @@ use std::io::ErrorKind;
 use std::process::ExitCode;
 use std::{env, io};
 
-/// The status where there is no memory to begin with.
+/// The status if there is not enough memory to begin.
 const NO_MEMORY: u8 = 9;
 
-/// The mean of both, cut toward zero.
+/// The mean of both, rounded toward zero.
 fn mean(a: i64, b: i64) -> i64
     ensures { result ≡ law_value (Weighted (pos 1) (pos 2)) a b }
 {
     pt_actors::law_value(Law::Weighted { num: 1, den: 2 }, a, b)
 }
 
-/// The words of the command line after the program's name. Where one is no text, none: they are outside the grammar.
+/// The words of the command line after the program's name. If one is not text, there are none, which is not a valid command.
 fn words(rt: &HostRuntime) -> Result<Vec<String>, Memory> {
     let alloc = rt.alloc();
     let arguments = match env::args(rt) {
@@ -37,10 +37,7 @@ fn words(rt: &HostRuntime) -> Result<Vec<String>, Memory> {
             _ => return Ok(Vec::new(alloc)),
         },
     };
-    match arguments.skip(1).collect::<Vec<String>>(alloc) {
-        Ok(words) => Ok(words),
-        Err(_) => Err(Memory),
-    }
+    Ok(arguments.skip(1).collect::<Vec<String>>(alloc)?)
 }
 
 fn main(rt: HostRuntime) -> ExitCode {

@@ -1,11 +1,11 @@
 use Rattle.std.proofs.Common.{◌≡◌, Some, ap, refl, sym, subst, ◌∙◌, rules, add-one}
-use Rattle.pt_delays.specs.Delays.{IsUnit}
+use Rattle.pt_causality.specs.Delays.{IsUnit}
 use Rattle.pt_semantics.specs.Platform.{put_busy}
 use Rattle.pt_semantics.specs.Units.{at_input, first_port, unit_of}
 use Rattle.pt_state.specs.declared.fields.OpenClaim.{OpenClaim}
 use Rattle.pt_state.specs.State.{busy_in, states_in, left_in}
 use Rattle.pt_semantics.specs.Closing.{on_link}
-use Rattle.pt_semantics.proofs.Candidates.{unit_is}
+use Rattle.pt_laws.proofs.Candidates.{unit_is}
 use Rattle.pt_semantics.proofs.Claiming.{without_found}
 use Rattle.pt_queue.specs.Events.{waiting_in}
 use Rattle.pt_queue.specs.Groups.{AreGroups}

@@ -5,6 +5,7 @@ use Rattle.pt_claim.specs.Claimed.{OthersStay}
 use Rattle.pt_claim.specs.Fronts.{AreFront}
 use Rattle.pt_claim.proofs.Making.{SoFar}
 use Rattle.pt_claim.proofs.claiming.claims.Given as goal
+use Rattle.pt_types.specs.Limits.{most_claims}
 
 abbrev pub invariant-loop : goal.invariant-loop
 invariant-loop l = record {
@@ -12,7 +13,7 @@ invariant-loop l = record {
   opens : l.fields.open_claims.spare + l.counter ≡ l.fn.fields.open_claims.spare;
   tasks : vec_len l.tasks ≤ vec_len l.fn.tasks + l.counter;
   tasks_room : vec_capacity l.fn.tasks ≤ vec_capacity l.tasks;
-  bound : l.fields.claims ≤ 200000;
+  bound : l.fields.claims ≤ most_claims;
   others : OthersStay l.fn.fields l.fields;
   count : l.fields.claims ≡ l.fn.fields.claims + l.counter;
   so_far : SoFar l.graph l.fn.fields l.fields l.reading l.counter l.fn.tasks.items l.tasks.items;

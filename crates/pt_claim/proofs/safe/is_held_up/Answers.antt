@@ -3,7 +3,7 @@ use Rattle.std.specs.List.{list_any}
 use Rattle.std.proofs.lemmas.Iterator.{YieldsList-from_slice}
 use Rattle.std.proofs.lemmas.Iterator.Consumers.{YieldsList-from_chain}
 use Rattle.std.proofs.lemmas.Iterator.Search.{any_from_yields_List}
-use Rattle.pt_delays.specs.Delays.{least_of}
+use Rattle.pt_causality.specs.Delays.{least_of}
 use Rattle.pt_claim.specs.Safe.{leads_to}
 use Rattle.pt_claim.proofs.safe.is_held_up.Goals as goal
 

@@ -1,7 +1,7 @@
 use Rattle.std.proofs.Common.{◌≡◌, ◌≤◌, Bool, true, false, not, refl, sym, ap, subst, ◌∙◌}
 use Rattle.std.proofs.lemmas.Bool.{false≢true}
 use Rattle.pt_semantics.specs.Offsets.{HasOffset}
-use Rattle.pt_delays.specs.Delays.{least_of}
+use Rattle.pt_causality.specs.Delays.{least_of}
 use Rattle.pt_state.specs.State.{busy_in}
 use Rattle.pt_claim.proofs.SafeTags.{open_clear, not_some, paced_bounds}
 use Rattle.pt_claim.proofs.safe.is_safe.Goals as goal

@@ -3,9 +3,9 @@ use Rattle.std.specs.List.{flat_map}
 use Rattle.std.proofs.lemmas.Result.{IfOk-weaker}
 use Rattle.pt_types.specs.declared.firing.Task.{Task}
 use Rattle.pt_semantics.specs.Meaning.{IsMeaning}
-use Rattle.pt_ranks.specs.declared.ranks.Ranks.{Ranks}
+use Rattle.pt_causality.specs.declared.ranks.Ranks.{Ranks}
 use Rattle.pt_types.specs.declared.graph.Graph.{Graph}
-use Rattle.pt_ranks.specs.Ranked.{rank_of}
+use Rattle.pt_causality.specs.Ranked.{rank_of}
 use Rattle.pt_confluence.specs.Gathered.{tasks_of}
 use Rattle.pt_confluence.specs.Joined.{joined, whole}
 use Rattle.pt_confluence.proofs.All.{claimed_of}

@@ -1,7 +1,7 @@
 use Rattle.std.proofs.Common.{◌≡◌, Bor, rules}
 use Rattle.std.proofs.lemmas.Fn.{always_returns_same}
 use Rattle.pt_types.specs.declared.firing.Task.{Task}
-use Rattle.pt_ranks.specs.Ranked.{rank_of}
+use Rattle.pt_causality.specs.Ranked.{rank_of}
 use Rattle.pt_confluence.specs.Moments.{moment_of}
 use Rattle.pt_confluence.proofs.gathering.sort.Goals as goal
 

@@ -14,7 +14,7 @@ use Rattle.pt_queue.specs.Events.{waiting_in}
 use Rattle.pt_queue.specs.Groups.{AreGroups}
 use Rattle.pt_state.specs.declared.fields.Sensor.{Sensor}
 use Rattle.pt_state.specs.State.{busy_in, states_in, left_in, IsOpen}
-use Rattle.pt_enter.specs.Sensors.{at_sensor, seen_at, IsSensor, RiseFrom}
+use Rattle.pt_state.specs.Sensors.{at_sensor, seen_at, IsSensor, RiseFrom}
 use Rattle.pt_enter.proofs.Sensors.{AllEntered, Entered, brought, brought_more, brought_nil, brought_unit, due_of, due_rows, no_sensor, never_sensor, never_rest, rise_less, all_due_is, left_after, rows_after, rise_after, each_after}
 use Rattle.pt_enter.proofs.entering.enter.Goals as goal
 

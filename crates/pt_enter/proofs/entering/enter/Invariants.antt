@@ -3,7 +3,7 @@ use Rattle.pt_semantics.specs.Floor.{NothingThere}
 use Rattle.pt_semantics.specs.Lists.{Each}
 use Rattle.pt_semantics.specs.Meaning.{added}
 use Rattle.pt_queue.specs.Events.{waiting_in}
-use Rattle.pt_enter.specs.Sensors.{IsSensor, RiseFrom}
+use Rattle.pt_state.specs.Sensors.{IsSensor, RiseFrom}
 use Rattle.pt_enter.proofs.Sensors.{Entered, brought, no_sensor, due_rows}
 use Rattle.pt_enter.proofs.entering.enter.Given as goal
 

@@ -6,7 +6,7 @@ use Rattle.pt_semantics.specs.Floor.{NothingThere}
 use Rattle.pt_semantics.specs.Meaning.{added}
 use Rattle.pt_semantics.specs.Rows.{TimesRise}
 use Rattle.pt_queue.specs.Events.{waiting_in}
-use Rattle.pt_enter.specs.Sensors.{at_sensor, seen_at}
+use Rattle.pt_state.specs.Sensors.{at_sensor, seen_at}
 use Rattle.pt_enter.proofs.Rows.{seen_more, seen_none, never_one, never_more, due_at, not_due_at, due_stop, not_due_stop, due_each}
 use Rattle.pt_enter.proofs.entering.enter_due.Goals as goal
 

@@ -4,7 +4,7 @@ use Rattle.pt_semantics.specs.Floor.{NothingThere}
 use Rattle.pt_semantics.specs.Meaning.{added}
 use Rattle.pt_semantics.specs.Rows.{TimesRise}
 use Rattle.pt_queue.specs.Events.{waiting_in}
-use Rattle.pt_enter.specs.Sensors.{at_sensor, seen_at}
+use Rattle.pt_state.specs.Sensors.{at_sensor, seen_at}
 use Rattle.pt_enter.proofs.entering.enter_due.Given as goal
 
 abbrev pub invariant-loop-index : goal.invariant-loop-index

@@ -1,4 +1,4 @@
-use Rattle.std.proofs.Common.{◌≡◌, Err, sym, subst, arith, rules}
+use Rattle.std.proofs.Common.{◌≡◌, Err, sym, subst, rules}
 use Rattle.pt_graph_text.specs.Faults.{Gives}
 use Rattle.pt_graph.specs.GraphOf.{graph_in}
 use Rattle.pt_graph.proofs.Texts.{refused-document, refused-checks, graph_in-built}

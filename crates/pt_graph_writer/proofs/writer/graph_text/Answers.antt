@@ -14,24 +14,24 @@ pub returns-clause-text : goal.returns-clause-text
 returns-clause-text g c =
     let graph = c.args.graph.now in
     let blocks = c.args.blocks.now.listed.items in
-    let built : view c.in-Ok.value ≡ graph_data graph blocks = c.in-Ok.ensures.value ∙ ap (graph_data graph) c.listed.ensures.list in
-    let whole : has_float (view c.in-Ok.value) ≡ false = ap has_float built ∙ (plain_graph graph blocks).whole in
-    c.in-Ok-to_vec.ensures.text whole ∙ ap compact_text built
+    let built : view c.in_ok-value.value ≡ graph_data graph blocks = c.in_ok-value.ensures.value ∙ ap (graph_data graph) c.listed.ensures.list in
+    let whole : has_float (view c.in_ok-value.value) ≡ false = ap has_float built ∙ (plain_graph graph blocks).whole in
+    c.in_ok-text.ensures.text whole ∙ ap compact_text built
 
 pub returns-clause-reads_back : goal.returns-clause-reads_back
 returns-clause-reads_back g c = λ bytes given short.
     let graph = c.args.graph.now in
     let blocks = c.args.blocks.now.listed.items in
-    let built : view c.in-Ok.value ≡ graph_data graph blocks = c.in-Ok.ensures.value ∙ ap (graph_data graph) c.listed.ensures.list in
-    let shallow : depth (view c.in-Ok.value) ≤ max_depth = rw built (omega (arith, (plain_graph graph blocks).shallow)) in
-    reads_back blocks graph bytes c.in-Ok-to_vec.text.items c.listed.ensures.blocks.0 c.in-Ok.ensures.fits given c.in-Ok-to_vec.ensures.utf8 (c.in-Ok-to_vec.ensures.reads_back shallow ∙ ap Some built) short
+    let built : view c.in_ok-value.value ≡ graph_data graph blocks = c.in_ok-value.ensures.value ∙ ap (graph_data graph) c.listed.ensures.list in
+    let shallow : depth (view c.in_ok-value.value) ≤ max_depth = rw built (omega (arith, (plain_graph graph blocks).shallow)) in
+    reads_back blocks graph bytes c.in_ok-text.text.items c.listed.ensures.blocks.0 c.in_ok-value.ensures.fits given c.in_ok-text.ensures.utf8 (c.in_ok-text.ensures.reads_back shallow ∙ ap Some built) short
 
 pub returns-clause-reads_line : goal.returns-clause-reads_line
 returns-clause-reads_line g c = λ bytes given short.
     let graph = c.args.graph.now in
     let blocks = c.args.blocks.now.listed.items in
-    let text = c.in-Ok-to_vec.text.items in
-    let built : view c.in-Ok.value ≡ graph_data graph blocks = c.in-Ok.ensures.value ∙ ap (graph_data graph) c.listed.ensures.list in
-    let shallow : depth (view c.in-Ok.value) ≤ max_depth = rw built (omega (arith, (plain_graph graph blocks).shallow)) in
-    let utf8 : IsUtf8 (text ++ 10 ∷ []) = IsUtf8-append text (10 ∷ []) c.in-Ok-to_vec.ensures.utf8 (IsUtf8-from_ascii (10 ∷ []) (search rules)) in
-    reads_back blocks graph bytes (text ++ 10 ∷ []) c.listed.ensures.blocks.0 c.in-Ok.ensures.fits given utf8 (read_line text c.in-Ok-to_vec.ensures.compact ∙ (c.in-Ok-to_vec.ensures.reads_back shallow ∙ ap Some built)) short
+    let text = c.in_ok-text.text.items in
+    let built : view c.in_ok-value.value ≡ graph_data graph blocks = c.in_ok-value.ensures.value ∙ ap (graph_data graph) c.listed.ensures.list in
+    let shallow : depth (view c.in_ok-value.value) ≤ max_depth = rw built (omega (arith, (plain_graph graph blocks).shallow)) in
+    let utf8 : IsUtf8 (text ++ 10 ∷ []) = IsUtf8-append text (10 ∷ []) c.in_ok-text.ensures.utf8 (IsUtf8-from_ascii (10 ∷ []) (search rules)) in
+    reads_back blocks graph bytes (text ++ 10 ∷ []) c.listed.ensures.blocks.0 c.in_ok-value.ensures.fits given utf8 (read_line text c.in_ok-text.ensures.compact ∙ (c.in_ok-text.ensures.reads_back shallow ∙ ap Some built)) short

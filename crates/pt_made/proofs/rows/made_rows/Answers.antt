@@ -2,7 +2,7 @@ use Rattle.std.proofs.Common.{rules, ◌≡◌, ◌+◌, refl, subst, sym, arith
 use Rattle.pt_sensors.specs.declared.sensor_rows.SensorRows.{SensorRows}
 use Rattle.pt_made.proofs.Entries.{AreFirst, first_more, none_first, placed, rows_are}
 use Rattle.pt_semantics.specs.Rows.{FitRows}
-use Rattle.pt_recorded.specs.Places.{of_run}
+use Rattle.pt_sensors.specs.Places.{of_run}
 use Rattle.pt_made.specs.Input.{made_graph}
 use Rattle.pt_made.proofs.Fitting.{rows_fit}
 use Rattle.pt_made.proofs.rows.made_rows.Goals as goal

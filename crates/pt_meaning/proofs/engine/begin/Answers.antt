@@ -3,17 +3,17 @@ use Rattle.pt_meaning.specs.Early.{early_waits, left}
 use Rattle.pt_meaning.specs.Waiting.{waits_in, rank_in}
 use Rattle.pt_meaning.specs.Running.{states_in}
 use Rattle.pt_meaning.proofs.Both.{only_early}
-use Rattle.pt_meaning.proofs.Firings.{states_start}
+use Rattle.pt_meaning.proofs.FiredOn.{states_start}
 use Rattle.pt_meaning.proofs.engine.begin.Goals as goal
 
-pub returns-in-Ok-clause-world : goal.returns-in-Ok-clause-world
-returns-in-Ok-clause-world c =
+pub returns-clause-world : goal.returns-clause-world
+returns-clause-world c =
     let rank = rank_in c.args.ranks.now in
-    let kept = ap states_in c.in-Ok.ensures ∙ states_start c.args.graph.now in
+    let kept = ap states_in c.in_ok-states.ensures ∙ states_start c.args.graph.now in
     let waits =
     only_early (early_waits (left c.in_ok-early.early)) (waits_in (rank_in c.args.ranks.now) c.new-late.result.events) (λ a p t. ap (λ v. v a p t) (c.new-late.ensures.empty rank))
     ∙ c.in_ok-early.ensures.waits in
     λ i. record { waits = waits i; states = kept i }
 
-pub returns-in-Ok-clause-sound : goal.returns-in-Ok-clause-sound
-returns-in-Ok-clause-sound c = record { early = c.in_ok-early.ensures.sound; late = c.new-late.ensures.sound (rank_in c.args.ranks.now) (length c.args.graph.now.actors) 0 }
+pub returns-clause-sound : goal.returns-clause-sound
+returns-clause-sound c = record { early = c.in_ok-early.ensures.sound; late = c.new-late.ensures.sound (rank_in c.args.ranks.now) (length c.args.graph.now.actors) 0 }

@@ -9,7 +9,7 @@ use Rattle.pt_meaning.specs.Running.{world_in, states_in, firing_of}
 use Rattle.pt_meaning.specs.Emission.{IsUsable, AddsOneStep}
 use Rattle.pt_meaning.specs.Both.{all_waits}
 use Rattle.pt_meaning.proofs.Both.{added_late}
-use Rattle.pt_meaning.proofs.Firings.{fires_by, after_by, each_filter, each_adds}
+use Rattle.pt_meaning.proofs.FiredOn.{fires_by, after_by, each_filter, each_adds}
 use Rattle.pt_meaning.proofs.engine.fire_next.Goals as goal
 
 pub emit-requires-clause-edges : goal.emit-requires-clause-edges

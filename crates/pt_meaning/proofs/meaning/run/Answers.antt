@@ -4,9 +4,9 @@ use Rattle.std.proofs.lemmas.Grind.{common_steps}
 use Rattle.pt_semantics.specs.Meaning.{Steps, at_start, rows_until}
 use Rattle.pt_meaning.specs.Waiting.{rank_in}
 use Rattle.pt_meaning.specs.Both.{all_waits}
-use Rattle.pt_meaning.specs.Opening.{rows_for}
+use Rattle.pt_sensors.specs.Listed.{rows_for}
 use Rattle.pt_meaning.specs.Running.{world_in}
-use Rattle.pt_meaning.proofs.Firings.{steps_push, steps_end}
+use Rattle.pt_meaning.proofs.FiredOn.{steps_push, steps_end}
 use Rattle.pt_meaning.proofs.Both.{are_sound_more}
 use Rattle.pt_meaning.proofs.Runnable.{present_at}
 use Rattle.pt_meaning.proofs.meaning.run.Goals as goal

@@ -2,7 +2,7 @@ use Rattle.std.proofs.Common.{◌≡◌, ◌≤◌, ◌-◌, length}
 use Rattle.pt_semantics.specs.Meaning.{Steps, at_start, rows_until}
 use Rattle.pt_meaning.specs.Waiting.{rank_in}
 use Rattle.pt_meaning.specs.Both.{AreSound}
-use Rattle.pt_meaning.specs.Opening.{rows_for}
+use Rattle.pt_sensors.specs.Listed.{rows_for}
 use Rattle.pt_meaning.specs.Running.{world_in}
 use Rattle.pt_meaning.proofs.meaning.run.Given as goal
 

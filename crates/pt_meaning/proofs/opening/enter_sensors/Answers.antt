@@ -3,7 +3,8 @@ use Rattle.std.proofs.lemmas.List.{get_or_default}
 use Rattle.pt_sensors.specs.declared.sensor_rows.SensorRows.{SensorRows}
 use Rattle.pt_semantics.specs.Meaning.{added}
 use Rattle.pt_meaning.specs.Early.{early_waits}
-use Rattle.pt_meaning.specs.Opening.{rows_of_actor, rows_from_sensors, IsOfActors}
+use Rattle.pt_meaning.specs.Opening.{rows_of_actor, rows_from_sensors}
+use Rattle.pt_sensors.specs.Listed.{IsOfActors}
 use Rattle.pt_meaning.proofs.Emitting.{each_at}
 use Rattle.pt_meaning.proofs.Opens.{on_from, on_end, sensors_step, sensors_end, no_sensor}
 use Rattle.pt_meaning.proofs.opening.enter_sensors.Goals as goal

@@ -3,7 +3,8 @@ use Rattle.pt_semantics.specs.Lists.{Each}
 use Rattle.pt_semantics.specs.Meaning.{added}
 use Rattle.pt_meaning.specs.Waiting.{rank_in}
 use Rattle.pt_meaning.specs.Early.{early_waits, AreEarly}
-use Rattle.pt_meaning.specs.Opening.{rows_from_sensors, IsOfActors}
+use Rattle.pt_meaning.specs.Opening.{rows_from_sensors}
+use Rattle.pt_sensors.specs.Listed.{IsOfActors}
 use Rattle.pt_meaning.proofs.opening.enter_sensors.Given as goal
 
 abbrev pub invariant-loop-sensor : goal.invariant-loop-sensor

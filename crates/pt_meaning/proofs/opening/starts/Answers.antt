@@ -1,5 +1,5 @@
 use Rattle.std.proofs.Common.{◌≡◌, ◌<◌, ◌∙◌, ap, refl, length, subst}
-use Rattle.pt_semantics.specs.Edges.{kind_of}
+use Rattle.pt_types.specs.Lookups.{kind_of}
 use Rattle.pt_semantics.specs.Meaning.{added}
 use Rattle.pt_meaning.specs.Opening.{start_one}
 use Rattle.pt_meaning.proofs.Opens.{starts_none, starts_more, kind_read}

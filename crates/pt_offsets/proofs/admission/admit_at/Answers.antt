@@ -1,6 +1,6 @@
 use Rattle.std.proofs.Common.{◌≡◌, ◌≤◌, Ok, Err, Result, MatchResult, ap, length, sym, subst, true, arith}
 use Rattle.pt_types.specs.Kinds.{kind_is_lawful}
-use Rattle.pt_graph.proofs.Actors.{any_kind}
+use Rattle.pt_types.proofs.LawfulActors.{any_kind}
 use Rattle.pt_offsets.specs.declared.fault.OffsetFault.{OffsetFault}
 use Rattle.pt_offsets.specs.Margins.{HasActorOffset}
 use Rattle.pt_offsets.proofs.Admitted.{names, none_sends, sends_in_time}

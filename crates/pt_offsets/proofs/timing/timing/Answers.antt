@@ -5,11 +5,11 @@ use Rattle.pt_types.specs.declared.graph.Unit.{Unit as Part}
 use Rattle.pt_types.specs.Groups.{groups_of, held}
 use Rattle.pt_types.specs.Kinds.{kind_is_lawful}
 use Rattle.pt_types.specs.Lawful.{IsLawful}
-use Rattle.pt_semantics.specs.Edges.{kind_of}
+use Rattle.pt_types.specs.Lookups.{kind_of}
 use Rattle.pt_semantics.specs.Offsets.{HasOffset}
 use Rattle.pt_semantics.specs.Units.{groups}
-use Rattle.pt_graph.proofs.Actors.{any_kind}
-use Rattle.pt_delays.specs.Delays.{least_of}
+use Rattle.pt_types.proofs.LawfulActors.{any_kind}
+use Rattle.pt_causality.specs.Delays.{least_of}
 use Rattle.pt_offsets.specs.Bounded.{offset_from}
 use Rattle.pt_offsets.specs.Greatest.{HasGreatest}
 use Rattle.pt_offsets.specs.Margins.{margin_of, unit_at}

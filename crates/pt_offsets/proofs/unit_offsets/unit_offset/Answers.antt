@@ -1,5 +1,5 @@
 use Rattle.std.proofs.Common.{◌+◌, sym, subst, ◌∙◌, ap}
-use Rattle.pt_delays.specs.Delays.{least_of}
+use Rattle.pt_causality.specs.Delays.{least_of}
 use Rattle.pt_offsets.specs.Bounded.{offset_from}
 use Rattle.pt_offsets.specs.Greatest.{HasGreatest, greater}
 use Rattle.pt_offsets.proofs.Maxima.{greatest_more}

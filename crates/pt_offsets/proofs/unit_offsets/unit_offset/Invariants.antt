@@ -1,4 +1,4 @@
-use Rattle.pt_delays.specs.Delays.{least_of}
+use Rattle.pt_causality.specs.Delays.{least_of}
 use Rattle.pt_offsets.specs.Bounded.{offset_from}
 use Rattle.pt_offsets.specs.Greatest.{HasGreatest}
 use Rattle.pt_offsets.proofs.unit_offsets.unit_offset.Given as goal

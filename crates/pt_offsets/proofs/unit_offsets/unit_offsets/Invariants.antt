@@ -1,5 +1,5 @@
 use Rattle.std.proofs.Common.{◌≡◌, ◌<◌, ℕ, length, slice_index_or, None}
-use Rattle.pt_delays.specs.Delays.{least_of}
+use Rattle.pt_causality.specs.Delays.{least_of}
 use Rattle.pt_offsets.specs.Bounded.{offset_from}
 use Rattle.pt_offsets.specs.Greatest.{HasGreatest}
 use Rattle.pt_offsets.specs.Margins.{unit_at}

@@ -1,9 +1,9 @@
 use Rattle.std.proofs.Common.{◌≡◌, true, false, ◌+◌, ◌<◌, ◌≤◌, length, take, refl, ap₂, ap, sym, subst, ◌∙◌, get_or, arith}
 use Rattle.std.proofs.lemmas.Grind.{get_or_default_zero}
 use Rattle.std.proofs.lemmas.Option.{slice_get-get_or}
-use Rattle.pt_post.specs.Branches.{IsNext}
+use Rattle.pt_causality.specs.Branches.{IsNext}
 use Rattle.pt_post.specs.Room.{leaving}
-use Rattle.pt_post.proofs.Branching.{leaving_on, nothing_goes, skipped}
+use Rattle.pt_post.proofs.Skipping.{leaving_on, nothing_goes, skipped}
 use Rattle.pt_types.specs.declared.graph.Wire.{Wire}
 use Rattle.pt_semantics.specs.Meaning.{added}
 use Rattle.pt_semantics.specs.Floor.{NothingThere}
@@ -12,7 +12,8 @@ use Rattle.pt_post.specs.Sent.{along}
 use Rattle.pt_semantics.specs.Edges.{of_wire}
 use Rattle.pt_semantics.specs.Units.{leaves_unit}
 use Rattle.pt_post.proofs.Counted.{room_left, spare_more}
-use Rattle.pt_post.proofs.Going.{along_absent, going_more, wire_in, wire_among}
+use Rattle.pt_post.proofs.Going.{along_absent, going_more}
+use Rattle.pt_causality.proofs.Branching.{wire_in, wire_among}
 use Rattle.pt_post.proofs.emit.emit.Goals as goal
 
 abbrev none_wire : Wire

@@ -1,6 +1,8 @@
 use Rattle.std.proofs.Common.{◌≡◌, ap, sym, subst, ◌∙◌}
-use Rattle.pt_semantics.specs.Edges.{weight, kind_of, of_wire}
-use Rattle.pt_semantics.specs.Units.{output_group, leaves_unit}
+use Rattle.pt_semantics.specs.Edges.{weight, of_wire}
+use Rattle.pt_types.specs.Lookups.{kind_of}
+use Rattle.pt_semantics.specs.Units.{leaves_unit}
+use Rattle.pt_types.specs.Groups.{output_group}
 use Rattle.std.proofs.lemmas.Bool.{false≢true}
 use Rattle.pt_types.specs.Ports.{at_port}
 use Rattle.pt_semantics.specs.Meaning.{added}

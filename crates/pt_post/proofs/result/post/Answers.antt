@@ -12,7 +12,7 @@ use Rattle.pt_queue.specs.Groups.{AreGroups}
 use Rattle.pt_state.specs.State.{busy_in, states_in, left_in}
 use Rattle.pt_state.proofs.ClaimLists.{found_is, not_found}
 use Rattle.pt_post.specs.Sent.{SumsFit}
-use Rattle.pt_delays.specs.Units.{IsUnit}
+use Rattle.pt_causality.specs.Units.{IsUnit}
 use Rattle.pt_types.specs.declared.graph.Graph.{Graph}
 use Rattle.pt_tags.specs.declared.tag.Tag.{Tag}
 use Rattle.pt_post.specs.Room.{leaving, leaving_open}

@@ -1,5 +1,5 @@
 use Rattle.std.proofs.Common.{◌∙◌}
-use Rattle.pt_delays.specs.Delays.{least_of}
+use Rattle.pt_causality.specs.Delays.{least_of}
 use Rattle.pt_queue.proofs.Holding.{any_before}
 use Rattle.pt_queue.proofs.blocked.holder.Goals as goal
 

@@ -1,6 +1,6 @@
 use Rattle.std.proofs.Common.{◌≡◌, drop}
 use Rattle.std.specs.List.{list_any}
-use Rattle.pt_delays.specs.Delays.{least_of}
+use Rattle.pt_causality.specs.Delays.{least_of}
 use Rattle.pt_queue.specs.Listed.{holds_up}
 use Rattle.pt_queue.proofs.blocked.holder_listed.Given as goal
 

@@ -1,5 +1,5 @@
-use Rattle.std.proofs.Common.{◌≡◌, true, sym, refl, ◌∙◌}
-use Rattle.pt_delays.specs.Delays.{least_of}
+use Rattle.std.proofs.Common.{◌≡◌, sym, refl, ◌∙◌}
+use Rattle.pt_causality.specs.Delays.{least_of}
 use Rattle.pt_queue.specs.Listed.{tag_of}
 use Rattle.pt_queue.proofs.Holding.{listed_holds}
 use Rattle.pt_queue.proofs.blocked.is_held_still.Goals as goal

@@ -1,5 +1,6 @@
 use Rattle.std.proofs.Common.{◌≡◌, ◌≤◌, arith}
-use Rattle.pt_semantics.specs.Units.{groups, input_group}
+use Rattle.pt_semantics.specs.Units.{groups}
+use Rattle.pt_types.specs.Groups.{input_group}
 use Rattle.pt_queue.proofs.Tables.{input_few}
 use Rattle.pt_queue.proofs.groups.group.Goals as goal
 

@@ -1,9 +1,9 @@
 use Rattle.std.proofs.Common.{◌∙◌, get_or, length, arith, sym, subst}
 use Rattle.std.proofs.lemmas.Bool.{false≢true}
 use Rattle.std.proofs.lemmas.Option.{slice_get-get_or, slice_get_within}
-use Rattle.pt_ends.proofs.Ending.{rounds_end}
-use Rattle.pt_lawful.proofs.Edges.{wired}
-use Rattle.pt_ranks.specs.Ranked.{level_of}
+use Rattle.pt_schedule.proofs.Ending.{rounds_end}
+use Rattle.pt_semantics.proofs.LawfulEdges.{wired}
+use Rattle.pt_causality.specs.Ranked.{level_of}
 use Rattle.pt_offsets.specs.Timings.{offset_of}
 use Rattle.pt_rounds.specs.Asked.{IsLeastOf}
 use Rattle.pt_rounds.specs.Passing.{lists_of}

@@ -6,9 +6,9 @@ use Rattle.pt_types.specs.declared.firing.Done.{Done}
 use Rattle.pt_types.specs.declared.graph.Graph.{Graph}
 use Rattle.pt_types.specs.declared.graph.Link.{Link}
 use Rattle.pt_types.specs.declared.rows.Row.{Row}
-use Rattle.pt_ranks.specs.Ranked.{level_of}
+use Rattle.pt_causality.specs.Ranked.{level_of}
 use Rattle.pt_offsets.specs.Plans.{IsAdmitted, Parts}
-use Rattle.pt_platforms.specs.All.{AreReady}
+use Rattle.pt_turn.specs.All.{AreReady}
 use Rattle.pt_turn.specs.Platforms.{PlatformView}
 use Rattle.pt_rounds.specs.Asked.{AreLegal, IsLeastOf, NoneIsOpen}
 use Rattle.pt_rounds.specs.HaveRun.{HaveRun}

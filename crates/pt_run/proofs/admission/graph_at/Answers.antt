@@ -2,8 +2,8 @@ use Rattle.std.proofs.Common.{Ok, Err, subst, sym}
 use Rattle.pt_graph.specs.GraphOf.{graph_of}
 use Rattle.pt_graph.proofs.Fetched.{graph_of-fetched}
 use Rattle.pt_run.specs.Causes.{CauseOfGraph}
-use Rattle.pt_recorded.specs.Asked.{Reading}
-use Rattle.pt_recorded.proofs.Asking.{of_content}
+use Rattle.pt_sensors.specs.Asked.{Reading}
+use Rattle.pt_sensors.proofs.Asking.{of_content}
 use Rattle.pt_run.proofs.Ending.{graph_fails}
 use Rattle.pt_run.proofs.admission.graph_at.Goals as goal
 

@@ -1,5 +1,4 @@
-use Rattle.std.proofs.Common.{}
-use Rattle.pt_recorded.specs.Asked.{Reading}
+use Rattle.pt_sensors.specs.Asked.{Reading}
 use Rattle.pt_run.specs.Causes.{Writing}
 use Rattle.pt_run.specs.Texts.{left_by}
 use Rattle.pt_run.specs.Words.{order_of}

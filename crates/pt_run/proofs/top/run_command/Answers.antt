@@ -1,5 +1,5 @@
 use Rattle.std.specs.Prelude.{string_bytes}
-use Rattle.pt_recorded.specs.Asked.{Reading}
+use Rattle.pt_sensors.specs.Asked.{Reading}
 use Rattle.pt_run.specs.declared.words.Command.TheVariants.{Check, Meaning}
 use Rattle.pt_run.specs.Causes.{CauseOf, Writing}
 use Rattle.pt_run.specs.Written.{Writes, nothing}

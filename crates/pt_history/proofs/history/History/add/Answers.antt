@@ -1,8 +1,7 @@
 use Rattle.std.proofs.Common.{◌∷◌, [], ◌++◌, ap, ◌∙◌}
-use Rattle.pt_history.specs.Keeping.{turns_from}
+use Rattle.pt_history.specs.Keeping.{turns_from, Lists}
 use Rattle.pt_history.specs.Turns.{RoomyTurns, quiet}
 use Rattle.pt_history.specs.Whole.{lists_of}
-use Rattle.pt_history.specs.Keeping.{Lists}
 use Rattle.pt_history.proofs.Growing.{turns_begin}
 use Rattle.pt_history.proofs.history.History.add.Goals as goal
 

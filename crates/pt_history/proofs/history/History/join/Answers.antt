@@ -1,8 +1,7 @@
-use Rattle.std.proofs.Common.{◌≡◌, ◌+◌, ◌-◌, ◌∷◌, [], ◌++◌, suc, set, take, length, ap, ap₂, subst, sym, ◌∙◌, arith}
+use Rattle.std.proofs.Common.{◌≡◌, ◌+◌, ◌-◌, ◌∷◌, [], ◌++◌, suc, set, take, length, ap, ap₂, subst, sym, ◌∙◌, arith, ℕ}
 use Rattle.pt_history.specs.Keeping.{IsQuietAt, turns_from}
 use Rattle.pt_history.specs.Turns.{RoomyTurns, quiet}
 use Rattle.pt_history.specs.Whole.{lists_of}
-use Rattle.std.proofs.Common.{ℕ}
 use Rattle.pt_history.proofs.Reading.{length-turns}
 use Rattle.pt_history.proofs.Joining.{turns_join}
 use Rattle.pt_history.proofs.history.History.join.Goals as goal

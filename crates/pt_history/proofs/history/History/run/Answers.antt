@@ -1,9 +1,8 @@
-use Rattle.std.proofs.Common.{◌≡◌, ◌-◌, length, ap, subst, sym, ◌∙◌, arith}
+use Rattle.std.proofs.Common.{◌≡◌, ◌-◌, length, ap, subst, sym, ◌∙◌, arith, ℕ}
 use Rattle.pt_semantics.specs.Kept.{settled}
 use Rattle.pt_history.specs.Keeping.{Joins}
 use Rattle.pt_history.specs.Turns.{RoomyTurns}
 use Rattle.pt_history.specs.Whole.{lists_of}
-use Rattle.std.proofs.Common.{ℕ}
 use Rattle.std.specs.Prelude.{MatchOption}
 use Rattle.pt_history.proofs.Reading.{length-turns}
 use Rattle.pt_history.proofs.Joining.{settled_short}

@@ -1,8 +1,7 @@
 use Rattle.std.proofs.Common.{length, ap, ◌∙◌}
-use Rattle.pt_history.specs.Turns.{RoomyTurns}
+use Rattle.pt_history.specs.Turns.{RoomyTurns, taking}
 use Rattle.pt_history.specs.Whole.{lists_of}
-use Rattle.pt_pieces.specs.Lists.{on_last}
-use Rattle.pt_history.specs.Turns.{taking}
+use Rattle.pt_history.specs.Lists.{on_last}
 use Rattle.pt_history.proofs.Growing.{fits_extend, taken_last}
 use Rattle.pt_history.proofs.Quietness.{taken_told}
 use Rattle.pt_history.proofs.history.History.take.Goals as goal

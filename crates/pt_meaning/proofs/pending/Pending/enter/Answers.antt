@@ -6,15 +6,15 @@ use Rattle.pt_meaning.specs.Front.{Replaces}
 use Rattle.pt_meaning.proofs.Places.{enters_new, enters_again}
 use Rattle.pt_meaning.proofs.pending.Pending.enter.Goals as goal
 
-pub returns-in-Ok-None : goal.returns-in-Ok-None
-returns-in-Ok-None c =
+pub returns-in-None : goal.returns-in-None
+returns-in-None c =
     let absent : tree.get place_cmp c.args.self.now.events c.args.place ≡ None = search rules in
     let puts : Replaces c.args.place c.args.value c.args.self.now.events c.insert.new.self = search rules in
     enters_new c.args.place c.args.value c.args.self.now.events c.insert.new.self absent puts
 
-pub returns-in-Ok-Some : goal.returns-in-Ok-Some
-returns-in-Ok-Some c =
-    let was : tree.get place_cmp c.args.self.now.events c.args.place ≡ Some c.in-Ok-Some.first = search rules in
+pub returns-in-Some : goal.returns-in-Some
+returns-in-Some c =
+    let was : tree.get place_cmp c.args.self.now.events c.args.place ≡ Some c.in-Some.first = search rules in
     let puts : Replaces c.args.place c.args.value c.args.self.now.events c.insert.new.self = search rules in
-    let back : OnOk c.put_back.result (Replaces c.args.place c.in-Ok-Some.first c.insert.new.self c.put_back.new.self.events) = search rules in
-    IfOk-weaker c.put_back.result _ _ (λ u h. enters_again c.args.place c.args.value c.in-Ok-Some.first c.args.self.now.events c.insert.new.self c.put_back.new.self.events was puts h) back
+    let back : OnOk c.put_back.result (Replaces c.args.place c.in-Some.first c.insert.new.self c.put_back.new.self.events) = search rules in
+    IfOk-weaker c.put_back.result _ _ (λ u h. enters_again c.args.place c.args.value c.in-Some.first c.args.self.now.events c.insert.new.self c.put_back.new.self.events was puts h) back

@@ -1,6 +1,6 @@
 use Rattle.std.proofs.Common.{◌≡◌, true, false, ◌↔◌, ap, ◌∙◌, subst, sym}
 use Rattle.std.specs.List.{list_any}
-use Rattle.pt_delays.specs.Delays.{least_of}
+use Rattle.pt_causality.specs.Delays.{least_of}
 use Rattle.pt_queue.specs.Groups.{AreGroups}
 use Rattle.pt_queue.specs.Events.{IsBlocked, IsClear, Queued, waiting_in}
 use Rattle.pt_queue.specs.Lines.{all_of, settled}

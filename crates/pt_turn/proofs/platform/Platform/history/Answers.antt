@@ -1,5 +1,5 @@
 use Rattle.std.proofs.Common.{subst}
-use Rattle.pt_lawful.proofs.Edges.{wired}
+use Rattle.pt_semantics.proofs.LawfulEdges.{wired}
 use Rattle.pt_semantics.specs.History.{IsLegal}
 use Rattle.pt_turn.specs.Platforms.{PlatformView, level_at, rows_at, state_at, view_of}
 use Rattle.pt_turn.proofs.Turns.{ran_is_legal}

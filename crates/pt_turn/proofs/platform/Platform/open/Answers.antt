@@ -4,17 +4,14 @@ use Rattle.pt_semantics.specs.Paced.{IsClosing}
 use Rattle.pt_semantics.specs.Platform.{opened}
 use Rattle.pt_semantics.specs.Rows.{FitRows}
 use Rattle.pt_semantics.specs.Turn.{Turn}
-use Rattle.pt_ranks.specs.Ranked.{level_of}
+use Rattle.pt_causality.specs.Ranked.{level_of}
 use Rattle.pt_offsets.specs.Plans.{IsAdmitted, Parts}
-use Rattle.pt_types.specs.declared.graph.Graph.{Graph}
-use Rattle.pt_lawful.proofs.Edges.{wired}
-use Rattle.pt_semantics.specs.Wired.{IsWired}
-use Rattle.pt_post.specs.Branches.{AreBranches}
-use Rattle.pt_enter.specs.Sensors.{AreSensors}
+use Rattle.pt_state.specs.Sensors.{AreSensors}
 use Rattle.pt_state.specs.State.{rows_of, state_of, IsSound}
 use Rattle.pt_turn.specs.Platforms.{messages_of}
 use Rattle.pt_turn.specs.Running.{Ran}
 use Rattle.pt_turn.proofs.platform.Platform.open.Goals as goal
+use Rattle.pt_types.specs.Limits.{most_claims}
 
 pub invariant_of-result : goal.invariant_of-result
 invariant_of-result c =
@@ -30,7 +27,7 @@ invariant_of-result c =
       sensors = subst (λ (z : Parts). AreSensors z.graph f.sensors.items) plan e.sensors;
       fit = subst (λ (z : Parts). FitRows z.graph (rows_of f.sensors.items)) plan e.fit;
       closing = subst (λ (z : Parts). IsClosing z.graph c.args.platform c.closing_reading-closing.result) c.deref-2.ensures c.closing_reading-closing.ensures;
-      claims = subst (λ n. n ≤ 200000) (sym e.claims) (omega arith);
+      claims = subst (λ n. n ≤ most_claims) (sym e.claims) (omega arith);
       ran = subst (λ (ts : List Turn). Ran (arc_value c.args.plan).graph (level_of (arc_value c.args.plan).ranks) c.args.platform (rows_of f.sensors.items) ts (state_of f (messages_of ts)) None) (sym turns) (record {
         all = [];
         single = tt;
@@ -41,11 +38,5 @@ invariant_of-result c =
       empty = record { posted = c.new-2.ensures.items; rows = c.new-3.ensures.items; taken = c.new-4.ensures.items; claimed = c.new-5.ensures.items };
       sent = omega (arith, none);
       room = tt;
-      branches = subst (λ (g : Graph). AreBranches g c.in_ok-branches.branches) (c.graph.ensures.value ∙ ap (λ (z : Parts). z.graph) c.deref-3.ensures) c.in_ok-branches.ensures;
       next = tt;
     }
-
-pub find_branches-requires : goal.find_branches-requires
-find_branches-requires c =
-    let admitted : IsAdmitted (arc_value c.args.plan) = subst IsAdmitted c.deref.ensures c.in_ok-fields.ensures.admitted in
-    record { wired = subst IsWired (sym (c.graph.ensures.value ∙ ap (λ (z : Parts). z.graph) c.deref-3.ensures)) (wired (arc_value c.args.plan).graph admitted.lawful) }

@@ -1,4 +1,4 @@
-use Rattle.std.proofs.Common.{◌≡◌, ◌≤◌, ℕ, [], List, Option, Some, None, max, sym, ap, subst, ◌∙◌, eqb-true, vec_len, arith}
+use Rattle.std.proofs.Common.{◌≡◌, ◌≤◌, ℕ, [], List, Option, Some, None, sym, ap, subst, ◌∙◌, eqb-true, vec_len, arith}
 use Rattle.pt_semantics.specs.Kept.{kept_with}
 use Rattle.pt_semantics.specs.Paced.{IsNextReading}
 use Rattle.pt_semantics.specs.Turn.{Turn}

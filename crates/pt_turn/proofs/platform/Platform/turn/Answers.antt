@@ -1,10 +1,9 @@
 use Rattle.std.proofs.Common.{◌≡◌, ◌≤◌, ◌++◌, None, length, sym, subst}
 use Rattle.std.specs.Prelude.{MatchOption}
 use Rattle.std.specs.Arc.{arc_value}
-use Rattle.pt_ranks.specs.Ranked.{level_of}
+use Rattle.pt_causality.specs.Ranked.{level_of}
 use Rattle.pt_offsets.specs.Plans.{Parts}
 use Rattle.pt_post.specs.Posted.{AreDone}
-use Rattle.pt_post.specs.Branches.{AreBranches}
 use Rattle.pt_turn.specs.declared.room.Room.{Room}
 use Rattle.pt_turn.specs.declared.platform.Platform.TheInside.{Inside}
 use Rattle.pt_turn.specs.Making.{CanKeep, IsReady}
@@ -21,9 +20,9 @@ make-self-inside-requires c =
     (subst (λ (v : PlatformView). MatchOption v.room ⊥ (IsEnough c.args.reading (length c.args.done.now) (length c.args.taken.now) c.args.most)) (sym c.self.view_is) c.requires.room) in
     let done : AreDone (graph_of p) c.args.done.now = subst (λ (v : PlatformView). AreDone v.plan.graph c.args.done.now) (sym c.self.view_is) c.requires.done in
     let may : MayCome (graph_of p) (level_of (arc_value p.plan).ranks) p.number (state_at (view_of p)) c.args.taken.now = subst (λ (v : PlatformView). MayCome v.plan.graph (level_at v) v.number (state_at v) c.args.taken.now) (sym c.self.view_is) c.requires.taken in
-    subst (λ (plan : Parts). IsReady plan (record { level = level_of plan.ranks; platform = p.number; taken = messages_of p.history.turns }) p.number p.closing c.raised_to-reading.result c.args.most c.args.done.now c.args.taken.now p.fields p.lists × (CanKeep plan c.raised_to-reading.result (length c.args.done.now) (length c.args.taken.now) c.args.most p.fields p.history.room × ((c.args.most ≤ c.args.tasks.now.spare) × AreBranches plan.graph p.branches))) (sym c.deref.ensures)
-    (subst (λ r. IsReady (arc_value p.plan) (basis_of p) p.number p.closing r c.args.most c.args.done.now c.args.taken.now p.fields p.lists × (CanKeep (arc_value p.plan) r (length c.args.done.now) (length c.args.taken.now) c.args.most p.fields p.history.room × ((c.args.most ≤ c.args.tasks.now.spare) × AreBranches (graph_of p) p.branches))) (sym c.raised_to-reading.ensures)
-    (is_ready p room.0 c.args.reading c.args.most c.args.done.now c.args.taken.now c.self.invariant c.in_default.is room.1 room.2 c.requires.most done may, (can_keep p room.0 c.args.reading c.args.most (length c.args.done.now) (length c.args.taken.now) room.1 room.2, (c.requires.tasks, c.self.invariant.branches))))
+    subst (λ (plan : Parts). IsReady plan (record { level = level_of plan.ranks; platform = p.number; taken = messages_of p.history.turns }) p.number p.closing c.raised_to-reading.result c.args.most c.args.done.now c.args.taken.now p.fields p.lists × (CanKeep plan c.raised_to-reading.result (length c.args.done.now) (length c.args.taken.now) c.args.most p.fields p.history.room × (c.args.most ≤ c.args.tasks.now.spare))) (sym c.deref.ensures)
+    (subst (λ r. IsReady (arc_value p.plan) (basis_of p) p.number p.closing r c.args.most c.args.done.now c.args.taken.now p.fields p.lists × (CanKeep (arc_value p.plan) r (length c.args.done.now) (length c.args.taken.now) c.args.most p.fields p.history.room × (c.args.most ≤ c.args.tasks.now.spare))) (sym c.raised_to-reading.ensures)
+    (is_ready p room.0 c.args.reading c.args.most c.args.done.now c.args.taken.now c.self.invariant c.in_default.is room.1 room.2 c.requires.most done may, (can_keep p room.0 c.args.reading c.args.most (length c.args.done.now) (length c.args.taken.now) room.1 room.2, c.requires.tasks)))
 
 pub invariant_of-self : goal.invariant_of-self
 invariant_of-self c =

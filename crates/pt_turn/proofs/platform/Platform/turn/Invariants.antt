@@ -1,4 +1,4 @@
-use Rattle.pt_ranks.specs.Ranked.{level_of}
+use Rattle.pt_causality.specs.Ranked.{level_of}
 use Rattle.pt_turn.specs.Platforms.{messages_of}
 use Rattle.pt_turn.proofs.platform.Platform.turn.Given as goal
 

@@ -1,0 +1,103 @@
+//! Tables of cases, one program for all of them: the first word of each line of its input says which.
+//!
+//! `graph JSON` writes `ok` or the first fault of a graph, `delays JSON` its least delays, `queue JSON` what a queue of its
+//! events answers, `margins JSON` its margins, and `readings JSON` the readings of its platforms. `command LINE` is a line
+//! of a script of commands over files in memory, and `platform LINE` one of a script that drives platforms turn by turn.
+//! `measure N` measures the reader of rows and the firing of kinds. A line that begins with `#` is a heading, which is
+//! written as it is.
+//!
+//! `stdin` has the tables and `stdout` what each line must give. That was worked out by hand, but for random graphs, of
+//! which only `agree` says something.
+#![tactic(auto)]
+
+mod commands;
+mod delays;
+mod files;
+mod graphs;
+mod margins;
+mod measure;
+mod plans;
+mod platforms;
+mod queue;
+mod readings;
+
+use commands::CommandScript;
+use platforms::PlatformScript;
+use pt_blocks::Blocks;
+use std::io;
+
+/// What a line is for.
+enum Word {
+    Heading,
+    Graph,
+    Delays,
+    Queue,
+    Margins,
+    Readings,
+    Command,
+    Platform,
+    Measure,
+}
+
+impl Word {
+    /// What the first word of a line says; none where it is no word of this program.
+    fn from_name(name: &str) -> Option<Word> {
+        let word = match name {
+            "graph" => Word::Graph,
+            "delays" => Word::Delays,
+            "queue" => Word::Queue,
+            "margins" => Word::Margins,
+            "readings" => Word::Readings,
+            "command" => Word::Command,
+            "platform" => Word::Platform,
+            "measure" => Word::Measure,
+            _ if name.starts_with('#') => Word::Heading,
+            _ => return None,
+        };
+        Some(word)
+    }
+}
+
+/// What the tables share, and both scripts as far as they went.
+#[derive(Drop)]
+struct Tables {
+    blocks: Blocks,
+    commands: CommandScript,
+    platforms: PlatformScript,
+}
+
+fn main(rt: HostRuntime) -> io::Result<()> {
+    let alloc = rt.alloc();
+    let mut tables = Tables {
+        blocks: Blocks::new(alloc),
+        commands: CommandScript::new(alloc)?,
+        platforms: PlatformScript::new(alloc),
+    };
+    for line in rt.lines(alloc) {
+        let line = line?;
+        let text = answer(&rt, &mut tables, line.as_str())?;
+        print!(rt; "{text}")?;
+    }
+    Ok(())
+}
+
+/// The text that a line gives.
+fn answer(rt: &HostRuntime, tables: &mut Tables, line: &str) -> io::Result<String> {
+    let alloc = rt.alloc();
+    let (name, rest) = line.split_once(' ').unwrap_or((line, ""));
+    let Some(word) = Word::from_name(name) else {
+        return Ok(format!(in alloc; "no such word: {line}\n")?);
+    };
+    let text = match word {
+        Word::Heading => format!(in alloc; "{line}\n")?,
+        Word::Graph => graphs::verdict(alloc, rest, &tables.blocks)?,
+        Word::Delays => delays::table(alloc, rest, &tables.blocks)?,
+        Word::Queue => queue::answers(alloc, rest, &tables.blocks)?,
+        Word::Margins => margins::verdict(alloc, rest, &tables.blocks)?,
+        Word::Readings => readings::readings(alloc, rest, &tables.blocks)?,
+        Word::Command => tables.commands.follow(alloc, rest)?,
+        Word::Platform => tables.platforms.follow(alloc, rest, &tables.blocks)?,
+        Word::Measure => measure::measured(rt, rest.parse().unwrap_or(0))?,
+    };
+    Ok(text)
+}

@@ -1,0 +1,139 @@
+//! What a turn did, as text.
+
+use crate::platforms::game::{Game, Played};
+use pt_actors::Task;
+use pt_history::History;
+use pt_tags::{Message, Tag};
+use pt_turn::{Platform, TurnFault};
+use pt_types::{Graph, OnLink};
+use std::alloc::{AllocError, Global};
+
+/// Appends a tag.
+fn push_tag(text: &mut String, tag: Tag) -> Result<(), AllocError> {
+    let Tag { time, step } = tag;
+    write!(text, "{time}.{step}")
+}
+
+/// Appends a message at one end of a link.
+fn push_message(
+    text: &mut String,
+    word: &str,
+    name: &str,
+    message: Message,
+) -> Result<(), AllocError> {
+    write!(text, " {word} {name} ")?;
+    match message {
+        Message::Event { tag, value } => {
+            push_tag(text, tag)?;
+            write!(text, "={value}")
+        }
+        Message::End => text.push_str("end"),
+    }
+}
+
+/// Appends a claim.
+pub fn push_task(text: &mut String, graph: &Graph, task: &Task) -> Result<(), AllocError> {
+    let number = task.number;
+    write!(text, " claim {number} ")?;
+    text.push_str(graph.actor_name(task.actor))?;
+    text.push_str("@")?;
+    push_tag(text, task.tag)
+}
+
+/// Appends what was posted, entered and taken in a kept turn.
+fn push_kept(
+    text: &mut String,
+    graph: &Graph,
+    history: &History,
+    number: usize,
+) -> Result<(), AllocError> {
+    if number >= history.turns() {
+        return Ok(());
+    }
+    for done in history.posted(number) {
+        let number = done.task.number;
+        write!(text, " post {number}")?;
+    }
+    for at in history.rows(number) {
+        let (sensor, time) = (graph.actor_name(at.sensor), at.row.time);
+        write!(text, " enter {sensor} {time}")?;
+    }
+    for taken in history.taken(number) {
+        push_message(text, "take", end_of(graph, taken, false), taken.message)?;
+    }
+    for task in history.claimed(number) {
+        push_task(text, graph, task)?;
+    }
+    for sent in history.sent(number) {
+        push_message(text, "send", end_of(graph, sent, true), sent.message)?;
+    }
+    Ok(())
+}
+
+/// The name of the actor at an end of a message's link: that from which it leads, or that to which.
+fn end_of<'a>(graph: &'a Graph, message: &OnLink, from: bool) -> &'a str {
+    match graph.links.as_slice().get(message.link as usize) {
+        Some(link) => graph.actor_name(if from { link.from } else { link.to }),
+        None => "nobody",
+    }
+}
+
+/// Appends why no turn may follow.
+fn push_fault(text: &mut String, graph: &Graph, fault: TurnFault) -> Result<(), AllocError> {
+    match fault {
+        TurnFault::Long => text.push_str(", long"),
+        TurnFault::Late {
+            actor,
+            tag,
+            reading,
+            limit,
+        } => {
+            text.push_str(", late ")?;
+            text.push_str(graph.actor_name(actor))?;
+            text.push_str("@")?;
+            push_tag(text, tag)?;
+            write!(text, " reading {reading} limit {limit}")
+        }
+    }
+}
+
+/// Appends the state of a platform.
+fn push_state(text: &mut String, graph: &Graph, platform: &Platform) -> Result<(), AllocError> {
+    if let Some(fault) = platform.fault() {
+        push_fault(text, graph, fault)?;
+    }
+    let (turns, open) = (platform.history().turns(), platform.open_claims());
+    write!(text, ", turns {turns}, open {open}")?;
+    match platform.next_reading() {
+        Some(next) => write!(text, ", next {next}")?,
+        None => text.push_str(", closed")?,
+    }
+    if platform.finished() {
+        text.push_str(", finished")?;
+    }
+    text.push_str("\n")
+}
+
+/// What a turn of a platform did, and the state of the platform after it.
+pub fn turn_report(
+    alloc: Global,
+    game: &Game,
+    number: u32,
+    played: &Option<Played>,
+) -> Result<String, AllocError> {
+    let mut text = String::new(alloc);
+    let graph = game.plan.graph();
+    let Some(platform) = game.platforms.as_slice().get(number as usize) else {
+        text.push_str("no such platform\n")?;
+        return Ok(text);
+    };
+    if played.is_none() {
+        text.push_str("refused\n")?;
+        return Ok(text);
+    }
+    text.push_str("-")?;
+    let history = platform.history();
+    push_kept(&mut text, graph, history, history.turns().saturating_sub(1))?;
+    push_state(&mut text, graph, platform)?;
+    Ok(text)
+}

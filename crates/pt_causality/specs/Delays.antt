@@ -1,0 +1,32 @@
+-- The least delays between the units of a graph.
+pub use Rattle.pt_causality.specs.Units.{IsUnit}
+use Rattle.std.specs.Prelude.{◌<◌, ◌^◌, IfSome, IsSome, List, None, Option, Some}
+use Rattle.std.specs.List.{Contains}
+use Rattle.pt_tags.specs.declared.tag.Delay.{Delay}
+use Rattle.pt_types.specs.declared.graph.Graph.{Graph}
+use Rattle.pt_types.specs.declared.graph.Unit.{Unit as Part}
+use Rattle.pt_semantics.specs.Edges.{Edge}
+use Rattle.pt_semantics.specs.Paths.{Goes, IsLeast}
+use Rattle.pt_causality.specs.declared.least.Least.{Least}
+use Rattle.pt_causality.specs.Cells.{number_in, delay_at, row_at}
+
+-- the least delay from x to a; none exactly if no path leads from x to a
+abbrev pub HasLeast : Graph → Part → Part → Option Delay → Type 0
+HasLeast g x a None = (path : List Edge) → Goes g x path a → ⊥
+HasLeast g x a (Some d) = IsLeast g x a d
+
+-- these are the least delays between all units of a graph
+abbrev pub AreLeast : Graph → (Part → Part → Option Delay) → Type 0
+AreLeast g least = (x a : Part) → IsUnit g x → IsUnit g a → HasLeast g x a (least x a)
+
+-- each delay is small enough to add bounds and times to it
+abbrev pub AreSmall : (Part → Part → Option Delay) → Type 0
+AreSmall least = (x a : Part) → IfSome (least x a) (λ (d : Delay). (d.time < 2 ^ 62) × (d.step < 2 ^ 62))
+
+-- the delays in a table of least delays
+abbrev pub least_of : Least → Part → Part → Option Delay
+least_of l x a = delay_at (row_at l.rows.items (number_in l.numbers.firsts.items x)) (number_in l.numbers.firsts.items a)
+
+-- each unit from which a path leads to a is in the list
+abbrev pub HasAllBefore : Least → Part → List Part → Type 0
+HasAllBefore l a units = (x : Part) → IsSome (least_of l x a) → Contains units x

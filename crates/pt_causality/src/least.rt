@@ -1,0 +1,81 @@
+//! The table of least delays.
+
+ghost use Rattle.std.specs.Prelude.{◌≡◌, ◌≤◌, IfOk, IfSome, length};
+ghost use Rattle.pt_types.specs.Lawful.{IsLawful};
+ghost use Rattle.pt_causality.specs.Before.{AreListed};
+
+use crate::arcs::arcs_by_unit;
+use crate::before::{Before, all_before};
+use crate::row::Row;
+use crate::table::all_rows;
+use crate::units::Numbers;
+use crate::wire_edges;
+use pt_tags::Delay;
+use pt_types::{Graph, Unit};
+use std::alloc::{AllocError, Global};
+
+/// The least delay from each unit to each other, over all paths of wires. (The rule is this project's own choice.)
+#[derive(Drop)]
+pub struct Least {
+    numbers: Numbers,
+    /// One row for each unit, one delay for each unit, by their numbers.
+    rows: Vec<Row>,
+    /// By the number of the unit to which the paths lead; empty if there are no lists.
+    before: Vec<Before>,
+    ghost listed: { AreListed numbers.firsts.items rows.items before.items },
+    ghost few: { (length numbers.firsts.items ≤ 2048) × (length rows.items ≤ 2048) },
+}
+
+impl Least {
+    ghost use Rattle.pt_causality.specs.Delays.{least_of, AreLeast, AreSmall, HasAllBefore};
+
+    /// Computes all least delays of a graph.
+    pub(crate) fn new(alloc: Global, graph: &Graph) -> Result<Least, AllocError>
+        requires lawful { IsLawful graph.now }
+        ensures least { IfOk result (λ least. AreLeast graph.now (least_of least)) }
+        ensures small { IfOk result (λ least. AreSmall (least_of least)) }
+    {
+        let numbers = Numbers::new(alloc, graph)?;
+        let wires = wire_edges(alloc, graph)?;
+        let arcs = arcs_by_unit(alloc, graph, &numbers, wires.as_slice())?;
+        let rows = all_rows(alloc, arcs.as_slice())?;
+        Ok(Least {
+            numbers,
+            rows,
+            before: Vec::new(alloc),
+        })
+    }
+
+    /// The same delays, with lists of the units from which a path leads to each unit, as far as memory suffices.
+    pub fn with_before(self, alloc: Global) -> Least
+        ensures { least_of result ≡ least_of self }
+    {
+        let Least {
+            numbers,
+            rows,
+            before,
+        } = self;
+        let before = all_before(alloc, &numbers, rows.as_slice()).unwrap_or(before);
+        Least {
+            numbers,
+            rows,
+            before,
+        }
+    }
+
+    /// The least delay of all paths from `x` to `a`; `None` if no path leads from `x` to `a`.
+    pub fn get(&self, x: Unit, a: Unit) -> Option<Delay>
+        ensures { result ≡ least_of self.now x a }
+    {
+        let row = self.rows.get(self.numbers.of(x))?;
+        row.get(self.numbers.of(a))
+    }
+
+    /// The units from which a path leads to `a`, perhaps with others. `None` if they are not known: there are no lists, the
+    /// units are more than 256, or memory ran out for the list.
+    pub fn before(&self, a: Unit) -> Option<&[Unit]>
+        ensures { IfSome result (λ units. HasAllBefore self.now a units.now) }
+    {
+        self.before.get(self.numbers.of(a))?.units()
+    }
+}

@@ -1,0 +1,51 @@
+//! The paced readings of units.
+
+ghost use Rattle.std.specs.Prelude.{◌≡◌, Some, min};
+ghost use Rattle.pt_semantics.specs.Paced.{paced_by};
+ghost use Rattle.pt_queue.specs.Events.{waiting_in, IsLeastTag};
+ghost use Rattle.pt_state.specs.State.{busy_in, IsSound};
+ghost use Rattle.pt_claim.specs.Least.{AtOrIn, IsLeastOf};
+ghost use Rattle.pt_claim.specs.Next.{IsPacedNext, IsPacedOfSome};
+
+use pt_offsets::Plan;
+use pt_queue::Waiting;
+use pt_state::Fields;
+use pt_tags::Tag;
+
+/// The lesser of `so_far` and the paced reading of a tag at a unit with this offset: time + offset + 1, but at least 0, and 0
+/// without an offset. All are microseconds.
+fn sooner_paced(offset: Option<i64>, tag: Tag, so_far: u64) -> u64
+    ensures { result ≡ min so_far (paced_by offset tag) }
+{
+    match offset {
+        None => 0,
+        Some(offset) => {
+            let paced = tag.time as i128 + offset as i128 + 1;
+            paced.clamp(0, so_far as i128) as u64
+        }
+    }
+}
+
+/// The lesser of `so_far` and the paced reading of a unit at its least tag, if the unit has no open claim.
+fn sooner_of_unit(fields: &Fields, plan: &Plan, waiting: Waiting, so_far: u64) -> u64
+    requires sound { IsSound plan.now.graph fields.now }
+    requires tag { IsLeastTag plan.now.graph (waiting_in fields.now.queue.events) waiting.unit (Some waiting.tag) }
+    ensures { IsLeastOf (AtOrIn so_far (IsPacedNext plan.now.graph (waiting_in fields.now.queue.events) (busy_in fields.now.open_claims.items) waiting.unit)) result }
+{
+    if fields.open_claims.has(waiting.unit) {
+        return so_far;
+    }
+    sooner_paced(plan.offsets().of_unit(waiting.unit), waiting.tag, so_far)
+}
+
+/// The least of `so_far` and the paced readings of all units that have events and no open claim.
+pub fn paced_next(fields: &Fields, plan: &Plan, so_far: u64) -> u64
+    requires sound { IsSound plan.now.graph fields.now }
+    ensures { IsLeastOf (AtOrIn so_far (IsPacedOfSome plan.now.graph (waiting_in fields.now.queue.events) (busy_in fields.now.open_claims.items))) result }
+{
+    let mut least = so_far;
+    for waiting in fields.queue.waiting() {
+        least = sooner_of_unit(fields, plan, *waiting, least);
+    }
+    least
+}

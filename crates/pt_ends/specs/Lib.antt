@@ -1,4 +1,0 @@
-pub mod Ending
-pub mod Existence
-pub mod Schedule
-pub mod WholeRuns

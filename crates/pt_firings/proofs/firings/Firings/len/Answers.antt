@@ -1,9 +1,0 @@
-use Rattle.std.proofs.Common.{◌≡◌, ◌∙◌, sym, ap, length, rules}
-use Rattle.pt_firings.proofs.Lists.{length_firings}
-use Rattle.pt_firings.proofs.firings.Firings.len.Goals as goal
-
-pub returns : goal.returns
-returns c =
-    let f = c.self.inside in
-    let counted : c.len.result ≡ length c.self.inside.marks.items = search rules in
-    counted ∙ sym (length_firings f.tags.items f.places.items f.values.items 0 f.marks.items) ∙ ap length c.self.view_is

@@ -1,0 +1,30 @@
+use Rattle.std.proofs.Common.{◌≡◌, List, ◌++◌, ◌+◌, ◌-◌, ◌<◌, length, length-append, set, ap, ap₂, sym, subst, ◌∙◌, eqb-true, arith}
+use Rattle.pt_history.specs.Lists.{RoomyLists, pieces, Rises, on_last}
+use Rattle.pt_history.proofs.Cutting.{pieces_extend, rises_extend, length-pieces}
+use Rattle.pt_history.proofs.LastMember.{on_last-nothing}
+use Rattle.pt_history.proofs.pieces.Pieces.extend.Goals as goal
+
+pub invariant_of-self : goal.invariant_of-self
+invariant_of-self g c =
+    let n : c.len.result ≡ length c.self.inside.items.items + length c.args.more.now = c.len.ensures ∙ c.extend_from_slice.new.self.ok.0 ∙ ap length c.in-Ok.ensures.items ∙ length-append c.self.inside.items.items c.args.more.now in
+    let all : length c.extend_from_slice.new.self.items ≡ length c.self.inside.items.items + length c.args.more.now = ap length c.in-Ok.ensures.items ∙ length-append c.self.inside.items.items c.args.more.now in
+    let some : 0 < length c.self.inside.ends.items = subst (λ k. 0 < k) (ap (λ (v : RoomyLists g.row.T.Denot). length v.lists) (sym c.self.view_is) ∙ length-pieces 0 c.self.inside.ends.items c.self.inside.items.items) c.requires.begun in
+    let k : (c.len-last.result - 1) + 1 ≡ length c.self.inside.ends.items = omega (arith, c.len-last.ensures, c.self.inside.ends.ok, some) in (
+      subst (Rises 0 (set c.self.inside.ends.items (c.len-last.result - 1) c.len.result)) (sym (ap length c.in-Ok.ensures.items ∙ length-append c.self.inside.items.items c.args.more.now))
+          (subst (λ m. Rises 0 (set c.self.inside.ends.items (c.len-last.result - 1) m) (length c.self.inside.items.items + length c.args.more.now)) (sym n) (rises_extend 0 c.self.inside.ends.items (length c.self.inside.items.items) (length c.args.more.now) (c.len-last.result - 1) k c.self.invariant.0)),
+      omega (arith, c.in-Ok.ensures.len, c.extend_from_slice.ensures.capacity, c.self.invariant.1, c.requires.spare),
+      c.self.invariant.2,
+      omega (arith, all, ap (λ (v : RoomyLists g.row.T.Denot). v.spare_items) c.self.view_is, c.self.invariant.3, c.requires.spare),
+    )
+
+pub returns-clause-lists : goal.returns-clause-lists
+returns-clause-lists g c =
+    let n : c.len.result ≡ length c.self.inside.items.items + length c.args.more.now = c.len.ensures ∙ c.extend_from_slice.new.self.ok.0 ∙ ap length c.in-Ok.ensures.items ∙ length-append c.self.inside.items.items c.args.more.now in
+    let some : 0 < length c.self.inside.ends.items = subst (λ k. 0 < k) (ap (λ (v : RoomyLists g.row.T.Denot). length v.lists) (sym c.self.view_is) ∙ length-pieces 0 c.self.inside.ends.items c.self.inside.items.items) c.requires.begun in
+    let k : (c.len-last.result - 1) + 1 ≡ length c.self.inside.ends.items = omega (arith, c.len-last.ensures, c.self.inside.ends.ok, some) in
+    ap₂ (λ m xs. pieces 0 (set c.self.inside.ends.items (c.len-last.result - 1) m) xs) n c.in-Ok.ensures.items
+    ∙ pieces_extend 0 c.self.inside.ends.items c.self.inside.items.items c.args.more.now (c.len-last.result - 1) k c.self.invariant.0
+    ∙ ap (λ (v : RoomyLists g.row.T.Denot). on_last (λ (l : List g.row.T.Denot). l ++ c.args.more.now) v.lists) c.self.view_is
+
+pub returns-then-is_empty-clause-lists : goal.returns-then-is_empty-clause-lists
+returns-then-is_empty-clause-lists g c = sym (on_last-nothing c.args.more.now c.args.self.now.lists (eqb-true (length c.args.more.now) 0 (sym c.is_empty.ensures ∙ c.if-is_empty.true)))

@@ -1,0 +1,24 @@
+-- Lists of lists, and a list cut into pieces.
+use Rattle.std.specs.Prelude.{◌≡◌, ℕ, ◌≤◌, List, [], ◌∷◌, take, drop}
+
+-- lists, and the room left for more items and lists
+pub record RoomyLists (X : Type 0) : Type 0 where
+  pub lists : List (List X)
+  pub spare_items : ℕ
+  pub spare_lists : ℕ
+
+-- a list with its last item changed by f
+abbrev pub on_last : {X : Type 0} → (X → X) → List X → List X
+on_last f [] = []
+on_last f (x ∷ []) = f x ∷ []
+on_last f (x ∷ y ∷ rest) = x ∷ on_last f (y ∷ rest)
+
+-- the pieces of a list: the first begins at `from`, each stops before its end, and the next begins there
+abbrev pub pieces : {X : Type 0} → ℕ → List ℕ → List X → List (List X)
+pieces from [] xs = []
+pieces from (e ∷ ends) xs = drop from (take e xs) ∷ pieces e ends xs
+
+-- the ends start at or above `from` and never fall, and the last is n (without ends, `from` is n)
+abbrev pub Rises : ℕ → List ℕ → ℕ → Type 0
+Rises from [] n = from ≡ n
+Rises from (e ∷ ends) n = (from ≤ e) × Rises e ends n

@@ -1,0 +1,169 @@
+//! A list of lists, stored flat.
+
+ghost use Rattle.std.specs.Prelude.{◌≡◌, ◌+◌, ◌<◌, ◌≤◌, ◌++◌, ◌∷◌, [], IsOk, OnOk, OnErr, MatchResult, Some, length, max, slice_get, slice_index, slice_range, vec_len, vec_capacity};
+ghost use Rattle.std.specs.List.{flat_map};
+ghost use Rattle.pt_history.specs.Lists.{on_last};
+
+use pt_tags::Memory;
+use std::alloc::Global;
+use std::marker::Model;
+
+/// The number of items is less than this, so that 32 bits hold each end.
+const MOST_ITEMS: usize = 4_294_967_296;
+
+/// A list of lists, with room reserved for more items and lists. Contracts see `lists`, `spare_items` and `spare_lists`.
+///
+/// The lists `[1, 2]`, `[]` and `[3]` are stored as the items 1, 2, 3 and the ends 2, 2, 3.
+#[derive(Drop)]
+pub struct Pieces<T> {
+    items: Vec<T>,
+    /// The index in `items` at which each list ends.
+    ends: Vec<u32>,
+    spare_items: usize,
+    spare_lists: usize,
+}
+
+impl<T> Model for Pieces<T> {
+    ghost use Rattle.std.specs.Prelude.{◌+◌, ◌<◌, ◌≤◌, ◌^◌, length, vec_len, vec_capacity};
+    ghost use Rattle.pt_history.specs.Lists.{Rises, RoomyLists, pieces};
+
+    ghost Value = { RoomyLists T };
+
+    ghost view = { λ p. record { lists = pieces 0 p.ends.items p.items.items; spare_items = p.spare_items; spare_lists = p.spare_lists } };
+
+    ghost invariant = { λ p. Rises 0 p.ends.items (length p.items.items) × (vec_len p.items + p.spare_items ≤ vec_capacity p.items) × (vec_len p.ends + p.spare_lists ≤ vec_capacity p.ends) × (length p.items.items + p.spare_items < 2 ^ 32) };
+}
+
+impl<T: Drop> Pieces<T> {
+    /// No lists and no room.
+    pub fn new(alloc: Global) -> Pieces<T>
+        ensures lists { result.lists ≡ [] }
+        ensures spare { (result.spare_items ≡ 0) × (result.spare_lists ≡ 0) }
+    {
+        Pieces {
+            items: Vec::new(alloc),
+            ends: Vec::new(alloc),
+            spare_items: 0,
+            spare_lists: 0,
+        }
+    }
+
+    /// Reserves room for at least `items` more items and `lists` more lists. If memory runs out, or the number of items could
+    /// reach 2^32, it fails and nothing changes.
+    pub fn reserve(&mut self, items: usize, lists: usize) -> Result<(), Memory>
+        ensures lists { self.new.lists ≡ self.old.lists }
+        ensures items { OnOk result (self.new.spare_items ≡ max self.old.spare_items items) }
+        ensures room { OnOk result (self.new.spare_lists ≡ max self.old.spare_lists lists) }
+        ensures unchanged { OnErr result (self.new ≡ self.old) }
+        ensures there { items ≤ self.old.spare_items → lists ≤ self.old.spare_lists → IsOk result × (self.new ≡ self.old) }
+    {
+        if items >= MOST_ITEMS - self.items.len() {
+            return Err(Memory);
+        }
+        let spare_items = widened(&mut self.items, self.spare_items, items)?;
+        let spare_lists = widened(&mut self.ends, self.spare_lists, lists)?;
+        self.spare_items = spare_items;
+        self.spare_lists = spare_lists;
+        Ok(())
+    }
+
+    /// Begins an empty list at the end. Allocates nothing.
+    pub fn begin(&mut self)
+        requires { 0 < self.old.spare_lists }
+        ensures lists { self.new.lists ≡ self.old.lists ++ [] ∷ [] }
+        ensures items { self.new.spare_items ≡ self.old.spare_items }
+        ensures room { self.new.spare_lists + 1 ≡ self.old.spare_lists }
+    {
+        match self.ends.push(self.items.len() as u32) {
+            Ok(()) => self.spare_lists -= 1,
+            Err(_) => unreachable!(),
+        }
+    }
+
+    /// The number of lists.
+    pub fn len(&self) -> usize
+        ensures { result ≡ length self.now.lists }
+    {
+        self.ends.len()
+    }
+
+    /// The number of items in all lists together.
+    pub fn total(&self) -> usize
+        ensures { result ≡ length (flat_map (λ list. list) self.now.lists) }
+    {
+        self.items.len()
+    }
+
+    /// The items of all lists, in order.
+    pub fn all(&self) -> &[T]
+        ensures { result.now ≡ flat_map (λ list. list) self.now.lists }
+    {
+        self.items.as_slice()
+    }
+
+    /// List `number`, counted from 0.
+    pub fn get(&self, number: usize) -> &[T]
+        requires { number < length self.now.lists }
+        ensures { slice_get self.now.lists number ≡ Some result.now }
+    {
+        let end = self.ends[number] as usize;
+        let start = start_of(self.ends.as_slice(), number);
+        part(self.items.as_slice(), start, end)
+    }
+}
+
+impl<T: Copy> Pieces<T> {
+    /// Appends items to the last list. Allocates nothing.
+    pub fn extend(&mut self, more: &[T])
+        requires spare { length more.now ≤ self.old.spare_items }
+        requires begun { 0 < length self.old.lists }
+        ensures lists { self.new.lists ≡ on_last (λ list. list ++ more.now) self.old.lists }
+        ensures items { self.new.spare_items + length more.now ≡ self.old.spare_items }
+        ensures room { self.new.spare_lists ≡ self.old.spare_lists }
+    {
+        if more.is_empty() {
+            return;
+        }
+        match self.items.extend_from_slice(more) {
+            Ok(()) => self.spare_items -= more.len(),
+            Err(_) => unreachable!(),
+        }
+        let last = self.ends.len() - 1;
+        self.ends[last] = self.items.len() as u32;
+    }
+}
+
+/// The index at which a list begins: the end of the one before it, or 0.
+fn start_of(ends: &[u32], number: usize) -> usize
+    requires { number < length ends.now }
+    ensures { result ≡ slice_index (0 ∷ ends.now) number }
+{
+    if number == 0 {
+        0
+    } else {
+        ends[number - 1] as usize
+    }
+}
+
+/// The items from index `start` up to, not including, `end`.
+fn part<T>(items: &[T], start: usize, end: usize) -> &[T]
+    requires rises { start ≤ end }
+    requires within { end ≤ length items.now }
+    ensures { result.now ≡ slice_range items.now start end }
+{
+    &items[start..end]
+}
+
+/// Makes room for at least `wanted` more items, and returns for how many there is room then.
+fn widened<T>(items: &mut Vec<T>, spare: usize, wanted: usize) -> Result<usize, Memory>
+    requires { vec_len items.old + spare ≤ vec_capacity items.old }
+    ensures items { items.new.items ≡ items.old.items }
+    ensures room { MatchResult result (λ room. (room ≡ max spare wanted) × (vec_len items.new + room ≤ vec_capacity items.new)) (λ _. vec_len items.new + spare ≤ vec_capacity items.new) }
+    ensures there { wanted ≤ spare → IsOk result }
+{
+    if spare >= wanted {
+        return Ok(spare);
+    }
+    items.reserve(wanted)?;
+    Ok(wanted)
+}

@@ -1,8 +1,0 @@
--- What lawful graphs have.
-use Rattle.pt_types.specs.declared.graph.Graph.{Graph}
-use Rattle.pt_types.specs.Lawful.{IsLawful}
-use Rattle.pt_semantics.specs.Wired.{IsWired}
-
--- a lawful graph is wired as the theorems on meanings and histories ask
-abbrev pub LawfulGraphsAreWired : Type 0
-LawfulGraphsAreWired = (g : Graph) → IsLawful g → IsWired g

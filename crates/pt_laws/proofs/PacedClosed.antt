@@ -1,0 +1,112 @@
+-- The units and tags whose paced reading is at most c are closed.
+use Rattle.std.proofs.Common.{◌≡◌, ℕ, ◌+◌, ◌≤◌, List, [], ◌∷◌, ◌++◌, Option, Some, None, ℤ, pos, negsuc, ◌+ℤ◌, ◌-ℤ◌, ◌≤ℤ◌, slice_get, arith, refl, sym, subst, ⊎_elim, leb-true, le-leb}
+use Rattle.std.proofs.lemmas.Int.{ints}
+use Rattle.pt_tags.specs.declared.tag.Tag.{Tag}
+use Rattle.pt_types.specs.declared.graph.Graph.{Graph}
+use Rattle.pt_types.specs.declared.graph.Link.{Link}
+use Rattle.pt_types.specs.declared.graph.Unit.{Unit as Part}
+use Rattle.pt_tags.specs.Tags.{plus}
+use Rattle.pt_semantics.specs.Lists.{IsIn}
+use Rattle.pt_semantics.specs.Edges.{Edge, wires, links, of_link}
+use Rattle.pt_semantics.specs.Units.{source, target, at_output}
+use Rattle.pt_semantics.specs.Ranks.{sum_along}
+use Rattle.pt_semantics.specs.Paths.{Goes}
+use Rattle.pt_semantics.specs.Bounds.{Feeds, link_bound}
+use Rattle.pt_types.specs.Lookups.{slack_of}
+use Rattle.pt_semantics.specs.Offsets.{IsOffset, IsFeasible, HasOffset}
+use Rattle.pt_semantics.specs.Wired.{IsWired}
+use Rattle.pt_semantics.specs.Paced.{paced_by, at_least_zero}
+use Rattle.pt_laws.specs.PacedReadings.{PacedIsClosed}
+use Rattle.pt_semantics.proofs.Lookups.{IsIn-append}
+use Rattle.pt_semantics.proofs.Longest.{sum_time}
+use Rattle.pt_semantics.proofs.Floor.{bound_of_link, receiver_unit}
+use Rattle.pt_laws.proofs.Finish.{link_of}
+
+goes_push : (g : Graph) (x : Part) (path : List Edge) (e : Edge) → Goes g x path (source g e) → IsIn e (wires g) → Goes g x (path ++ e ∷ []) (target g e)
+goes_push g x [] e h m = (m, sym h, refl)
+goes_push g x (d ∷ path) e (md, src, rest) m = (md, src, goes_push g (target g d) path e rest m)
+
+pub zero_below : (z w : ℤ) → z ≤ℤ w → at_least_zero z ≤ at_least_zero w
+zero_below (pos m) (pos n) h = omega (arith, ints)
+zero_below (pos m) (negsuc n) h = absurd (omega (arith, ints))
+zero_below (negsuc m) w h = omega arith
+
+pub paced_earlier : (o : Option ℤ) (s t : Tag) → s.time ≤ t.time → paced_by o s ≤ paced_by o t
+paced_earlier None s t h = omega arith
+paced_earlier (Some o) s t h = zero_below ((pos s.time +ℤ o) +ℤ pos 1) ((pos t.time +ℤ o) +ℤ pos 1) (omega (arith, ints))
+
+-- what reaches a unit with b less d reaches the next with at least that, less the wire's time
+pub paced_on : (p q : Option ℤ) (s time : ℕ) → ((o : ℤ) → p ≡ Some o → (r : ℤ) × (q ≡ Some r) × ((pos s +ℤ o) ≤ℤ (pos time +ℤ r))) → (ts tt2 : Tag) → ts.time ≡ s → tt2.time ≡ time → paced_by p ts ≤ paced_by q tt2
+paced_on None q s time h ts tt2 es et = omega arith
+paced_on (Some o) q s time h ts tt2 es et =
+    let w = h o refl in
+    let le : (pos s +ℤ o) ≤ℤ (pos time +ℤ w.0) = w.2 in
+    subst (λ z. paced_by (Some o) ts ≤ paced_by z tt2) (sym w.1)
+    (zero_below ((pos ts.time +ℤ o) +ℤ pos 1) ((pos tt2.time +ℤ w.0) +ℤ pos 1)
+    (subst (λ m. ((pos m +ℤ o) +ℤ pos 1) ≤ℤ ((pos tt2.time +ℤ w.0) +ℤ pos 1)) (sym es)
+    (subst (λ m. ((pos s +ℤ o) +ℤ pos 1) ≤ℤ ((pos m +ℤ w.0) +ℤ pos 1)) (sym et) (omega (arith, ints)))))
+
+-- an offset that is there, from one that is absent or not
+pub there : (g : Graph) (u : Part) (o : Option ℤ) → HasOffset g u o → (a b : ℕ) (path : List Edge) → Feeds g a b path u → (r : ℤ) × (o ≡ Some r) × ((pos b -ℤ pos (sum_along path).time) ≤ℤ r)
+there g u None h a b path feeds = absurd (h a b path feeds)
+there g u (Some r) h a b path feeds = (r, refl, h.greatest a b path feeds)
+
+pub from_some : (g : Graph) (u : Part) (p : Option ℤ) (o : ℤ) → HasOffset g u p → p ≡ Some o → IsOffset g u o
+from_some g u None o h e = absurd (none_some_z o e)
+  where
+    none_some_z : (z : ℤ) → None ≡ Some z → ⊥
+    none_some_z z q = cc
+from_some g u (Some r) o h e = subst (IsOffset g u) (same_z r o e) h
+  where
+    same_z : (y z : ℤ) → Some y ≡ Some z → y ≡ z
+    same_z y z q = cc
+
+pub along_wire : (g : Graph) (offset : Part → Option ℤ) → ((u : Part) → HasOffset g u (offset u)) → (e : Edge) (s : Tag) → IsIn e (wires g) → paced_by (offset (source g e)) s ≤ paced_by (offset (target g e)) (plus s e.weight)
+along_wire g offset has e s mem =
+    paced_on (offset (source g e)) (offset (target g e)) s.time (s.time + e.weight.time)
+    (λ o is.
+    let from = from_some g (source g e) (offset (source g e)) o (has (source g e)) is in
+    let w = from.some in
+    let feeds : Feeds g w.0 w.1 (w.2 ++ e ∷ []) (target g e) = record { bound = w.3.bound; goes = goes_push g (at_output g w.0 0) w.2 e w.3.goes mem } in
+    let on = there g (target g e) (offset (target g e)) (has (target g e)) w.0 w.1 (w.2 ++ e ∷ []) feeds in
+    let sum : (sum_along (w.2 ++ e ∷ [])).time ≡ (sum_along w.2).time + e.weight.time = sum_time w.2 e in
+    (on.0, on.1, step w.1 (sum_along w.2).time (sum_along (w.2 ++ e ∷ [])).time e.weight.time s.time o on.0 w.4 sum on.2))
+    s (plus s e.weight) refl refl
+  where
+    step : (b d d2 w t : ℕ) (o r : ℤ) → (pos b -ℤ pos d) ≡ o → d2 ≡ d + w → (pos b -ℤ pos d2) ≤ℤ r → (pos t +ℤ o) ≤ℤ (pos (t + w) +ℤ r)
+    step b d d2 w t o r e1 e2 h = omega (arith, ints)
+
+pub along_link : (g : Graph) (offset : Part → Option ℤ) → IsWired g → IsFeasible g → ((u : Part) → HasOffset g u (offset u)) → (l : ℕ) (link : Link) (s : Tag) → slice_get g.links l ≡ Some link → paced_by (offset (source g (of_link link))) s ≤ paced_by (offset (target g (of_link link))) (plus s (of_link link).weight)
+along_link g offset wired feasible has l link s at =
+    let send = wired.sends l link at in
+    paced_on (offset (source g (of_link link))) (offset (target g (of_link link))) s.time (s.time + 0)
+    (λ o is.
+    let from = from_some g (source g (of_link link)) (offset (source g (of_link link))) o (has (source g (of_link link))) is in
+    let w = from.some in
+    let enough : w.1 + 1 ≤ send.0 + (sum_along w.2).time = feasible link.from send.0 w.0 w.1 w.2 send.1 w.3 in
+    let feeds : Feeds g link.to (link_bound g link) [] (target g (of_link link)) = record { bound = bound_of_link g l link wired at; goes = sym (receiver_unit g link.to 0 (wired.receives l link at)) } in
+    let on = there g (target g (of_link link)) (offset (target g (of_link link))) (has (target g (of_link link))) link.to (link_bound g link) [] feeds in
+    let slack : send.0 ≤ link_bound g link = subst (λ k. slack_of k ≤ link_bound g link) send.1 (omega arith) in
+    (on.0, on.1, step w.1 (sum_along w.2).time send.0 (link_bound g link) s.time o on.0 w.4 enough slack on.2))
+    s (plus s (of_link link).weight) refl refl
+  where
+    step : (b d slack bound t : ℕ) (o r : ℤ) → (pos b -ℤ pos d) ≡ o → b + 1 ≤ slack + d → slack ≤ bound → (pos bound -ℤ pos 0) ≤ℤ r → (pos t +ℤ o) ≤ℤ (pos (t + 0) +ℤ r)
+    step b d slack bound t o r e h k m = omega (arith, ints)
+
+pub paced_is_closed : PacedIsClosed
+paced_is_closed g offset c wired feasible has = record {
+  earlier = λ u s t l d.
+      let le : paced_by (offset u) t ≤ c = leb-true (paced_by (offset u) t) c d in
+      let down : paced_by (offset u) s ≤ paced_by (offset u) t = paced_earlier (offset u) s t l.0 in
+      le-leb (paced_by (offset u) s) c (omega arith);
+  sources = λ e s mem d.
+      let le : paced_by (offset (target g e)) (plus s e.weight) ≤ c = leb-true (paced_by (offset (target g e)) (plus s e.weight)) c d in
+      let down : paced_by (offset (source g e)) s ≤ paced_by (offset (target g e)) (plus s e.weight) =
+      ⊎_elim
+      (λ (w : IsIn e (wires g)). along_wire g offset has e s w)
+      (λ (k : IsIn e (links g)).
+      let f = link_of g.links e k in
+      subst (λ x. paced_by (offset (source g x)) s ≤ paced_by (offset (target g x)) (plus s x.weight)) (sym f.3) (along_link g offset wired feasible has f.0 f.1 s f.2))
+      (IsIn-append e (wires g) (links g) mem) in
+      le-leb (paced_by (offset (source g e)) s) c (omega arith);
+}

@@ -1,0 +1,4 @@
+pub mod MeaningTheorems
+pub mod HistoryTheorems
+pub mod TurnTheorems
+pub mod PacedReadings

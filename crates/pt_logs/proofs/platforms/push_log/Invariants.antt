@@ -1,9 +1,0 @@
-use Rattle.std.proofs.Common.{◌≡◌, ◌++◌, drop, string_bytes}
-use Rattle.std.specs.List.{flat_map}
-use Rattle.pt_logs.specs.Log.{log_head}
-use Rattle.pt_logs.specs.Platforms.{platform_lines}
-use Rattle.pt_logs.proofs.platforms.push_log.Given as goal
-
-abbrev pub invariant-loop-platform : goal.invariant-loop-platform
-invariant-loop-platform l =
-    string_bytes l.text ++ flat_map platform_lines (drop l.platform-index l.platforms) ≡ string_bytes l.fn.text ++ log_head ++ flat_map platform_lines l.platforms

@@ -1,7 +1,0 @@
-use Rattle.std.proofs.Common.{◌≡◌, ◌++◌, drop, string_bytes}
-use Rattle.std.specs.List.{flat_map}
-use Rattle.pt_logs.specs.Log.{take_line}
-use Rattle.pt_logs.proofs.turns.push_all_taken.Given as goal
-
-abbrev pub invariant-loop-message : goal.invariant-loop-message
-invariant-loop-message l = string_bytes l.text ++ flat_map (take_line l.graph) (drop l.message-index l.taken) ≡ string_bytes l.fn.text ++ flat_map (take_line l.graph) l.taken

@@ -1,4 +1,0 @@
-pub mod Log
-pub mod Misses
-pub mod Names
-pub mod Platforms

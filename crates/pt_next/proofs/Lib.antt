@@ -1,4 +1,0 @@
-pub mod Least
-pub mod Bounds
-pub mod Units
-pub mod Candidates

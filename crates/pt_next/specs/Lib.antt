@@ -1,3 +1,0 @@
-pub mod Least
-pub mod Closing
-pub mod Next

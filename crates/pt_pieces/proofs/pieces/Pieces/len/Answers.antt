@@ -1,7 +1,0 @@
-use Rattle.std.proofs.Common.{length, ap, sym, ◌∙◌}
-use Rattle.pt_pieces.specs.Lists.{RoomyLists}
-use Rattle.pt_pieces.proofs.Cutting.{length-pieces}
-use Rattle.pt_pieces.proofs.pieces.Pieces.len.Goals as goal
-
-pub returns : goal.returns
-returns g c = c.len.ensures ∙ c.self.inside.ends.ok.0 ∙ sym (length-pieces 0 c.self.inside.ends.items c.self.inside.items.items) ∙ ap (λ (v : RoomyLists g.row.T.Denot). length v.lists) c.self.view_is

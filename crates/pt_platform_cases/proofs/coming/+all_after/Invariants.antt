@@ -1,5 +1,0 @@
-use Rattle.std.proofs.Common.{length}
-use Rattle.pt_platform_cases.proofs.coming.+all_after.Given as goal
-
-abbrev pub decreases-all_after : goal.decreases-all_after
-decreases-all_after l = length l.messages.now

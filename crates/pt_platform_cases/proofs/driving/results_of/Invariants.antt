@@ -1,5 +1,0 @@
-use Rattle.pt_post.specs.Posted.{AreDone}
-use Rattle.pt_platform_cases.proofs.driving.results_of.Given as goal
-
-abbrev pub invariant-loop-task : goal.invariant-loop-task
-invariant-loop-task g l = AreDone l.graph l.results.items

@@ -1,4 +1,0 @@
-//! All platforms of a plan.
-//!
-//! Read first: `specs/All.antt`.
-#![tactic(auto)]

@@ -1,9 +1,0 @@
-use Rattle.std.proofs.Common.{List, ℕ, reverse, subst, sym}
-use Rattle.pt_ranks.specs.Search.{IsRing}
-use Rattle.pt_ranks.proofs.Cycles.{ring_closed}
-use Rattle.pt_ranks.proofs.ring.ring_at.Goals as goal
-
-pub returns : goal.returns
-returns c = λ incoming closed.
-    subst (λ (z : List ℕ). IsRing incoming z) (sym c.new.ensures)
-    (ring_closed incoming (reverse c.args.trail.now) c.args.edge c.in-Ok.actors.items c.turn.new.numbers.items closed c.in-Ok.ensures c.turn.ensures)

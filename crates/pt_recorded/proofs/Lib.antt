@@ -1,4 +1,0 @@
-pub mod Lateness
-pub mod Asking
-pub mod Fitting
-pub mod Recording

@@ -1,0 +1,14 @@
+use Rattle.std.proofs.Common.{rules}
+use Rattle.pt_causality.specs.Ranked.{rank_of}
+use Rattle.pt_run.proofs.meaning.meaning_tables.Goals as goal
+
+pub returns-in-Err-Long-clause-fault : goal.returns-in-Err-Long-clause-fault
+returns-in-Err-Long-clause-fault c = record { rank = rank_of c.args.ranks.now; ranks = c.requires.ranks; longer = rw (c.ranks.ensures, c.as_slice.ensures) at (c.in-Err-Long.ensures.long (search rules)) }
+
+pub returns-in-Ok-tables-clause-text : goal.returns-in-Ok-tables-clause-text
+returns-in-Ok-tables-clause-text c = record {
+  firings = c.in-Ok.firings;
+  means = record { rank = rank_of c.args.ranks.now; ranks = c.requires.ranks; meaning = rw c.ranks.ensures at c.in-Ok.ensures.meaning };
+  fact = rw c.as_slice.ensures at c.in-Ok.ensures.most;
+  tables = c.in-Ok-tables.ensures;
+}

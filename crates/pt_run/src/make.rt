@@ -1,0 +1,120 @@
+//! The command `make`.
+
+ghost use Rattle.std.specs.Prelude.{◌≡◌, ◌≤◌, IfOk, None, string_bytes};
+ghost use Rattle.std.specs.Arc.{arc_value};
+ghost use Rattle.pt_offsets.specs.Plans.{IsAdmitted};
+ghost use Rattle.pt_causality.specs.Ranked.{level_of};
+ghost use Rattle.pt_sensors.specs.Places.{of_run};
+ghost use Rattle.pt_rounds.specs.HaveRun.{HaveRun};
+ghost use Rattle.pt_made.specs.Input.{made_graph as graph_made, made_rows as rows_made};
+ghost use Rattle.pt_run.specs.Statuses.{status_of};
+ghost use Rattle.pt_run.specs.Making.{EndsMade, IsMadeRun};
+ghost use Rattle.pt_run.specs.Telling.{Tells};
+ghost use Rattle.pt_run.specs.Texts.{left_by};
+
+use crate::fault::{Fault, Outcome};
+use crate::notes::{tell, tell_write};
+use crate::output::put_text;
+use pt_blocks::Blocks;
+use pt_confluence::gather;
+use pt_io::Sink;
+use pt_made::{made_graph, made_rows, summary};
+use pt_monitors::missed;
+use pt_offsets::{Plan, PlanFault, Unplanned, plan_of};
+use pt_rounds::{Rounds, paced};
+use pt_tags::Memory;
+use pt_turn::{Platform, open_all};
+use std::alloc::Global;
+use std::sync::Arc;
+
+/// A run over a made input: its summary and its platforms.
+#[derive(Drop)]
+struct MadeRun {
+    summary: String,
+    platforms: Vec<Platform>,
+}
+
+/// Makes an input from a number, runs it under the paced clock, and writes the summary.
+///
+/// Reads no file. The input can run, its rows are in time, and no run over it is too long or misses anything, so only a
+/// failed write or running out of memory is a fault. The number of workers, 1 to 64, has no effect.
+pub fn make<K: Sink, E: Sink>(
+    alloc: Global,
+    number: u32,
+    workers: u32,
+    out: &mut K,
+    notes: &mut E,
+    blocks: &Blocks,
+) -> Outcome
+    requires { number ≤ 100 }
+    ensures status { result.status ≡ status_of result.fault result.misses }
+    ensures ends { EndsMade result.fault (left_by result) number
+        (record { before = K.faults out.old; now = K.faults out.new; written_before = K.written out.old; written_now = K.written out.new }) }
+    ensures flushed { result.fault ≡ None → K.flushed out.new }
+    ensures notes { Tells result.fault result.misses None
+        (record { before = E.faults notes.old; now = E.faults notes.new; written_before = E.written notes.old; written_now = E.written notes.new }) }
+{
+    let Ok(MadeRun { summary, platforms }) = run_made(alloc, number, workers, blocks) else {
+        let fault = tell(alloc, notes, Fault::Memory, None);
+        return Outcome::refused(alloc, fault);
+    };
+    if put_text(out, summary.as_str().as_bytes()).is_err() {
+        tell_write(notes);
+        return Outcome::stopped(alloc, Fault::Write, platforms);
+    }
+    Outcome::done(Vec::new(alloc), platforms)
+}
+
+/// Runs the input made from a number.
+fn run_made(alloc: Global, number: u32, workers: u32, blocks: &Blocks) -> Result<MadeRun, Memory>
+    requires { number ≤ 100 }
+    ensures { IfOk result (λ made. IsMadeRun number made.platforms.items (string_bytes made.summary)) }
+{
+    let plan = made_plan(alloc, number)?;
+    let plan = Arc::new(alloc, plan)?;
+    let platforms = made_platforms(alloc, &plan, number, workers, blocks)?;
+    let misses = missed(alloc, platforms.as_slice())?;
+    let firings = gather(alloc, &plan, platforms.as_slice())?;
+    let summary = summary(alloc, number, &firings, misses.len())?;
+    Ok(MadeRun { summary, platforms })
+}
+
+/// The plan of the graph made from a number. Each of its cycles takes time, and each sender can send in time.
+fn made_plan(alloc: Global, number: u32) -> Result<Plan, Memory>
+    requires { number ≤ 100 }
+    ensures graph { IfOk result (λ plan. plan.graph ≡ graph_made number) }
+    ensures admitted { IfOk result IsAdmitted }
+{
+    let graph = made_graph(alloc, number)?;
+    match plan_of(alloc, graph) {
+        Ok(plan) => Ok(plan),
+        Err(Unplanned { graph: _, fault }) => match fault {
+            PlanFault::Memory => Err(Memory),
+            _ => unreachable!(),
+        },
+    }
+}
+
+/// The platforms of that plan after a paced run over the rows made from the number: all are finished.
+fn made_platforms(
+    alloc: Global,
+    plan: &Arc<Plan>,
+    number: u32,
+    workers: u32,
+    blocks: &Blocks,
+) -> Result<Vec<Platform>, Memory>
+    requires few { number ≤ 100 }
+    requires graph { (arc_value plan.now).graph ≡ graph_made number }
+    requires admitted { IsAdmitted (arc_value plan.now) }
+    ensures { IfOk result (λ platforms. HaveRun (arc_value plan.now) (level_of (arc_value plan.now).ranks) (of_run (graph_made number) (rows_made number)) platforms.items None) }
+{
+    let entries = made_rows(alloc, number)?;
+    let platforms = open_all(alloc, plan, entries)?;
+    let Rounds { platforms, fault } = paced(alloc, platforms, blocks, workers)?;
+    let Some(number) = fault else {
+        return Ok(platforms);
+    };
+    // Its fault would mean 200,000 claims, which no platform makes.
+    let _fault = platforms[number as usize].fault();
+    unreachable!()
+}

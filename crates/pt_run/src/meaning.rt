@@ -1,0 +1,86 @@
+//! The command `meaning`.
+
+ghost use Rattle.std.specs.Prelude.{[], IfOk, IfErr, length, string_bytes};
+ghost use Rattle.pt_types.specs.Lawful.{IsLawful};
+ghost use Rattle.pt_semantics.specs.Lists.{Each};
+ghost use Rattle.pt_semantics.specs.Ranks.{AreRanks};
+ghost use Rattle.pt_sensors.specs.Listed.{rows_for, IsOfActors};
+ghost use Rattle.pt_causality.specs.Ranked.{rank_of};
+ghost use Rattle.pt_sensors.specs.Asked.{AsksFiles};
+ghost use Rattle.pt_run.specs.declared.words.Command.TheVariants.{Meaning};
+ghost use Rattle.pt_run.specs.Causes.{CauseOf};
+ghost use Rattle.pt_run.specs.Written.{FitOnAll, IsMeant, IsTables, Writes, nothing};
+ghost use Rattle.pt_run.specs.Texts.{MeaningFails, MeaningTablesFail};
+
+use crate::fault::{Fault, fault_of_cycle, fault_of_rows};
+use pt_causality::{Ranks, ranks_of};
+use pt_io::Source;
+use pt_meaning::{MeaningFault, reference};
+use pt_sensors::{LateRows, SensorRows, recorded};
+use pt_tables::tables;
+use pt_types::{Graph, MOST_CLAIMS};
+use std::alloc::Global;
+
+/// The text that `meaning` writes: the tables of the meaning of a graph and the rows of its sensors' files.
+pub fn meaning_answer<S: Source>(
+    alloc: Global,
+    source: &mut S,
+    graph: &Graph,
+) -> Result<String, Fault>
+    requires { IsLawful graph.now }
+    ensures text { IfOk result (λ text. Writes Meaning (S.tells source.old) graph.now nothing (string_bytes text)) }
+    ensures fault { IfErr result (λ f. CauseOf Meaning f nothing (S.tells source.old) graph.now []
+        (record { asked_before = S.asked source.old; asked_now = S.asked source.new; before = S.faults source.old; now = S.faults source.new })) }
+    ensures asks { AsksFiles graph.now (S.asked source.old) (S.asked source.new) }
+{
+    match ranks_of(alloc, graph) {
+        Ok(ranks) => meaning_text(alloc, source, graph, &ranks),
+        Err(fault) => Err(fault_of_cycle(fault)),
+    }
+}
+
+/// The tables of the meaning of a graph without a cycle that takes no time.
+fn meaning_text<S: Source>(
+    alloc: Global,
+    source: &mut S,
+    graph: &Graph,
+    ranks: &Ranks,
+) -> Result<String, Fault>
+    requires lawful { IsLawful graph.now }
+    requires ranks { AreRanks graph.now (rank_of ranks.now) }
+    ensures text { IfOk result (λ text. IsMeant (S.tells source.old) graph.now (string_bytes text)) }
+    ensures fault { IfErr result (λ f. MeaningFails f (S.tells source.old) graph.now
+        (record { asked_before = S.asked source.old; asked_now = S.asked source.new; before = S.faults source.old; now = S.faults source.new })) }
+    ensures asks { AsksFiles graph.now (S.asked source.old) (S.asked source.new) }
+{
+    let sensors = match recorded(alloc, source, graph, LateRows::Taken) {
+        Ok(sensors) => sensors,
+        Err(fault) => return Err(fault_of_rows(fault)),
+    };
+    meaning_tables(alloc, graph, ranks, sensors.as_slice())
+}
+
+/// The tables of the meaning of a graph and these rows, if it has at most 200,000 firings times the number of platforms.
+fn meaning_tables(
+    alloc: Global,
+    graph: &Graph,
+    ranks: &Ranks,
+    sensors: &[SensorRows],
+) -> Result<String, Fault>
+    requires lawful { IsLawful graph.now }
+    requires ranks { AreRanks graph.now (rank_of ranks.now) }
+    requires sensors { Each (IsOfActors (length graph.now.actors)) sensors.now }
+    ensures text { IfOk result (λ text. IsTables graph.now (rows_for sensors.now) (FitOnAll graph.now) (string_bytes text)) }
+    ensures fault { IfErr result (λ f. MeaningTablesFail f graph.now (rows_for sensors.now)) }
+{
+    let most = MOST_CLAIMS as usize * graph.platforms.as_slice().len();
+    let firings = match reference(alloc, graph, ranks.ranks(), sensors, most) {
+        Ok(firings) => firings,
+        Err(MeaningFault::Long) => return Err(Fault::Long { platform: None }),
+        Err(MeaningFault::Memory) => return Err(Fault::Memory),
+    };
+    match tables(alloc, graph, &firings) {
+        Ok(text) => Ok(text),
+        Err(_) => Err(Fault::Memory),
+    }
+}

@@ -1,0 +1,70 @@
+//! A run of a plan.
+
+ghost use Rattle.std.specs.Prelude.{◌≡◌, ◌≤◌, IfErr, IfOk};
+ghost use Rattle.std.specs.Arc.{arc_value};
+ghost use Rattle.pt_sensors.specs.Asked.{AsksFiles};
+ghost use Rattle.pt_run.specs.Runs.{CauseOfRun, IsRun};
+
+use crate::finished_run::{Ran, told};
+use pt_blocks::Blocks;
+use pt_io::Source;
+use pt_offsets::Plan;
+use pt_rounds::{Rounds, paced};
+use pt_sensors::{LateRows, RecordedFault, recorded};
+use pt_turn::{Platform, open_all};
+use std::alloc::Global;
+use std::sync::Arc;
+
+/// Why a run did not finish.
+#[derive(Drop)]
+pub enum RunFault {
+    /// The rows of the sensors are not available: a file has a fault or could not be read, a row is late, or memory ran out.
+    Rows(RecordedFault),
+    /// This platform is the first that made all its claims and needed more; all platforms are as they were then.
+    Long {
+        platform: u32,
+        platforms: Vec<Platform>,
+    },
+    /// Memory ran out.
+    Memory,
+}
+
+/// Runs a plan over the files of its sensors under the paced clock: reads their rows, runs all platforms in rounds until
+/// they are finished, and returns their tables and, if asked for, their log. The number of workers, 1 to 64, has no
+/// effect.
+pub fn run_of<S: Source>(
+    alloc: Global,
+    plan: &Arc<Plan>,
+    log: bool,
+    workers: u32,
+    source: &mut S,
+    blocks: &Blocks,
+) -> Result<Ran, RunFault>
+    ensures ran { IfOk result (IsRun (S.tells source.old) (arc_value plan.now) log) }
+    ensures fault { IfErr result (λ f. CauseOfRun f (S.tells source.old) (arc_value plan.now)
+        (record { asked_before = S.asked source.old; asked_now = S.asked source.new; before = S.faults source.old; now = S.faults source.new })) }
+    ensures asks { AsksFiles (arc_value plan.now).graph (S.asked source.old) (S.asked source.new) }
+    ensures keeps { S.tells source.new ≡ S.tells source.old }
+    ensures grows { S.faults source.old ≤ S.faults source.new }
+{
+    let entries = match recorded(alloc, source, plan.graph(), LateRows::Refused) {
+        Ok(entries) => entries,
+        Err(fault) => return Err(RunFault::Rows(fault)),
+    };
+    let Ok(platforms) = open_all(alloc, plan, entries) else {
+        return Err(RunFault::Memory);
+    };
+    let Ok(Rounds { platforms, fault }) = paced(alloc, platforms, blocks, workers) else {
+        return Err(RunFault::Memory);
+    };
+    if let Some(platform) = fault {
+        return Err(RunFault::Long {
+            platform,
+            platforms,
+        });
+    }
+    match told(alloc, plan, platforms, log) {
+        Ok(ran) => Ok(ran),
+        Err(_) => Err(RunFault::Memory),
+    }
+}

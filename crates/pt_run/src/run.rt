@@ -1,0 +1,140 @@
+//! The command `run`.
+
+ghost use Rattle.std.specs.Prelude.{◌≡◌, ◌≢◌, None, Some, flat_map, string_bytes};
+ghost use Rattle.std.specs.Arc.{arc_value};
+ghost use Rattle.pt_types.specs.Lawful.{IsLawful};
+ghost use Rattle.pt_offsets.specs.Plans.{IsAdmitted};
+ghost use Rattle.pt_sensors.specs.Asked.{AsksFiles};
+ghost use Rattle.pt_run.specs.declared.words.Command.TheVariants.{Run};
+ghost use Rattle.pt_run.specs.Statuses.{status_of};
+ghost use Rattle.pt_tables.specs.Misses.{miss_line};
+ghost use Rattle.pt_run.specs.Telling.{Tells};
+ghost use Rattle.pt_run.specs.Texts.{EndsOver, EndsPlan, IsStopped, WroteRun, left_by};
+
+use crate::fault::{Fault, Outcome, fault_of_plan, fault_of_rows};
+use crate::notes::{tell, tell_write};
+use crate::output::{put_lines, put_text};
+use crate::{Ran, RunFault, run_of};
+use pt_blocks::Blocks;
+use pt_io::{Sink, Source};
+use pt_offsets::{Plan, Unplanned, plan_of};
+use pt_types::Graph;
+use std::alloc::Global;
+use std::sync::Arc;
+
+/// Runs a graph over the files of its sensors.
+pub fn run_graph<S: Source, K: Sink, E: Sink>(
+    alloc: Global,
+    workers: u32,
+    log: bool,
+    graph: Graph,
+    source: &mut S,
+    out: &mut K,
+    notes: &mut E,
+    blocks: &Blocks,
+) -> Outcome
+    requires { IsLawful graph }
+    ensures status { result.status ≡ status_of result.fault result.misses }
+    ensures asks { AsksFiles graph (S.asked source.old) (S.asked source.new) }
+    ensures ends { EndsOver result.fault (left_by result) (Run workers log) (S.tells source.old) graph
+        (record { asked_before = S.asked source.old; asked_now = S.asked source.new; before = S.faults source.old; now = S.faults source.new })
+        (record { before = K.faults out.old; now = K.faults out.new; written_before = K.written out.old; written_now = K.written out.new }) }
+    ensures flushed { result.fault ≡ None → K.flushed out.new }
+    ensures notes { Tells result.fault result.misses (Some graph)
+        (record { before = E.faults notes.old; now = E.faults notes.new; written_before = E.written notes.old; written_now = E.written notes.new }) }
+{
+    let plan = match plan_of(alloc, graph) {
+        Ok(plan) => plan,
+        Err(Unplanned { graph, fault }) => {
+            let fault = tell(alloc, notes, fault_of_plan(fault), Some(&graph));
+            return Outcome::refused(alloc, fault);
+        }
+    };
+    let Ok(plan) = Arc::new(alloc, plan) else {
+        let fault = tell(alloc, notes, Fault::Memory, None);
+        return Outcome::refused(alloc, fault);
+    };
+    run_plan(alloc, workers, log, &plan, source, out, notes, blocks)
+}
+
+/// Runs a plan over the files of its sensors.
+fn run_plan<S: Source, K: Sink, E: Sink>(
+    alloc: Global,
+    workers: u32,
+    log: bool,
+    plan: &Arc<Plan>,
+    source: &mut S,
+    out: &mut K,
+    notes: &mut E,
+    blocks: &Blocks,
+) -> Outcome
+    ensures status { result.status ≡ status_of result.fault result.misses }
+    ensures admitted { IsAdmitted (arc_value plan.now) }
+    ensures asks { AsksFiles (arc_value plan.now).graph (S.asked source.old) (S.asked source.new) }
+    ensures ends { EndsPlan result.fault (left_by result) log (S.tells source.old) (arc_value plan.now)
+        (record { asked_before = S.asked source.old; asked_now = S.asked source.new; before = S.faults source.old; now = S.faults source.new })
+        (record { before = K.faults out.old; now = K.faults out.new; written_before = K.written out.old; written_now = K.written out.new }) }
+    ensures flushed { result.fault ≡ None → K.flushed out.new }
+    ensures notes { Tells result.fault result.misses (Some (arc_value plan.now).graph)
+        (record { before = E.faults notes.old; now = E.faults notes.new; written_before = E.written notes.old; written_now = E.written notes.new }) }
+{
+    match run_of(alloc, plan, log, workers, source, blocks) {
+        Ok(ran) => write_run(alloc, plan.graph(), ran, out, notes),
+        Err(fault) => stop_run(alloc, plan.graph(), fault, notes),
+    }
+}
+
+/// Puts the text of a run on `out`, and the lines of its misses on `notes`.
+fn write_run<K: Sink, E: Sink>(
+    alloc: Global,
+    graph: &Graph,
+    ran: Ran,
+    out: &mut K,
+    notes: &mut E,
+) -> Outcome
+    ensures status { result.status ≡ status_of result.fault result.misses }
+    ensures wrote { WroteRun ran result (record { before = K.faults out.old; now = K.faults out.new; written_before = K.written out.old; written_now = K.written out.new }) }
+    ensures flushed { result.fault ≡ None → K.flushed out.new }
+    ensures notes { string_bytes ran.lines ≡ flat_map (miss_line graph.now) ran.misses.items → Tells result.fault result.misses (Some graph.now)
+        (record { before = E.faults notes.old; now = E.faults notes.new; written_before = E.written notes.old; written_now = E.written notes.new }) }
+{
+    let Ran {
+        text,
+        misses,
+        lines,
+        platforms,
+    } = ran;
+    if put_text(out, text.as_str().as_bytes()).is_err() {
+        tell_write(notes);
+        return Outcome::stopped(alloc, Fault::Write, platforms);
+    }
+    let _ = put_lines(notes, lines.as_str().as_bytes());
+    Outcome::done(misses, platforms)
+}
+
+/// Reports why a run did not finish.
+fn stop_run<E: Sink>(alloc: Global, graph: &Graph, fault: RunFault, notes: &mut E) -> Outcome
+    ensures status { result.status ≡ status_of result.fault result.misses }
+    ensures stopped { IsStopped fault result }
+    ensures fault { result.fault ≢ None }
+    ensures notes { Tells result.fault result.misses (Some graph.now)
+        (record { before = E.faults notes.old; now = E.faults notes.new; written_before = E.written notes.old; written_now = E.written notes.new }) }
+{
+    let (fault, platforms) = match fault {
+        RunFault::Rows(fault) => (fault_of_rows(fault), Vec::new(alloc)),
+        RunFault::Memory => (Fault::Memory, Vec::new(alloc)),
+        RunFault::Long {
+            platform,
+            platforms,
+        } => (
+            Fault::Long {
+                platform: Some(platform),
+            },
+            platforms,
+        ),
+    };
+    match tell(alloc, notes, fault, Some(graph)) {
+        Fault::Memory => Outcome::refused(alloc, Fault::Memory),
+        fault => Outcome::stopped(alloc, fault, platforms),
+    }
+}

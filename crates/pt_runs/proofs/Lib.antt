@@ -1,3 +1,0 @@
-pub mod Agreeing
-pub mod Finished
-pub mod Missed

@@ -1,5 +1,0 @@
-use Rattle.pt_semantics.proofs.FloorHolds.{floor_holds}
-use Rattle.pt_semantics.proofs.histories.floor_of_claims.Goals as goal
-
-pub returns : goal.returns
-returns c = floor_holds

@@ -1,5 +1,0 @@
-use Rattle.pt_semantics.proofs.Finish.{histories_behave}
-use Rattle.pt_semantics.proofs.histories.histories_are_a_behaviour.Goals as goal
-
-pub returns : goal.returns
-returns c = histories_behave

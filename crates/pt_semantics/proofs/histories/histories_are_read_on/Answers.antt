@@ -1,5 +1,0 @@
-use Rattle.pt_semantics.proofs.Read.{read_on}
-use Rattle.pt_semantics.proofs.histories.histories_are_read_on.Goals as goal
-
-pub returns : goal.returns
-returns c = read_on

@@ -1,5 +1,0 @@
-use Rattle.pt_semantics.proofs.KeptTurns.{settled_is_legal}
-use Rattle.pt_semantics.proofs.histories.settled_histories_stay_legal.Goals as goal
-
-pub returns : goal.returns
-returns c = settled_is_legal

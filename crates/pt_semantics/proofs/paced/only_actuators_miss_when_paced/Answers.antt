@@ -1,5 +1,0 @@
-use Rattle.pt_semantics.proofs.PacedRuns.{missed_when_paced}
-use Rattle.pt_semantics.proofs.paced.only_actuators_miss_when_paced.Goals as goal
-
-pub returns : goal.returns
-returns c = missed_when_paced

@@ -1,5 +1,0 @@
-use Rattle.pt_semantics.proofs.Candidates.{turn_claims}
-use Rattle.pt_semantics.proofs.turns.claims_are_fronts.Goals as goal
-
-pub returns : goal.returns
-returns c = turn_claims

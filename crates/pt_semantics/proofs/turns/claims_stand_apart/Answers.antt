@@ -1,5 +1,0 @@
-use Rattle.pt_semantics.proofs.Candidates.{claims_apart}
-use Rattle.pt_semantics.proofs.turns.claims_stand_apart.Goals as goal
-
-pub returns : goal.returns
-returns c = claims_apart

@@ -1,5 +1,0 @@
-use Rattle.pt_semantics.proofs.Candidates.{cut_claims}
-use Rattle.pt_semantics.proofs.turns.cut_candidates_are_claims.Goals as goal
-
-pub returns : goal.returns
-returns c = cut_claims

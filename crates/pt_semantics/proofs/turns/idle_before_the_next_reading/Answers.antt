@@ -1,5 +1,0 @@
-use Rattle.pt_semantics.proofs.Idle.{idle_before}
-use Rattle.pt_semantics.proofs.turns.idle_before_the_next_reading.Goals as goal
-
-pub returns : goal.returns
-returns c = idle_before

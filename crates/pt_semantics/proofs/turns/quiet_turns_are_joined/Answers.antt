@@ -1,5 +1,0 @@
-use Rattle.pt_semantics.proofs.Joined.{quiet_turns_join}
-use Rattle.pt_semantics.proofs.turns.quiet_turns_are_joined.Goals as goal
-
-pub returns : goal.returns
-returns c = quiet_turns_join

@@ -1,5 +1,0 @@
-use Rattle.pt_semantics.proofs.Stays.{safe_stays}
-use Rattle.pt_semantics.proofs.turns.safe_units_stay_safe.Goals as goal
-
-pub returns : goal.returns
-returns c = safe_stays

@@ -1,5 +1,0 @@
-use Rattle.pt_semantics.proofs.Stays.{safe_in_turn}
-use Rattle.pt_semantics.proofs.turns.safe_units_stay_safe_in_a_turn.Goals as goal
-
-pub returns : goal.returns
-returns c = safe_in_turn

@@ -1,5 +1,0 @@
-use Rattle.pt_semantics.proofs.Progress.{turns_move}
-use Rattle.pt_semantics.proofs.turns.turns_move.Goals as goal
-
-pub returns : goal.returns
-returns c = turns_move

@@ -1,0 +1,63 @@
+-- What the first bytes of a content say of the whole of it, and what was asked for.
+use Rattle.std.proofs.Common.{◌≡◌, ℕ, List, [], ◌∷◌, ◌++◌, ◌+◌, ◌<◌, ◌≤◌, Option, Some, None, IfSome, take, sym, subst, ◌∙◌, ap, append_assoc, refl, length, get_or, ⊎_elim, arith}
+use Rattle.std.proofs.lemmas.List.{take_more}
+use Rattle.std.proofs.lemmas.Grind.{common_steps}
+use Rattle.pt_io.specs.Causes.{Rose}
+use Rattle.pt_types.specs.declared.graph.Graph.{Graph}
+use Rattle.pt_types.specs.declared.graph.Actor.{Actor}
+use Rattle.pt_types.specs.Groups.{no_actor}
+use Rattle.pt_types.specs.Lookups.{kind_of}
+use Rattle.pt_sensors.specs.Asked.{Asks, AsksOrNot, AsksFiles, ReadFails, file_of, files_before, sensor_files}
+
+-- what a function of the fetched bytes gives is what it gives of the content
+pub of_content : {R : Type 0} (f : List ℕ → R) (most : ℕ) → ((bytes : List ℕ) → f (take most bytes) ≡ f bytes) → (o : Option (List ℕ)) (fetched : List ℕ) (r : R)
+    → IfSome o (λ bytes. fetched ≡ take most bytes) → f fetched ≡ r → IfSome o (λ bytes. f bytes ≡ r)
+of_content f most same None fetched r h read = tt
+of_content f most same (Some bytes) fetched r h read = sym (same bytes) ∙ (rw h at read)
+
+-- names asked for one after another
+pub asks_more : (a b c : Option (List (List ℕ))) (xs ys : List (List ℕ)) → Asks a b xs → Asks b c ys → Asks a c (xs ++ ys)
+asks_more None b c xs ys p q = tt
+asks_more (Some w) b c xs ys p q = rw (← append_assoc) (rw p at q)
+
+pub append_none : (xs : List (List ℕ)) → xs ++ [] ≡ xs
+append_none [] = refl
+append_none (x ∷ xs) = ap (λ ys. x ∷ ys) (append_none xs)
+
+pub asks_none : (a b : Option (List (List ℕ))) → b ≡ a → Asks a b []
+asks_none None b e = tt
+asks_none (Some w) b e = e ∙ ap Some (sym (append_none w))
+
+-- a count that rose later rose
+pub rose_later : (first before now : ℕ) → first ≤ before → Rose before now → Rose first now
+rose_later first before now grew rose = grind (arith, common_steps)
+
+-- a read that failed, after others were asked for
+pub read_after : (others more : List (List ℕ)) (name : List ℕ) (first asked now : Option (List (List ℕ))) (start before last : ℕ) → Asks first asked others → start ≤ before
+    → ReadFails more name (record { asked_before = asked; asked_now = now; before = before; now = last }) → ReadFails (others ++ more) name (record { asked_before = first; asked_now = now; before = start; now = last })
+read_after others more name first asked now start before last asks grew failed = record {
+  asked = subst (Asks first now) (sym (append_assoc others more (name ∷ []))) (asks_more first asked now others (more ++ name ∷ []) asks failed.asked);
+  rose = rose_later start before last grew failed.rose;
+}
+
+-- the files of one actor more
+files_append : (xs ys : List Actor) → sensor_files (xs ++ ys) ≡ sensor_files xs ++ sensor_files ys
+files_append [] ys = refl
+files_append (x ∷ xs) ys = ap (λ zs. file_of x.kind ++ zs) (files_append xs ys) ∙ sym (append_assoc (file_of x.kind) (sensor_files xs) (sensor_files ys))
+
+files_more : (g : Graph) (n : ℕ) → n < length g.actors → files_before g (n + 1) ≡ files_before g n ++ file_of (kind_of g n)
+files_more g n lt =
+    ap sensor_files (take_more g.actors n no_actor lt)
+    ∙ files_append (take n g.actors) (get_or g.actors n no_actor ∷ [])
+    ∙ ap (λ zs. files_before g n ++ zs) (append_none (file_of (kind_of g n)))
+
+-- after one actor more, or after none
+pub asks_files : (g : Graph) (n : ℕ) (first asked now : Option (List (List ℕ))) → n < length g.actors → Asks first asked (files_before g n) → Asks asked now (file_of (kind_of g n)) → Asks first now (files_before g (n + 1))
+asks_files g n first asked now lt was asks = subst (Asks first now) (sym (files_more g n lt)) (asks_more first asked now (files_before g n) (file_of (kind_of g n)) was asks)
+
+pub asks_at_most : (g : Graph) (n : ℕ) (first asked now : Option (List (List ℕ))) → n < length g.actors → Asks first asked (files_before g n) → AsksOrNot asked now (file_of (kind_of g n)) → AsksFiles g first now
+asks_at_most g n first asked now lt was asks =
+    ⊎_elim
+    (λ (none : Asks asked now []). (n, subst (Asks first now) (append_none (files_before g n)) (asks_more first asked now (files_before g n) [] was none)))
+    (λ (file : Asks asked now (file_of (kind_of g n))). (n + 1, asks_files g n first asked now lt was file))
+    asks

@@ -1,0 +1,49 @@
+use Rattle.std.proofs.Common.{◌≡◌, ◌<◌, ◌≤◌, ◌+◌, ◌∙◌, refl, subst, sym, arith, is_ok, true, length, rules}
+use Rattle.pt_sensors.specs.declared.sensor_rows.SensorRows.{SensorRows}
+use Rattle.pt_sensors.specs.Recorded.{RowsOfKind}
+use Rattle.pt_types.specs.Lookups.{kind_of}
+use Rattle.pt_sensors.proofs.Asking.{asks_files, asks_at_most}
+use Rattle.pt_sensors.proofs.Recording.{AreFirstRows, first_rows_more, fit_rows, later}
+use Rattle.pt_sensors.proofs.recorded_rows.recorded.Goals as goal
+
+pub returns-in-Err-clause-fault : goal.returns-in-Err-clause-fault
+returns-in-Err-clause-fault g c =
+    later c.args.late (g.S.Source.tells c.args.source.now) (g.S.Source.tells c.loop-number.source) c.args.graph.now c.loop-number.all.items c.loop-number.number
+    (g.S.Source.asked c.args.source.now) (g.S.Source.asked c.loop-number.source) (g.S.Source.asked c.rows_of_actor.new.source)
+    (g.S.Source.faults c.args.source.now) (g.S.Source.faults c.loop-number.source) (g.S.Source.faults c.rows_of_actor.new.source) c.in-Err.fault c.loop-number.invariant.keeps
+    c.loop-number.invariant.rows c.loop-number.invariant.asks c.loop-number.invariant.grows c.in-Err.ensures.fault
+
+pub returns-in-Err-clause-asks : goal.returns-in-Err-clause-asks
+returns-in-Err-clause-asks g c =
+    let within : c.loop-number.number < length c.args.graph.now.actors = search rules in
+    asks_at_most c.args.graph.now c.loop-number.number (g.S.Source.asked c.args.source.now) (g.S.Source.asked c.loop-number.source) (g.S.Source.asked c.rows_of_actor.new.source) within c.loop-number.invariant.asks c.in-Err.ensures.asks_at_most
+
+pub loop-number-preserved : goal.loop-number-preserved
+loop-number-preserved g c =
+    let tells = g.S.Source.tells c.args.source.now in
+    let graph = c.args.graph.now in
+    let n = c.loop-number.number in
+    let pushed : is_ok c.push.result ≡ true = search rules in
+    let items = rw pushed at c.push.ensures.items in
+    let entry : SensorRows = record { actor = c.loop-number.number; rows = c.in-Ok.rows } in
+    let within : c.loop-number.number < length c.args.graph.now.actors = search rules in
+    let kind = subst (λ t. RowsOfKind t (kind_of graph n) c.in-Ok.rows) c.loop-number.invariant.keeps c.in-Ok.ensures.rows in
+    record {
+      rows = subst (λ xs. AreFirstRows c.args.late tells graph xs (c.loop-number.number + 1)) (sym items)
+          (first_rows_more c.args.late tells graph c.loop-number.all.items n entry c.loop-number.invariant.rows refl within (record { kind = kind; passes = c.in-Ok.ensures.passes; order = c.in-Ok.ensures.order }));
+      keeps = c.rows_of_actor.ensures.keeps ∙ c.loop-number.invariant.keeps;
+      grows = omega (arith, c.loop-number.invariant.grows, c.rows_of_actor.ensures.grows);
+      asks = asks_files graph n (g.S.Source.asked c.args.source.now) (g.S.Source.asked c.loop-number.source) (g.S.Source.asked c.rows_of_actor.new.source) within c.loop-number.invariant.asks c.in-Ok.ensures.asks;
+    }
+
+pub returns-then-is_err-clause-asks : goal.returns-then-is_err-clause-asks
+returns-then-is_err-clause-asks g c =
+    let within : c.loop-number.number < length c.args.graph.now.actors = search rules in (
+      c.loop-number.number + 1,
+      asks_files c.args.graph.now c.loop-number.number (g.S.Source.asked c.args.source.now) (g.S.Source.asked c.loop-number.source) (g.S.Source.asked c.rows_of_actor.new.source) within c.loop-number.invariant.asks c.in-Ok.ensures.asks,
+    )
+
+pub returns-clause-fit : goal.returns-clause-fit
+returns-clause-fit g c =
+    let whole : length c.args.graph.now.actors ≤ c.loop-number.number = search rules in
+    λ refused. fit_rows (g.S.Source.tells c.args.source.now) c.args.graph.now c.loop-number.all.items c.loop-number.number (subst (λ l. AreFirstRows l (g.S.Source.tells c.args.source.now) c.args.graph.now c.loop-number.all.items c.loop-number.number) refused c.loop-number.invariant.rows) whole

@@ -1,0 +1,37 @@
+-- The file of one sensor.
+use Rattle.std.specs.Prelude.{◌≡◌, ℕ, List, [], Ok, Err, IfSome}
+use Rattle.pt_types.specs.declared.graph.Graph.{Graph}
+use Rattle.pt_types.specs.declared.rows.Row.{Row}
+use Rattle.pt_types.specs.declared.kind.Kind.TheVariants.{Sensor}
+use Rattle.pt_sensors.specs.RowsOf.{rows_of}
+use Rattle.pt_types.specs.Lookups.{kind_of}
+use Rattle.pt_sensors.specs.declared.recorded_fault.LateRows.{LateRows}
+use Rattle.pt_sensors.specs.declared.recorded_fault.LateRows.TheVariants as late
+use Rattle.pt_sensors.specs.declared.recorded_fault.RecordedFault.{RecordedFault}
+use Rattle.pt_sensors.specs.declared.recorded_fault.RecordedFault.TheVariants as fault
+use Rattle.pt_sensors.specs.Asked.{Contents, Reading, ReadFails}
+use Rattle.pt_sensors.specs.Recorded.{IsLateRow}
+
+-- why the file with this name gave no rows
+abbrev pub CauseOfFile : ℕ → RecordedFault → Contents → List ℕ → Reading → Type 0
+CauseOfFile actor fault.Memory tells file r = Unit {0}
+CauseOfFile actor (fault.Read named) tells file r = (named ≡ actor) × ReadFails [] file r
+CauseOfFile actor (fault.Sensor named f) tells file r = (named ≡ actor) × IfSome (tells file) (λ bytes. rows_of bytes ≡ Err f)
+CauseOfFile actor (fault.Late named row seen limit) tells file r = ⊥
+
+-- the fault is that of the first late row of these rows
+abbrev pub IsLateFault : RecordedFault → ℕ → List Row → ℕ → ℕ → Type 0
+IsLateFault (fault.Late named row seen limit) actor rows bound until = (named ≡ actor) × IsLateRow rows until bound row seen limit
+IsLateFault _ actor rows bound until = ⊥
+
+-- the actor is a sensor, and Fact holds for its file and its bound
+abbrev pub IsSensorWith : Graph → ℕ → (List ℕ → ℕ → Type 0) → Type 0
+IsSensorWith g actor Fact = (file : List ℕ) × (bound : ℕ) × (kind_of g actor ≡ Sensor file bound) × Fact file bound
+
+-- why an actor gave no rows
+abbrev pub CauseOfActor : LateRows → RecordedFault → Contents → Graph → ℕ → Reading → Type 0
+CauseOfActor l fault.Memory tells g actor r = Unit {0}
+CauseOfActor l (fault.Read named) tells g actor r = (named ≡ actor) × IsSensorWith g actor (λ file bound. ReadFails [] file r)
+CauseOfActor l (fault.Sensor named f) tells g actor r = (named ≡ actor) × IsSensorWith g actor (λ file bound. IfSome (tells file) (λ bytes. rows_of bytes ≡ Err f))
+CauseOfActor l (fault.Late named row seen limit) tells g actor r =
+    (named ≡ actor) × (l ≡ late.Refused) × IsSensorWith g actor (λ file bound. (rows : List Row) × IfSome (tells file) (λ bytes. rows_of bytes ≡ Ok rows) × IsLateRow rows g.until bound row seen limit)

@@ -1,0 +1,49 @@
+//! Why the rows of the sensors could not be read.
+
+ghost use Rattle.std.specs.Prelude.{◌≡◌};
+ghost use Rattle.pt_sensors.specs.Faults.{fault_of_rows};
+
+use crate::RowFault;
+
+/// Whether late rows are faults.
+#[derive(Clone, Copy, Debug, PartialEq, Eq)]
+pub enum LateRows {
+    /// A late row is a fault.
+    Refused,
+    /// A late row is taken like any other.
+    Taken,
+}
+
+/// Why there are no rows. `sensor` and `actor` are numbers in the graph, from 0.
+#[derive(Clone, Copy, Debug, PartialEq, Eq)]
+pub enum RecordedFault {
+    /// Out of memory.
+    Memory,
+    /// The sensor's file couldn't be read.
+    Read {
+        sensor: u32,
+    },
+    /// The sensor's file has a fault.
+    Sensor {
+        actor: u32,
+        fault: RowFault,
+    },
+    /// Row `row`, from 1, is late: it is seen at `seen`, after `limit`,
+    /// its time plus the sensor's bound. Both are in microseconds.
+    Late {
+        actor: u32,
+        row: u32,
+        seen: u64,
+        limit: u64,
+    },
+}
+
+/// The fault for a fault of the file of a sensor.
+pub fn fault_of_rows(actor: u32, fault: RowFault) -> RecordedFault
+    ensures { result ≡ fault_of_rows actor fault }
+{
+    match fault {
+        RowFault::Memory => RecordedFault::Memory,
+        _ => RecordedFault::Sensor { actor, fault },
+    }
+}

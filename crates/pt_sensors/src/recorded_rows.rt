@@ -1,0 +1,89 @@
+//! The rows of all sensors of a graph.
+
+ghost use Rattle.std.specs.Prelude.{◌≡◌, ◌<◌, ◌≤◌, ◌^◌, [], IfOk, IfErr, length};
+ghost use Rattle.pt_semantics.specs.Lists.{Each};
+ghost use Rattle.pt_types.specs.Lookups.{kind_of};
+ghost use Rattle.pt_semantics.specs.Rows.{FitRows};
+ghost use Rattle.pt_sensors.specs.Order.{AreInOrder};
+ghost use Rattle.pt_sensors.specs.Listed.{rows_for, IsOfActors};
+ghost use Rattle.pt_sensors.specs.Asked.{Asks, AsksFiles, AsksOrNot, file_of};
+ghost use Rattle.pt_sensors.specs.Recorded.{AllPass, AreRows, CauseOfRows, Passes, RowsOfKind};
+ghost use Rattle.pt_sensors.specs.declared.recorded_fault.LateRows.TheVariants.{Refused};
+ghost use Rattle.pt_sensors.specs.Files.{CauseOfActor};
+ghost use Rattle.pt_sensors.specs.Places.{StandInPlace, of_run};
+
+use crate::SensorRows;
+use crate::file::{judged, rows_of_file};
+use crate::recorded_fault::{LateRows, RecordedFault};
+use pt_io::Source;
+use pt_tags::List;
+use pt_types::{Graph, Kind, Row};
+use std::alloc::Global;
+
+/// The rows of one actor: from its file if it is a sensor, and else none.
+fn rows_of_actor<S: Source>(
+    alloc: Global,
+    source: &mut S,
+    graph: &Graph,
+    actor: u32,
+    late: LateRows,
+) -> Result<List<Row>, RecordedFault>
+    requires { actor < length graph.now.actors }
+    ensures rows { IfOk result (λ rows. RowsOfKind (S.tells source.old) (kind_of graph.now actor) rows) }
+    ensures passes { IfOk result (λ rows. Passes late graph.now.until (kind_of graph.now actor) rows) }
+    ensures order { IfOk result AreInOrder }
+    ensures fault { IfErr result (λ f. CauseOfActor late f (S.tells source.old) graph.now actor
+        (record { asked_before = S.asked source.old; asked_now = S.asked source.new; before = S.faults source.old; now = S.faults source.new })) }
+    ensures keeps { S.tells source.new ≡ S.tells source.old }
+    ensures grows { S.faults source.old ≤ S.faults source.new }
+    ensures asks { IfOk result (λ rows. Asks (S.asked source.old) (S.asked source.new) (file_of (kind_of graph.now actor))) }
+    ensures asks_at_most { IfErr result (λ f. AsksOrNot (S.asked source.old) (S.asked source.new) (file_of (kind_of graph.now actor))) }
+{
+    let Kind::Sensor { file, bound } = &graph.actors.as_slice()[actor as usize].kind else {
+        return Ok(List::new(Vec::new(alloc)));
+    };
+    let rows = match rows_of_file(alloc, source, actor, file.as_str()) {
+        Ok(rows) => rows,
+        Err(fault) => return Err(fault),
+    };
+    match judged(late, actor, rows.as_slice(), *bound, graph.until) {
+        Ok(()) => Ok(rows),
+        Err(fault) => Err(fault),
+    }
+}
+
+/// The rows of all sensors of a graph, read in graph order: one entry for each actor, empty if it is not a sensor.
+///
+/// If late rows are refused, the rows of each sensor are checked before the next file is fetched.
+pub fn recorded<S: Source>(
+    alloc: Global,
+    source: &mut S,
+    graph: &Graph,
+    late: LateRows,
+) -> Result<Vec<SensorRows>, RecordedFault>
+    requires { length graph.now.actors < 2 ^ 32 }
+    ensures rows { IfOk result (λ all. AreRows (S.tells source.old) graph.now (rows_for all.items)) }
+    ensures passes { IfOk result (λ all. AllPass late graph.now (rows_for all.items)) }
+    ensures actors { IfOk result (λ all. Each (IsOfActors (length graph.now.actors)) all.items) }
+    ensures places { IfOk result (λ all. StandInPlace graph.now all.items) }
+    ensures fit { IfOk result (λ all. late ≡ Refused → FitRows graph.now (of_run graph.now (rows_for all.items))) }
+    ensures fault { IfErr result (λ f. CauseOfRows late f (S.tells source.old) graph.now []
+        (record { asked_before = S.asked source.old; asked_now = S.asked source.new; before = S.faults source.old; now = S.faults source.new })) }
+    ensures asks { AsksFiles graph.now (S.asked source.old) (S.asked source.new) }
+    ensures keeps { S.tells source.new ≡ S.tells source.old }
+    ensures grows { S.faults source.old ≤ S.faults source.new }
+{
+    let count = graph.actors.as_slice().len();
+    let mut all = Vec::new(alloc);
+    for number in 0..count {
+        let actor = number as u32;
+        let rows = match rows_of_actor(alloc, source, graph, actor, late) {
+            Ok(rows) => rows,
+            Err(fault) => return Err(fault),
+        };
+        if all.push(SensorRows { actor, rows }).is_err() {
+            return Err(RecordedFault::Memory);
+        }
+    }
+    Ok(all)
+}

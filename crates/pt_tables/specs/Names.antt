@@ -1,0 +1,15 @@
+-- The names at the two ends of a link; empty if there is no such link.
+use Rattle.std.specs.Prelude.{ℕ, List, [], None, Option, Some}
+use Rattle.pt_types.specs.declared.graph.Graph.{Graph}
+use Rattle.pt_types.specs.declared.graph.Link.{Link}
+use Rattle.pt_types.specs.Lookups.{actor_name}
+
+-- the name of the actor that a link leads to
+abbrev pub receiver_name : Graph → Option Link → List ℕ
+receiver_name g None = []
+receiver_name g (Some link) = actor_name g link.to
+
+-- the name of the actor that a link leads from
+abbrev pub sender_name : Graph → Option Link → List ℕ
+sender_name g None = []
+sender_name g (Some link) = actor_name g link.from

@@ -1,0 +1,111 @@
+//! The log lines of turns.
+
+ghost use Rattle.std.specs.Prelude.{◌≡◌, ◌++◌, ◌∷◌, ◌<◌, [], List, OnOk, Some, length, option_map, slice_get, string_bytes};
+ghost use Rattle.std.specs.List.{flat_map};
+ghost use Rattle.pt_semantics.specs.Turn.{Turn};
+ghost use Rattle.pt_tables.specs.Log.{claim_line, history_lines, log_head, log_text, post_line, row_line, sent_line, take_line, turn_lines};
+
+use crate::lines::{push_claim, push_post, push_row, push_sent, push_taken, push_turn_line};
+use pt_history::History;
+use pt_types::{Done, Graph, OnLink, RowAt, Task};
+use std::alloc::AllocError;
+
+/// Appends the first line of the log, `log`.
+pub fn push_head(text: &mut String) -> Result<(), AllocError>
+    ensures { OnOk result (string_bytes text.new ≡ string_bytes text.old ++ log_head) }
+{
+    text.push_str("log\n")
+}
+
+/// Appends the lines of all turns of a platform.
+pub fn push_history(
+    text: &mut String,
+    graph: &Graph,
+    platform: u32,
+    history: &History,
+) -> Result<(), AllocError>
+    ensures lines { OnOk result (string_bytes text.new ≡ string_bytes text.old ++ history_lines graph.now platform history.now.turns) }
+
+    // The log of the platforms before this one becomes the log of those and this one.
+    ensures log { OnOk result ((before : List (List Turn)) → length before ≡ platform → string_bytes text.old ≡ log_text graph.now before → string_bytes text.new ≡ log_text graph.now (before ++ history.now.turns ∷ [])) }
+{
+    for number in 0..history.turns() {
+        push_turn(text, graph, platform, history, number)?;
+    }
+    Ok(())
+}
+
+/// Appends the lines of one recorded turn of a platform.
+pub fn push_turn(
+    text: &mut String,
+    graph: &Graph,
+    platform: u32,
+    history: &History,
+    number: usize,
+) -> Result<(), AllocError>
+    requires { number < length history.now.turns }
+    ensures { OnOk result (option_map (λ turn. string_bytes text.old ++ turn_lines graph.now platform turn) (slice_get history.now.turns number) ≡ Some (string_bytes text.new)) }
+{
+    push_turn_line(
+        text,
+        graph.platform_name(platform),
+        history.first(number),
+        history.last(number),
+        history.count(number),
+    )?;
+    push_posts(text, history.posted(number))?;
+    push_rows(text, graph, history.rows(number))?;
+    push_all_taken(text, graph, history.taken(number))?;
+    push_claims(text, graph, history.claimed(number))?;
+    push_all_sent(text, graph, history.sent(number))
+}
+
+/// Appends the lines of posted results.
+fn push_posts(text: &mut String, posted: &[Done]) -> Result<(), AllocError>
+    ensures { OnOk result (string_bytes text.new ≡ string_bytes text.old ++ flat_map post_line posted.now) }
+{
+    for done in posted {
+        push_post(text, done)?;
+    }
+    Ok(())
+}
+
+/// Appends the lines of rows that entered.
+fn push_rows(text: &mut String, graph: &Graph, rows: &[RowAt]) -> Result<(), AllocError>
+    ensures { OnOk result (string_bytes text.new ≡ string_bytes text.old ++ flat_map (row_line graph.now) rows.now) }
+{
+    for row in rows {
+        push_row(text, graph, row)?;
+    }
+    Ok(())
+}
+
+/// Appends the lines of messages taken.
+fn push_all_taken(text: &mut String, graph: &Graph, taken: &[OnLink]) -> Result<(), AllocError>
+    ensures { OnOk result (string_bytes text.new ≡ string_bytes text.old ++ flat_map (take_line graph.now) taken.now) }
+{
+    for message in taken {
+        push_taken(text, graph, message)?;
+    }
+    Ok(())
+}
+
+/// Appends the lines of claims.
+fn push_claims(text: &mut String, graph: &Graph, claimed: &[Task]) -> Result<(), AllocError>
+    ensures { OnOk result (string_bytes text.new ≡ string_bytes text.old ++ flat_map (claim_line graph.now) claimed.now) }
+{
+    for task in claimed {
+        push_claim(text, graph, task)?;
+    }
+    Ok(())
+}
+
+/// Appends the lines of messages sent.
+fn push_all_sent(text: &mut String, graph: &Graph, sent: &[OnLink]) -> Result<(), AllocError>
+    ensures { OnOk result (string_bytes text.new ≡ string_bytes text.old ++ flat_map (sent_line graph.now) sent.now) }
+{
+    for message in sent {
+        push_sent(text, graph, message)?;
+    }
+    Ok(())
+}

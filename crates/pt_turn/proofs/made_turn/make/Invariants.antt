@@ -1,0 +1,4 @@
+use Rattle.pt_turn.proofs.made_turn.make.Given as goal
+
+abbrev pub ghost-turn : goal.ghost-turn
+ghost-turn g a = g.basis

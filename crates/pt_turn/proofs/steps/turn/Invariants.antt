@@ -1,0 +1,4 @@
+use Rattle.pt_turn.proofs.steps.turn.Given as goal
+
+abbrev pub ghost-takes : goal.ghost-takes
+ghost-takes g a = g.basis

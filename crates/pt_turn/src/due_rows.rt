@@ -1,0 +1,34 @@
+//! How many rows enter in a turn.
+
+ghost use Rattle.std.specs.Prelude.{◌≡◌, ◌≤◌, IfSome, drop, length};
+ghost use Rattle.pt_semantics.specs.Entering.{all_due, due};
+ghost use Rattle.pt_state.specs.State.{left_in};
+ghost use Rattle.pt_state.specs.Sensors.{AreSensors};
+
+use pt_state::Sensor;
+use pt_types::{Graph, Row};
+
+/// How many of the rows after the first `entered` are seen by a reading, in microseconds.
+fn count_seen(rows: &[Row], entered: usize, reading: u64) -> usize
+    requires { entered ≤ length rows.now }
+    ensures { result ≡ length (due reading (drop entered rows.now)) }
+{
+    for index in entered..rows.len() {
+        if reading < rows[index].seen {
+            return index - entered;
+        }
+    }
+    rows.len() - entered
+}
+
+/// How many rows of all sensors are seen by a reading, in microseconds; `None` if 64 bits do not hold the count.
+pub fn count_due(graph: &Graph, sensors: &[Sensor], reading: u64) -> Option<usize>
+    requires { AreSensors graph.now sensors.now }
+    ensures { IfSome result (λ count. count ≡ length (all_due graph.now reading (left_in sensors.now))) }
+{
+    let mut count: usize = 0;
+    for sensor in sensors {
+        count = count.checked_add(count_seen(sensor.rows.as_slice(), sensor.entered, reading))?;
+    }
+    Some(count)
+}

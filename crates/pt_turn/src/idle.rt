@@ -1,0 +1,63 @@
+//! Turns in which nothing happens.
+
+ghost use Rattle.std.specs.Prelude.{◌≡◌, None, IfOk, OnErr, true, false};
+ghost use Rattle.pt_semantics.specs.Paced.{IsNextReading};
+ghost use Rattle.pt_turn.specs.Platforms.{state_at};
+ghost use Rattle.pt_turn.specs.Rested.{HasRested, IsAwake};
+
+use crate::kept_turn::raised_to;
+use crate::memory::keep_room;
+use crate::platform::Platform;
+use pt_claim::next_reading;
+use pt_history::Room;
+use pt_tags::Memory;
+
+/// Room for one turn in which nothing happens.
+const ONE_TURN: Room = Room {
+    turns: 1,
+    posted: 0,
+    rows: 0,
+    taken: 0,
+    claimed: 0,
+    sent: 0,
+};
+
+impl Platform {
+    /// The next reading, in microseconds. It is cached until something changes.
+    fn find_next(&mut self) -> u64
+        ensures next { IsNextReading self.old.plan.graph self.old.number (state_at self.old) result }
+        ensures same { self.new ≡ self.old }
+    {
+        if let Some(next) = self.next {
+            return next;
+        }
+        let next = next_reading(&self.fields, &self.plan, self.number, self.closing);
+        self.next = Some(next);
+        next
+    }
+
+    /// Records an idle turn at a reading if the platform is before its next reading and has nothing to send, and returns
+    /// whether it did. The reading, in microseconds, is raised to the last one if it is smaller. If it returns `false`, or
+    /// runs out of memory, nothing changes.
+    pub fn rest(&mut self, reading: u64) -> Result<bool, Memory>
+        requires no_fault { self.old.fault ≡ None }
+        ensures rested { IfOk result (λ rested. rested ≡ true → HasRested self.old self.new reading) }
+        ensures awake { IfOk result (λ rested. rested ≡ false → self.new ≡ self.old) }
+        ensures why { IfOk result (λ rested. rested ≡ false → IsAwake self.old reading) }
+        ensures refused { OnErr result (self.new ≡ self.old) }
+    {
+        if !self.fields.outbox.is_empty() {
+            return Ok(false);
+        }
+        let next = self.find_next();
+        let reading = raised_to(self.fields.reading, reading);
+        if next <= reading {
+            return Ok(false);
+        }
+        keep_room(&mut self.history, ONE_TURN)?;
+        self.history.begin(reading);
+        self.fields.reading = Some(reading);
+        self.room = None;
+        Ok(true)
+    }
+}

@@ -1,0 +1,58 @@
+//! A turn, run and recorded.
+
+ghost use Rattle.std.specs.Prelude.{◌≡◌, ◌+◌, ◌*◌, ◌≤◌, ℕ, Some, length, vec_len};
+ghost use Rattle.pt_state.specs.State.{rows_of, IsSound};
+ghost use Rattle.pt_state.specs.Sensors.{AreSensors};
+ghost use Rattle.pt_take.specs.Taken.{Basis};
+ghost use Rattle.pt_turn.specs.Steps.{AreEmpty};
+ghost use Rattle.pt_turn.specs.Making.{CanKeep, IsKept, IsReady};
+ghost use Rattle.pt_types.specs.Limits.{most_claims};
+
+use crate::fault::TurnFault;
+use crate::kept_turn::keep;
+use crate::turn_fault::fault_of;
+use crate::{Lists, turn};
+use pt_actors::{Done, Tasks};
+use pt_history::History;
+use pt_offsets::Plan;
+use pt_state::Fields;
+use pt_types::OnLink;
+
+/// Makes a turn at a reading (in microseconds) that is not before the last, records it, and appends its claims to `tasks`.
+/// Returns the fault of the turn, if it has one. Allocates nothing.
+pub fn make(
+    fields: &mut Fields,
+    plan: &Plan,
+    number: u32,
+    closing: u64,
+    reading: u64,
+    dones: &[Done],
+    messages: &[OnLink],
+    most: usize,
+    lists: &mut Lists,
+    history: &mut History,
+    tasks: &mut Tasks,
+) -> Option<TurnFault>
+    ghost basis: { Basis }
+    requires ready { IsReady plan.now basis number closing reading most dones.now messages.now fields.old lists.old }
+    requires keep { CanKeep plan.now reading (length dones.now) (length messages.now) most fields.old history.old.room }
+    requires tasks { most ≤ tasks.old.spare }
+    ensures kept { IsKept plan.now basis reading most dones.now messages.now fields.old fields.new history.old.turns history.new.turns tasks.old.tasks tasks.new.tasks result }
+    ensures sound { IsSound plan.now.graph fields.new }
+    ensures sensors { AreSensors plan.now.graph fields.new.sensors.items }
+    ensures all_rows { (a : ℕ) → rows_of fields.new.sensors.items a ≡ rows_of fields.old.sensors.items a }
+    ensures reading { fields.new.reading ≡ Some reading }
+    ensures claims { fields.new.claims ≤ most_claims }
+    ensures empty { AreEmpty lists.new }
+    ensures outbox { vec_len fields.new.outbox ≤ vec_len fields.old.outbox + length dones.now * length plan.now.graph.links + length plan.now.graph.links }
+    ensures sent { history.new.room.sent ≡ history.old.room.sent }
+{
+    let last = fields.reading;
+    let ending = turn(
+        fields, plan, number, closing, reading, dones, messages, most, lists,
+    );
+    let fault = fault_of(plan, ending, last, lists.taken.as_slice());
+    tasks.extend(lists.claimed.as_slice());
+    keep(history, reading, lists);
+    fault
+}

@@ -1,0 +1,53 @@
+//! The state with which a platform opens.
+
+ghost use Rattle.std.specs.Prelude.{◌≡◌, [], None, false, IfOk};
+ghost use Rattle.pt_semantics.specs.Platform.{opened};
+ghost use Rattle.pt_semantics.specs.Rows.{FitRows};
+ghost use Rattle.pt_offsets.specs.Plans.{IsAdmitted};
+ghost use Rattle.pt_state.specs.State.{rows_of, state_of, IsSound};
+ghost use Rattle.pt_state.specs.Sensors.{AreSensors};
+ghost use Rattle.pt_turn.specs.Handed.{rows_in, AreHanded};
+
+use crate::pending_rows::all_unentered;
+use crate::starting_events::starting;
+use crate::starting_states::first_states;
+use pt_offsets::Plan;
+use pt_sensors::SensorRows;
+use pt_state::{Fields, OpenClaims};
+use pt_tags::Memory;
+use std::alloc::Global;
+
+/// The state with which a platform opens, given the rows of its sensors in the order of the graph.
+pub fn open_fields(
+    alloc: Global,
+    plan: &Plan,
+    platform: u32,
+    rows: Vec<SensorRows>,
+) -> Result<Fields, Memory>
+    requires { AreHanded plan.now.graph platform rows.items }
+    ensures admitted { IsAdmitted plan.now }
+    ensures opened { IfOk result (λ fields. state_of fields [] ≡ opened plan.now.graph platform (rows_of fields.sensors.items)) }
+    ensures rows { IfOk result (λ fields. rows_of fields.sensors.items ≡ rows_in rows.items) }
+    ensures fit { IfOk result (λ fields. FitRows plan.now.graph (rows_of fields.sensors.items)) }
+    ensures sound { IfOk result (λ fields. IsSound plan.now.graph fields) }
+    ensures sensors { IfOk result (λ fields. AreSensors plan.now.graph fields.sensors.items) }
+    ensures open_claims { IfOk result (λ fields. fields.open_claims.items ≡ []) }
+    ensures outbox { IfOk result (λ fields. fields.outbox.items ≡ []) }
+    ensures reading { IfOk result (λ fields. fields.reading ≡ None) }
+    ensures closed { IfOk result (λ fields. fields.closed ≡ false) }
+    ensures claims { IfOk result (λ fields. fields.claims ≡ 0) }
+{
+    let queue = starting(alloc, plan.graph(), platform)?;
+    let states = first_states(alloc, plan.graph())?;
+    let sensors = all_unentered(alloc, rows)?;
+    Ok(Fields {
+        queue,
+        open_claims: OpenClaims::new(alloc),
+        states,
+        sensors,
+        outbox: Vec::new(alloc),
+        reading: None,
+        closed: false,
+        claims: 0,
+    })
+}

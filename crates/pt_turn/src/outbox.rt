@@ -1,0 +1,52 @@
+//! The messages that a platform sends.
+
+ghost use Rattle.std.specs.Prelude.{◌≡◌, ◌==◌, ◌<◌, length, position, slice_get};
+ghost use Rattle.pt_types.specs.declared.firing.OnLink.{OnLink};
+ghost use Rattle.pt_semantics.specs.Closing.{on_link};
+ghost use Rattle.pt_turn.specs.Gone.{HasGone, last_sent};
+
+use crate::platform::Platform;
+use pt_tags::Message;
+use pt_types::OnLink;
+
+/// The index of the first message of a link; `None` if there is none.
+fn place_of(outbox: &[OnLink], link: u32) -> Option<usize>
+    ensures { result ≡ position (λ (m : OnLink). m.link == link) outbox.now }
+{
+    outbox.iter().position(|m| m.link == link)
+}
+
+impl Platform {
+    /// Whether all messages are sent.
+    pub fn sent_all(&self) -> bool
+        ensures { result ≡ (length self.now.outbox == 0) }
+    {
+        self.fields.outbox.is_empty()
+    }
+
+    /// The next message to send on a link; `None` if there is none.
+    pub fn outgoing(&self, link: u32) -> Option<Message>
+        ensures { result ≡ slice_get (on_link link self.now.outbox) 0 }
+    {
+        let outbox = self.fields.outbox.as_slice();
+        match place_of(outbox, link) {
+            None => None,
+            Some(place) => Some(outbox[place].message),
+        }
+    }
+
+    /// Moves the next message of a link from the outbox to the messages sent since the last turn, of which there are at most
+    /// 64 for each link. Allocates nothing.
+    pub fn went(&mut self, link: u32)
+        requires begun { 0 < length self.old.turns }
+        requires waits { 0 < length (on_link link self.old.outbox) }
+        requires few { length (on_link link (last_sent self.old.turns)) < 64 }
+        ensures { HasGone self.old self.new link }
+    {
+        let Some(place) = place_of(self.fields.outbox.as_slice(), link) else {
+            unreachable!();
+        };
+        let message = self.fields.outbox.remove(place);
+        self.history.send([message].as_slice());
+    }
+}

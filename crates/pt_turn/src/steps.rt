@@ -1,0 +1,77 @@
+//! The five steps of a turn.
+
+ghost use Rattle.std.specs.Prelude.{◌≡◌, ◌+◌, ◌*◌, ◌≤◌, ℕ, Some, length, vec_len};
+ghost use Rattle.pt_semantics.specs.Paced.{IsClosing};
+ghost use Rattle.pt_state.specs.State.{rows_of, IsSound};
+ghost use Rattle.pt_post.specs.Posted.{AreDone};
+ghost use Rattle.pt_state.specs.Sensors.{AreSensors};
+ghost use Rattle.pt_take.specs.Taken.{Arrive, Basis};
+ghost use Rattle.pt_turn.specs.Steps.{AreEmpty, FitIn, HasRoom, IsGround, IsMade, ShowsEnd};
+ghost use Rattle.pt_types.specs.Limits.{most_claims};
+
+use crate::claim_step::{Ending, claim_unless};
+use pt_actors::Done;
+use pt_close::close;
+use pt_enter::enter;
+use pt_offsets::Plan;
+use pt_post::posts;
+use pt_state::Fields;
+use pt_take::takes;
+use pt_types::{Done as Record, OnLink, RowAt, Task};
+
+/// What a turn did: the results posted, the rows entered, the messages taken, and the tasks claimed.
+#[derive(Drop)]
+pub struct Lists {
+    pub posted: Vec<Record>,
+    pub rows: Vec<RowAt>,
+    pub taken: Vec<OnLink>,
+    pub claimed: Vec<Task>,
+}
+
+/// Makes a turn of platform `number` at a reading that is not before the last, with these results and messages, and claims
+/// at most `most` units. Records what it did in `lists`, which must be empty, and returns whether a turn may follow.
+///
+/// `closing` is the closing reading of the platform. Readings are microseconds. Allocates nothing.
+pub fn turn(
+    fields: &mut Fields,
+    plan: &Plan,
+    number: u32,
+    closing: u64,
+    reading: u64,
+    dones: &[Done],
+    messages: &[OnLink],
+    most: usize,
+    lists: &mut Lists,
+) -> Ending
+    ghost basis: { Basis }
+    requires sound { IsSound plan.now.graph fields.old }
+    requires sensors { AreSensors plan.now.graph fields.old.sensors.items }
+    requires goes_on { IsGround plan.now.graph basis fields.old }
+    requires platform { basis.platform ≡ number }
+    requires closing { IsClosing plan.now.graph number closing }
+    requires rises { (p : ℕ) → fields.old.reading ≡ Some p → p ≤ reading }
+    requires dones { AreDone plan.now.graph dones.now }
+    requires arrive { Arrive plan.now.graph basis messages.now }
+    requires most { (1 ≤ most) × (most ≤ 64) }
+    requires claims { fields.old.claims ≤ most_claims }
+    requires room { HasRoom plan.now.graph fields.old lists.old reading (length dones.now) (length messages.now) most }
+    requires empty { AreEmpty lists.old }
+    ensures sound { IsSound plan.now.graph fields.new }
+    ensures sensors { AreSensors plan.now.graph fields.new.sensors.items }
+    ensures made { IsMade plan.now.graph basis reading most dones.now messages.now fields.old fields.new lists.new result }
+    ensures all_rows { (a : ℕ) → rows_of fields.new.sensors.items a ≡ rows_of fields.old.sensors.items a }
+    ensures reading { fields.new.reading ≡ Some reading }
+    ensures claims { fields.new.claims ≤ most_claims }
+    ensures few { FitIn dones.now messages.now most plan.now.graph reading fields.old lists.new }
+    ensures full { ShowsEnd plan.now.graph reading fields.new result }
+    ensures outbox { vec_len fields.new.outbox ≤ vec_len fields.old.outbox + length dones.now * length plan.now.graph.links + length plan.now.graph.links }
+{
+    let graph = plan.graph();
+    posts(fields, graph, plan.branches(), dones, &mut lists.posted);
+    enter(fields, graph, reading, &mut lists.rows);
+    let late = takes(fields, graph, plan.offsets(), messages, &mut lists.taken);
+    fields.reading = Some(reading);
+    let ending = claim_unless(late, fields, plan, reading, most, &mut lists.claimed);
+    close(fields, graph, number, closing, reading, late);
+    ending
+}

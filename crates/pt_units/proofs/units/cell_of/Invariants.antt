@@ -1,6 +1,0 @@
-use Rattle.std.proofs.Common.{◌≡◌, ◌+◌, drop}
-use Rattle.pt_semantics.specs.Units.{cell_of}
-use Rattle.pt_units.proofs.units.cell_of.Given as goal
-
-abbrev pub invariant-loop-cell : goal.invariant-loop-cell
-invariant-loop-cell l = l.cell + cell_of (drop l.cell l.cells) l.left ≡ cell_of l.cells l.input
