@@ -4,12 +4,12 @@
 #
 #     bench/analysis.sh [TIMES]
 set -e
-cd "$(dirname "$0")/.."
+here=$(realpath -- "$0") || exit 1
+. "${here%/*}/../tools/common.sh"
 times=${1:-9}
-work=$(mktemp -d)
-trap 'rm -rf "$work"' EXIT
+make_work
 # Not the launcher, which takes some milliseconds of its own.
-for program in "$PTIDES" "$PWD/out/ptides" "$PWD/dist/ptides"; do
+for program in "${PTIDES:+$(of_caller "$PTIDES")}" "$top/out/ptides" "$top/dist/ptides"; do
     [ ! -x "$program" ] || break
 done
 rustc -O --edition 2021 -A warnings -o "$work/plain" bench/analysis.rs
@@ -31,7 +31,7 @@ def measure(words):
         _, _, usage = os.wait4(process.pid, 0)
         spent = (usage.ru_utime + usage.ru_stime) * 1000
         best = spent if best is None else min(best, spent)
-    # What wait4 says of memory is this interpreter's own where that is greater.
+    # For memory wait4 reports this interpreter's own if that is greater.
     timed = subprocess.run(['/usr/bin/time', '-f', '%M'] + words, stdout=subprocess.DEVNULL, stderr=subprocess.PIPE, check=True)
     return best, int(timed.stderr.split()[-1]) / 1024
 

@@ -8,13 +8,13 @@
 # It measures the program that PTIDES names, else the one that was built here, out/ptides, else the shipped one, and not the
 # launcher, which takes some milliseconds of its own. Needs rustc, python3 and /usr/bin/time.
 set -e
-cd "$(dirname "$0")/.."
-for program in "$PTIDES" out/ptides dist/ptides; do
+here=$(realpath -- "$0") || exit 1
+. "${here%/*}/../tools/common.sh"
+for program in "${PTIDES:+$(of_caller "$PTIDES")}" "$top/out/ptides" "$top/dist/ptides"; do
     [ ! -x "$program" ] || break
 done
-work=$(mktemp -d)
-trap 'rm -rf "$work"' EXIT
+make_work
 for name in event_loop paced_engine; do
     rustc -C opt-level=3 -C codegen-units=1 --edition 2021 -A warnings -o "$work/$name" "bench/$name.rs"
 done
-python3 bench/compare.py "$work" "$(realpath "$program")" "$@"
+python3 bench/compare.py "$work" "$program" "$@"

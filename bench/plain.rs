@@ -1,10 +1,11 @@
-//! The plain program that `run.sh` compares with `pt_bench`: the same text, numbers and firings, with no proof.
+//! The plain program that `run.sh` compares with the line `measure` of `pt_cases`: the same text, numbers and firings, with no proof.
 
 use std::time::Instant;
 
-const ROWS: u64 = 100_000;
+/// The rows and the firings of one part; the argument says how many parts there are, 1 to 100.
+const ROWS: u64 = 1_000;
+const FIRINGS: u64 = 10_000;
 const READINGS: u32 = 5;
-const FIRINGS: u64 = 1_000_000;
 
 struct Row {
     time: u64,
@@ -12,9 +13,9 @@ struct Row {
     value: i64,
 }
 
-fn text() -> Vec<u8> {
+fn text(rows: u64) -> Vec<u8> {
     let mut text = String::from("time,seen,value\n");
-    for i in 1..ROWS + 1 {
+    for i in 1..rows + 1 {
         text += &format!("00000{:015},0000{:016},-{:020}\n", i * 1_000_000_000, i * 10_000_000_000, i);
     }
     text.into_bytes()
@@ -102,11 +103,11 @@ fn fire(kind: &Kind, state: i64, inputs: &[Option<i64>; 8]) -> (i64, [Option<i64
     }
 }
 
-fn measure(name: &str, kind: &Kind) {
+fn measure(name: &str, kind: &Kind, firings: u64) {
     let start = Instant::now();
     let mut state = 0;
     let mut total = 0i64;
-    for i in 0..FIRINGS {
+    for i in 0..firings {
         let inputs = [Some((i % 1000) as i64), Some(state), None, None, None, None, None, None];
         let (next, outputs) = fire(kind, state, &inputs);
         state = next;
@@ -117,7 +118,9 @@ fn measure(name: &str, kind: &Kind) {
 }
 
 fn main() {
-    let text = text();
+    let parts = std::env::args().nth(1).and_then(|word| word.parse().ok()).unwrap_or(100);
+    let text = text(parts * ROWS);
+    let firings = parts * FIRINGS;
     let start = Instant::now();
     let mut count = 0;
     for _ in 0..READINGS {
@@ -125,10 +128,10 @@ fn main() {
     }
     eprintln!("rows {}", start.elapsed().as_micros());
     println!("rows {count}");
-    measure("scale", &Kind::Scale { num: 3, den: 2 });
-    measure("add", &Kind::Add);
-    measure("sum", &Kind::Sum);
-    measure("merge", &Kind::Merge);
-    measure("delay", &Kind::Delay);
-    measure("block", &Kind::Mean { num: 1, den: 2 });
+    measure("scale", &Kind::Scale { num: 3, den: 2 }, firings);
+    measure("add", &Kind::Add, firings);
+    measure("sum", &Kind::Sum, firings);
+    measure("merge", &Kind::Merge, firings);
+    measure("delay", &Kind::Delay, firings);
+    measure("block", &Kind::Mean { num: 1, den: 2 }, firings);
 }

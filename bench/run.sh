@@ -1,16 +1,23 @@
 #!/bin/sh
 # Builds both programs, runs them in turn, and prints the least time of each in microseconds and their ratio.
+# Both have to write the same, but for the kinds that the plain program lacks.
 set -e
-cd "$(dirname "$0")/.."
+here=$(realpath -- "$0") || exit 1
+. "${here%/*}/../tools/common.sh"
 times=${1:-7}
-work=$(mktemp -d)
-trap 'rm -rf "$work"' EXIT
-(cd crates/pt_bench && rt run >/dev/null 2>&1)
+parts=100
+make_work
+echo "measure $parts" >"$work/line.txt"
+(cd crates/pt_cases && rt run <"$work/line.txt" >/dev/null 2>&1)
 rustc -O --edition 2021 -o "$work/plain" bench/plain.rs 2>/dev/null
-for i in $(seq "$times"); do
-    crates/pt_bench/out/pt_bench 2>>"$work/proved.txt" >/dev/null
-    "$work/plain" 2>>"$work/plain.txt" >/dev/null
+for _ in $(seq "$times"); do
+    crates/pt_cases/out/pt_cases <"$work/line.txt" 2>>"$work/proved.txt" >"$work/proved_sums.txt"
+    "$work/plain" "$parts" 2>>"$work/plain.txt" >"$work/plain_sums.txt"
 done
+if grep -Fvxf "$work/proved_sums.txt" "$work/plain_sums.txt"; then
+    echo "the proved program does not write these lines" >&2
+    exit 1
+fi
 awk '
     { if (!($1 in least) || $2 < least[$1]) least[$1] = $2 }
     FNR == NR { if (!($1 in plain) || $2 < plain[$1]) plain[$1] = $2; delete least[$1]; next }

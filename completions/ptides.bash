@@ -1,7 +1,33 @@
-# Completion of ptides for bash: source this file, or copy it to ~/.local/share/bash-completion/completions/ptides.
+# Completion of ptides for bash. tools/install.sh installs it; without an install, source this file:
+#     . completions/ptides.bash
+
+# The companions beside the launcher that is called by this word.
+_ptides_companions() { # WORD
+    local launcher companion
+    # Links are followed; a `~/` that is still in the word is the home folder.
+    launcher=$(realpath -- "$(type -P -- "${1/#~\//"$HOME"/}")" 2>/dev/null) || return
+    for companion in "${launcher%/*}"/tools/ptides-*; do
+        [[ ! -x $companion || ${companion##*/ptides-} == *[!a-z0-9-]* ]] || printf '%s\n' "${companion##*/ptides-}"
+    done
+}
+
+# The graphs and folders that begin with the word, as seen from the folder that `-C` names; any files if there are none.
+_ptides_files() { # FOLDER WORD
+    (
+        unset CDPATH
+        cd -- "$1" 2>/dev/null || exit
+        graphs=$(compgen -f -X '!*.json' -- "$2")
+        folders=$(compgen -d -- "$2")
+        if [[ $graphs$folders ]]; then
+            printf '%s\n' ${graphs:+"$graphs"} ${folders:+"$folders"}
+        else
+            compgen -f -- "$2"
+        fi
+    )
+}
 
 _ptides() {
-    local current=${COMP_WORDS[COMP_CWORD]} before=${COMP_WORDS[COMP_CWORD - 1]} command=${COMP_WORDS[1]} options='' option
+    local current=${COMP_WORDS[COMP_CWORD]} before=${COMP_WORDS[COMP_CWORD - 1]} first=1 folder=. options='' option command
     COMPREPLY=()
     # In `--workers=4` the `=` is a word of its own.
     if [[ $current == = ]]; then
@@ -9,8 +35,25 @@ _ptides() {
     elif [[ $before == = ]]; then
         before=${COMP_WORDS[COMP_CWORD - 2]}
     fi
-    if ((COMP_CWORD == 1)); then
-        mapfile -t COMPREPLY < <(compgen -W 'run check meaning make' -- "$current")
+    while [[ ${COMP_WORDS[first]} == -C ]] && ((first + 1 < COMP_CWORD)); do
+        case ${COMP_WORDS[first + 1]} in
+            /*) folder=${COMP_WORDS[first + 1]} ;;
+            *) folder=$folder/${COMP_WORDS[first + 1]} ;;
+        esac
+        first=$((first + 2))
+    done
+    command=${COMP_WORDS[first]}
+    if ((COMP_CWORD == first)); then
+        mapfile -t COMPREPLY < <(compgen -W "run check meaning make help $(_ptides_companions "${COMP_WORDS[0]}")" -- "$current")
+        [[ $current != -* ]] || mapfile -t COMPREPLY < <(compgen -W '-C --help --version' -- "$current")
+    elif [[ $before == -C && $command == -C ]]; then
+        mapfile -t COMPREPLY < <(
+            unset CDPATH
+            cd -- "$folder" 2>/dev/null && compgen -d -- "$current"
+        )
+        compopt -o filenames 2>/dev/null
+    elif [[ $command == help ]]; then
+        mapfile -t COMPREPLY < <(compgen -W "$(_ptides_companions "${COMP_WORDS[0]}")" -- "$current")
     elif [[ $before == --workers ]]; then
         mapfile -t COMPREPLY < <(compgen -W "$(seq 1 64)" -- "$current")
     elif [[ $before == --clock ]]; then
@@ -19,9 +62,11 @@ _ptides() {
         case $command in
             run) options='--workers --clock --log' ;;
             make) options=--workers ;;
+            check | meaning) ;;
+            *) options=-h ;;
         esac
         for option in $options; do
-            # Each stands at most once.
+            # Each is given at most once.
             if [[ $option == "$current"* && " ${COMP_WORDS[*]} " != *" $option "* ]]; then
                 COMPREPLY+=("$option")
             fi
@@ -29,7 +74,7 @@ _ptides() {
     elif [[ $command == make ]]; then
         mapfile -t COMPREPLY < <(compgen -W "$(seq 1 100)" -- "$current")
     else
-        mapfile -t COMPREPLY < <(compgen -f -X '!*.json' -- "$current"; compgen -d -- "$current")
+        mapfile -t COMPREPLY < <(_ptides_files "$folder" "$current")
         compopt -o filenames 2>/dev/null
     fi
 }

@@ -2,13 +2,15 @@
 # Checks that what the documents cite is there: each file, each crate, each `crate::name`, each link to a file or a heading,
 # each definition and each clause.
 #
-# Of the text it reads what stands in backticks and the targets of links. A file is looked up from the top, from the
+# Of the text it reads what is in backticks and the targets of links. A file is looked up from the top, from the
 # document's folder, in crates/ and in each crate; `crate::path::name` has to be declared in that crate's src/; in "`NAME` in
 # `FILE.antt`" the file has to have the name; in "clauses `A` and `B` of `crate::name`", and in a table with the head
 # `Crate | Function | Clause`, the crate has to have a clause of each name. The last line is `N passed, M failed`.
+# The back-quotes in the patterns are letters that are looked for.
+# shellcheck disable=SC2016
 set -u
-top=$(cd "$(dirname "$0")/.." && pwd)
-cd "$top" || exit 1
+here=$(realpath -- "$0") || exit 1
+. "${here%/*}/common.sh"
 passed=0
 failed=0
 
@@ -85,7 +87,7 @@ check_clauses() { # document, its prose in one line
     done < <(grep -oE 'clauses? (`[a-z_]+`(, | and )?)+ of `[a-z_]+::' <<<"$2" | sort -u)
 }
 
-# The rows of tables of clauses: the crates, which stand for the rows below too, and the clauses.
+# The rows of tables of clauses: the crates, which are those of the rows below too, and the clauses.
 clause_rows() { # document
     awk -F'|' '
         !/^\|/ { inside = 0 }

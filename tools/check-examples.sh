@@ -1,9 +1,9 @@
 #!/usr/bin/env bash
 # Runs all examples and compares what they give with what is stored, byte for byte:
 #
-#     tools/check-examples.sh [PROGRAM]        through ./ptides where no program is named
+#     tools/check-examples.sh [PROGRAM]        through ./ptides if no program is named
 #
-# An example is a folder examples/NAME, or examples/refused/NAME, with these files. A copy of it is run.
+# An example is a folder examples/NAME, examples/idioms/NAME or examples/refused/NAME, with these files. A copy of it is run.
 #   words            the words, one a line; where there is none they are `run graph.json`
 #   status           the status; where there is none it is 0
 #   to               where standard output goes; where there is none it is compared
@@ -13,17 +13,17 @@
 #   expected.check   what `check` writes
 #   rows.py, make.py   write the sensor files that are stored, or a file that is too large to be stored
 #
-# It looks besides at the commands and outputs in the READMEs, the schema, the manual page and the completion. What isn't
+# It also checks the commands and outputs in the READMEs, the schema, the manual page and the completion. What isn't
 # installed is skipped by name. The last line is `N passed, M failed, K skipped`.
 set -u
-top=$(cd "$(dirname "$0")/.." && pwd)
-program=$(realpath "${1:-$top/ptides}")
-cd "$top" || exit 1
+here=$(realpath -- "$0") || exit 1
+. "${here%/*}/common.sh"
+program=$top/ptides
+[ $# -eq 0 ] || program=$(realpath -- "$(of_caller "$1")") || exit 1
 passed=0
 failed=0
 skipped=0
-work=$(mktemp -d)
-trap 'rm -rf "$work"' EXIT
+make_work
 
 pass() {
     passed=$((passed + 1))
@@ -49,7 +49,7 @@ start() { # WORD..
     status=$?
 }
 
-# compare WHAT EXPECTED FOUND: where there is no expected file the found one has to be empty.
+# compare WHAT EXPECTED FOUND: without an expected file the found one has to be empty.
 compare() {
     local expected=$2
     [ -e "$expected" ] || expected=/dev/null
@@ -63,10 +63,10 @@ compare() {
 
 # compare_status WHAT WANTED
 compare_status() {
-    if [ "$status" -eq "$2" ]; then pass; else fail "$1: status $status in place of $2"; fi
+    if [ "$status" -eq "$2" ]; then pass; else fail "$1: status $status instead of $2"; fi
 }
 
-# Runs the scripts of the example in its copy. What they write has to be what is stored, where it is stored.
+# Runs the scripts of the example in its copy. What they write has to be what is stored, if it is stored.
 make_files() { # NAME FOLDER
     local script file
     for script in "$copy"/*.py; do
@@ -82,8 +82,8 @@ make_files() { # NAME FOLDER
 check_example() { # NAME FOLDER
     local name=$1 folder=$2 words=(run graph.json) wanted=0 to
     copy=$work/copy
-    rm -rf "$copy"
-    cp -r "$folder" "$copy"
+    rm -rf -- "$copy"
+    cp -r -- "$folder" "$copy" && chmod -R u+rwX "$copy"
     make_files "$name" "$folder" || [ ! -e "$folder/make.py" ] || return
     [ ! -e "$folder/words" ] || mapfile -t words <"$folder/words"
     [ ! -e "$folder/status" ] || wanted=$(<"$folder/status")
@@ -129,6 +129,19 @@ check_table_of_refusals() {
     done
 }
 
+# docs/IDIOMS.md links each idiom's graph, and shows its table without the head.
+check_page_of_idioms() {
+    local folder page
+    page=$(<docs/IDIOMS.md)
+    for folder in examples/idioms/*/; do
+        if [[ $page == *"(../${folder}graph.json)"*$'\n```text\n'"$(tail -n +2 "${folder}expected.csv")"$'\n```\n'* ]]; then
+            pass
+        else
+            fail "docs/IDIOMS.md doesn't show the table of $folder"
+        fi
+    done
+}
+
 # Adds up what a script of this folder counted: its last line is `N passed, M failed`.
 count() { # COMMAND..
     local found last
@@ -169,7 +182,7 @@ check_documents() {
     count tools/test-completion.sh
 }
 
-# The manual page shows what stands in the file.
+# The manual page shows what is in the file.
 check_manual() { # FILE
     if [[ $(<docs/ptides.1) == *$'\n'"$(<"$1")"$'\n.Ed'* ]]; then
         pass
@@ -178,11 +191,15 @@ check_manual() { # FILE
     fi
 }
 
-for folder in examples/*/ examples/refused/*/; do
+for folder in examples/*/ examples/idioms/*/ examples/refused/*/; do
     folder=${folder%/}
-    [ "$folder" = examples/refused ] || check_example "${folder#examples/}" "$folder"
+    case $folder in
+        examples/idioms | examples/refused) ;;
+        *) check_example "${folder#examples/}" "$folder" ;;
+    esac
 done
 check_table_of_refusals
+check_page_of_idioms
 check_documents
 echo "$passed passed, $failed failed, $skipped skipped"
 [ "$failed" -eq 0 ]

@@ -18,11 +18,13 @@ UNSEEN = {"graph_too_long", "range_of_a_row"}
 
 
 def graph_of(folder):
-    """The graph of a folder, made by its script where it is too large to be stored; None where there is none."""
+    """The graph of a folder, made by its script if it is too large to be stored; None if there is none."""
     if not os.path.isdir(folder):
         return None
     with tempfile.TemporaryDirectory() as place:
         copy = shutil.copytree(folder, os.path.join(place, "copy"))
+        # Of a folder that can't be written the copy can't be written either.
+        os.chmod(copy, 0o700)
         if os.path.exists(os.path.join(copy, "make.py")):
             subprocess.run([sys.executable, "make.py"], cwd=copy, check=True)
         try:
@@ -33,7 +35,7 @@ def graph_of(folder):
 
 
 def sees(name, folder):
-    """Whether the fault that the folder's line tells is one that a schema sees."""
+    """Whether the fault in the folder's line is one that a schema sees."""
     with open(os.path.join(folder, "expected.notes"), encoding="utf-8") as file:
         words = file.read().split()
     return words[0] == "graph:" and words[1] in SEEN and name not in UNSEEN
@@ -61,7 +63,8 @@ def checks():
     described = {name for name, part in members(schema) if isinstance(part, dict) and "description" in part}
     for name in sorted({name for name, _ in members(schema)}):
         yield f"the schema describes {name}", name in described
-    for name in sorted(os.listdir(EXAMPLES)):
+    idioms = [os.path.join("idioms", name) for name in os.listdir(os.path.join(EXAMPLES, "idioms"))]
+    for name in sorted(os.listdir(EXAMPLES) + idioms):
         graph = graph_of(os.path.join(EXAMPLES, name))
         if graph is not None:
             yield f"the schema takes {name}", validator.is_valid(graph)
@@ -75,6 +78,7 @@ def checks():
 
 
 def main():
+    os.chdir(os.path.dirname(os.path.dirname(os.path.realpath(__file__))))
     passed = failed = 0
     for what, holds in checks():
         if holds:

@@ -1,52 +1,83 @@
 #!/usr/bin/env python3
-"""Runs the commands that documents show, and compares what they write with what stands below them.
+"""Runs the commands that documents show, and compares what they write with what is below them.
 
     check-transcripts.py PROGRAM DOCUMENT..
 
-In a block of text a line `$ COMMAND` that calls ptides is run in the document's folder, with PROGRAM in the place of the path to
-ptides. The lines up to the next `$` or the end of the block are its output, standard error at the end; a line `...` stands for
-any lines. The last line is `N passed, M failed`.
+In a block of text a line `$ COMMAND` that calls ptides is run by a shell in the document's folder, with PROGRAM instead of the path
+to ptides. The lines up to the next `$` or the end of the block are its output, standard error at the end; a line `...` means
+any lines. Words that only the launcher knows, as companions, go to the launcher, with PROGRAM as the program. The last line is
+`N passed, M failed`.
 """
 import os
 import re
+import shlex
 import subprocess
 import sys
+from typing import List, NamedTuple
 
-PTIDES = re.compile(r"(?<!\S)(?:\./|(?:\.\./)+)ptides(?= )")
+LAUNCHER = os.path.join(os.path.dirname(os.path.dirname(os.path.realpath(__file__))), "ptides")
+# A path to ptides, folders to go to first, and the next word.
+PTIDES = re.compile(r"(?<!\S)(?:\./|(?:\.\./)+)ptides(?P<folders>(?: -C \S+)*)(?= (?P<word>\S+))")
+COMMANDS = {"run", "check", "meaning", "make"}
 
 
-def transcripts(text):
-    """The commands of a document's blocks, each with the lines below it."""
-    inside, found = False, []
+class Transcript(NamedTuple):
+    """A command, and the lines below it."""
+    command: str
+    wanted: List[str]
+
+
+def transcripts(text: str) -> List[Transcript]:
+    """The commands of a document's blocks that call ptides."""
+    inside, found, current = False, [], None
     for line in text.split("\n"):
         if line.startswith("```"):
             inside = not inside and line == "```text"
-            command = None
+            current = None
         elif inside and line.startswith("$ "):
-            command = (line[2:], [])
-            found.append(command)
-        elif inside and command:
-            command[1].append(line)
-    return [each for each in found if PTIDES.search(each[0])]
+            current = Transcript(line[2:], [])
+            found.append(current)
+        elif inside and current:
+            current.wanted.append(line)
+    return [each for each in found if PTIDES.search(each.command)]
 
 
-def agrees(wanted, lines):
-    """Whether the lines are the wanted ones, in which `...` stands for any lines."""
+def placed(command: str, program: str) -> str:
+    """The command with the program put in. Its path may have any characters, so the shell is given it in quotes."""
+
+    def call(found: "re.Match[str]") -> str:
+        folders = found["folders"]
+        if os.path.realpath(program) == LAUNCHER:
+            return shlex.quote(program) + folders
+        if found["word"] not in COMMANDS:
+            return f"env PTIDES={shlex.quote(program)} {shlex.quote(LAUNCHER)}{folders}"
+        return (f"env{folders} " if folders else "") + shlex.quote(program)
+
+    return PTIDES.sub(call, command)
+
+
+def agrees(wanted: List[str], lines: List[str]) -> bool:
+    """Whether the lines are the wanted ones, in which `...` means any lines."""
     pattern = "".join("(?:.*\n)*?" if line == "..." else re.escape(line) + "\n" for line in wanted)
     return re.fullmatch(pattern, "".join(line + "\n" for line in lines)) is not None
 
 
-def main():
+def lines_of(command: str, folder: str) -> List[str]:
+    """What a command writes in a folder."""
+    done = subprocess.run(["sh", "-c", command], cwd=folder, stdin=subprocess.DEVNULL, capture_output=True, check=False)
+    return (done.stdout + done.stderr).decode("utf-8", "replace").split("\n")[:-1]
+
+
+def main() -> None:
+    if len(sys.argv) < 2:
+        sys.exit("usage: check-transcripts.py PROGRAM DOCUMENT..")
     program, documents = os.path.abspath(sys.argv[1]), sys.argv[2:]
     passed = failed = 0
     for document in documents:
         with open(document, encoding="utf-8") as file:
             text = file.read()
         for command, wanted in transcripts(text):
-            placed = PTIDES.sub(lambda _: program, command)
-            done = subprocess.run(placed, shell=True, cwd=os.path.dirname(document) or ".", stdin=subprocess.DEVNULL,
-                                  capture_output=True, text=True)
-            lines = (done.stdout + done.stderr).split("\n")[:-1]
+            lines = lines_of(placed(command, program), os.path.dirname(document) or ".")
             if agrees(wanted, lines):
                 passed += 1
             else:
@@ -55,4 +86,5 @@ def main():
     print(f"{passed} passed, {failed} failed")
 
 
-main()
+if __name__ == "__main__":
+    main()

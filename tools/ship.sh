@@ -1,20 +1,20 @@
 #!/usr/bin/env bash
 # Ships the built program: puts it into dist/, with a record of what it was built from, so that a new clone can run it at
-# once. `./ptides` runs it only where the record tells of this program and of the sources that are there.
+# once. `./ptides` runs it only if the record is of this program and of the sources that are there.
 #
 #   tools/ship.sh                 proves and builds, and ships what was built
 #   tools/ship.sh --built FILE    ships FILE, which was built from the sources as they are, and builds nothing
 #   tools/ship.sh --check         checks that what is shipped is what the sources build: the record is of the sources and of
-#                                 the program, and the program is crates/ptides/out/ptides, byte for byte. Where it isn't,
+#                                 the program, and the program is crates/ptides/out/ptides, byte for byte. If it isn't,
 #                                 since two builds can differ and do the same, it has to pass tools/check-examples.sh.
-#                                 Where nothing is shipped there is nothing to check
+#                                 If nothing is shipped there is nothing to check
 #
-# The record, dist/ptides.record, has three lines: the digest of the sources (tools/sources-digest.sh), the version line of
-# the toolchain, and the program's sha256.
+# The record, dist/ptides.record, has four lines: the version of the project (the file VERSION), the digest of the sources
+# (tools/sources-digest.sh), the version line of the toolchain, and the program's sha256.
 set -u
-# A path is meant from the caller's folder.
-file=$(realpath -- "${2:-.}")
-cd "$(dirname "$0")/.." || exit 1
+here=$(realpath -- "$0") || exit 1
+. "${here%/*}/common.sh"
+file=$(of_caller "${2:-}")
 built=crates/ptides/out/ptides
 shipped=dist/ptides
 record=dist/ptides.record
@@ -28,11 +28,16 @@ recorded() { # NAME
     sed -n "s/^$1 //p" "$record"
 }
 
+# One line with three numbers, as 0.2.0.
+version_here() {
+    grep -xE '[0-9]+\.[0-9]+\.[0-9]+' VERSION
+}
+
 sha256_of() { # FILE
     sha256sum <"$1" | cut -d ' ' -f 1
 }
 
-# Whether the file is a program that answers as `ptides` does where the graph is a file that can't be there.
+# Whether the file is a program that answers as `ptides` does if the graph is a file that can't exist.
 answers() { # FILE
     local notes
     notes=$("$1" run /dev/null/none 2>&1 </dev/null)
@@ -45,13 +50,16 @@ build() {
 }
 
 ship() { # FILE
-    [ -x "$1" ] && answers "$1" || fail "$1 is no program that answers as ptides does"
-    local toolchain digest
-    toolchain=$(rt version) || fail 'the toolchain does not tell its version'
+    if ! [ -x "$1" ] || ! answers "$1"; then
+        fail "$1 is no program that answers as ptides does"
+    fi
+    local version toolchain digest
+    version=$(version_here) || fail 'the file VERSION has no version'
+    toolchain=$(rt version) || fail 'rt version gives no version'
     digest=$(tools/sources-digest.sh "$toolchain") || fail 'the sources have no digest'
-    mkdir -p dist && cp "$1" "$shipped.new" && chmod 755 "$shipped.new" && mv -f "$shipped.new" "$shipped" ||
+    { mkdir -p dist && cp -- "$1" "$shipped.new" && chmod 755 "$shipped.new" && mv -f "$shipped.new" "$shipped"; } ||
         fail 'the program could not be put into dist/'
-    printf '%s\n' "sources $digest" "toolchain $toolchain" "program $(sha256_of "$shipped")" >"$record"
+    printf '%s\n' "version $version" "sources $digest" "toolchain $toolchain" "program $(sha256_of "$shipped")" >"$record"
     cat "$record"
     # In a clone these would be missing, and the digest another.
     git ls-files --others crates 2>/dev/null | grep -E '^crates/[^/]*/(src|specs|proofs)/' |
@@ -64,15 +72,18 @@ check() {
         echo 'ship: skipped, since nothing is shipped'
         return
     fi
-    [ -x "$shipped" ] && [ -r "$record" ] || fail 'dist/ lacks the program or its record: tools/ship.sh makes both'
-    [ "$(recorded program)" = "$(sha256_of "$shipped")" ] || fail "$shipped is not the program that $record tells of"
+    if ! [ -x "$shipped" ] || ! [ -r "$record" ]; then
+        fail 'dist/ lacks the program or its record: tools/ship.sh makes both'
+    fi
+    [ "$(recorded version)" = "$(version_here)" ] || fail "$record is not of the version $(version_here): tools/ship.sh ships that"
+    [ "$(recorded program)" = "$(sha256_of "$shipped")" ] || fail "$shipped is not the program of $record"
     local toolchain here
     toolchain=$(recorded toolchain)
     # Kits of one logic prove the same; what another one builds goes through the examples.
     ! here=$(rt version 2>/dev/null) || [ "${here#* }" = "${toolchain#* }" ] ||
-        fail "$record tells of the toolchain $toolchain, and this is $here: tools/ship.sh ships what this one builds"
+        fail "$record names the toolchain $toolchain, and this is $here: tools/ship.sh ships what this one builds"
     [ "$(recorded sources)" = "$(tools/sources-digest.sh "$toolchain")" ] ||
-        fail "$record tells of other sources: tools/ship.sh ships what these build"
+        fail "$record is of other sources: tools/ship.sh ships what these build"
     grep -qF "$toolchain" README.md || fail "README.md doesn't name the toolchain of $record, $toolchain"
     if [ ! -x "$built" ]; then
         fail "$built isn't there to compare with: rt ci builds it"

@@ -1,11 +1,23 @@
 #!/usr/bin/env bash
 # Tests completions/ptides.bash: what it offers for words, in a folder with a graph. The last line is `N passed, M failed`.
 set -u
-top=$(cd "$(dirname "$0")/.." && pwd)
+here=$(realpath -- "$0") || exit 1
+. "${here%/*}/common.sh"
 passed=0
 failed=0
-. "$top/completions/ptides.bash"
-cd "$top/examples/governor" || exit 1
+. "${here%/*}/../completions/ptides.bash"
+
+# A launcher with two companions, called by a link. What is on the path can't have a colon.
+case ${TMPDIR-} in
+    *:*) TMPDIR=/tmp ;;
+esac
+make_work
+mkdir -p "$work/home/tools" "$work/bin"
+touch "$work/home/ptides" "$work/home/tools/ptides-"{lint,dot,none,'a b'}
+chmod +x "$work/home/ptides" "$work/home/tools/ptides-"{lint,dot,'a b'}
+ln -s ../home/ptides "$work/bin/ptides"
+PATH=$work/bin:$PATH
+cd examples/governor || exit 1
 
 # offers WORDS WANTED: what is offered for the last of the words, in order, parted by spaces. `=` is a word of its own.
 offers() {
@@ -23,8 +35,20 @@ offers() {
     fi
 }
 
-offers 'ptides ' 'check make meaning run'
+offers 'ptides ' 'check dot help lint make meaning run'
 offers 'ptides me' 'meaning'
+offers 'ptides -' '-C --help --version'
+offers 'ptides l' 'lint'
+offers 'ptides help ' 'dot lint'
+offers 'ptides lint ' 'graph.json'
+offers 'ptides lint -' '-h'
+offers 'ptides lint READ' 'README.md'
+offers 'no-launcher ' 'check help make meaning run'
+offers 'ptides -C ../gov' '../governor'
+offers 'ptides -C .. r' 'run'
+offers 'ptides -C .. -C li' 'line'
+offers 'ptides -C .. -C line run ' 'graph.json'
+offers 'ptides -C .. run line/g' 'line/graph.json'
 offers 'ptides run ' 'graph.json'
 offers 'ptides check g' 'graph.json'
 offers 'ptides check ../gov' '../governor'

@@ -1,107 +1,9 @@
 #!/usr/bin/env bash
 # Tests the launcher ./ptides and tools/ship.sh on a small repository with a toolchain of its own, which "builds" a shell
-# script. It proves nothing and takes some seconds. The last line is `N passed, M failed`.
+# script. It proves nothing and takes some seconds. The last line is `N passed, M failed, K skipped`.
 set -u
-top=$(cd "$(dirname "$0")/.." && pwd)
-place=$(mktemp -d)
-trap 'rm -rf "$place"' EXIT
-passed=0
-failed=0
-
-# A repository with one crate, and an `rt` that counts its runs and leaves a program as the true one does. It counts
-# besides how often it is asked for its version.
-repository() {
-    rm -rf "${place:?}"/*
-    mkdir -p "$place"/{bin,repo/crates/ptides/src,repo/tools,caller}
-    cp "$top/ptides" "$place/repo/ptides"
-    cp "$top/tools/ship.sh" "$top/tools/sources-digest.sh" "$place/repo/tools"
-    echo 'ptides:' >"$place/repo/crates.txt"
-    echo 'fn main() {}' >"$place/repo/crates/ptides/src/main.rt"
-    echo 'proved with rattle-kit-1 logic 0' >"$place/repo/README.md"
-    cat >"$place/bin/rt" <<'RT'
-#!/usr/bin/env bash
-if [ "$1" = version ]; then
-    echo asked >>"$COUNTS.version"
-    echo "${KIT:-rattle-kit-1 logic 0}"
-    exit
-fi
-echo built >>"$COUNTS"
-echo 'what the build prints'
-sleep "${BUILD_SECONDS:-0}"
-[ -z "${BUILD_FAILS:-}" ] || exit 1
-mkdir -p out
-cat >out/ptides <<'PROGRAM'
-#!/bin/sh
-if [ "$2" = /dev/null/none ]; then
-    echo 'read fault: graph' >&2
-    exit 7
-fi
-echo "words:$# $*"
-echo "folder:${PWD##*/}"
-echo "a note" >&2
-exit "${PROGRAM_STATUS:-0}"
-PROGRAM
-chmod +x out/ptides
-shift 2
-exec out/ptides "$@"
-RT
-    chmod +x "$place/bin/rt"
-    : >"$place/counts"
-    : >"$place/counts.version"
-}
-
-# Puts a program into dist/ that isn't the one which the toolchain builds, with its record.
-shipped_repository() {
-    repository
-    cat >"$place/stand-in" <<'PROGRAM'
-#!/bin/sh
-if [ "$2" = /dev/null/none ]; then
-    echo 'read fault: graph' >&2
-    exit 7
-fi
-echo "shipped:$# $*"
-exit "${PROGRAM_STATUS:-0}"
-PROGRAM
-    chmod +x "$place/stand-in"
-    ship --built "$place/stand-in"
-    : >"$place/counts.version"
-}
-
-ship() {
-    (cd "$place/caller" && COUNTS=$place/counts PATH="$place/bin:$PATH" "$place/repo/tools/ship.sh" "$@") \
-        >"$place/shipping" 2>&1
-}
-
-# Runs the launcher in the folder `caller`; leaves its output, its notes and its status.
-start() {
-    (cd "$place/caller" && COUNTS=$place/counts PATH="$place/bin:$PATH" "$place/repo/ptides" "$@") \
-        >"$place/output" 2>"$place/notes"
-    status=$?
-}
-
-# The same where there is no toolchain.
-start_alone() {
-    (cd "$place/caller" && PATH=/usr/bin:/bin "$place/repo/ptides" "$@") >"$place/output" 2>"$place/notes"
-    status=$?
-}
-
-builds() {
-    wc -l <"$place/counts" | tr -d ' '
-}
-
-askings() {
-    wc -l <"$place/counts.version" | tr -d ' '
-}
-
-# expect WHAT WANTED FOUND
-expect() {
-    if [ "$2" = "$3" ]; then
-        passed=$((passed + 1))
-    else
-        failed=$((failed + 1))
-        printf 'failed: %s: wanted %s, found %s\n' "$1" "$2" "$3"
-    fi
-}
+here=$(realpath -- "$0") || exit 1
+. "${here%/*}/testing.sh"
 
 repository
 start run 'a b' c
@@ -154,18 +56,22 @@ expect 'without the toolchain: one line' 1 "$(wc -l <"$place/notes" | tr -d ' ')
 
 repository
 export COUNTS=$place/counts
-for number in 1 2 3 4; do
+# The toolchain of the small repository doesn't wait for another run of itself, as the true one does.
+starts='1 2 3 4'
+if ! command -v flock >/dev/null; then
+    skip 'four starts at once, since flock is not there'
+    starts=1
+fi
+for number in $starts; do
     (cd "$place/caller" && BUILD_SECONDS=1 PATH="$place/bin:$PATH" "$place/repo/ptides" run "$number" >"$place/output.$number" 2>&1
         echo $? >"$place/status.$number") &
 done
 wait
-for number in 1 2 3 4; do
+for number in $starts; do
     expect "start $number of four: status" 0 "$(cat "$place/status.$number")"
     expect "start $number of four: words" 1 "$(grep -c "^words:2 run $number$" "$place/output.$number")"
 done
-if command -v flock >/dev/null; then
-    expect 'four starts at once build once' 1 "$(builds)"
-fi
+expect 'four starts at once build once' 1 "$(builds)"
 
 ln -s "$place/repo/ptides" "$place/caller/short"
 (cd "$place/caller" && PATH="$place/bin:$PATH" ./short run x) >"$place/output" 2>"$place/notes"
@@ -279,8 +185,8 @@ expect 'and is built once' 1 "$(builds)"
 shipped_repository
 touch "$place/repo/out"
 start run x
-expect 'where out/ cannot be made: shipped' 'shipped:2 run x' "$(cat "$place/output")"
-expect 'where out/ cannot be made: no notes' '' "$(cat "$place/notes")"
+expect 'if out/ cannot be made: shipped' 'shipped:2 run x' "$(cat "$place/output")"
+expect 'if out/ cannot be made: no notes' '' "$(cat "$place/notes")"
 
 repository
 ship --check
@@ -292,7 +198,15 @@ start_alone run x
 expect 'what ship shipped runs' 'words:2 run x' "$(head -n 1 "$place/output")"
 ship --check
 expect 'check: what is shipped is what was built' 0 $?
-expect 'the record' 'sources toolchain program' "$(cut -d ' ' -f 1 "$place/repo/dist/ptides.record" | tr '\n' ' ' | sed 's/ $//')"
+echo 9.9.9 >"$place/repo/VERSION"
+ship --check
+expect 'check: another version' 1 $?
+expect 'check: another version is named' 1 "$(grep -c 'is not of the version 9.9.9' "$place/shipping")"
+echo nine >"$place/repo/VERSION"
+ship
+expect 'ship: no version' 1 $?
+cp "$top/VERSION" "$place/repo"
+expect 'the record' 'version sources toolchain program' "$(cut -d ' ' -f 1 "$place/repo/dist/ptides.record" | tr '\n' ' ' | sed 's/ $//')"
 echo '# another build' >>"$place/repo/crates/ptides/out/ptides"
 printf '#!/bin/sh\necho "$*" >examined\nexit 0\n' >"$place/repo/tools/check-examples.sh"
 chmod +x "$place/repo/tools/check-examples.sh"
@@ -312,7 +226,7 @@ echo 'proved with rattle-kit-1 logic 0' >"$place/repo/README.md"
 touch "$place/repo/crates/ptides/src/more.rt"
 ship --check
 expect 'check: a stale record' 1 $?
-expect 'check: a stale record is named' 1 "$(grep -c 'tells of other sources' "$place/shipping")"
+expect 'check: a stale record is named' 1 "$(grep -c 'is of other sources' "$place/shipping")"
 rm "$place/repo/crates/ptides/src/more.rt"
 echo '# altered' >>"$place/repo/dist/ptides"
 ship --check
@@ -327,5 +241,102 @@ expect 'ship: what answers otherwise is not shipped' 1 $?
 ship --other
 expect 'ship: other words' 1 $?
 
-echo "$passed passed, $failed failed"
+# The words that the launcher answers itself. A companion's line is among its first ten, and its name is of plain letters.
+companions() {
+    cat >"$place/repo/tools/ptides-show" <<'SHOW'
+#!/bin/sh
+# Shows what it is given.
+# ptides: shows what it is given
+printf '%s\n' "shown:$# $* by ${PTIDES:-none}" "folder:${PWD##*/}"
+exit 9
+SHOW
+    printf '#!/bin/sh\n# ptides: never listed\n' | tee "$place/repo/tools/ptides-Old~" >"$place/repo/tools/ptides-plain"
+    chmod +x "$place/repo/tools/ptides-show" "$place/repo/tools/ptides-Old~"
+}
+
+shipped_repository
+companions
+for word in --help -h help; do
+    start_alone "$word"
+    expect "$word: status" 0 "$status"
+    expect "$word: notes" '' "$(cat "$place/notes")"
+    expect "$word: commands" 'run check meaning make' \
+        "$(sed -n 's/^  \([a-z]*\) [A-Z].*/\1/p' "$place/output" | tr '\n' ' ' | sed 's/ $//')"
+    expect "$word: companions" '  show ...                 shows what it is given' "$(grep -A 9 'not proved' "$place/output" | grep '^  ')"
+    for place_of in docs/ptides.1 examples schemas/graph.schema.json; do
+        [[ $(<"$place/output")$'\n' == *" $place/repo/$place_of"$'\n'* ]]
+        expect "$word: where $place_of is" 0 $?
+    done
+done
+start_alone help show
+expect 'help of a companion' "shown:1 -h by $place/repo/dist/ptides"$'\nfolder:caller' "$(cat "$place/output")"
+expect 'help of a companion: its status' 9 "$status"
+
+start_alone show 'a b' -x
+expect 'a companion' "shown:2 a b -x by $place/repo/dist/ptides"$'\nfolder:caller' "$(cat "$place/output")"
+expect 'a companion: its status' 9 "$status"
+PTIDES=other start_alone show
+expect 'a companion with another program' 'shown:0  by other' "$(head -n 1 "$place/output")"
+for word in plain 'Old~' ../tools/ptides-show show/ shows sho '' -- -x --helps; do
+    start_alone "$word" x
+    expect "no companion, so a word for the program: $word" "shipped:2 $word x" "$(cat "$place/output")"
+done
+start_alone run --help
+expect 'a word of the launcher after a command is the program'\''s' 'shipped:2 run --help' "$(cat "$place/output")"
+
+mkdir -p "$place/caller/a b/-"
+start_alone -C 'a b' run x
+expect '-C: the program' 'shipped:2 run x' "$(cat "$place/output")"
+start_alone -C 'a b' -C - show -C x
+expect '-C twice, and a folder with the name -' "shown:2 -C x by $place/repo/dist/ptides"$'\nfolder:-' "$(cat "$place/output")"
+start_alone -C "$place/caller/a b/-/../.." show
+expect '-C with a path from the top' 'folder:caller' "$(tail -n 1 "$place/output")"
+start_alone -C '' show
+expect '-C with no name stays' 'folder:caller' "$(tail -n 1 "$place/output")"
+start_alone -C 'a b' --help
+expect '-C before help' 0 "$status"
+ln -s 'a b/-' "$place/caller/link"
+start_alone -C link/.. show
+expect '-C follows links as the system does' 'folder:a b' "$(tail -n 1 "$place/output")"
+for words in '-C' '-C nowhere run x' '-C a'; do
+    # shellcheck disable=SC2086
+    start_alone $words
+    expect "$words: status" 1 "$status"
+    expect "$words: one line" '1 ptides: -C' "$(wc -l <"$place/notes" | tr -d ' ') $(cut -c 1-10 "$place/notes")"
+    expect "$words: output" '' "$(cat "$place/output")"
+done
+
+# The version of what would run. Nothing is built for it.
+version_is() { # WHAT TOOLCHAIN PROGRAM
+    expect "$1: status" 0 "$status"
+    expect "$1: notes" '' "$(cat "$place/notes")"
+    expect "$1: nothing is built" "$built_before" "$(builds)"
+    expect "$1" "ptides $(cat "$top/VERSION")"$'\n'"sources $("$place/repo/tools/sources-digest.sh" "$2")"$'\n'"toolchain $2"$'\n'"program $3" \
+        "$(cat "$place/output")"
+}
+
+built_before=0
+for word in --version -V; do
+    start_alone "$word"
+    version_is "$word, shipped" 'rattle-kit-1 logic 0' 'dist/ptides, shipped'
+done
+sed -i '/^version/d' "$place/repo/dist/ptides.record"
+start_alone run x
+expect 'a record without a version' 'shipped:2 run x' "$(cat "$place/output")"
+start --version
+version_is 'the version with a record that has none' 'rattle-kit-1 logic 0' 'dist/ptides, shipped'
+echo 'fn main() { }' >"$place/repo/crates/ptides/src/main.rt"
+KIT='rattle-kit-3 logic 7' start --version
+version_is 'the version of what is not built yet' 'rattle-kit-3 logic 7' 'none yet: the next command builds it'
+start run x
+built_before=1
+start -V
+version_is 'the version of what was built' 'rattle-kit-1 logic 0' 'out/ptides, built here'
+start show
+expect 'a companion is given what was built' "shown:0  by $place/repo/out/ptides"$'\nfolder:caller' "$(cat "$place/output")"
+touch "$place/repo/crates/ptides/src/main.rt"
+start show
+expect 'a companion is given the launcher if there is no program yet' "shown:0  by $place/repo/ptides"$'\nfolder:caller' "$(cat "$place/output")"
+
+echo "$passed passed, $failed failed, $skipped skipped"
 [ "$failed" -eq 0 ]
