@@ -1,0 +1,184 @@
+#!/usr/bin/env python3
+"""Checks `ptides explain`: the refused examples, a table of mistakes, command lines, files, and random edits."""
+from __future__ import annotations
+
+import os
+import random
+import re
+import shutil
+import sys
+import tempfile
+from pathlib import Path
+
+from counted import EXAMPLES, GRAPHS, REFUSED, TOP, Case, companion, copied, example_words, main, make_files, ptides, run
+from explain_mistakes import MISTAKES
+
+GOOD = TOP / "tools" / "tests" / "explain"
+
+
+def first_place(output: str) -> tuple[str, str]:
+    """The first file:line:column of an explanation, and the text that is underlined there."""
+    place = re.search(r"^ *--> (.*)$", output, re.M)
+    marks = re.search(r"^ *\d+ \| (.*)\n *\| ( *)(\^+)", output, re.M)
+    if not place or not marks:
+        return "", ""
+    return place[1], marks[1][len(marks[2]):len(marks[2]) + len(marks[3])]
+
+
+class Explain(Case):
+    """What is said of each mistake."""
+
+    def setUp(self) -> None:
+        self.folder = Path(tempfile.mkdtemp())
+        self.addCleanup(shutil.rmtree, self.folder)
+
+    def edited(self, file: str, old: str, new: str) -> Path:
+        """A copy of the good graph with one edit."""
+        copied(GOOD, self.folder)
+        text = (GOOD / file).read_text()
+        self.assertIn(old, text)
+        (self.folder / file).write_text(text.replace(old, new, 1))
+        return self.folder
+
+    def test_mistakes(self) -> None:
+        """Each mistake of the table is found where it is, with its words, and with the line and status of the program."""
+        for file, old, new, line, place, underlined, words in MISTAKES:
+            with self.subTest(line=line, new=new):
+                folder = self.edited(file, old, new)
+                program = ptides("run", "graph.json", folder=folder)
+                done = companion("explain", "graph.json", folder=folder)
+                self.assertEqual(program.notes, line + "\n")
+                self.assertEqual((done.status, done.output.split("\n")[0], done.notes), (program.status, f"error: {line}", ""))
+                found, text = first_place(done.output)
+                self.assertEqual((found, text.rstrip()), (f"{file}:{place}", underlined))
+                for word in words:
+                    self.assertIn(word, done.output)
+
+    def test_refused_examples(self) -> None:
+        """Each refused example has its line and status, a place, and what was expected or may be changed."""
+        for example in REFUSED:
+            with self.subTest(example=example.name):
+                folder = copied(example, self.folder / example.name)
+                make_files(folder)
+                line = (example / "expected.notes").read_text()
+                words = ["--line", line.rstrip("\n"), "graph.json"] if (example / "to").exists() else example_words(example)
+                done = companion("explain", *words, folder=folder)
+                self.assertTrue(done.output.startswith(f"error: {line}"), done.output)
+                self.assertEqual(done.status, 0 if (example / "to").exists() else int((example / "status").read_text()))
+                self.assertRegex(done.output, r"\n *= (expected|help): ")
+                self.assertNotIn("don't have this fault", done.output)
+                self.assertTrue((example / "to").exists() or first_place(done.output)[0], done.output)
+
+    def test_good_graphs(self) -> None:
+        """There is no fault in the examples, and events that are missed are explained."""
+        for example in GRAPHS:
+            with self.subTest(example=example.name):
+                done = companion("explain", "graph.json", folder=example)
+                if (example / "status").exists():
+                    self.assertEqual(done.status, int((example / "status").read_text()))
+                    self.assertTrue(done.output.startswith("error: "))
+                else:
+                    self.assertEqual((done.status, done.output), (0, "no fault: `ptides run graph.json` answers 0\n"))
+        done = companion("explain", "graph.json", folder=EXAMPLES / "missed")
+        self.assertEqual((done.status, first_place(done.output)), (5, ("graph.json:6:65", "300")))
+        self.assertIn("a slack of 401 gives `valve` the margin 0", done.output)
+
+    def test_command_lines(self) -> None:
+        """The word that isn't allowed is underlined."""
+        cases = [("rnu graph.json", 8, "rnu", "did you mean `run`?"), ("run graph.json --workers 65", 33, "65", "1 to 64"),
+                 ("run graph.json --workers=0", 23, "--workers=0", "1 to 64"), ("run graph.json --worker 4", 23, "--worker", "did you mean `--workers`?"),
+                 ("check graph.json --log", 25, "--log", "no option `--log`"), ("run graph.json --log --log", 29, "--log", "there already"),
+                 ("run graph.json --clock machine", 31, "machine", "`paced`"), ("run graph.json other.json", 23, "other.json", "a word too many"),
+                 ("make 101", 13, "101", "a number from 1 to 100"), ("run --log", 18, "", "the path of a graph is missing"),
+                 ("run graph.json --workers", 33, "", "1 to 64"), ("run graph.json --log=1", 23, "--log=1", "takes no value")]
+        for line, column, underlined, words in cases:
+            with self.subTest(line=line):
+                done = companion("explain", *line.split(), folder=GOOD)
+                self.assertEqual(done.status, 1)
+                self.assertTrue(done.output.startswith("error: usage: ptides run GRAPH "), done.output)
+                self.assertEqual(first_place(done.output), (f"the command line:1:{column}", underlined))
+                self.assertIn(words, done.output)
+
+    def test_files(self) -> None:
+        """A file that can't be read: its path and the folder that it was looked up from."""
+        done = companion("explain", "examples/governor/graph.json", folder=TOP)
+        self.assertEqual((done.status, first_place(done.output)), (7, ("examples/governor/graph.json:4:61", '"speed.csv"')))
+        self.assertIn(f"no such file; looked up from {TOP}\n", done.output)
+        self.assertIn("ptides -C examples/governor run graph.json", done.output)
+        done = companion("explain", "check", "grahp.json", folder=GOOD)
+        self.assertEqual((done.status, first_place(done.output)), (7, ("the command line:1:14", "grahp.json")))
+        self.assertIn(f"no such file; looked up from {GOOD}\n", done.output)
+        self.assertIn("did you mean `graph.json`?", done.output)
+        done = companion("explain", "check", "governor", folder=EXAMPLES)
+        self.assertIn("this is a folder", done.output)
+        self.assertIn("did you mean `governor/graph.json`?", done.output)
+        folder = self.edited("graph.json", '"speed.csv"', '"sped.csv"')
+        done = companion("explain", "graph.json", folder=folder)
+        self.assertEqual((done.status, first_place(done.output)), (7, ("graph.json:5:68", '"sped.csv"')))
+        self.assertIn("did you mean `speed.csv`?", done.output)
+
+    def test_bytes(self) -> None:
+        """Texts that aren't UTF-8, a byte order mark, an empty file, and lines of 100,000 letters with wide ones."""
+        for data, place, words in [(b'{"a": "\xff"}', "1:8", "aren't UTF-8"), (b"\xef\xbb\xbf{}", "1:1", "byte order mark"), (b"", "1:1", "the file is empty"),
+                                   ("{}".encode("utf-16"), "1:1", "UTF-16"), (b"[" * 128 + b"]" * 128, "1:128", "the 128th bracket"),
+                                   (("[" + '"\u754c",' * 30000 + "]").encode(), "1:120001", "remove this `,`")]:
+            with self.subTest(place=place, words=words):
+                (self.folder / "graph.json").write_bytes(data)
+                done = companion("explain", "check", "graph.json", folder=self.folder)
+                self.assertEqual((done.status, done.output.split("\n")[0]), (2, "error: graph: not json"))
+                self.assertEqual(first_place(done.output)[0], f"graph.json:{place}")
+                self.assertIn(words, done.output)
+                self.assertLess(max(map(len, done.output.split("\n"))), 200)
+
+    def test_standard_input(self) -> None:
+        """A graph may come over the standard input."""
+        done = companion("explain", "check", "/dev/stdin", folder=GOOD, given=(GOOD / "graph.json").read_text().replace('"sub"', '"sbu"'))
+        self.assertEqual((done.status, first_place(done.output)), (2, ("/dev/stdin:7:48", '"sbu"')))
+        self.edited("graph.json", '"sub"', '"sbu"')
+        for start in ("cat graph.json |", "<graph.json"):
+            done = run(["sh", "-c", f'{start} "$0" -S "$1" check /dev/stdin', sys.executable, TOP / "tools" / "ptides-explain"], self.folder)
+            self.assertEqual((done.status, first_place(done.output)), (2, ("/dev/stdin:7:48", '"sbu"')))
+
+    def test_random_sensor_files(self) -> None:
+        """For random edits of a sensor file a place in it is always found."""
+        random.seed(2)
+        copied(GOOD, self.folder)
+        good = (GOOD / "speed.csv").read_text()
+        for number in range(int(os.environ.get("RANDOM_EDITS", "20"))):
+            start = random.randrange(len(good))
+            new = random.choice(['"', ",", "\n", "\r\n", "\r", "-", "+", " ", ".", '""', '","', "\u00e9", "\t", ";", "9" * 19])
+            (self.folder / "speed.csv").write_bytes((good[:start] + new + good[start + random.choice([0, 1]):]).encode())
+            program = ptides("run", "graph.json", folder=self.folder)
+            done = companion("explain", "graph.json", folder=self.folder)
+            with self.subTest(number=number, line=program.notes):
+                self.assertEqual(done.status, program.status)
+                if program.status:
+                    self.assertTrue(done.output.startswith(f"error: {program.notes}"), done.output)
+                    self.assertTrue(first_place(done.output)[0].startswith("speed.csv:"), done.output)
+
+    def test_random_edits(self) -> None:
+        """For random edits of the examples a place is always found, and what is no JSON here is none to the program."""
+        random.seed(1)
+        for number in range(int(os.environ.get("RANDOM_EDITS", "40"))):
+            text = random.choice(GRAPHS).joinpath("graph.json").read_text()
+            start = random.randrange(len(text))
+            end = start + random.choice([0, 0, 1, 2])
+            new = random.choice(['"', ",", "{", "}", "[", "]", ":", "0", "-", "1.5", "null", '"x"', "-0", "\n", "\\", '"p"', "2", "x", "1e400"])
+            given = text[:start] + new + text[end:]
+            program = ptides("check", "/dev/stdin", folder=GOOD, given=given)
+            done = companion("explain", "check", "/dev/stdin", folder=GOOD, given=given)
+            with self.subTest(number=number, line=program.notes):
+                self.assertEqual(done.status, program.status)
+                if program.status:
+                    self.assertTrue(done.output.startswith(f"error: {program.notes}"), done.output)
+                    self.assertTrue(first_place(done.output)[0], done.output)
+
+    def test_bad_input(self) -> None:
+        """No words: one line and status 1."""
+        done = companion("explain", folder=GOOD)
+        self.assertEqual((done.status, done.output, done.notes.count("\n")), (1, "", 1))
+        self.assertIn("  ptides explain ", companion("explain", "-h", folder=GOOD).output)
+
+
+if __name__ == "__main__":
+    main()

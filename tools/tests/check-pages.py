@@ -1,0 +1,65 @@
+#!/usr/bin/env python3
+"""Checks that the commands on the page of the companions write what is shown there, and that each companion says what it gives."""
+from __future__ import annotations
+
+import re
+import shlex
+
+from counted import TOP, Case, Done, companion, main, ptides
+
+PAGE = TOP / "docs" / "COMPANIONS.md"
+
+
+def transcripts(text: str) -> list[tuple[str, list[str]]]:
+    """The commands of the blocks of text, each with the lines below it."""
+    found: list[tuple[str, list[str]]] = []
+    for block in re.findall(r"^```text\n(.*?)^```", text, re.M | re.S):
+        for line in block.splitlines():
+            if line.startswith("$ "):
+                found.append((line[2:], []))
+            elif found:
+                found[-1][1].append(line)
+    return found
+
+
+def start(command: str, given: str = "") -> Done:
+    """Runs `./ptides [-C FOLDER] WORD..`, and what is behind a `|`, as the launcher does."""
+    first, _, rest = command.partition(" | ")
+    words = shlex.split(first)[1:]
+    folder = TOP
+    if words[0] == "-C":
+        folder, words = TOP / words[1], words[2:]
+    run = ptides if words[0] in ("run", "check", "meaning", "make") else companion
+    done = run(*words, folder=folder, given=given or None)
+    return start(rest, done.output) if rest else done
+
+
+class Pages(Case):
+    """What the page shows."""
+
+    def test_transcripts(self) -> None:
+        """A line `...` stands for any lines."""
+        found = transcripts(PAGE.read_text())
+        self.assertGreater(len(found), 5)
+        for command, wanted in found:
+            with self.subTest(command=command):
+                done = start(command)
+                pattern = "".join("(?:.*\n)*?" if line == "..." else re.escape(line) + "\n" for line in wanted)
+                self.assertRegex(done.output + done.notes, rf"\A{pattern}\Z")
+
+    def test_heads(self) -> None:
+        """Each companion can be executed and has a line that the launcher shows; on the page are the same words."""
+        table = dict(re.findall(r"^\| \[`ptides (\w+) .*?\]\(#\w+\) \| (.*) \|$", PAGE.read_text(), re.M))
+        files = sorted(path for path in (TOP / "tools").glob("ptides-*"))
+        self.assertLessEqual(set(table), {path.name[len("ptides-"):] for path in files})
+        for path in files:
+            with self.subTest(path=path.name):
+                head = path.read_text().split("\n")[:10]
+                says = [line[len("# ptides: "):] for line in head if line.startswith("# ptides: ")]
+                self.assertEqual((len(says), bool(path.stat().st_mode & 0o111)), (1, True))
+                name = path.name[len("ptides-"):]
+                self.assertEqual(table.get(name, says[0]), says[0])
+
+
+if __name__ == "__main__":
+    main()
