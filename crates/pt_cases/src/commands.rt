@@ -4,12 +4,11 @@
 //! fail; and any other line is a command.
 
 use crate::files::{Files, push_lines};
-use pt_blocks::{Block, Blocks, dead5};
+use pt_blocks::Blocks;
 use pt_history::Miss;
 use pt_io::Page;
 use pt_run::{Outcome, ptides};
 use pt_tags::Memory;
-use pt_types::Law;
 use std::alloc::{AllocError, Global};
 
 const ROOM: usize = 4_194_304;
@@ -24,14 +23,14 @@ pub struct CommandScript {
 }
 
 impl CommandScript {
-    /// No files, and no call that fails.
-    pub fn new(alloc: Global) -> Result<CommandScript, AllocError> {
-        Ok(CommandScript {
-            blocks: blocks(alloc)?,
+    /// With these blocks, no files, and no call that fails.
+    pub fn new(alloc: Global, blocks: Blocks) -> CommandScript {
+        CommandScript {
+            blocks,
             files: Files::new(alloc),
             fetch: None,
             put: None,
-        })
+        }
     }
 
     /// Does what a line says; gives what there is to write.
@@ -80,16 +79,6 @@ impl CommandScript {
             &self.blocks,
         );
         report(alloc, line, &out, &notes, &outcome)
-    }
-}
-
-/// One block: the difference of both inputs, where they are more than 5 apart.
-fn blocks(alloc: Global) -> Result<Blocks, AllocError> {
-    let name = String::from_str(alloc, "dead5")?;
-    let mut blocks = Blocks::new(alloc);
-    match blocks.add(Block::new(name, dead5, Law::Deadband { width: 5 })) {
-        Ok(()) => Ok(blocks),
-        Err(_) => Err(AllocError),
     }
 }
 

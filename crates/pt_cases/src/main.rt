@@ -23,7 +23,9 @@ mod readings;
 
 use commands::CommandScript;
 use platforms::PlatformScript;
-use pt_blocks::Blocks;
+use pt_blocks::{Block, Blocks, dead5};
+use pt_types::Law;
+use std::alloc::AllocError;
 use std::io;
 
 /// What a line is for.
@@ -68,9 +70,17 @@ struct Tables {
 
 fn main(rt: HostRuntime) -> io::Result<()> {
     let alloc = rt.alloc();
+    // Commands have one block: the difference of both, if they are more than 5 apart.
+    let name = String::from_str(alloc, "dead5")?;
+    let mut blocks = Blocks::new(alloc);
+    let added = match blocks.add(Block::new(name, dead5, Law::Deadband { width: 5 })) {
+        Ok(()) => Ok(()),
+        Err(_) => Err(AllocError),
+    };
+    added?;
     let mut tables = Tables {
         blocks: Blocks::new(alloc),
-        commands: CommandScript::new(alloc)?,
+        commands: CommandScript::new(alloc, blocks),
         platforms: PlatformScript::new(alloc),
     };
     for line in rt.lines(alloc) {
