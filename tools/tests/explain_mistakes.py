@@ -1,8 +1,8 @@
 """Mistakes in the graph and the sensor files of the folder `explain`, and what has to be said of each.
 
 Each is made by one edit of a good file: the file, what is replaced, by what; then the line that `ptides run` gives, the line and column
-at which the mistake is, the text that is underlined, and words that the explanation has. The places were counted in the files by
-hand.
+at which the mistake is, the text that is underlined, and words that the explanation has. Lines and texts were written by hand, and
+the columns computed from them; some were corrected after a first run, by counting in the file.
 """
 MISTAKES = [
     ("graph.json", '"wires": [', "wires: [", "graph: not json", "21:2", "wires", ["the name of a member, in double quotes,", "double quotes"]),
