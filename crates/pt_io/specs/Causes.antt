@@ -21,6 +21,10 @@ Appends before now bytes = IfSome before (λ b. now ≡ Some (b ++ bytes))
 abbrev pub AppendsPart : Option (List ℕ) → Option (List ℕ) → List ℕ → Type 0
 AppendsPart before now bytes = IfSome before (λ b. (n : ℕ) × (n ≤ length bytes) × (now ≡ Some (b ++ take n bytes)))
 
+-- if bytes are reported, they are as before
+abbrev pub Keeps : Option (List ℕ) → Option (List ℕ) → Type 0
+Keeps before now = IfSome before (λ b. now ≡ Some b)
+
 -- if names are reported, they grew by this one
 abbrev pub AddsName : Option (List (List ℕ)) → Option (List (List ℕ)) → List ℕ → Type 0
 AddsName before now name = IfSome before (λ names. now ≡ Some (names ++ name ∷ []))

@@ -1,4 +1,4 @@
 pub mod Causes
 pub mod Contents
-pub mod Held
 pub mod Rooms
+pub mod Told

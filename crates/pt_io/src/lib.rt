@@ -1,11 +1,14 @@
-//! Where a run reads and where it writes: a source of named contents, and sinks of bytes.
+//! Where a run reads and where it writes, and what it goes by: a source of named contents, sinks of bytes, and clocks.
 //!
 //! A trait says what every source or sink promises. `Shelf` and `Page` are in memory: clauses can name what is read and
-//! written. `FileSource`, `OutSink` and `NotesSink` are the system's files and streams: no clause can name their bytes.
+//! written. `FileSource` reads what an opener opens, and `OutSink` and `NotesSink` write to a writer: clauses name their bytes
+//! where the opener or the writer reports its own. The system's files and streams don't.
 //!
-//! Read first: `Source::fetch` and `Sink::put`. The words of their clauses are in `specs/Causes.antt`.
+//! Read first: `Source::fetch`, `Sink::put` and `Clock::read`. The words of their clauses are in `specs/Causes.antt` and
+//! `specs/Told.antt`.
 #![tactic(auto)]
 
+mod clock;
 mod files;
 mod outputs;
 mod page;
@@ -13,7 +16,8 @@ mod shelf;
 mod sink;
 mod source;
 
-pub use files::FileSource;
+pub use clock::{Clock, ListClock, MachineClock, StepClock};
+pub use files::{FileSource, Opener, SystemFiles};
 pub use outputs::{NotesSink, OutSink};
 pub use page::Page;
 pub use shelf::Shelf;

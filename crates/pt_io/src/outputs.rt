@@ -1,9 +1,8 @@
 //! Writers as sinks: the standard output and the standard error.
 
 ghost use Rattle.std.specs.Prelude.{◌≡◌, ◌-◌, ◌≤◌, [], None, IfOk, OnOk, OnErr, drop, is_err, IsOk, length, take, vec_capacity, vec_len};
-ghost use Rattle.std.specs.Io.KnownBytes.{Appends, Keeps, append_known};
-ghost use Rattle.pt_io.specs.Causes.{Rose, counted, counted_if};
-ghost use Rattle.pt_io.specs.Held.{AddsPart};
+ghost use Rattle.std.specs.Io.KnownBytes.{append_known};
+ghost use Rattle.pt_io.specs.Causes.{Appends, AppendsPart, Keeps, Rose, counted, counted_if};
 
 use crate::sink::{PutFault, Sink};
 use pt_tags::Memory;
@@ -15,8 +14,7 @@ const ROOM: usize = 65536;
 
 /// A buffered writer, for the standard output.
 ///
-/// Clauses can't name the bytes that reach the system. If the writer reports its bytes, then these followed by the buffer
-/// are all bytes that were put. A write that takes no bytes of a nonempty piece is a fault. Bytes that a failed write
+/// What it took are the bytes that the writer behind it was given, if that reports them, followed by the buffer. A write that takes no bytes of a nonempty piece is a fault. Bytes that a failed write
 /// leaves stay in the buffer; bytes in the buffer are lost when the sink is dropped.
 #[derive(Drop)]
 pub struct OutSink<W: Write + Drop> {
@@ -70,7 +68,7 @@ impl<W: Write + Drop> OutSink<W> {
         requires { self.old.held.items ≡ [] }
         ensures held { self.new.held ≡ self.old.held }
         ensures all { OnOk result (Appends (W.contents self.old.out) (W.contents self.new.out) bytes.now) }
-        ensures part { OnErr result (AddsPart (W.contents self.old.out) (W.contents self.new.out) bytes.now) }
+        ensures part { OnErr result (AppendsPart (W.contents self.old.out) (W.contents self.new.out) bytes.now) }
         ensures counted { self.new.faults ≡ counted_if (is_err result) self.old.faults }
         ensures grows { self.old.faults ≤ self.new.faults }
     {
@@ -94,15 +92,15 @@ impl<W: Write + Drop> OutSink<W> {
 }
 
 impl<W: Write + Drop> Sink for OutSink<W> {
-    ghost written = { λ s. None };
+    ghost written = { λ s. append_known (W.contents s.out) s.held.items };
 
     ghost faults = { λ s. s.faults };
 
     ghost flushed = { λ s. s.held.items ≡ [] };
 
     fn put(&mut self, bytes: &[u8]) -> Result<(), PutFault>
-        ensures bytes { OnOk result (Appends (append_known (W.contents self.old.out) self.old.held.items) (append_known (W.contents self.new.out) self.new.held.items) bytes.now) }
-        ensures bytes_failed { OnErr result (AddsPart (append_known (W.contents self.old.out) self.old.held.items) (append_known (W.contents self.new.out) self.new.held.items) bytes.now) }
+        ensures all { OnOk result (Appends (append_known (W.contents self.old.out) self.old.held.items) (append_known (W.contents self.new.out) self.new.held.items) bytes.now) }
+        ensures part { OnErr result (AppendsPart (append_known (W.contents self.old.out) self.old.held.items) (append_known (W.contents self.new.out) self.new.held.items) bytes.now) }
         ensures counted { self.new.faults ≡ counted_if (is_err result) self.old.faults }
         ensures grows { self.old.faults ≤ self.new.faults }
         ensures failed { OnErr result (Rose self.old.faults self.new.faults) }
@@ -119,7 +117,7 @@ impl<W: Write + Drop> Sink for OutSink<W> {
 
     fn flush(&mut self) -> Result<(), PutFault>
         ensures all { OnOk result (self.new.held.items ≡ []) }
-        ensures bytes { Keeps (append_known (W.contents self.old.out) self.old.held.items) (append_known (W.contents self.new.out) self.new.held.items) }
+        ensures keeps { Keeps (append_known (W.contents self.old.out) self.old.held.items) (append_known (W.contents self.new.out) self.new.held.items) }
         ensures counted { self.new.faults ≡ counted_if (is_err result) self.old.faults }
         ensures grows { self.old.faults ≤ self.new.faults }
         ensures failed { OnErr result (Rose self.old.faults self.new.faults) }
@@ -128,7 +126,8 @@ impl<W: Write + Drop> Sink for OutSink<W> {
     }
 }
 
-/// The standard error, for notes to the user. It has no buffer.
+/// The standard error, for notes to the user. It has no buffer: what it took are the bytes that the writer behind it was given,
+/// if that reports them.
 ///
 /// It is a type of its own, so that it can't be taken for the output.
 #[derive(Drop)]
@@ -155,15 +154,15 @@ impl<W: Write + Drop> NotesSink<W> {
 }
 
 impl<W: Write + Drop> Sink for NotesSink<W> {
-    ghost written = { λ s. None };
+    ghost written = { λ s. W.contents s.out };
 
     ghost faults = { λ s. s.faults };
 
     ghost flushed = { λ s. Unit {0} };
 
     fn put(&mut self, bytes: &[u8]) -> Result<(), PutFault>
-        ensures bytes { OnOk result (Appends (W.contents self.old.out) (W.contents self.new.out) bytes.now) }
-        ensures bytes_failed { OnErr result (AddsPart (W.contents self.old.out) (W.contents self.new.out) bytes.now) }
+        ensures all { OnOk result (Appends (W.contents self.old.out) (W.contents self.new.out) bytes.now) }
+        ensures part { OnErr result (AppendsPart (W.contents self.old.out) (W.contents self.new.out) bytes.now) }
         ensures counted { self.new.faults ≡ counted_if (is_err result) self.old.faults }
         ensures grows { self.old.faults ≤ self.new.faults }
         ensures failed { OnErr result (Rose self.old.faults self.new.faults) }
@@ -178,6 +177,7 @@ impl<W: Write + Drop> Sink for NotesSink<W> {
     fn flush(&mut self) -> Result<(), PutFault>
         ensures ok { IsOk result }
         ensures unchanged { self.new ≡ self.old }
+        ensures keeps { Keeps (W.contents self.old.out) (W.contents self.new.out) }
         ensures grows { self.old.faults ≤ self.new.faults }
         ensures failed { OnErr result (Rose self.old.faults self.new.faults) }
     {

@@ -1,7 +1,7 @@
 //! A sink in memory.
 
 ghost use Rattle.std.specs.Prelude.{◌≡◌, ◌+◌, ◌-◌, ◌≤◌, ◌++◌, length, Some, [], take, IfOk, OnOk, OnErr, IsErr, IsOk, ◌↔◌, IsTrue, vec_len, vec_capacity};
-ghost use Rattle.pt_io.specs.Causes.{Rose, Appends, AppendsPart, counted, counted_if};
+ghost use Rattle.pt_io.specs.Causes.{Rose, Appends, AppendsPart, Keeps, counted, counted_if};
 ghost use Rattle.pt_io.specs.Rooms.{limit, refuses, taken};
 
 use crate::sink::{PutFault, Sink};
@@ -98,7 +98,7 @@ impl Sink for Page {
         ensures ok { IsOk result }
         ensures unchanged { self.new ≡ self.old }
         ensures all { Unit {0} }
-        ensures keeps { Some self.new.bytes.items ≡ Some self.old.bytes.items }
+        ensures keeps { Keeps (Some self.old.bytes.items) (Some self.new.bytes.items) }
         ensures grows { self.old.faults ≤ self.new.faults }
         ensures failed { OnErr result (Rose self.old.faults self.new.faults) }
     {

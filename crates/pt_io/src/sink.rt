@@ -1,7 +1,7 @@
 //! What every sink of bytes promises.
 
 ghost use Rattle.std.specs.Prelude.{◌≡◌, ◌≤◌, ℕ, List, Option, OnOk, OnErr};
-ghost use Rattle.pt_io.specs.Causes.{Rose, Appends, AppendsPart};
+ghost use Rattle.pt_io.specs.Causes.{Rose, Appends, AppendsPart, Keeps};
 
 /// Why a put or a flush failed.
 #[derive(Clone, Copy, Debug, PartialEq, Eq)]
@@ -36,7 +36,7 @@ pub trait Sink {
     /// Writes the buffer.
     fn flush(&mut self) -> Result<(), PutFault>
         ensures all { OnOk result (flushed self.new) }
-        ensures keeps { written self.new ≡ written self.old }
+        ensures keeps { Keeps (written self.old) (written self.new) }
         ensures grows { faults self.old ≤ faults self.new }
         ensures failed { OnErr result (Rose (faults self.old) (faults self.new)) };
 }
