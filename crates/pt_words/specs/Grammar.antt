@@ -1,11 +1,11 @@
 -- The grammar of a command line. A word is a list of bytes.
-use Rattle.std.specs.Prelude.{ℕ, option_map, ◌==◌, nat_le, not, ◌&&◌, Bool, true, false, List, [], ◌∷◌, length, map, Option, Some, None, option_and_then, String, string_bytes, codes, bytes_eq, if◌then◌else◌}
-use Rattle.std.specs.List.{list_all}
+use Rattle.std.specs.Prelude.{ℕ, option_map, ◌==◌, nat_le, not, ◌&&◌, Bool, true, false, List, [], ◌∷◌, length, map, Option, Some, None, option_and_then, ◌^◌, String, string_bytes, codes, bytes_eq, if◌then◌else◌}
+use Rattle.std.specs.List.{after_first, before_first, list_all}
 use Rattle.std.specs.Char.{is_ascii_digit}
 use Rattle.std.specs.Str.Parse.{digits_value}
 use Rattle.std.specs.declared.alloc.Global.{Global}
 use Rattle.pt_words.specs.declared.orders.ClockChoice.{ClockChoice}
-use Rattle.pt_words.specs.declared.orders.ClockChoice.TheVariants.{Paced}
+use Rattle.pt_words.specs.declared.orders.ClockChoice.TheVariants.{Machine, Paced, Step}
 use Rattle.pt_words.specs.declared.orders.Command.{Command}
 use Rattle.pt_words.specs.declared.orders.Command.TheVariants.{Run, Check, Meaning, Make}
 use Rattle.pt_words.specs.Said.{Said, among, said}
@@ -46,9 +46,21 @@ workers_of value = number_within 1 64 value
 unfoldable pub made_number_of : List ℕ → Option ℕ
 made_number_of word = number_within 1 100 word
 
--- the clock that a value names
+-- the byte `:`
+abbrev pub is_colon : ℕ → Bool
+is_colon byte = byte == 58
+
+-- the clock that `START:STEP` names: START from 0 to 10^15 microseconds, and STEP from 1
+unfoldable pub step_clock_of : List ℕ → Option ClockChoice
+step_clock_of numbers =
+    option_and_then (λ start. option_map (λ step. Step start step) (number_within 1 (10 ^ 15) (after_first is_colon numbers))) (number_within 0 (10 ^ 15) (before_first is_colon numbers))
+
+-- the clock that a value names: `paced`, `machine` or `step:START:STEP`
 abbrev pub clock_of : List ℕ → Option ClockChoice
-clock_of value = if bytes_eq value (codes "paced") then Some Paced else None
+clock_of value =
+    if bytes_eq value (codes "paced") then Some Paced else (
+    if bytes_eq value (codes "machine") then Some Machine else (
+    if bytes_eq (before_first is_colon value) (codes "step") then step_clock_of (after_first is_colon value) else None))
 
 -- exactly one positional word, which isn't empty: the graph file, or the number
 abbrev pub graph_in : List (List ℕ) → Option (List ℕ)

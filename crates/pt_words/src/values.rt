@@ -2,10 +2,13 @@
 
 ghost use Rattle.std.specs.Prelude.{◌≡◌, ◌≤◌, IfSome};
 ghost use Rattle.std.specs.Char.{is_ascii_digit};
-ghost use Rattle.std.specs.List.{list_all};
-ghost use Rattle.pt_words.specs.Grammar.{clock_of, is_numeral, made_number_of, number_within, workers_of};
+ghost use Rattle.std.specs.List.{after_first, before_first, list_all};
+ghost use Rattle.pt_words.specs.Grammar.{clock_of, is_colon, is_numeral, made_number_of, number_within, step_clock_of, workers_of};
 
 use crate::orders::ClockChoice;
+
+/// The greatest START and STEP of a clock, in microseconds.
+const LATEST: u64 = 1_000_000_000_000_000;
 
 /// Whether a word is a decimal number: digits without a sign, and without a leading zero unless it is `0`.
 fn is_numeral(word: &str) -> bool
@@ -67,12 +70,35 @@ pub(crate) fn made_number_of(word: &str) -> Option<u32>
     }
 }
 
-/// The clock that a value names.
+/// The clock that a value names: `paced`, `machine` or `step:START:STEP`.
 pub(crate) fn clock_of(value: &str) -> Option<ClockChoice>
     ensures { result ≡ clock_of value.now }
 {
     match value {
         "paced" => Some(ClockChoice::Paced),
-        _ => None,
+        "machine" => Some(ClockChoice::Machine),
+        _ => match halves(value) {
+            ("step", numbers) => step_clock_of(numbers),
+            _ => None,
+        },
     }
+}
+
+/// The clock that `START:STEP` names, in microseconds: START from 0 to 10^15, and STEP from 1.
+#[tactic(auto, unfolding(crate::specs::Grammar::step_clock_of))]
+fn step_clock_of(numbers: &str) -> Option<ClockChoice>
+    ensures { result ≡ step_clock_of numbers.now }
+{
+    let (start, step) = halves(numbers);
+    let start = number_within(0, LATEST, start)?;
+    let step = number_within(1, LATEST, step)?;
+    Some(ClockChoice::Step { start, step })
+}
+
+/// What is before the first `:`, and what is after it; without a `:`, the whole and nothing.
+fn halves(value: &str) -> (&str, &str)
+    ensures before { result.0.now ≡ before_first is_colon value.now }
+    ensures after { result.1.now ≡ after_first is_colon value.now }
+{
+    value.split_once(':').unwrap_or((value, ""))
 }
