@@ -18,6 +18,16 @@ pub struct Function {
 }
 
 impl Function {
+    /// The function with this law, which it has to give the value of for all numbers.
+    pub fn new(run: fn(i64, i64) -> i64, law: Law) -> Function
+        requires callable { IsAlwaysCallable run }
+        requires lawful { (a b r : ℤ) → post run a b r → r ≡ law_value law a b }
+        requires in_range { law_in_range law ≡ true }
+        ensures law { result.law ≡ law }
+    {
+        Function { run, law }
+    }
+
     /// The law that it computes.
     pub fn law(&self) -> Law
         ensures law { result ≡ self.now.law }

@@ -12,4 +12,4 @@ mod shipped;
 
 pub use block::{Block, Function};
 pub use blocks::{BlockFault, Blocks, Named};
-pub use shipped::{clip100, dead5, greatest, least};
+pub use shipped::{clip100, dead5, greatest, least, shipped_blocks};
