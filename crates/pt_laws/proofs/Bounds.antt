@@ -1,5 +1,5 @@
 -- Steps are bounded by times and levels.
-use Rattle.std.proofs.Common.{◌≡◌, ℕ, zero, suc, nat_lt, pos, ltb-true, ◌+◌, ◌*◌, ◌<◌, ◌≤◌, ◌==◌, ◌⊎◌, ◌≢◌, Bool, true, false, ◌&&◌, List, [], ◌∷◌, ◌++◌, Option, Some, None, ℤ, map, length, slice_get, arith, refl, sym, ap, subst, ◌∙◌, inl, inr, ⊎_elim, eqb-true, append-nil}
+use Rattle.std.proofs.Common.{◌≡◌, append_assoc, ℕ, zero, suc, nat_lt, pos, ltb-true, ◌+◌, ◌*◌, ◌<◌, ◌≤◌, ◌==◌, ◌⊎◌, ◌≢◌, Bool, true, false, ◌&&◌, List, [], ◌∷◌, ◌++◌, Option, Some, None, ℤ, map, length, slice_get, arith, refl, sym, ap, subst, ◌∙◌, inl, inr, ⊎_elim, eqb-true, append-nil}
 use Rattle.std.proofs.lemmas.Bool.{cases_Bool, and_parts, cond-true, cond-false}
 use Rattle.pt_tags.specs.declared.tag.Tag.{Tag}
 use Rattle.pt_tags.specs.declared.tag.Delay.{Delay}
@@ -24,23 +24,26 @@ use Rattle.pt_types.specs.declared.firing.Task.{Task}
 use Rattle.pt_types.specs.declared.firing.Done.{Done}
 use Rattle.pt_tags.specs.declared.message.Message.{Message}
 use Rattle.pt_types.specs.declared.firing.OnLink.{OnLink}
-use Rattle.pt_semantics.specs.Platform.{State, opened}
+use Rattle.pt_semantics.specs.Platform.{State, opened, raised}
 use Rattle.pt_semantics.specs.History.{firing_by, claims_of, LegalOnTime}
-use Rattle.pt_semantics.specs.Posting.{after_post, as_message}
+use Rattle.pt_semantics.specs.Posting.{Posts, after_post, as_message}
 use Rattle.pt_semantics.specs.Entering.{after_rows, due, not_due}
-use Rattle.pt_semantics.specs.Taking.{after_message, value_of}
-use Rattle.pt_semantics.specs.Claiming.{after_claim, IsNext}
+use Rattle.pt_semantics.specs.Taking.{IsOnTime, Takes, after_message, value_of, with_taken}
+use Rattle.pt_semantics.specs.Bounds.{link_bound}
+use Rattle.pt_semantics.specs.Closing.{CanClose, on_link, shut}
+use Rattle.pt_semantics.specs.Ranks.{AreLevels}
+use Rattle.pt_semantics.specs.Claiming.{Claims, after_claim, IsNext}
 use Rattle.pt_semantics.specs.Orderly.{IsOrderly, FitsStep, InOrder, ComesAfter}
-use Rattle.pt_semantics.specs.Turn.{Turn}
+use Rattle.pt_semantics.specs.Turn.{IsTurn, Turn}
 use Rattle.pt_semantics.specs.Linked.{all_sent, all_taken}
 use Rattle.pt_tags.specs.declared.message.Message.TheVariants.{Event, End}
 use Rattle.pt_semantics.specs.Rows.{FitsRow, FitRows}
 use Rattle.pt_semantics.specs.Floor.{IsBounded, Bounded}
-use Rattle.pt_laws.specs.HistoryTheorems.{StepsBounded, OutgoingOrderly}
+use Rattle.pt_laws.specs.HistoryTheorems.{StepsBounded, OutgoingOrderly, OutgoingOrderlyAfter}
 use Rattle.pt_semantics.proofs.Acyclic.{levels_are_small}
 use Rattle.pt_laws.proofs.Keeps.{open_list}
 use Rattle.pt_laws.proofs.Steps.{Keeps, messages_of}
-use Rattle.pt_laws.proofs.Walks.{on_time_history}
+use Rattle.pt_laws.proofs.Walks.{on_time_history, posts_whole}
 use Rattle.pt_semantics.proofs.Longest.{levels_grow}
 use Rattle.pt_semantics.proofs.Tags.{same_tag-true}
 use Rattle.pt_semantics.proofs.Lookups.{none_some, same_some, or_else_found, when_found, first_of_found, Each-in, IsIn-append_left, IsIn-append_right, same_part-true, cases_part}
@@ -263,3 +266,69 @@ outgoing_orderly g level i rows turns s wired are fits legal l link at home =
         subst (IsOrderly g level link) (sym same) (ordered (k.q (at_output g link.from 0)) [] rises (inl refl), fitting g (level link.from) (level link.to) (k.q (at_output g link.from 0)) [] le claims (inl refl))
     at_closed true e k u rises claims le =
         subst (IsOrderly g level link) (sym (k.out.once_shut e l link at home)) (ordered (k.q (at_output g link.from 0)) (End ∷ []) rises (inr refl), fitting g (level link.from) (level link.to) (k.q (at_output g link.from 0)) (End ∷ []) le claims (inr refl))
+
+-- Pushing after a turn, a late one among them.
+
+takes_outbox : (g : Graph) (level : ℕ → ℕ) (i : ℕ) (ms : List OnLink) (late : Bool) (s new : State) → Takes g level i s ms late new → new.outbox ≡ s.outbox
+takes_outbox g level i [] late s new (none, e) = ap (λ (z : State). z.outbox) e
+takes_outbox g level i (m ∷ ms) late s new (link, at, home, orderly, next) = ⊎_elim
+    (λ (on : IsOnTime s.reading (link_bound g link) m.message × Takes g level i (after_message s m.link link m.message) ms late new). takes_outbox g level i ms late (after_message s m.link link m.message) new on.1)
+    (λ (off : (IsOnTime s.reading (link_bound g link) m.message → ⊥) × (ms ≡ []) × (late ≡ true) × (new ≡ with_taken s m.link m.message)). ap (λ (z : State). z.outbox) off.3)
+    next
+
+nothing_claimed : (g : Graph) (r : ℕ) (tasks : List Task) (s new : State) → tasks ≡ [] → Claims g r s tasks new → new ≡ s
+nothing_claimed g r [] s new none e = e
+nothing_claimed g r (x ∷ tasks) s new none h = absurd (never x tasks none)
+  where
+    never : (x : Task) (xs : List Task) → x ∷ xs ≡ [] → ⊥
+    never x xs e = cc
+
+push_time : (g : Graph) (level : ℕ → ℕ) (i : ℕ) (turns : List Turn) (turn : Turn) (s mid new : State) → LegalOnTime g level i s turns mid → IsTurn g level i mid turn false new → LegalOnTime g level i s (turns ++ turn ∷ []) new
+push_time g level i [] turn s mid new e is = (new, subst (λ z. IsTurn g level i z turn false new) e is, refl)
+push_time g level i (x ∷ turns) turn s mid new (one, ix, rest) is = (one, ix, push_time g level i turns turn one mid new rest is)
+
+sent_push : (l : ℕ) (turns : List Turn) (turn : Turn) → all_sent l (turns ++ turn ∷ []) ≡ all_sent l turns ++ on_link l turn.sent
+sent_push l [] turn = append-nil (on_link l turn.sent)
+sent_push l (x ∷ turns) turn = ap (λ z. on_link l x.sent ++ z) (sent_push l turns turn) ∙ sym (append_assoc (on_link l x.sent) (all_sent l turns) (on_link l turn.sent))
+
+-- what is in an outbox after the posts of a turn is orderly with what was sent before
+posted_orderly : (g : Graph) (level : ℕ → ℕ) (i : ℕ) (rows : ℕ → List Row) (turns : List Turn) (s new : State) (ds : List Done) → IsWired g → AreLevels g level → FitRows g rows → LegalOnTime g level i (opened g i rows) turns s → Posts g s ds new → (l : ℕ) (link : Link) → slice_get g.links l ≡ Some link → platform_of g link.from ≡ i → IsOrderly g level link (all_sent l turns ++ new.outbox l)
+posted_orderly g level i rows turns s new ds wired are fits legal posts l link at home =
+    let up = levels_grow g level are in
+    let whole = posts_whole g level i rows wired up ds s new s.reading (claims_of g turns) (λ m. all_sent m turns) (λ m. all_taken m turns) (on_time_history g level i rows wired up fits turns s legal) posts in
+    let bounded = on_time_bounded g level i rows turns s wired up (levels_are_small g level wired are) fits legal in
+    let k = whole.keeps in
+    let u : Part = at_output g link.from 0 in
+    let rises : Rising (k.q u) = rising_front (k.q u) (open_list g (new.busy u)) (subst Rising (k.chains.open_is u) (whole.sound.floor.rises u)) in
+    let claims = λ (x : Firing) (mem : IsIn x (k.q u)). bounded.claims u x (subst (IsIn x) (sym (k.chains.open_is u)) (IsIn-append_left x (k.q u) (open_list g (new.busy u)) mem)) in
+    let lower : level link.from < level link.to = up (of_link link) (IsIn-append_right (of_link link) (wires g) (links g) (link_edge g.links l link at)) refl in
+    at_closed new.closed refl k rises claims (omega arith)
+  where
+    at_closed : (b : Bool) → new.closed ≡ b → (k : Keeps g level i rows new (claims_of g turns) (λ m. all_sent m turns) (λ m. all_taken m turns)) → Rising (k.q (at_output g link.from 0)) → ((x : Firing) → IsIn x (k.q (at_output g link.from 0)) → IsBounded g level link.from x.tag) → level link.from ≤ level link.to → IsOrderly g level link (all_sent l turns ++ new.outbox l)
+    at_closed false e k rises claims le =
+        let same : all_sent l turns ++ new.outbox l ≡ messages_of (k.q (at_output g link.from 0)) ++ [] = k.out.while_open e l link at home ∙ sym (append-nil (messages_of (k.q (at_output g link.from 0)))) in
+        subst (IsOrderly g level link) (sym same) (ordered (k.q (at_output g link.from 0)) [] rises (inl refl), fitting g (level link.from) (level link.to) (k.q (at_output g link.from 0)) [] le claims (inl refl))
+    at_closed true e k rises claims le =
+        subst (IsOrderly g level link) (sym (k.out.once_shut e l link at home)) (ordered (k.q (at_output g link.from 0)) (End ∷ []) rises (inr refl), fitting g (level link.from) (level link.to) (k.q (at_output g link.from 0)) (End ∷ []) le claims (inr refl))
+
+pub outgoing_orderly_after : OutgoingOrderlyAfter
+outgoing_orderly_after g level i rows turns turn s new late wired are fits legal is l link at home = go late is
+  where
+    go : (late : Bool) → IsTurn g level i s turn late new → IsOrderly g level link (all_sent l turns ++ (on_link l turn.sent ++ new.outbox l))
+    go false is =
+        subst (IsOrderly g level link) (ap (λ z. z ++ new.outbox l) (sent_push l turns turn) ∙ append_assoc (all_sent l turns) (on_link l turn.sent) (new.outbox l))
+        (outgoing_orderly g level i rows (turns ++ turn ∷ []) new wired are fits (push_time g level i turns turn (opened g i rows) s new legal is) l link at home)
+    go true is =
+        let ready : is.ready.outbox ≡ is.posted.outbox =
+        ap (λ (z : State). z.outbox) (nothing_claimed g turn.last turn.claimed (raised is.got turn.last) is.ready (is.idle_if_late refl) is.claims)
+        ∙ takes_outbox g level i turn.taken true (after_rows is.posted turn.last) is.got is.takes in
+        let done : is.done.outbox ≡ is.ready.outbox = ⊎_elim
+        (λ (shuts : CanClose g i is.ready turn.last × (true ≡ false) × (is.done ≡ shut g i is.ready)). absurd (differ shuts.1))
+        (λ (stays : (CanClose g i is.ready turn.last → true ≡ true) × (is.done ≡ is.ready)). ap (λ (z : State). z.outbox) stays.1)
+        is.closes in
+        let same : is.posted.outbox l ≡ on_link l turn.sent ++ new.outbox l =
+        sym (ap (λ (z : ℕ → List Message). z l) (done ∙ ready)) ∙ is.sends.2 l ∙ ap (λ z. on_link l turn.sent ++ z) (sym (ap (λ (z : State). z.outbox l) is.sends.1)) in
+        subst (λ z. IsOrderly g level link (all_sent l turns ++ z)) same (posted_orderly g level i rows turns s is.posted turn.posted wired are fits legal is.posts l link at home)
+      where
+        differ : true ≡ false → ⊥
+        differ e = cc

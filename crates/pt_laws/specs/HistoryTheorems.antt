@@ -5,6 +5,7 @@ use Rattle.pt_types.specs.declared.graph.Graph.{Graph}
 use Rattle.pt_types.specs.declared.graph.Link.{Link}
 use Rattle.pt_types.specs.declared.graph.Unit.{Unit as Part}
 use Rattle.pt_types.specs.declared.rows.Row.{Row}
+use Rattle.pt_semantics.specs.Closing.{on_link}
 use Rattle.pt_semantics.specs.Meaning.{ActorFiring, IsMeaning, opening}
 use Rattle.pt_semantics.specs.Settled.{AreCaughtUp, IsSettled, Passes}
 use Rattle.pt_semantics.specs.Ranks.{AreLevels, AreRanks}
@@ -17,7 +18,7 @@ use Rattle.pt_semantics.specs.History.{IsLegal, Legal, LegalOnTime, claims_of}
 use Rattle.pt_semantics.specs.Orderly.{IsOrderly}
 use Rattle.pt_semantics.specs.Wired.{IsWired}
 use Rattle.pt_semantics.specs.Platform.{State, opened}
-use Rattle.pt_semantics.specs.Turn.{Turn}
+use Rattle.pt_semantics.specs.Turn.{IsTurn, Turn}
 use Rattle.pt_types.specs.Lookups.{platform_of}
 use Rattle.pt_semantics.specs.Lists.{Each}
 use Rattle.pt_semantics.specs.Kept.{settled, kept, kept_with, IsSingle}
@@ -89,3 +90,8 @@ KeptIsLegal = (g : Graph) (level : ℕ → ℕ) (i : ℕ) (rows : ℕ → List R
 abbrev pub ReadOn : Type 0
 ReadOn = (history : List Turn) (turn : Turn) (readings : List ℕ) (r : ℕ) → IsReadBy history readings → turn.count ≡ 1 → turn.first ≡ turn.last → turn.last ≡ later_of (greatest_of 0 readings) r →
     IsReadBy (kept_with history turn) (readings ++ r ∷ [])
+
+-- and so it is after one turn more, though a message was late in it: what a platform posted may still be sent
+abbrev pub OutgoingOrderlyAfter : Type 0
+OutgoingOrderlyAfter = (g : Graph) (level : ℕ → ℕ) (i : ℕ) (rows : ℕ → List Row) (turns : List Turn) (turn : Turn) (s new : State) (late : Bool) → IsWired g → AreLevels g level → FitRows g rows → LegalOnTime g level i (opened g i rows) turns s → IsTurn g level i s turn late new →
+    (l : ℕ) (link : Link) → slice_get g.links l ≡ Some link → platform_of g link.from ≡ i → IsOrderly g level link (all_sent l turns ++ (on_link l turn.sent ++ new.outbox l))

@@ -1,6 +1,6 @@
 //! Theorems about legal histories: the floor, and confluence.
 
-ghost use Rattle.pt_laws.specs.HistoryTheorems.{FloorOnTime, ReadOn, SettledIsLegal, KeptIsLegal, FloorHolds, NoPortTwice, StepsBounded, OutgoingOrderly, HistoriesBehave, Confluence, ConfluenceByActor, ConfluenceOn};
+ghost use Rattle.pt_laws.specs.HistoryTheorems.{FloorOnTime, ReadOn, SettledIsLegal, KeptIsLegal, FloorHolds, NoPortTwice, StepsBounded, OutgoingOrderly, OutgoingOrderlyAfter, HistoriesBehave, Confluence, ConfluenceByActor, ConfluenceOn};
 
 /// In every state of a legal history no event can come to a unit at or before a tag that it has claimed.
 pub fn floor_of_claims()
@@ -61,4 +61,9 @@ pub fn histories_are_read_on()
 /// In every state of a history without a late turn no event can come to a unit at or before a tag that it has claimed.
 pub fn floor_of_claims_in_time()
     ensures { FloorOnTime }
+{}
+
+/// And so it is after one turn more, though a message was late in it.
+pub fn outgoing_lists_stay_orderly()
+    ensures { OutgoingOrderlyAfter }
 {}

@@ -13,7 +13,7 @@ pub use histories::{
     confluence_by_actor, confluence_of_histories, confluence_where_settled, floor_of_claims,
     floor_of_claims_in_time, histories_are_a_behaviour, histories_are_read_on,
     kept_turns_are_legal, no_port_has_two_events, outgoing_lists_are_orderly,
-    settled_histories_stay_legal, steps_are_bounded,
+    outgoing_lists_stay_orderly, settled_histories_stay_legal, steps_are_bounded,
 };
 pub use meaning::{
     meaning_is_a_behaviour, meaning_is_unique, one_behaviour, sorted_behaviour_is_the_meaning,

@@ -1,9 +1,12 @@
+pub mod Counted
 pub mod Ending
 pub mod Existing
 pub mod Few
+pub mod Fronts
 pub mod Kept
 pub mod Members
 pub mod Moves
+pub mod OneOrder
 pub mod OneRun
 pub mod Rounds
 pub mod Singles

@@ -54,11 +54,9 @@ module _ (g : Graph) (level : ℕ → ℕ) (rows : ℕ → List Row) (offset : P
       (λ (skip2 : IsFinished g i (x.at i) × Round g level c n (suc i) x ns z). absurd (one.0 skip2.0))
       (λ (two : (IsFinished g i (x.at i) → ⊥) × (m : Made) × (rest : List Made) × (mid : Together) × (ns ≡ m ∷ rest) × (m.platform ≡ i) × Makes g level c x m mid × Round g level c n (suc i) mid rest z).
       let here : one.1.platform < length g.platforms = subst (λ p. p < length g.platforms) (sym one.5) (omega (arith, le)) in
-      let there : two.1.platform < length g.platforms = subst (λ p. p < length g.platforms) (sym two.5) (omega (arith, le)) in
       let on = makes_onward g level rows offset has wired feasible c x one.3 one.1 here h one.6 in
-      let on2 = makes_onward g level rows offset has wired feasible c x two.3 two.1 there h two.6 in
-      let same = made g level 64 (λ l. 64 - length (x.on_way l)) c x one.1 two.1 one.3 two.3 one.6 two.6 (one.5 ∙ sym two.5) on.0 on2.0 in
-      let mids = together g level 64 (λ l. 64 - length (x.on_way l)) c x one.1 two.1 one.3 two.3 one.6 two.6 (one.5 ∙ sym two.5) on.0 on2.0 in
+      let same = made g level 64 (λ l. 64 - length (x.on_way l)) c x one.1 two.1 one.3 two.3 one.6 two.6 (one.5 ∙ sym two.5) in
+      let mids = together g level 64 (λ l. 64 - length (x.on_way l)) c x one.1 two.1 one.3 two.3 one.6 two.6 (one.5 ∙ sym two.5) in
       let rest = round_one c n (suc i) one.3 y z one.2 two.2 (omega (arith, le)) on.1 one.7 (subst (λ w. Round g level c n (suc i) w two.2 z) (sym mids) two.7) in
       (one.4 ∙ ap₂ (λ a b. a ∷ b) same rest.0 ∙ sym two.4, rest.1))
       q)

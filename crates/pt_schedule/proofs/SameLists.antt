@@ -1,4 +1,4 @@
--- Lists of results and of messages that are told by what stands in them.
+-- Lists of results and of messages that their members determine.
 use Rattle.std.proofs.Common.{◌≡◌, ℕ, ◌<◌, ◌≤◌, ◌==◌, ◌≢◌, true, false, List, [], ◌∷◌, Some, arith, refl, sym, ap, ap₂, subst, ◌∙◌, inl, inr, ⊎_elim, eqb-true}
 use Rattle.std.proofs.lemmas.Bool.{cases_lt, cases_Bool}
 use Rattle.std.proofs.lemmas.Bool.Decides.{nat_tests}
@@ -60,13 +60,13 @@ on_link_none l (x ∷ xs) never =
     (cases_Bool (x.link == l)))
     (on_link_none l xs (λ z m. never z (inr m)))
 
-eq_self : (n : ℕ) → (n == n) ≡ true
+pub eq_self : (n : ℕ) → (n == n) ≡ true
 eq_self n = grind (arith, nat_tests)
 
-on_link_here : (l : ℕ) (x : OnLink) (xs : List OnLink) → x.link ≡ l → on_link l (x ∷ xs) ≡ x.message ∷ on_link l xs
+pub on_link_here : (l : ℕ) (x : OnLink) (xs : List OnLink) → x.link ≡ l → on_link l (x ∷ xs) ≡ x.message ∷ on_link l xs
 on_link_here l x xs e = ap (λ o. cons_option o (on_link l xs)) (when-true (x.link == l) (Some x.message) (subst (λ n. (x.link == n) ≡ true) e (eq_self x.link)))
 
-on_link_there : (l : ℕ) (x : OnLink) (xs : List OnLink) → (x.link ≡ l → ⊥) → on_link l (x ∷ xs) ≡ on_link l xs
+pub on_link_there : (l : ℕ) (x : OnLink) (xs : List OnLink) → (x.link ≡ l → ⊥) → on_link l (x ∷ xs) ≡ on_link l xs
 on_link_there l x xs other =
     ap (λ o. cons_option o (on_link l xs))
     (⊎_elim
@@ -74,10 +74,10 @@ on_link_there l x xs other =
     (λ (apart : (x.link == l) ≡ false). when-false (x.link == l) (Some x.message) apart)
     (cases_Bool (x.link == l)))
 
-head_same : (m n : Message) (ms ns : List Message) → m ∷ ms ≡ n ∷ ns → m ≡ n
+pub head_same : (m n : Message) (ms ns : List Message) → m ∷ ms ≡ n ∷ ns → m ≡ n
 head_same m n ms ns h = cc
 
-tail_same : (m n : Message) (ms ns : List Message) → m ∷ ms ≡ n ∷ ns → ms ≡ ns
+pub tail_same : (m n : Message) (ms ns : List Message) → m ∷ ms ≡ n ∷ ns → ms ≡ ns
 tail_same m n ms ns h = cc
 
 -- the first message of one list is on no later link than that of the other
@@ -89,7 +89,7 @@ not_below x y xs ys ry same l =
     (λ (k : IsIn z ys). let above : y.link ≤ z.link = Each-in (λ (n : OnLink). y.link ≤ n.link) ys ry.0 z k in omega (arith, l, e, above))
     m))
 
--- messages that stand link by link, with the same ones on each link
+-- messages link by link, with the same ones on each link
 pub links_same : (xs ys : List OnLink) → LinkByLink xs → LinkByLink ys → ((l : ℕ) → on_link l xs ≡ on_link l ys) → xs ≡ ys
 links_same [] [] rx ry same = refl
 links_same [] (y ∷ ys) rx ry same = absurd (nothing_there y.message (on_link y.link ys) (sym (on_link_here y.link y ys refl) ∙ sym (same y.link)))

@@ -1,6 +1,6 @@
--- A visit is told by what was before it: two visits of one platform at one reading are the same.
+-- What was before a visit determines it: two visits of one platform at one reading are the same, whether late or not.
 use Rattle.std.proofs.Common.{◌≡◌, ℕ, suc, ◌+◌, ◌≤◌, ◌⊎◌, ◌≢◌, Bool, true, false, List, [], ◌∷◌, ◌++◌, Option, Some, None, length, slice_get, take, arith, refl, sym, ap, ap₂, subst, ◌∙◌, inl, inr, ⊎_elim, append-nil}
-use Rattle.std.proofs.lemmas.Bool.{false≢true}
+use Rattle.std.proofs.lemmas.Bool.{cases_Bool, false≢true}
 use Rattle.std.proofs.lemmas.List.{append_cancel_left}
 use Rattle.pt_tags.specs.declared.message.Message.{Message}
 use Rattle.pt_types.specs.declared.graph.Graph.{Graph}
@@ -23,10 +23,11 @@ use Rattle.pt_semantics.specs.Claiming.{Claims, IsNext, NoLater, after_claim}
 use Rattle.pt_semantics.specs.Closing.{Closes, CanClose, shut, on_link, unsent}
 use Rattle.pt_semantics.specs.Turn.{Turn, IsLast}
 use Rattle.pt_semantics.specs.Visits.{Together, Made, IsVisit, NumbersRise}
-use Rattle.pt_semantics.proofs.Lookups.{none_some, cases_part}
+use Rattle.pt_semantics.proofs.Lookups.{none_some, cases_part, IsIn-append_right}
 use Rattle.pt_semantics.proofs.Floor.{put_none_found, put_other}
 use Rattle.pt_laws.proofs.Onward.{cases_same}
 use Rattle.pt_schedule.proofs.SameLists.{rise_same, links_same, on_link_none}
+use Rattle.pt_schedule.proofs.Fronts.{decided, nothing_after, nothing_left, nothing_there, one_is_front}
 use Rattle.pt_types.specs.Limits.{most_claims}
 
 same_task : (x y : Task) → Some x ≡ Some y → x ≡ y
@@ -88,21 +89,53 @@ takes_member g level i (x ∷ ms) late s new (link, at, home, orderly, next) m m
     next)
     mem
 
-takes_state : (g : Graph) (level : ℕ → ℕ) (i : ℕ) (ms : List OnLink) (s a b : State) → Takes g level i s ms false a → Takes g level i s ms false b → a ≡ b
-takes_state g level i [] s a b ha hb = ha.1 ∙ sym hb.1
-takes_state g level i (m ∷ ms) s a b (link, at, home, orderly, next) (link2, at2, home2, orderly2, next2) =
+-- a list of messages is taken in one way
+takes_state : (g : Graph) (level : ℕ → ℕ) (i : ℕ) (ms : List OnLink) (late slow : Bool) (s a b : State) → Takes g level i s ms late a → Takes g level i s ms slow b → (late ≡ slow) × (a ≡ b)
+takes_state g level i [] late slow s a b ha hb = (ha.0 ∙ sym hb.0, ha.1 ∙ sym hb.1)
+takes_state g level i (m ∷ ms) late slow s a b (link, at, home, orderly, next) (link2, at2, home2, orderly2, next2) =
     ⊎_elim
-    (λ (on : IsOnTime s.reading (link_bound g link) m.message × Takes g level i (after_message s m.link link m.message) ms false a).
+    (λ (on : IsOnTime s.reading (link_bound g link) m.message × Takes g level i (after_message s m.link link m.message) ms late a).
     ⊎_elim
-    (λ (on2 : IsOnTime s.reading (link_bound g link2) m.message × Takes g level i (after_message s m.link link2 m.message) ms false b).
-    takes_state g level i ms (after_message s m.link link m.message) a b on.1
-    (subst (λ z. Takes g level i (after_message s m.link z m.message) ms false b) (same_link link2 link (sym at2 ∙ at)) on2.1))
-    (λ (off : (IsOnTime s.reading (link_bound g link2) m.message → ⊥) × (ms ≡ []) × (false ≡ true) × (b ≡ with_taken s m.link m.message)). absurd (false≢true off.2))
+    (λ (on2 : IsOnTime s.reading (link_bound g link2) m.message × Takes g level i (after_message s m.link link2 m.message) ms slow b).
+    takes_state g level i ms late slow (after_message s m.link link m.message) a b on.1
+    (subst (λ z. Takes g level i (after_message s m.link z m.message) ms slow b) (same_link link2 link (sym at2 ∙ at)) on2.1))
+    (λ (off : (IsOnTime s.reading (link_bound g link2) m.message → ⊥) × (ms ≡ []) × (slow ≡ true) × (b ≡ with_taken s m.link m.message)).
+    absurd (off.0 (subst (λ z. IsOnTime s.reading (link_bound g z) m.message) (same_link link link2 (sym at ∙ at2)) on.0)))
     next2)
-    (λ (off : (IsOnTime s.reading (link_bound g link) m.message → ⊥) × (ms ≡ []) × (false ≡ true) × (a ≡ with_taken s m.link m.message)). absurd (false≢true off.2))
+    (λ (off : (IsOnTime s.reading (link_bound g link) m.message → ⊥) × (ms ≡ []) × (late ≡ true) × (a ≡ with_taken s m.link m.message)).
+    ⊎_elim
+    (λ (on2 : IsOnTime s.reading (link_bound g link2) m.message × Takes g level i (after_message s m.link link2 m.message) ms slow b).
+    absurd (off.0 (subst (λ z. IsOnTime s.reading (link_bound g z) m.message) (same_link link2 link (sym at2 ∙ at)) on2.0)))
+    (λ (off2 : (IsOnTime s.reading (link_bound g link2) m.message → ⊥) × (ms ≡ []) × (slow ≡ true) × (b ≡ with_taken s m.link m.message)).
+    (off.2 ∙ sym off2.2, off.3 ∙ sym off2.3))
+    next2)
+    next
+
+-- where more messages follow on the same way, none of these is late
+takes_more : (g : Graph) (level : ℕ → ℕ) (i : ℕ) (ms more : List OnLink) (late slow : Bool) (s a b : State) → Takes g level i s ms late a → Takes g level i s (ms ++ more) slow b → (more ≡ [] → ⊥) → late ≡ false
+takes_more g level i [] more late slow s a b ha hb some = ha.0
+takes_more g level i (m ∷ ms) more late slow s a b (link, at, home, orderly, next) (link2, at2, home2, orderly2, next2) some =
+    ⊎_elim
+    (λ (on : IsOnTime s.reading (link_bound g link) m.message × Takes g level i (after_message s m.link link m.message) ms late a).
+    ⊎_elim
+    (λ (on2 : IsOnTime s.reading (link_bound g link2) m.message × Takes g level i (after_message s m.link link2 m.message) (ms ++ more) slow b).
+    takes_more g level i ms more late slow (after_message s m.link link m.message) a b on.1
+    (subst (λ z. Takes g level i (after_message s m.link z m.message) (ms ++ more) slow b) (same_link link2 link (sym at2 ∙ at)) on2.1) some)
+    (λ (off : (IsOnTime s.reading (link_bound g link2) m.message → ⊥) × (ms ++ more ≡ []) × (slow ≡ true) × (b ≡ with_taken s m.link m.message)). absurd (some (nothing_after ms more off.1)))
+    next2)
+    (λ (off : (IsOnTime s.reading (link_bound g link) m.message → ⊥) × (ms ≡ []) × (late ≡ true) × (a ≡ with_taken s m.link m.message)).
+    ⊎_elim
+    (λ (on2 : IsOnTime s.reading (link_bound g link2) m.message × Takes g level i (after_message s m.link link2 m.message) (ms ++ more) slow b).
+    absurd (off.0 (subst (λ z. IsOnTime s.reading (link_bound g z) m.message) (same_link link2 link (sym at2 ∙ at)) on2.0)))
+    (λ (off2 : (IsOnTime s.reading (link_bound g link2) m.message → ⊥) × (ms ++ more ≡ []) × (slow ≡ true) × (b ≡ with_taken s m.link m.message)). absurd (some (nothing_after ms more off2.1)))
+    next2)
     next
 
 -- claiming
+
+nothing_claimed : (g : Graph) (r : ℕ) (tasks : List Task) (s new : State) → tasks ≡ [] → Claims g r s tasks new → new ≡ s
+nothing_claimed g r [] s new none e = e
+nothing_claimed g r (t ∷ tasks) s new none h = absurd (nothing_there t tasks none)
 
 next_same : (g : Graph) (r : ℕ) (s : State) (t o : Task) → IsNext g s r (unit_of g t) t → IsNext g s r (unit_of g o) o → t ≡ o
 next_same g r s t o ht ho =
@@ -184,18 +217,18 @@ claims_one g r k most (t ∷ tasks) (o ∷ others) s a b (next, rest) (next2, re
         (λ (full : (most ≤ k + suc n) ⊎ (most_claims ≤ z.claims)). inr (⊎_elim (λ (many : most ≤ k + suc n). inl (omega (arith, many))) (λ (all : most_claims ≤ z.claims). inr all) full))
         h
 
-closes_one : (g : Graph) (i : ℕ) (s a b : State) (r : ℕ) → Closes g i s r false a → Closes g i s r false b → a ≡ b
-closes_one g i s a b r ha hb =
+closes_one : (g : Graph) (i : ℕ) (s a b : State) (r : ℕ) (late : Bool) → Closes g i s r late a → Closes g i s r late b → a ≡ b
+closes_one g i s a b r late ha hb =
     ⊎_elim
-    (λ (x : CanClose g i s r × (false ≡ false) × (a ≡ shut g i s)).
+    (λ (x : CanClose g i s r × (late ≡ false) × (a ≡ shut g i s)).
     ⊎_elim
-    (λ (y : CanClose g i s r × (false ≡ false) × (b ≡ shut g i s)). x.2 ∙ sym y.2)
-    (λ (y : (CanClose g i s r → false ≡ true) × (b ≡ s)). absurd (false≢true (y.0 x.0)))
+    (λ (y : CanClose g i s r × (late ≡ false) × (b ≡ shut g i s)). x.2 ∙ sym y.2)
+    (λ (y : (CanClose g i s r → late ≡ true) × (b ≡ s)). absurd (false≢true (sym x.1 ∙ y.0 x.0)))
     hb)
-    (λ (x : (CanClose g i s r → false ≡ true) × (a ≡ s)).
+    (λ (x : (CanClose g i s r → late ≡ true) × (a ≡ s)).
     ⊎_elim
-    (λ (y : CanClose g i s r × (false ≡ false) × (b ≡ shut g i s)). absurd (false≢true (x.0 y.0)))
-    (λ (y : (CanClose g i s r → false ≡ true) × (b ≡ s)). x.1 ∙ sym y.1)
+    (λ (y : CanClose g i s r × (late ≡ false) × (b ≡ shut g i s)). absurd (false≢true (sym y.1 ∙ x.0 y.0)))
+    (λ (y : (CanClose g i s r → late ≡ true) × (b ≡ s)). x.1 ∙ sym y.1)
     hb)
     ha
 
@@ -209,8 +242,8 @@ at_zero g r most tasks z h =
     (λ (full : (most ≤ length tasks) ⊎ (most_claims ≤ z.claims)). inr (⊎_elim (λ (many : most ≤ length tasks). inl (omega (arith, many))) (λ (all : most_claims ≤ z.claims). inr all) full))
     h
 
--- two visits that are not late
-module _ (g : Graph) (level : ℕ → ℕ) (most : ℕ) (room : ℕ → ℕ) (r : ℕ) (x : Together) (m n : Made) (y z : Together) (k : IsVisit g level most room r x m y) (j : IsVisit g level most room r x n z) (platform : m.platform ≡ n.platform) (timely : m.late ≡ false) (timely2 : n.late ≡ false) where
+-- two visits
+module _ (g : Graph) (level : ℕ → ℕ) (most : ℕ) (room : ℕ → ℕ) (r : ℕ) (x : Together) (m n : Made) (y z : Together) (k : IsVisit g level most room r x m y) (j : IsVisit g level most room r x n z) (platform : m.platform ≡ n.platform) where
   last : m.turn.last ≡ n.turn.last
   last = k.last ∙ sym j.last
 
@@ -226,69 +259,86 @@ module _ (g : Graph) (level : ℕ → ℕ) (most : ℕ) (room : ℕ → ℕ) (r 
   rows : m.turn.rows ≡ n.turn.rows
   rows = k.is.rows ∙ ap₂ (λ q (s : State). all_due g q s.left) last (ap x.at platform) ∙ sym j.is.rows
 
-  -- on each link both took all that came, or nothing
-  taken_on : (l : ℕ) → on_link l m.turn.taken ≡ on_link l n.turn.taken
-  taken_on l = by_link (slice_get g.links l) refl
-    where
-      all_k : (link : Link) → slice_get g.links l ≡ Some link → platform_of g link.to ≡ m.platform → on_link l m.turn.taken ≡ x.on_way l
-      all_k link at home = sym (k.takes l ∙ ap (λ w. on_link l m.turn.taken ++ w) (k.takes_all timely l link at home) ∙ append-nil (on_link l m.turn.taken))
+  -- the links that lead to the visited platform
+  abbrev Leads : ℕ → Type 0
+  Leads l = (link : Link) × (slice_get g.links l ≡ Some link) × (platform_of g link.to ≡ m.platform)
 
-      all_j : (link : Link) → slice_get g.links l ≡ Some link → platform_of g link.to ≡ m.platform → on_link l n.turn.taken ≡ x.on_way l
-      all_j link at home = sym (j.takes l ∙ ap (λ w. on_link l n.turn.taken ++ w) (j.takes_all timely2 l link at (home ∙ platform)) ∙ append-nil (on_link l n.turn.taken))
+  leads_m : (o : OnLink) → IsIn o m.turn.taken → Leads o.link
+  leads_m o mem = takes_member g level m.platform m.turn.taken m.late (after_rows k.is.posted m.turn.last) k.is.got k.is.takes o mem
 
-      none_k : ((link : Link) → slice_get g.links l ≡ Some link → platform_of g link.to ≡ m.platform → ⊥) → on_link l m.turn.taken ≡ []
-      none_k never = on_link_none l m.turn.taken (λ w mem e.
-          let there = takes_member g level m.platform m.turn.taken m.late (after_rows k.is.posted m.turn.last) k.is.got k.is.takes w mem in
-          never there.0 (sym (ap (slice_get g.links) e) ∙ there.1) there.2)
+  takes_n : Takes g level m.platform (after_rows k.is.posted m.turn.last) n.turn.taken n.late j.is.got
+  takes_n =
+      subst (λ q. Takes g level m.platform (after_rows k.is.posted q) n.turn.taken n.late j.is.got) (sym last)
+      (subst (λ s. Takes g level m.platform (after_rows s n.turn.last) n.turn.taken n.late j.is.got) (sym posted_state)
+      (subst (λ p. Takes g level p (after_rows j.is.posted n.turn.last) n.turn.taken n.late j.is.got) (sym platform) j.is.takes))
 
-      none_j : ((link : Link) → slice_get g.links l ≡ Some link → platform_of g link.to ≡ m.platform → ⊥) → on_link l n.turn.taken ≡ []
-      none_j never = on_link_none l n.turn.taken (λ w mem e.
-          let there = takes_member g level n.platform n.turn.taken n.late (after_rows j.is.posted n.turn.last) j.is.got j.is.takes w mem in
-          never there.0 (sym (ap (slice_get g.links) e) ∙ there.1) (there.2 ∙ sym platform))
+  leads_n : (o : OnLink) → IsIn o n.turn.taken → Leads o.link
+  leads_n o mem = takes_member g level m.platform n.turn.taken n.late (after_rows k.is.posted m.turn.last) j.is.got takes_n o mem
 
-      by_link : (o : Option Link) → slice_get g.links l ≡ o → on_link l m.turn.taken ≡ on_link l n.turn.taken
-      by_link None e =
-          none_k (λ link at home. no_link link (sym e ∙ at)) ∙ sym (none_j (λ link at home. no_link link (sym e ∙ at)))
-        where
-          no_link : (link : Link) → None ≡ Some link → ⊥
-          no_link link h = cc
-      by_link (Some link) e =
-          ⊎_elim
-          (λ (home : platform_of g link.to ≡ m.platform). all_k link e home ∙ sym (all_j link e home))
-          (λ (away : platform_of g link.to ≢ m.platform).
-          none_k (λ other at home. away (ap (λ (w : Link). platform_of g w.to) (same_link link other (sym e ∙ at)) ∙ home))
-          ∙ sym (none_j (λ other at home. away (ap (λ (w : Link). platform_of g w.to) (same_link link other (sym e ∙ at)) ∙ home))))
-          (cases_same (platform_of g link.to) m.platform)
+  -- one of the two took what the other took, and perhaps more
+  fronts : (more : List OnLink) × ((n.turn.taken ≡ m.turn.taken ++ more) ⊎ (m.turn.taken ≡ n.turn.taken ++ more))
+  fronts = one_is_front Leads m.turn.taken n.turn.taken k.rest j.rest k.takes_by_link j.takes_by_link leads_m leads_n (λ l. sym (k.takes l) ∙ j.takes l)
+      (λ a b leads lt some. k.takes_first a b leads.0 leads.1 leads.2 lt some)
+      (λ a b leads lt some. j.takes_first a b leads.0 leads.1 (leads.2 ∙ platform) lt some)
+
+  no_more : (more : List OnLink) → (n.turn.taken ≡ m.turn.taken ++ more) ⊎ (m.turn.taken ≡ n.turn.taken ++ more) → more ≡ []
+  no_more more =
+      ⊎_elim
+      (λ (e : n.turn.taken ≡ m.turn.taken ++ more).
+      decided more (λ some. nothing_left Leads m.turn.taken more k.rest j.rest
+      (λ o mem. leads_n o (subst (IsIn o) (sym e) (IsIn-append_right o m.turn.taken more mem)))
+      (λ l leads. k.takes_all (takes_more g level m.platform m.turn.taken more m.late n.late (after_rows k.is.posted m.turn.last) k.is.got j.is.got k.is.takes (subst (λ ms. Takes g level m.platform (after_rows k.is.posted m.turn.last) ms n.late j.is.got) e takes_n) some) l leads.0 leads.1 leads.2)
+      (λ l. sym (k.takes l) ∙ j.takes l ∙ ap (λ ms. on_link l ms ++ j.rest l) e) some))
+      (λ (e : m.turn.taken ≡ n.turn.taken ++ more).
+      decided more (λ some. nothing_left Leads n.turn.taken more j.rest k.rest
+      (λ o mem. leads_m o (subst (IsIn o) (sym e) (IsIn-append_right o n.turn.taken more mem)))
+      (λ l leads. j.takes_all (takes_more g level m.platform n.turn.taken more n.late m.late (after_rows k.is.posted m.turn.last) j.is.got k.is.got takes_n (subst (λ ms. Takes g level m.platform (after_rows k.is.posted m.turn.last) ms m.late k.is.got) e k.is.takes) some) l leads.0 leads.1 (leads.2 ∙ platform))
+      (λ l. sym (j.takes l) ∙ k.takes l ∙ ap (λ ms. on_link l ms ++ k.rest l) e) some))
 
   taken : m.turn.taken ≡ n.turn.taken
-  taken = links_same m.turn.taken n.turn.taken k.takes_by_link j.takes_by_link taken_on
+  taken =
+      ⊎_elim
+      (λ (e : n.turn.taken ≡ m.turn.taken ++ fronts.0). sym (e ∙ ap (λ ms. m.turn.taken ++ ms) (no_more fronts.0 fronts.1) ∙ append-nil m.turn.taken))
+      (λ (e : m.turn.taken ≡ n.turn.taken ++ fronts.0). e ∙ ap (λ ms. n.turn.taken ++ ms) (no_more fronts.0 fronts.1) ∙ append-nil n.turn.taken)
+      fronts.1
+
+  took : (m.late ≡ n.late) × (k.is.got ≡ j.is.got)
+  took = takes_state g level m.platform n.turn.taken m.late n.late (after_rows k.is.posted m.turn.last) k.is.got j.is.got
+      (subst (λ ms. Takes g level m.platform (after_rows k.is.posted m.turn.last) ms m.late k.is.got) taken k.is.takes) takes_n
+
+  late : m.late ≡ n.late
+  late = took.0
 
   got_state : k.is.got ≡ j.is.got
-  got_state =
-      takes_state g level m.platform n.turn.taken (after_rows k.is.posted m.turn.last) k.is.got j.is.got
-      (subst (λ ms. Takes g level m.platform (after_rows k.is.posted m.turn.last) ms false k.is.got) taken
-      (subst (λ b. Takes g level m.platform (after_rows k.is.posted m.turn.last) m.turn.taken b k.is.got) timely k.is.takes))
-      (subst (λ q. Takes g level m.platform (after_rows k.is.posted q) n.turn.taken false j.is.got) (sym last)
-      (subst (λ s. Takes g level m.platform (after_rows s n.turn.last) n.turn.taken false j.is.got) (sym posted_state)
-      (subst (λ p. Takes g level p (after_rows j.is.posted n.turn.last) n.turn.taken false j.is.got) (sym platform)
-      (subst (λ b. Takes g level n.platform (after_rows j.is.posted n.turn.last) n.turn.taken b j.is.got) timely2 j.is.takes))))
+  got_state = took.1
+
+  claims_n : Claims g r (raised k.is.got r) n.turn.claimed j.is.ready
+  claims_n =
+      subst (λ s. Claims g r (raised s r) n.turn.claimed j.is.ready) (sym got_state)
+      (subst (λ q. Claims g q (raised j.is.got q) n.turn.claimed j.is.ready) j.last j.is.claims)
+
+  claims_m : Claims g r (raised k.is.got r) m.turn.claimed k.is.ready
+  claims_m = subst (λ q. Claims g q (raised k.is.got q) m.turn.claimed k.is.ready) k.last k.is.claims
 
   claimed_both : (m.turn.claimed ≡ n.turn.claimed) × (k.is.ready ≡ j.is.ready)
   claimed_both =
-      claims_one g r 0 most m.turn.claimed n.turn.claimed (raised k.is.got r) k.is.ready j.is.ready
-      (subst (λ q. Claims g q (raised k.is.got q) m.turn.claimed k.is.ready) k.last k.is.claims)
-      (subst (λ s. Claims g r (raised s r) n.turn.claimed j.is.ready) (sym got_state)
-      (subst (λ q. Claims g q (raised j.is.got q) n.turn.claimed j.is.ready) j.last j.is.claims))
-      (at_zero g r most m.turn.claimed k.is.ready (k.claims_all timely)) (at_zero g r most n.turn.claimed j.is.ready (j.claims_all timely2)) (from_zero (length m.turn.claimed) most k.claims_most) (from_zero (length n.turn.claimed) most j.claims_most) k.is.at_most.1 j.is.at_most.1
+      ⊎_elim
+      (λ (slow : m.late ≡ true).
+      let none_m : m.turn.claimed ≡ [] = k.is.idle_if_late slow in
+      let none_n : n.turn.claimed ≡ [] = j.is.idle_if_late (sym late ∙ slow) in
+      (none_m ∙ sym none_n, nothing_claimed g r m.turn.claimed (raised k.is.got r) k.is.ready none_m claims_m ∙ sym (nothing_claimed g r n.turn.claimed (raised k.is.got r) j.is.ready none_n claims_n)))
+      (λ (timely : m.late ≡ false).
+      claims_one g r 0 most m.turn.claimed n.turn.claimed (raised k.is.got r) k.is.ready j.is.ready claims_m claims_n
+      (at_zero g r most m.turn.claimed k.is.ready (k.claims_all timely)) (at_zero g r most n.turn.claimed j.is.ready (j.claims_all (sym late ∙ timely))) (from_zero (length m.turn.claimed) most k.claims_most) (from_zero (length n.turn.claimed) most j.claims_most) k.is.at_most.1 j.is.at_most.1)
+      (cases_Bool m.late)
 
   done_state : k.is.done ≡ j.is.done
   done_state =
-      closes_one g m.platform k.is.ready k.is.done j.is.done m.turn.last
-      (subst (λ b. Closes g m.platform k.is.ready m.turn.last b k.is.done) timely k.is.closes)
-      (subst (λ q. Closes g m.platform k.is.ready q false j.is.done) (sym last)
-      (subst (λ s. Closes g m.platform s n.turn.last false j.is.done) (sym claimed_both.1)
-      (subst (λ p. Closes g p j.is.ready n.turn.last false j.is.done) (sym platform)
-      (subst (λ b. Closes g n.platform j.is.ready n.turn.last b j.is.done) timely2 j.is.closes))))
+      closes_one g m.platform k.is.ready k.is.done j.is.done m.turn.last m.late k.is.closes
+      (subst (λ q. Closes g m.platform k.is.ready q m.late j.is.done) (sym last)
+      (subst (λ s. Closes g m.platform s n.turn.last m.late j.is.done) (sym claimed_both.1)
+      (subst (λ p. Closes g p j.is.ready n.turn.last m.late j.is.done) (sym platform)
+      (subst (λ b. Closes g n.platform j.is.ready n.turn.last b j.is.done) (sym late) j.is.closes))))
 
   sent : m.turn.sent ≡ n.turn.sent
   sent = links_same m.turn.sent n.turn.sent k.sends_by_link j.sends_by_link (λ l. k.sends_all l ∙ ap (λ (s : State). take (room l) (s.outbox l)) done_state ∙ sym (j.sends_all l))
@@ -314,13 +364,13 @@ module _ (g : Graph) (level : ℕ → ℕ) (most : ℕ) (room : ℕ → ℕ) (r 
     where
       on : m.fault ≡ true → n.fault ≡ true
       on f = j.faults.0
-          (subst (λ b. IsLast g (x.at n.platform) r b j.is.ready) (timely ∙ sym timely2)
+          (subst (λ b. IsLast g (x.at n.platform) r b j.is.ready) late
           (subst (λ s. IsLast g (x.at n.platform) r m.late s) claimed_both.1
           (subst (λ p. IsLast g (x.at p) r m.late k.is.ready) platform (k.faults.1 f))))
 
       back : n.fault ≡ true → m.fault ≡ true
       back f = k.faults.0
-          (subst (λ b. IsLast g (x.at m.platform) r b k.is.ready) (timely2 ∙ sym timely)
+          (subst (λ b. IsLast g (x.at m.platform) r b k.is.ready) (sym late)
           (subst (λ s. IsLast g (x.at m.platform) r n.late s) (sym claimed_both.1)
           (subst (λ p. IsLast g (x.at p) r n.late j.is.ready) (sym platform) (j.faults.1 f))))
 
@@ -331,7 +381,6 @@ module _ (g : Graph) (level : ℕ → ℕ) (most : ℕ) (room : ℕ → ℕ) (r 
 
   pub made : m ≡ n
   made =
-      let late : m.late ≡ n.late = timely ∙ sym timely2 in
       λ i. record { platform = platform i; turn = turn i; late = late i; fault = fault i }
 
   way : (l : ℕ) → y.on_way l ≡ z.on_way l

@@ -1,5 +1,6 @@
 pub mod Ending
 pub mod Existence
+pub mod FixedOrderTheorems
 pub mod Schedule
 pub mod WholeRuns
 pub mod PacedTheorems
