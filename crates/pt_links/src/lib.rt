@@ -1,10 +1,15 @@
 //! Links between platforms: they carry the messages of a sender to its receiver, in order.
 //!
-//! A `Pipe` is a link whose two ends have the same owner. It is a ring of 64 places, and allocates nothing.
+//! A `Pipe` is a link whose two ends have the same owner. It is a ring of 64 places, and allocates nothing. An `Outlet` and
+//! an `Inlet` are the two ends of a link between threads: a queue of 64 places whose rule is that what it holds is orderly.
 //!
-//! Read first: `Pipe`.
+//! Read first: `Pipe`, `Outlet` and `Inlet`.
 #![tactic(auto)]
 
+mod ends;
 mod pipe;
+mod rule;
 
+pub use ends::{Inlet, Outlet, Settled, link, settle};
 pub use pipe::{PLACES, Pipe};
+pub use rule::Bounds;
