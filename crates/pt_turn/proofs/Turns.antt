@@ -49,6 +49,13 @@ ran_is_legal g level i rows turns s fault wired levels fit ran =
     subst (λ ts. IsLegal g level i rows ts s) (sym ran.are_kept)
     ((kept_is_legal g level i rows ran.all s wired levels fit ran.single).0 (leads_legal g level i (opened g i rows) s turns ran.all fault ran.leads))
 
+-- and where no turn answered a fault, none of the kept turns is late
+pub ran_in_time : (g : Graph) (level : ℕ → ℕ) (i : ℕ) (rows : ℕ → List Row) (turns : List Turn) (s : State) (fault : Option TurnFault) → IsWired g → AreLevels g level → FitRows g rows → Ran g level i rows turns s fault → fault ≡ None → LegalOnTime g level i (opened g i rows) turns s
+ran_in_time g level i rows turns s None wired levels fit ran none =
+    subst (λ ts. LegalOnTime g level i (opened g i rows) ts s) (sym ran.are_kept)
+    ((kept_is_legal g level i rows ran.all s wired levels fit ran.single).1 (goes_on_in_time g level i (opened g i rows) s ran.all ran.leads))
+ran_in_time g level i rows turns s (Some fault) wired levels fit ran none = absurd (none_some fault (sym none))
+
 shown : (g : Graph) (level : ℕ → ℕ) (i : ℕ) (start s : State) (turns all : List Turn) (fault : TurnFault) → Leads g level i start turns all s (Some fault) → Shows g turns s fault
 shown g level i start s turns all fault h = h.1
 

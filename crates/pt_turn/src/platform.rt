@@ -1,10 +1,12 @@
 //! The platform.
 
-ghost use Rattle.std.specs.Prelude.{◌≡◌, MatchOption, length, option_map, slice_get};
+ghost use Rattle.std.specs.Prelude.{◌≡◌, MatchOption, None, length, option_map, slice_get};
 ghost use Rattle.std.specs.Arc.{arc_value};
-ghost use Rattle.pt_semantics.specs.History.{IsLegal};
+ghost use Rattle.pt_semantics.specs.History.{IsLegal, LegalOnTime};
+ghost use Rattle.pt_semantics.specs.Platform.{opened};
+ghost use Rattle.pt_turn.specs.Laws.{IsRunning};
 ghost use Rattle.pt_turn.specs.Platforms.{level_at, rows_at, state_at};
-ghost use Rattle.pt_turn.specs.Running.{Shows};
+ghost use Rattle.pt_turn.specs.Running.{Shows, last_reading};
 
 use crate::Lists;
 use crate::fault::TurnFault;
@@ -73,6 +75,9 @@ impl Platform {
     pub fn fault(&self) -> Option<TurnFault>
         ensures fault { result ≡ self.now.fault }
         ensures shows { MatchOption result (Unit {0}) (Shows self.now.plan.graph self.now.turns (state_at self.now)) }
+        ensures runs { IsRunning self.now }
+        ensures read { self.now.reading ≡ last_reading self.now.turns }
+        ensures on_time { result ≡ None → LegalOnTime self.now.plan.graph (level_at self.now) self.now.number (opened self.now.plan.graph self.now.number (rows_at self.now)) self.now.turns (state_at self.now) }
     {
         self.fault
     }

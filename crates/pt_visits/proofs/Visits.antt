@@ -100,8 +100,8 @@ few_sent outbox old new sent h l = elim (slice_get_cases old l).1 [
     some : (pipe : List Message) → on_link l sent ≡ take (64 - length pipe) (outbox l) → length (on_link l sent) ≤ 64
     some pipe e = let n : length (on_link l sent) ≡ min (64 - length pipe) (length (outbox l)) = ap length e ∙ length-take (64 - length pipe) (outbox l) in omega (arith, n)
 
-module _ (r : ℕ) (dones results : List Done) (old mid : PlatformView) (pipes piped : List (List Message)) (made : IsTurned old mid r 64 dones (arriving old.plan.graph old.number 0 pipes)) (stays : StaysThere old mid) (fired : map (λ (d : Done). d.task) results ≡ made.turn.claimed) (are : AreDone old.plan.graph results) where
-  visited_sent : (ms outbox : List OnLink) → ((l : ℕ) → on_link l mid.outbox ≡ on_link l ms ++ on_link l outbox) → HavePushed (λ (l : ℕ). on_link l mid.outbox) (emptied old.plan.graph old.number 0 pipes) piped ms → IsVisited r dones results old (with_sent mid ms outbox) pipes piped
+module _ (most r : ℕ) (dones results : List Done) (old mid : PlatformView) (pipes piped : List (List Message)) (made : IsTurned old mid r most dones (arriving old.plan.graph old.number 0 pipes)) (stays : StaysThere old mid) (fired : map (λ (d : Done). d.task) results ≡ made.turn.claimed) (are : AreDone old.plan.graph results) where
+  visited_sent : (ms outbox : List OnLink) → ((l : ℕ) → on_link l mid.outbox ≡ on_link l ms ++ on_link l outbox) → HavePushed (λ (l : ℕ). on_link l mid.outbox) (emptied old.plan.graph old.number 0 pipes) piped ms → IsVisited most r dones results old (with_sent mid ms outbox) pipes piped
   visited_sent ms outbox splits pushed = record {
     turn = sending ms made.turn;
     at = (made.at.0, made.at.1, made.at.2);
@@ -121,18 +121,18 @@ module _ (r : ℕ) (dones results : List Done) (old mid : PlatformView) (pipes p
     done = are;
   }
 
-  pub visited : (new : PlatformView) → ArePushed mid new (emptied old.plan.graph old.number 0 pipes) piped → IsVisited r dones results old new pipes piped
+  pub visited : (new : PlatformView) → ArePushed mid new (emptied old.plan.graph old.number 0 pipes) piped → IsVisited most r dones results old new pipes piped
   visited new p =
       let is : new ≡ with_sent mid p.sent new.outbox = p.gone.stays ∙ ap (λ (ts : List Turn). record mid { turns = ts; outbox = new.outbox }) p.gone.turns in
-      subst (λ (v : PlatformView). IsVisited r dones results old v pipes piped) (sym is) (visited_sent p.sent new.outbox p.gone.rest p.pushed)
+      subst (λ (v : PlatformView). IsVisited most r dones results old v pipes piped) (sym is) (visited_sent p.sent new.outbox p.gone.rest p.pushed)
 
 -- a turn was made, and what it claimed was handed out
-abbrev pub MakesTurn : PlatformView → PlatformView → ℕ → List Done → List OnLink → List Task → List Task → Type 0
-MakesTurn old new r dones messages handed tasks = (made : IsTurned old new r 64 dones messages) × (tasks ≡ handed ++ made.turn.claimed) × StaysThere old new
+abbrev pub MakesTurn : ℕ → PlatformView → PlatformView → ℕ → List Done → List OnLink → List Task → List Task → Type 0
+MakesTurn most old new r dones messages handed tasks = (made : IsTurned old new r most dones messages) × (tasks ≡ handed ++ made.turn.claimed) × StaysThere old new
 
 -- for what it had memory makes no difference
-pub without_room : (old new : PlatformView) (room : Option Room) (r : ℕ) (dones : List Done) (messages : List OnLink) (handed tasks : List Task) → MakesTurn (record old { room = room }) new r dones messages handed tasks → MakesTurn old new r dones messages handed tasks
-without_room old new room r dones messages handed tasks h = (
+pub without_room : (most : ℕ) (old new : PlatformView) (room : Option Room) (r : ℕ) (dones : List Done) (messages : List OnLink) (handed tasks : List Task) → MakesTurn most (record old { room = room }) new r dones messages handed tasks → MakesTurn most old new r dones messages handed tasks
+without_room most old new room r dones messages handed tasks h = (
   record {
     turn = h.0.turn;
     at = h.0.at;
@@ -148,14 +148,14 @@ without_room old new room r dones messages handed tasks h = (
   record { plan = h.2.plan; number = h.2.number; rows = h.2.rows },
 )
 
-pub is_visited : (r : ℕ) (dones given results : List Done) (old mid new : PlatformView) (pipes between piped : List (List Message)) (messages : List OnLink) (handed tasks : List Task) → MakesTurn old mid r given messages handed tasks → given ≡ dones → messages ≡ arriving old.plan.graph old.number 0 pipes → handed ≡ [] → ArePushed mid new between piped
-    → between ≡ emptied old.plan.graph old.number 0 pipes → map (λ (d : Done). d.task) results ≡ tasks → AreDone new.plan.graph results → IsVisited r dones results old new pipes piped
-is_visited r dones given results old mid new pipes between piped messages handed tasks h given_is messages_are handed_are pushed between_are fired are =
-    let one : MakesTurn old mid r dones messages handed tasks = subst (λ (ds : List Done). MakesTurn old mid r ds messages handed tasks) given_is h in
-    let two : MakesTurn old mid r dones (arriving old.plan.graph old.number 0 pipes) handed tasks = subst (λ (ms : List OnLink). MakesTurn old mid r dones ms handed tasks) messages_are one in
-    let all : MakesTurn old mid r dones (arriving old.plan.graph old.number 0 pipes) [] tasks = subst (λ (ts : List Task). MakesTurn old mid r dones (arriving old.plan.graph old.number 0 pipes) ts tasks) handed_are two in
+pub is_visited : (most r : ℕ) (dones given results : List Done) (old mid new : PlatformView) (pipes between piped : List (List Message)) (messages : List OnLink) (handed tasks : List Task) → MakesTurn most old mid r given messages handed tasks → given ≡ dones → messages ≡ arriving old.plan.graph old.number 0 pipes → handed ≡ [] → ArePushed mid new between piped
+    → between ≡ emptied old.plan.graph old.number 0 pipes → map (λ (d : Done). d.task) results ≡ tasks → AreDone new.plan.graph results → IsVisited most r dones results old new pipes piped
+is_visited most r dones given results old mid new pipes between piped messages handed tasks h given_is messages_are handed_are pushed between_are fired are =
+    let one : MakesTurn most old mid r dones messages handed tasks = subst (λ (ds : List Done). MakesTurn most old mid r ds messages handed tasks) given_is h in
+    let two : MakesTurn most old mid r dones (arriving old.plan.graph old.number 0 pipes) handed tasks = subst (λ (ms : List OnLink). MakesTurn most old mid r dones ms handed tasks) messages_are one in
+    let all : MakesTurn most old mid r dones (arriving old.plan.graph old.number 0 pipes) [] tasks = subst (λ (ts : List Task). MakesTurn most old mid r dones (arriving old.plan.graph old.number 0 pipes) ts tasks) handed_are two in
     let graph_is : new.plan.graph ≡ old.plan.graph = ap (λ (v : PlatformView). v.plan.graph) pushed.gone.stays ∙ ap (λ (p : Parts). p.graph) all.2.plan in
-    visited r dones results old mid pipes piped all.0 all.2 (fired ∙ all.1) (subst (λ (g : Graph). AreDone g results) graph_is are) new (subst (λ (ps : List (List Message)). ArePushed mid new ps piped) between_are pushed)
+    visited most r dones results old mid pipes piped all.0 all.2 (fired ∙ all.1) (subst (λ (g : Graph). AreDone g results) graph_is are) new (subst (λ (ps : List (List Message)). ArePushed mid new ps piped) between_are pushed)
 
 -- a visit in which nothing is done
 nothing_pushed : (v : PlatformView) (pipes : List (List Message)) → v.outbox ≡ [] → ArePushed v v pipes pipes
@@ -175,9 +175,9 @@ nothing_pushed v pipes none = record {
     take-nil zero = refl
     take-nil (suc n) = refl
 
-pub rested_visit : (r : ℕ) (dones : List Done) (old new : PlatformView) (pipes piped : List (List Message)) (taken : List OnLink) → dones ≡ [] → taken ≡ [] → taken ≡ arriving old.plan.graph old.number 0 pipes → piped ≡ emptied old.plan.graph old.number 0 pipes → HasRested old new r → IsVisited r dones dones old new pipes piped
-rested_visit r dones old new pipes piped taken no_dones none are emptied_are h =
-    let turned : (made : IsTurned old new r 64 [] (arriving old.plan.graph old.number 0 pipes)) × (made.turn.claimed ≡ []) = subst (λ (ms : List OnLink). (made : IsTurned old new r 64 [] ms) × (made.turn.claimed ≡ [])) (sym none ∙ are) (h.made 64, h.idle 64) in
-    subst (λ (ds : List Done). IsVisited r ds ds old new pipes piped) (sym no_dones)
-    (subst (λ (ps : List (List Message)). IsVisited r [] [] old new pipes ps) (sym emptied_are)
-    (visited r [] [] old new pipes (emptied old.plan.graph old.number 0 pipes) turned.0 h.stays (sym turned.1) tt new (nothing_pushed new (emptied old.plan.graph old.number 0 pipes) h.sent_all)))
+pub rested_visit : (most r : ℕ) (dones : List Done) (old new : PlatformView) (pipes piped : List (List Message)) (taken : List OnLink) → dones ≡ [] → taken ≡ [] → taken ≡ arriving old.plan.graph old.number 0 pipes → piped ≡ emptied old.plan.graph old.number 0 pipes → HasRested old new r → IsVisited most r dones dones old new pipes piped
+rested_visit most r dones old new pipes piped taken no_dones none are emptied_are h =
+    let turned : (made : IsTurned old new r most [] (arriving old.plan.graph old.number 0 pipes)) × (made.turn.claimed ≡ []) = subst (λ (ms : List OnLink). (made : IsTurned old new r most [] ms) × (made.turn.claimed ≡ [])) (sym none ∙ are) (h.made most, h.idle most) in
+    subst (λ (ds : List Done). IsVisited most r ds ds old new pipes piped) (sym no_dones)
+    (subst (λ (ps : List (List Message)). IsVisited most r [] [] old new pipes ps) (sym emptied_are)
+    (visited most r [] [] old new pipes (emptied old.plan.graph old.number 0 pipes) turned.0 h.stays (sym turned.1) tt new (nothing_pushed new (emptied old.plan.graph old.number 0 pipes) h.sent_all)))

@@ -23,16 +23,16 @@ pub record HasSent (old new : PlatformView) (sent : List OnLink) : Type 0 where
   pub turns : new.turns ≡ on_last (sending sent) old.turns
   pub stays : new ≡ record old { turns = new.turns; outbox = new.outbox }
 
--- a platform was visited at reading r with these results: it took the messages that had arrived, made one turn, and sent
--- what the pipes had room for; its next results are those of the tasks that it claimed
-pub record IsVisited (r : ℕ) (dones results : List Done) (old new : PlatformView) (pipes piped : List (List Message)) : Type 0 where
+-- a platform was visited at reading r with these results: it took the messages that had arrived, made one turn with at most
+-- `most` claims, and sent what the pipes had room for; its next results are those of the tasks that it claimed
+pub record IsVisited (most r : ℕ) (dones results : List Done) (old new : PlatformView) (pipes piped : List (List Message)) : Type 0 where
   pub turn : Turn
   pub at : (turn.first ≡ raised_to old.reading r) × (turn.last ≡ raised_to old.reading r) × (turn.count ≡ 1)
   pub is : IsTurn old.plan.graph (level_at old) old.number (state_at old) turn (is_late new.fault) (state_at new)
   pub posted : ArePosted old.plan.graph (busy_in old.open_claims) dones turn.posted
   pub taken : IsFront (arriving old.plan.graph old.number 0 pipes) turn.taken (is_late new.fault)
-  pub few : length turn.claimed ≤ 64
-  pub all_or : is_late new.fault ≡ false → NothingSafe old.plan.graph is.ready.waits is.ready.busy turn.last ⊎ ((64 ≤ length turn.claimed) ⊎ (most_claims ≤ is.ready.claims))
+  pub few : length turn.claimed ≤ most
+  pub all_or : is_late new.fault ≡ false → NothingSafe old.plan.graph is.ready.waits is.ready.busy turn.last ⊎ ((most ≤ length turn.claimed) ⊎ (most_claims ≤ is.ready.claims))
   pub last : Ends new.fault (IsLast old.plan.graph (state_at old) turn.last (is_late new.fault) is.ready)
   pub turns : new.turns ≡ kept_with old.turns turn
   pub sent : HavePushed is.done.outbox (emptied old.plan.graph old.number 0 pipes) piped turn.sent

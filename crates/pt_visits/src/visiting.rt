@@ -1,6 +1,6 @@
 //! A visit of a platform.
 
-ghost use Rattle.std.specs.Prelude.{◌≡◌, [], None, IfOk, OnOk, false, length, true};
+ghost use Rattle.std.specs.Prelude.{◌≡◌, ◌≤◌, [], None, IfOk, OnOk, false, length, true};
 ghost use Rattle.pt_post.specs.Posted.{AreDone};
 ghost use Rattle.pt_turn.specs.Platforms.{level_at, state_at};
 ghost use Rattle.pt_turn.specs.Rested.{HasRested};
@@ -18,9 +18,6 @@ use pt_links::Pipe;
 use pt_tags::Memory;
 use pt_turn::{Platform, Room};
 use pt_types::OnLink;
-
-/// The most units that a platform claims in one turn.
-const MOST: usize = 64;
 
 /// Quick path: with no message and no result, tries an idle turn, and returns whether it made one. If not, nothing changes.
 fn rests(
@@ -44,7 +41,8 @@ fn rests(
 
 /// Visits a platform at a reading, in microseconds, which is raised to the last one if it is smaller: takes all messages that
 /// have arrived, link by link, makes one turn with the pending results, and pushes messages to send until each outbox is
-/// empty or its link is full. The tasks that it claimed are fired: `results` then has their results, for the next visit.
+/// empty or its link is full. It claims at most `most` tasks, which are fired: `results` then has their results, for the next
+/// visit.
 ///
 /// No further visit may follow if the platform then has a `fault`, or if memory ran out: messages already taken are lost
 /// then.
@@ -55,13 +53,15 @@ pub fn visit(
     desk: &mut Desk,
     blocks: &Blocks,
     reading: u64,
+    most: usize,
 ) -> Result<(), Memory>
+    requires most { (1 ≤ most) × (most ≤ 64) }
     requires no_fault { platform.old.fault ≡ None }
     requires links { length pipes.old ≡ length platform.old.plan.graph.links }
     requires done { AreDone platform.old.plan.graph results.old.items }
     requires taken { MayCome platform.old.plan.graph (level_at platform.old) platform.old.number (state_at platform.old)
         (arriving platform.old.plan.graph platform.old.number 0 pipes.old) }
-    ensures visited { OnOk result (IsVisited reading results.old.items results.new.items platform.old platform.new pipes.old pipes.new) }
+    ensures visited { OnOk result (IsVisited most reading results.old.items results.new.items platform.old platform.new pipes.old pipes.new) }
 {
     desk.taken.clear();
     desk.tasks.clear();
@@ -71,18 +71,18 @@ pub fn visit(
     if rested {
         return Ok(());
     }
-    desk.tasks.reserve(MOST)?;
+    desk.tasks.reserve(most)?;
     platform.room(Room {
         reading,
         done: results.len(),
         taken: desk.taken.len(),
-        most: MOST,
+        most,
     })?;
     let _ = platform.turn(
         reading,
         results.as_slice(),
         desk.taken.as_slice(),
-        MOST,
+        most,
         &mut desk.tasks,
     );
     push_all(platform, pipes);
