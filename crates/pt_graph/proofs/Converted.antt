@@ -102,23 +102,7 @@ links_lawful actors (l ∷ ls) few range known =
 
 cells_same : (blocks : List Named) (k : KindText) → lawful.cell_count (kind_from blocks k) ≡ cell_count k
 cells_same blocks (text.Lanes cells) = length_map small cells
-cells_same blocks (text.Sensor file bound) = refl
-cells_same blocks text.Receive = refl
-cells_same blocks (text.Send slack) = refl
-cells_same blocks (text.Actuator slack) = refl
-cells_same blocks (text.Scale num den) = refl
-cells_same blocks (text.Shift by) = refl
-cells_same blocks text.Add = refl
-cells_same blocks text.Sub = refl
-cells_same blocks (text.Above limit) = refl
-cells_same blocks (text.Merge n) = refl
-cells_same blocks (text.Delay d) = refl
-cells_same blocks text.Count = refl
-cells_same blocks text.Sum = refl
-cells_same blocks text.Latch = refl
-cells_same blocks (text.Machine start outputs rows) = refl
-cells_same blocks (text.Every start period) = refl
-cells_same blocks (text.Block block) = refl
+cells_same blocks _ = refl
 
 pub cells_of_all : (blocks : List Named) (ns : List (List ℕ)) (actors : List ActorText) → map (λ (a : Actor). lawful.cell_count a.kind) (map (actor_from blocks ns) actors) ≡ map (λ (a : ActorText). cell_count a.kind) actors
 cells_of_all blocks ns [] = refl

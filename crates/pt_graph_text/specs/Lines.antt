@@ -1,4 +1,4 @@
--- The line that reports a fault.
+-- The texts of faults, and the line that reports one.
 use Rattle.std.specs.Prelude.{ℕ, List, [], ◌∷◌, ◌++◌, codes}
 use Rattle.std.specs.Fmt.{decimal}
 use Rattle.pt_graph_text.specs.declared.fault.Part.{Part}
@@ -17,9 +17,8 @@ part_text part.Wire i = codes "wire " ++ decimal i
 part_text part.Link i = codes "link " ++ decimal i
 part_text part.Pair i = codes "clock error " ++ decimal i
 
--- graph: FAULT at PLACE
-abbrev pub at_place : List ℕ → Place → List ℕ
-at_place fault p = codes "graph: " ++ fault ++ codes " at " ++ part_text p.part p.index ++ 10 ∷ []
+abbrev pub place_text : Place → List ℕ
+place_text p = part_text p.part p.index
 
 abbrev pub what_text : What → List ℕ
 what_text what.Platforms = codes "platforms"
@@ -30,23 +29,25 @@ what_text what.Pairs = codes "clock errors"
 what_text what.Rows = codes "rows"
 what_text what.Cells = codes "cells"
 
-abbrev pub unfed_line : ℕ → ℕ → List ℕ
-unfed_line actor port = codes "graph: unfed actor " ++ decimal actor ++ codes " input " ++ decimal port ++ 10 ∷ []
+-- the text of a fault
+abbrev pub fault_text : GraphFault → List ℕ
+fault_text fault.Memory = codes "memory"
+fault_text fault.TooLong = codes "too long"
+fault_text fault.NotJson = codes "not json"
+fault_text (fault.Member p) = codes "member at " ++ place_text p
+fault_text (fault.TooMany w) = codes "too many " ++ what_text w
+fault_text (fault.Range p) = codes "range at " ++ place_text p
+fault_text (fault.Name p) = codes "name at " ++ place_text p
+fault_text (fault.Repeated p) = codes "repeated at " ++ place_text p
+fault_text (fault.Unknown p) = codes "unknown at " ++ place_text p
+fault_text (fault.WireEnd p) = codes "wire end at " ++ place_text p
+fault_text (fault.CrossWire p) = codes "cross wire at " ++ place_text p
+fault_text (fault.FedTwice p) = codes "fed twice at " ++ place_text p
+fault_text (fault.Unfed actor port) = codes "unfed actor " ++ decimal actor ++ codes " input " ++ decimal port
+fault_text (fault.LinkEnd p) = codes "link end at " ++ place_text p
+fault_text (fault.Block p) = codes "block at " ++ place_text p
 
--- the line of a fault, with its line feed
+-- the line of a fault, with its line feed; running out of memory is no fault of the graph
 abbrev pub fault_line : GraphFault → List ℕ
 fault_line fault.Memory = codes "memory" ++ 10 ∷ []
-fault_line fault.TooLong = codes "graph: too long" ++ 10 ∷ []
-fault_line fault.NotJson = codes "graph: not json" ++ 10 ∷ []
-fault_line (fault.Member p) = at_place (codes "member") p
-fault_line (fault.TooMany w) = codes "graph: too many " ++ what_text w ++ 10 ∷ []
-fault_line (fault.Range p) = at_place (codes "range") p
-fault_line (fault.Name p) = at_place (codes "name") p
-fault_line (fault.Repeated p) = at_place (codes "repeated") p
-fault_line (fault.Unknown p) = at_place (codes "unknown") p
-fault_line (fault.WireEnd p) = at_place (codes "wire end") p
-fault_line (fault.CrossWire p) = at_place (codes "cross wire") p
-fault_line (fault.FedTwice p) = at_place (codes "fed twice") p
-fault_line (fault.Unfed actor port) = unfed_line actor port
-fault_line (fault.LinkEnd p) = at_place (codes "link end") p
-fault_line (fault.Block p) = at_place (codes "block") p
+fault_line e = codes "graph: " ++ fault_text e ++ 10 ∷ []

@@ -1,11 +1,11 @@
-//! The line that reports a fault.
+//! The texts of faults, and the line that reports one.
 
 ghost use Rattle.std.specs.Prelude.{◌≡◌, ◌++◌, OnOk, string_bytes};
-ghost use Rattle.pt_graph_text.specs.Lines.{fault_line, at_place, what_text, unfed_line};
-ghost use Rattle.pt_graph_text.specs.declared.fault.GraphFault.TheVariants.{TooMany};
+ghost use Rattle.pt_graph_text.specs.Lines.{fault_line};
 
 use crate::fault::{GraphFault, Part, Place, What};
 use std::alloc::AllocError;
+use std::error::Error;
 use std::fmt;
 
 impl fmt::Display for Place {
@@ -27,59 +27,60 @@ impl fmt::Display for Place {
     }
 }
 
+impl fmt::Display for What {
+    ghost use Rattle.std.specs.Prelude.{Some};
+    ghost use Rattle.pt_graph_text.specs.Lines.{what_text};
+
+    ghost output = { λ w. Some (what_text w) };
+
+    fn fmt<W: fmt::Write>(&self, f: &mut fmt::Formatter<W>) -> fmt::Result {
+        match self {
+            What::Platforms => write!(f, "platforms"),
+            What::Actors => write!(f, "actors"),
+            What::Wires => write!(f, "wires"),
+            What::Links => write!(f, "links"),
+            What::Pairs => write!(f, "clock errors"),
+            What::Rows => write!(f, "rows"),
+            What::Cells => write!(f, "cells"),
+        }
+    }
+}
+
+impl fmt::Display for GraphFault {
+    ghost use Rattle.std.specs.Prelude.{Some};
+    ghost use Rattle.pt_graph_text.specs.Lines.{fault_text};
+
+    ghost output = { λ e. Some (fault_text e) };
+
+    fn fmt<W: fmt::Write>(&self, f: &mut fmt::Formatter<W>) -> fmt::Result {
+        match *self {
+            GraphFault::Memory => write!(f, "memory"),
+            GraphFault::TooLong => write!(f, "too long"),
+            GraphFault::NotJson => write!(f, "not json"),
+            GraphFault::Member(place) => write!(f, "member at {place}"),
+            GraphFault::TooMany(what) => write!(f, "too many {what}"),
+            GraphFault::Range(place) => write!(f, "range at {place}"),
+            GraphFault::Name(place) => write!(f, "name at {place}"),
+            GraphFault::Repeated(place) => write!(f, "repeated at {place}"),
+            GraphFault::Unknown(place) => write!(f, "unknown at {place}"),
+            GraphFault::WireEnd(place) => write!(f, "wire end at {place}"),
+            GraphFault::CrossWire(place) => write!(f, "cross wire at {place}"),
+            GraphFault::FedTwice(place) => write!(f, "fed twice at {place}"),
+            GraphFault::Unfed { actor, port } => write!(f, "unfed actor {actor} input {port}"),
+            GraphFault::LinkEnd(place) => write!(f, "link end at {place}"),
+            GraphFault::Block(place) => write!(f, "block at {place}"),
+        }
+    }
+}
+
+impl Error for GraphFault {}
+
 /// Appends the line of a fault, with its line feed.
 pub fn fault_line(text: &mut String, fault: &GraphFault) -> Result<(), AllocError>
     ensures { OnOk result (string_bytes text.new ≡ string_bytes text.old ++ fault_line fault.now) }
 {
     match fault {
         GraphFault::Memory => text.push_str("memory\n"),
-        GraphFault::TooLong => text.push_str("graph: too long\n"),
-        GraphFault::NotJson => text.push_str("graph: not json\n"),
-        GraphFault::Member(place) => at_place(text, "member", place),
-        GraphFault::TooMany(what) => too_many(text, what),
-        GraphFault::Range(place) => at_place(text, "range", place),
-        GraphFault::Name(place) => at_place(text, "name", place),
-        GraphFault::Repeated(place) => at_place(text, "repeated", place),
-        GraphFault::Unknown(place) => at_place(text, "unknown", place),
-        GraphFault::WireEnd(place) => at_place(text, "wire end", place),
-        GraphFault::CrossWire(place) => at_place(text, "cross wire", place),
-        GraphFault::FedTwice(place) => at_place(text, "fed twice", place),
-        GraphFault::Unfed { actor, port } => unfed(text, *actor, *port),
-        GraphFault::LinkEnd(place) => at_place(text, "link end", place),
-        GraphFault::Block(place) => at_place(text, "block", place),
-    }
-}
-
-fn at_place(text: &mut String, fault: &str, place: &Place) -> Result<(), AllocError>
-    ensures { OnOk result (string_bytes text.new ≡ string_bytes text.old ++ at_place fault.now place.now) }
-{
-    write!(text, "graph: {fault} at {place}\n")
-}
-
-fn unfed(text: &mut String, actor: u32, port: u32) -> Result<(), AllocError>
-    ensures { OnOk result (string_bytes text.new ≡ string_bytes text.old ++ unfed_line actor port) }
-{
-    write!(text, "graph: unfed actor {actor} input {port}\n")
-}
-
-fn too_many(text: &mut String, what: &What) -> Result<(), AllocError>
-    ensures { OnOk result (string_bytes text.new ≡ string_bytes text.old ++ fault_line (TooMany what.now)) }
-{
-    text.push_str("graph: too many ")?;
-    text.push_str(what_text(what))?;
-    text.push_str("\n")
-}
-
-fn what_text(what: &What) -> &str
-    ensures { result.now ≡ what_text what.now }
-{
-    match what {
-        What::Platforms => "platforms",
-        What::Actors => "actors",
-        What::Wires => "wires",
-        What::Links => "links",
-        What::Pairs => "clock errors",
-        What::Rows => "rows",
-        What::Cells => "cells",
+        _ => write!(text, "graph: {fault}\n"),
     }
 }

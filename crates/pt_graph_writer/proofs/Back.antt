@@ -38,8 +38,7 @@ use Rattle.pt_graph.proofs.InRange.{length_map}
 use Rattle.pt_graph.proofs.Joins.{Joins, joins, both_ok, none_refused, none_mapped, all_pass}
 use Rattle.pt_types.proofs.Distinct.{mapped_at}
 use Rattle.pt_graph.proofs.Texts.{json_of-text}
-use Rattle.pt_graph_writer.specs.Text.{natural, actor_data, wire_data, link_data, pair_data, visible_wires, graph_data}
-use Rattle.pt_graph_writer.specs.Fits.{kind_fits}
+use Rattle.pt_graph_writer.specs.Text.{natural, actor_data, wire_data, link_data, pair_data, visible_wires, graph_data, kind_fits}
 use Rattle.pt_graph_writer.proofs.Wholes.{whole_time, each_back, each_turned}
 use Rattle.pt_graph_writer.proofs.NamesBack.{blocks_back}
 use Rattle.pt_graph_writer.proofs.PartsBack.{Has, actors_back, wires_back, links_back, pairs_back, names_back}

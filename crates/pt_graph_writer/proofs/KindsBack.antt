@@ -18,8 +18,7 @@ use Rattle.pt_graph.specs.Ranges.{is_time, kind_in_range, row_in_range, emit_in_
 use Rattle.pt_graph.specs.EndFaults.{has_blocks, guard_has_block, has_name}
 use Rattle.pt_graph.specs.Graphs as graphs
 use Rattle.pt_graph.specs.Graphs.{small, row_from, kind_from, emit_from}
-use Rattle.pt_graph_writer.specs.Text.{fields, natural, block_name, row_data, kind_word, kind_fields}
-use Rattle.pt_graph_writer.specs.Fits.{fits, emit_fits, row_fits, kind_fits}
+use Rattle.pt_graph_writer.specs.Text.{fields, natural, block_name, row_data, kind_word, kind_fields, fits, emit_fits, row_fits, kind_fits}
 use Rattle.pt_graph_writer.proofs.Wholes.{whole_fits, whole_between, whole_time, whole_small, AllBack, each_turned}
 
 -- the value of an actor with this name, platform and kind

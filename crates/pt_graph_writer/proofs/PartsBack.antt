@@ -19,9 +19,8 @@ use Rattle.pt_graph.specs.Ranges.{is_time, kind_in_range, wire_in_range, pair_in
 use Rattle.pt_graph.specs.Known.{number_in, is_platform, is_known, actor_name as text_name}
 use Rattle.pt_graph.specs.EndFaults.{has_blocks}
 use Rattle.pt_graph.specs.Graphs.{platform_number, kind_from, actor_from, wire_from, link_from, pair_from}
-use Rattle.pt_graph_writer.specs.Text.{actor_data, wire_data, link_data, pair_data}
+use Rattle.pt_graph_writer.specs.Text.{actor_data, wire_data, link_data, pair_data, kind_fits}
 use Rattle.pt_types.specs.Lookups.{platform_name}
-use Rattle.pt_graph_writer.specs.Fits.{kind_fits}
 use Rattle.pt_graph_writer.proofs.Wholes.{whole_small, whole_time, AllBack}
 use Rattle.pt_graph_writer.proofs.KindsBack.{NamesBlocks, IsGood, kind_data, kind_back}
 use Rattle.pt_graph_writer.proofs.NamesBack.{platform_back, actor_back}

@@ -12,7 +12,7 @@ use Rattle.pt_types.specs.declared.graph.Wire.{Wire}
 use Rattle.pt_types.specs.declared.graph.Link.{Link}
 use Rattle.pt_types.specs.declared.graph.PairError.{PairError}
 use Rattle.pt_types.specs.declared.kind.Kind.{Kind}
-use Rattle.pt_types.specs.declared.kind.Kind.TheVariants.{Sensor, Receive, Send, Actuator, Scale, Shift, Add, Sub, Above, Merge, Delay, Count, Sum, Latch, Machine, Every, Block, Lanes}
+use Rattle.pt_types.specs.declared.kind.Kind.TheVariants.{Machine, Lanes}
 use Rattle.pt_types.specs.declared.kind.Law.{Law}
 use Rattle.pt_types.specs.declared.kind.MachineRow.{MachineRow}
 use Rattle.pt_blocks.specs.declared.blocks.Named.{Named}
@@ -117,24 +117,9 @@ plain_row blocks r =
     plain_object 1 (row_members blocks r) all
 
 plain_kind : (blocks : List Named) (k : Kind) → AllPlain 3 (kind_fields blocks k)
-plain_kind blocks (Sensor file bound) = (plain_string 3 file, (plain_natural 3 bound, tt))
-plain_kind blocks Receive = tt
-plain_kind blocks (Send slack) = (plain_natural 3 slack, tt)
-plain_kind blocks (Actuator slack) = (plain_natural 3 slack, tt)
-plain_kind blocks (Scale num den) = (plain_whole 3 num, (plain_whole 3 den, tt))
-plain_kind blocks (Shift by) = (plain_whole 3 by, tt)
-plain_kind blocks Add = tt
-plain_kind blocks Sub = tt
-plain_kind blocks (Above limit) = (plain_whole 3 limit, tt)
-plain_kind blocks (Merge n) = (plain_natural 3 n, tt)
-plain_kind blocks (Delay d) = (plain_natural 3 d, tt)
-plain_kind blocks Count = tt
-plain_kind blocks Sum = tt
-plain_kind blocks Latch = tt
 plain_kind blocks (Machine start outputs rows) = (plain_whole 3 start, (plain_natural 3 outputs, (plain_array 2 (row_data blocks) (plain_row blocks) rows, tt)))
-plain_kind blocks (Every start period) = (plain_natural 3 start, (plain_natural 3 period, tt))
-plain_kind blocks (Block block law) = (plain_string 3 (block_name blocks block), tt)
 plain_kind blocks (Lanes cells) = (plain_array 2 natural (plain_natural 2) cells, tt)
+plain_kind blocks _ = search (plain_natural, plain_whole, plain_string) parts 4
 
 plain_actor : (g : Graph) (blocks : List Named) (a : Actor) → IsPlain 4 (actor_data g blocks a)
 plain_actor g blocks a =

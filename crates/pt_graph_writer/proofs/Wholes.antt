@@ -10,8 +10,7 @@ use Rattle.pt_graph.specs.Ranges.{is_time}
 use Rattle.pt_graph.specs.Graphs.{small}
 use Rattle.pt_graph.proofs.InRange.{between, small_is}
 use Rattle.pt_types.proofs.SmallKinds.{among}
-use Rattle.pt_graph_writer.specs.Text.{natural, whole_number}
-use Rattle.pt_graph_writer.specs.Fits.{fits}
+use Rattle.pt_graph_writer.specs.Text.{natural, whole_number, fits}
 
 pub whole_natural : (n : ℕ) → nat_lt n (2 ^ 63) ≡ true → whole (natural n) ≡ Some (pos n)
 whole_natural n h = rw h refl

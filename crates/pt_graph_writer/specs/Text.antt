@@ -1,6 +1,6 @@
 -- The text of a graph: the compact JSON text of its file of version 2.
-use Rattle.std.specs.Prelude.{ℕ, ℤ, List, [], ◌∷◌, map, codes, Option, Some, None, unwrap_or}
-use Rattle.std.specs.List.{filter}
+use Rattle.std.specs.Prelude.{ℕ, ℤ, pos, ◌^◌, ◌&&◌, Bool, true, List, [], ◌∷◌, map, codes, Option, Some, None, unwrap_or, int_lt}
+use Rattle.std.specs.List.{filter, list_all}
 use Rattle.serde_json.specs.Data.{unsigned, Data, null, number, string, array, object, Members, no_members, put}
 use Rattle.serde_json.specs.Find.{of_integer}
 use Rattle.serde_json.specs.View.{items_of}
@@ -102,6 +102,26 @@ kind_fields blocks (Every start period) = (codes "start", natural start) ∷ (co
 kind_fields blocks (Block block law) = (codes "block", string (block_name blocks block)) ∷ []
 kind_fields blocks (Lanes cells) = (codes "cells", entries natural cells) ∷ []
 kind_fields blocks _ = []
+
+-- the number is below 2 ^ 63, as in a file that is read
+abbrev pub fits : ℤ → Bool
+fits z = int_lt z (pos (2 ^ 63))
+
+-- the value that a row gives fits
+abbrev pub emit_fits : Option (ℕ × ℤ) → Bool
+emit_fits None = true
+emit_fits (Some emit) = fits emit.1
+
+-- the numbers of a row fit
+abbrev pub row_fits : MachineRow → Bool
+row_fits r = fits r.state && fits r.low && fits r.high && fits r.next && emit_fits r.emit
+
+-- the numbers of a kind that have no range of their own fit
+abbrev pub kind_fits : Kind → Bool
+kind_fits (Shift by) = fits by
+kind_fits (Above limit) = fits limit
+kind_fits (Machine start outputs rows) = fits start && list_all row_fits rows
+kind_fits _ = true
 
 -- an actor has its name, the name of its platform, the word for its kind, and the members of the kind
 abbrev pub actor_members : Graph → List Named → Actor → List (List ℕ × Data)

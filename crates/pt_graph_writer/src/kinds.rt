@@ -2,8 +2,7 @@
 
 ghost use Rattle.std.specs.Prelude.{◌≡◌, [], true, IfOk};
 ghost use Rattle.serde_json.specs.View.{members_view};
-ghost use Rattle.pt_graph_writer.specs.Text.{members, kind_word, kind_fields};
-ghost use Rattle.pt_graph_writer.specs.Fits.{kind_fits};
+ghost use Rattle.pt_graph_writer.specs.Text.{members, kind_word, kind_fields, kind_fits};
 ghost use Rattle.pt_types.specs.declared.kind.Kind.TheVariants as kind;
 
 use crate::encode::{Encode, entries};
@@ -16,8 +15,7 @@ use serde_json::{Map, Value, put};
 use std::alloc::{AllocError, Global};
 
 impl Encode for Actor {
-    ghost use Rattle.pt_graph_writer.specs.Text.{actor_data};
-    ghost use Rattle.pt_graph_writer.specs.Fits.{kind_fits};
+    ghost use Rattle.pt_graph_writer.specs.Text.{actor_data, kind_fits};
 
     ghost encoded = { actor_data };
 

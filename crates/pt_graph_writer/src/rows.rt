@@ -2,8 +2,7 @@
 
 ghost use Rattle.std.specs.Prelude.{◌≡◌, true, IfOk};
 ghost use Rattle.serde_json.specs.View.{view, members_view};
-ghost use Rattle.pt_graph_writer.specs.Text.{members, guard_fields, emit_data};
-ghost use Rattle.pt_graph_writer.specs.Fits.{emit_fits};
+ghost use Rattle.pt_graph_writer.specs.Text.{members, guard_fields, emit_data, emit_fits};
 
 use crate::encode::Encode;
 use crate::members::named;
@@ -14,8 +13,7 @@ use serde_json::{Map, Value, json, put};
 use std::alloc::{AllocError, Global};
 
 impl Encode for MachineRow {
-    ghost use Rattle.pt_graph_writer.specs.Text.{row_data};
-    ghost use Rattle.pt_graph_writer.specs.Fits.{row_fits};
+    ghost use Rattle.pt_graph_writer.specs.Text.{row_data, row_fits};
 
     ghost encoded = { λ graph. row_data };
 

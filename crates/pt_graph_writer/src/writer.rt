@@ -3,11 +3,10 @@
 ghost use Rattle.std.specs.Prelude.{◌≡◌, ◌++◌, ◌∷◌, [], true, IfOk};
 ghost use Rattle.std.specs.List.{filter, list_all};
 ghost use Rattle.pt_types.specs.declared.graph.Actor.{Actor as ActorSpec};
-ghost use Rattle.pt_graph_writer.specs.Fits.{kind_fits};
+ghost use Rattle.pt_graph_writer.specs.Text.{kind_fits, graph_text, graph_data, visible_wires};
 ghost use Rattle.pt_graph_writer.specs.RoundTrip.{ReadsBack};
 ghost use Rattle.serde_json.specs.View.{view};
 ghost use Rattle.pt_types.specs.Ends.{ends_fit};
-ghost use Rattle.pt_graph_writer.specs.Text.{graph_text, graph_data, visible_wires};
 
 use crate::encode::entries;
 use pt_blocks::{Blocks, Named};

@@ -126,23 +126,7 @@ no_rows g a rows none = subst (λ z. Each (FitsRow g a) (rows_until g.until z)) 
 
 kind_fits : (tells : Contents) (g : Graph) (a : ℕ) (k : Kind) (rows : List Row) → kind_of g a ≡ k → RowsOfKind tells k rows → InTime g.until k rows → Each (FitsRow g a) (rows_until g.until rows)
 kind_fits tells g a (kind.Sensor file bound) rows is has in_time = sensor_fits g a file bound rows is (none_late bound g.until rows in_time)
-kind_fits tells g a kind.Receive rows is has in_time = no_rows g a rows has
-kind_fits tells g a (kind.Send slack) rows is has in_time = no_rows g a rows has
-kind_fits tells g a (kind.Actuator slack) rows is has in_time = no_rows g a rows has
-kind_fits tells g a (kind.Scale num den) rows is has in_time = no_rows g a rows has
-kind_fits tells g a (kind.Shift by) rows is has in_time = no_rows g a rows has
-kind_fits tells g a kind.Add rows is has in_time = no_rows g a rows has
-kind_fits tells g a kind.Sub rows is has in_time = no_rows g a rows has
-kind_fits tells g a (kind.Above limit) rows is has in_time = no_rows g a rows has
-kind_fits tells g a (kind.Merge n) rows is has in_time = no_rows g a rows has
-kind_fits tells g a (kind.Delay d) rows is has in_time = no_rows g a rows has
-kind_fits tells g a kind.Count rows is has in_time = no_rows g a rows has
-kind_fits tells g a kind.Sum rows is has in_time = no_rows g a rows has
-kind_fits tells g a kind.Latch rows is has in_time = no_rows g a rows has
-kind_fits tells g a (kind.Machine start outputs table) rows is has in_time = no_rows g a rows has
-kind_fits tells g a (kind.Every start period) rows is has in_time = no_rows g a rows has
-kind_fits tells g a (kind.Block block law) rows is has in_time = no_rows g a rows has
-kind_fits tells g a (kind.Lanes cells) rows is has in_time = no_rows g a rows has
+kind_fits tells g a _ rows is has in_time = no_rows g a rows has
 
 pub all_fit : (tells : Contents) (g : Graph) (rows : ℕ → List Row) → ((a : ℕ) → RowsOfKind tells (kind_of g a) (rows a)) → ((a : ℕ) → InTime g.until (kind_of g a) (rows a)) → ((a : ℕ) → AreInOrder (rows a)) → FitRows g (of_run g rows)
 all_fit tells g rows has in_time order = record {

@@ -5,6 +5,7 @@ ghost use Rattle.pt_sensors.specs.Lines.{fault_line, fault_text, late_line};
 
 use crate::fault::RowFault;
 use std::alloc::AllocError;
+use std::error::Error;
 use std::fmt;
 
 impl fmt::Display for RowFault {
@@ -27,6 +28,8 @@ impl fmt::Display for RowFault {
         }
     }
 }
+
+impl Error for RowFault {}
 
 /// Appends the line for a fault of a sensor's file.
 pub fn fault_line(text: &mut String, name: &str, fault: &RowFault) -> Result<(), AllocError>

@@ -4,6 +4,7 @@ ghost use Rattle.std.specs.Prelude.{◌≡◌};
 ghost use Rattle.pt_sensors.specs.Faults.{fault_of_rows};
 
 use crate::RowFault;
+use thiserror::Error;
 
 /// Whether late rows are faults.
 #[derive(Clone, Copy, Debug, PartialEq, Eq)]
@@ -15,21 +16,25 @@ pub enum LateRows {
 }
 
 /// Why there are no rows. `sensor` and `actor` are numbers in the graph, from 0.
-#[derive(Clone, Copy, Debug, PartialEq, Eq)]
+#[derive(Clone, Copy, Debug, PartialEq, Eq, Error)]
 pub enum RecordedFault {
     /// Out of memory.
+    #[error("memory")]
     Memory,
     /// The sensor's file couldn't be read.
+    #[error("the file of actor {sensor} could not be read")]
     Read {
         sensor: u32,
     },
     /// The sensor's file has a fault.
+    #[error("the file of actor {actor}: {fault}")]
     Sensor {
         actor: u32,
         fault: RowFault,
     },
     /// Row `row`, from 1, is late: it is seen at `seen`, after `limit`,
     /// its time plus the sensor's bound. Both are in microseconds.
+    #[error("row {row} of actor {actor} is late: seen at {seen}, past {limit}")]
     Late {
         actor: u32,
         row: u32,
