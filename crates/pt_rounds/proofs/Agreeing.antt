@@ -22,7 +22,7 @@ use Rattle.pt_turn.specs.Platforms.{PlatformView}
 use Rattle.pt_turn.specs.All.{histories_of}
 use Rattle.pt_rounds.specs.Agreeing.{PacedRunsAgree}
 use Rattle.pt_rounds.specs.HaveRun.{EndsWith, HaveRun}
-use Rattle.pt_rounds.proofs.Listed.{member}
+use Rattle.pt_together.proofs.Listed.{member}
 
 -- what a run of a graph leaves, apart from the other parts of its plan
 record Leaves (g : Graph) (level : ℕ → ℕ) (rows : ℕ → List Row) (platforms : List PlatformView) (fault : Option ℕ) : Type 0 where

@@ -1,11 +1,7 @@
 pub mod Agreeing
-pub mod Changed
 pub mod Few
 pub mod Leasts
-pub mod Listed
-pub mod Opening
 pub mod Passes
-pub mod Piping
 pub mod Runs
 pub mod Showing
 pub mod Steps

@@ -25,8 +25,8 @@ use Rattle.pt_turn.specs.Platforms.{PlatformView, state_at}
 use Rattle.pt_turn.specs.Turned.{is_late}
 use Rattle.pt_rounds.specs.Asked.{HaveNoFault}
 use Rattle.pt_rounds.specs.Passing.{HavePassed, IsLong, Stands, WasVisited}
-use Rattle.pt_rounds.specs.Shown.{is_fault}
-use Rattle.pt_rounds.proofs.Listed.{set_other, set_same}
+use Rattle.pt_together.specs.Shown.{is_fault}
+use Rattle.pt_together.proofs.Changed.{set_elsewhere, set_here}
 use Rattle.pt_rounds.proofs.Showing.{Shows, visit_shows}
 use Rattle.pt_rounds.proofs.Steps.{make_one, pass_by}
 
@@ -111,7 +111,7 @@ module _ (plan : Parts) (rows : ℕ → List Row) (count c : ℕ) (olds : List P
         stays j ne = (shows.makes.others j (λ e. ne (e ∙ shows.platform))).0
 
         changed : slice_get (set platforms n w) n ≡ Some w
-        changed = set_same platforms n w v there
+        changed = set_here platforms n w v there
 
         -- whether the visited platform closed
         closes_here : (shows.together.at n).closed ≡ w.closed
@@ -192,7 +192,7 @@ module _ (plan : Parts) (rows : ℕ → List Row) (count c : ℕ) (olds : List P
                 answers = long.1.answers;
               },
             ))
-            (h.faults j u (sym (set_other platforms n j w other) ∙ at)))
+            (h.faults j u (sym (set_elsewhere platforms n j w other) ∙ at)))
             (cases_same j n)
 
         fine_now : HaveNoFault (set platforms n w) → Each (λ (m : Made). m.fault ≡ false) (h.made ++ shows.made ∷ [])
@@ -201,7 +201,7 @@ module _ (plan : Parts) (rows : ℕ → List Row) (count c : ℕ) (olds : List P
             (h.fine (λ j u at.
             ⊎_elim
             (λ (here : j ≡ n). ap (λ (z : PlatformView). z.fault) (same_some u v (sym (subst (λ k. slice_get platforms k ≡ Some u) here at) ∙ there)) ∙ not_faulty)
-            (λ (other : j ≢ n). none j u (set_other platforms n j w other ∙ at))
+            (λ (other : j ≢ n). none j u (set_elsewhere platforms n j w other ∙ at))
             (cases_same j n)))
             (shows.fault ∙ ap is_fault (none n w changed), tt)
 
@@ -211,7 +211,7 @@ module _ (plan : Parts) (rows : ℕ → List Row) (count c : ℕ) (olds : List P
             (λ (old : IsIn m h.made).
             ⊎_elim
             (λ (here : j ≡ n). h.answered n v there not_faulty m old (home ∙ here))
-            (λ (other : j ≢ n). h.answered j u (sym (set_other platforms n j w other) ∙ at) none m old home)
+            (λ (other : j ≢ n). h.answered j u (sym (set_elsewhere platforms n j w other) ∙ at) none m old home)
             (cases_same j n))
             (λ (new : IsIn m (shows.made ∷ [])).
             ⊎_elim

@@ -1,7 +1,6 @@
--- What stands after a whole round.
-use Rattle.std.proofs.Common.{◌≡◌, ℕ, ◌+◌, ◌<◌, ◌⊎◌, Bool, true, false, List, [], ◌∷◌, ◌++◌, Option, Some, None, length, option_map, replicate, slice_get, unwrap_or, length-append, refl, sym, ap, subst, ◌∙◌, arith, inl, inr, ⊎_elim}
+-- After a whole round.
+use Rattle.std.proofs.Common.{◌≡◌, ℕ, ◌+◌, ◌<◌, ◌⊎◌, Bool, true, false, List, [], ◌∷◌, ◌++◌, Option, Some, None, length, slice_get, length-append, refl, sym, ap, subst, ◌∙◌, arith, inl, inr, ⊎_elim}
 use Rattle.std.proofs.lemmas.Bool.{cases_Bool, false≢true}
-use Rattle.std.proofs.lemmas.List.{length-replicate}
 use Rattle.std.proofs.lemmas.Option.{slice_get_within}
 use Rattle.pt_tags.specs.declared.message.Message.{Message}
 use Rattle.pt_types.specs.declared.firing.Done.{Done}
@@ -10,7 +9,7 @@ use Rattle.pt_types.specs.declared.rows.Row.{Row}
 use Rattle.pt_types.specs.Lookups.{platform_of}
 use Rattle.pt_semantics.specs.History.{IsLegal, LegalOnTime, claims_of}
 use Rattle.pt_semantics.specs.Kept.{kept}
-use Rattle.pt_semantics.specs.Linked.{AreLinked, AreMatched, IsFinished, all_claims, all_sent, all_taken}
+use Rattle.pt_semantics.specs.Linked.{AreLinked, AreMatched, all_claims, all_sent, all_taken}
 use Rattle.pt_semantics.specs.Lists.{Each, IsIn}
 use Rattle.pt_semantics.specs.Meaning.{ActorFiring, IsMeaning}
 use Rattle.pt_semantics.specs.Paced.{IsCandidate}
@@ -32,83 +31,52 @@ use Rattle.pt_schedule.proofs.Existing.{meanings_exist}
 use Rattle.pt_schedule.proofs.Kept.{all_on_schedule, all_within_slack, claimed_as_meant, missed_as_meant, none_is_late}
 use Rattle.pt_semantics.proofs.LawfulEdges.{wired}
 use Rattle.pt_causality.specs.Ranked.{level_of, rank_of}
-use Rattle.pt_offsets.specs.Plans.{IsAdmitted, Parts}
+use Rattle.pt_offsets.specs.Plans.{Parts}
 use Rattle.pt_offsets.specs.Timings.{offset_of}
-use Rattle.pt_turn.specs.All.{AreReady, histories_of}
+use Rattle.pt_turn.specs.All.{histories_of}
 use Rattle.pt_turn.specs.Platforms.{PlatformView, state_at}
-use Rattle.pt_rounds.specs.Asked.{AreAllFinished, AreLegal, HaveNoFault, IsFirstFault, IsLeastOf, NoneIsOpen}
+use Rattle.pt_together.specs.Asked.{AreAllFinished}
+use Rattle.pt_rounds.specs.Asked.{HaveNoFault, IsFirstFault, IsLeastOf, NoneIsOpen}
 use Rattle.pt_rounds.specs.HaveRun.{EndsWith, HaveRun, IsLongOn}
 use Rattle.pt_rounds.specs.Passing.{HavePassed, IsLong, Stands}
-use Rattle.pt_rounds.specs.Shown.{AreShown}
-use Rattle.pt_rounds.proofs.Listed.{member, none_in}
-use Rattle.pt_rounds.proofs.Showing.{start_shows}
+use Rattle.pt_together.specs.Shown.{AreShown, AreThere}
+use Rattle.pt_together.proofs.First.{AreOpened, shown_first}
+use Rattle.pt_together.proofs.Views.{all_finished, each_finished, finished_here, from_view, history, there_of, to_view, view}
 use Rattle.pt_rounds.proofs.Steps.{one_round}
 use Rattle.pt_types.specs.Limits.{most_claims}
 
--- what is so of all platforms together is so of each as it shows itself
+-- facts on all platforms together, from their views
 module _ (plan : Parts) (rows : ℕ → List Row) (x : Together) (platforms : List PlatformView) (pipes : List (List Message)) (results : List (List Done)) (shown : AreShown plan rows x platforms pipes results) where
-  to_view : (P : Parts → ℕ → State → Type 0) (i : ℕ) (v : PlatformView) → slice_get platforms i ≡ Some v → P plan i (x.at i) → P v.plan v.number (state_at v)
-  to_view P i v there h =
-      subst (λ (p : Parts). P p v.number (state_at v)) (sym (shown.all.plans i v there))
-      (subst (λ k. P plan k (state_at v)) (sym (shown.all.numbers i v there))
-      (subst (P plan i) (shown.states i v there) h))
-
-  from_view : (P : Parts → ℕ → State → Type 0) (i : ℕ) (v : PlatformView) → slice_get platforms i ≡ Some v → P v.plan v.number (state_at v) → P plan i (x.at i)
-  from_view P i v there h =
-      subst (P plan i) (sym (shown.states i v there))
-      (subst (λ k. P plan k (state_at v)) (shown.all.numbers i v there)
-      (subst (λ (p : Parts). P p v.number (state_at v)) (shown.all.plans i v there) h))
-
-  view : (i : ℕ) → i < length plan.graph.platforms → (v : PlatformView) × (slice_get platforms i ≡ Some v)
-  view i lt = member platforms i (subst (λ n. i < n) (sym shown.all.count) lt)
-
-  pub all_finished : AreAllFinished platforms → AreFinished plan.graph x
-  all_finished done i lt = let one = view i lt in from_view (λ (p : Parts) k s. IsFinished p.graph k s) i one.0 one.1 (done i one.0 one.1)
-
-  pub each_finished : AreFinished plan.graph x → AreAllFinished platforms
-  each_finished done i v there =
-      to_view (λ (p : Parts) k s. IsFinished p.graph k s) i v there (done i (subst (λ n. i < n) shown.all.count (slice_get_within platforms i v there)))
+  are : AreThere plan rows x platforms
+  are = there_of plan rows x platforms pipes results shown
 
   pub all_closed : NoneIsOpen (length platforms) platforms → (i : ℕ) → i < length plan.graph.platforms → (x.at i).closed ≡ true
   all_closed closed i lt =
-      let one = view i lt in
-      from_view (λ (p : Parts) k (s : State). s.closed ≡ true) i one.0 one.1 (closed i one.0 (slice_get_within platforms i one.0 one.1) one.1)
+      let one = view plan rows x platforms are i lt in
+      from_view plan rows x platforms are (λ (p : Parts) k (s : State). s.closed ≡ true) i one.0 one.1 (closed i one.0 (slice_get_within platforms i one.0 one.1) one.1)
 
   pub least_next_is : (b : ℕ) → IsLeastOf (length platforms) platforms b → IsLeastNext plan.graph x b
   least_next_is b h = record {
     one = (
       h.number,
       subst (λ n. h.number < n) shown.all.count h.below,
-      from_view (λ (p : Parts) k (s : State). s.closed ≡ false) h.number h.view h.at h.is_open,
-      from_view (λ (p : Parts) k s. IsCandidate p.graph k s b) h.number h.view h.at h.is,
+      from_view plan rows x platforms are (λ (p : Parts) k (s : State). s.closed ≡ false) h.number h.view h.at h.is_open,
+      from_view plan rows x platforms are (λ (p : Parts) k s. IsCandidate p.graph k s b) h.number h.view h.at h.is,
     );
     least = λ i d lt e cand.
-        let one = view i lt in
+        let one = view plan rows x platforms are i lt in
         h.least i d one.0 (slice_get_within platforms i one.0 one.1) one.1
-        (to_view (λ (p : Parts) k (s : State). s.closed ≡ false) i one.0 one.1 e)
-        (to_view (λ (p : Parts) k s. IsCandidate p.graph k s d) i one.0 one.1 cand);
+        (to_view plan rows x platforms are (λ (p : Parts) k (s : State). s.closed ≡ false) i one.0 one.1 e)
+        (to_view plan rows x platforms are (λ (p : Parts) k s. IsCandidate p.graph k s d) i one.0 one.1 cand);
   }
 
--- platforms that are newly opened, with nothing on the links and in hand
-pub record AreOpened (plan : Parts) (rows : ℕ → List Row) (platforms : List PlatformView) (pipes : List (List Message)) (results : List (List Done)) : Type 0 where
-  pub ready : AreReady plan rows platforms
-  pub some : 0 < length platforms
-  pub admitted : IsAdmitted plan
-  pub legal : AreLegal platforms
-  pub no_message : pipes ≡ replicate (length plan.graph.links) []
-  pub no_result : results ≡ replicate (length platforms) []
-
--- they stand before the first round
+-- before the first round
 module _ (plan : Parts) (rows : ℕ → List Row) (platforms : List PlatformView) (pipes : List (List Message)) (results : List (List Done)) (new : AreOpened plan rows platforms pipes results) where
-  shown_first : AreShown plan rows (together_at_start plan.graph rows) platforms pipes results
-  shown_first = start_shows plan rows platforms pipes results new.ready new.legal
-      (ap length new.no_message ∙ length-replicate (length plan.graph.links) [])
-      (λ l pipe at. none_in (length plan.graph.links) l pipe (subst (λ ps. slice_get ps l ≡ Some pipe) new.no_message at))
-      (ap length new.no_result ∙ length-replicate (length platforms) [])
-      (λ i dones at. none_in (length platforms) i dones (subst (λ rs. slice_get rs i ≡ Some dones) new.no_result at))
+  shown_here : AreShown plan rows (together_at_start plan.graph rows) platforms pipes results
+  shown_here = shown_first plan rows platforms pipes results new
 
   pub some_open : NoneIsOpen (length platforms) platforms → ⊥
-  some_open closed = false≢true (all_closed plan rows (together_at_start plan.graph rows) platforms pipes results shown_first closed 0 (subst (λ n. 0 < n) new.ready.all.count new.some))
+  some_open closed = false≢true (all_closed plan rows (together_at_start plan.graph rows) platforms pipes results shown_here closed 0 (subst (λ n. 0 < n) new.ready.all.count new.some))
 
   pub stands_first : (b : ℕ) → IsLeastOf (length platforms) platforms b → Stands plan rows 0 b platforms pipes results
   stands_first b least = record {
@@ -119,10 +87,10 @@ module _ (plan : Parts) (rows : ℕ → List Row) (platforms : List PlatformView
     together = together_at_start plan.graph rows;
     run = record {
       begins = b;
-      begins_at = least_next_is plan rows (together_at_start plan.graph rows) platforms pipes results shown_first b least;
+      begins_at = least_next_is plan rows (together_at_start plan.graph rows) platforms pipes results shown_here b least;
       goes = (refl, refl);
     };
-    shown = shown_first;
+    shown = shown_here;
     no_fault = new.ready.fresh.faults;
   }
 
@@ -137,10 +105,8 @@ module _ (plan : Parts) (rows : ℕ → List Row) (count c : ℕ) (olds : List P
   in_round : IsRunInRound plan.graph (level_of plan.ranks) rows s.rounds c (length plan.graph.platforms) h.made h.together
   in_round = record { before = s.together; run = s.run; some = omega arith; round = whole_round }
 
-  history : (i : ℕ) → i < length plan.graph.platforms → histories_of platforms i ≡ kept (h.together.did i)
-  history i lt =
-      let one = view plan rows h.together platforms pipes results h.shown i lt in
-      ap (λ (o : Option PlatformView). unwrap_or (option_map (λ (v : PlatformView). v.turns) o) []) one.1 ∙ h.shown.kept_turns i one.0 one.1
+  are_there : AreThere plan rows h.together platforms
+  are_there = there_of plan rows h.together platforms pipes results h.shown
 
   -- the end of a run, in what the platforms show
   ended : AreFinished plan.graph h.together ⊎ (Each (λ (m : Made). m.fault ≡ false) h.made → ⊥) → (fault : Option ℕ) → EndsWith plan.graph platforms fault → (fault ≡ None → AreFinished plan.graph h.together) →
@@ -154,12 +120,12 @@ module _ (plan : Parts) (rows : ℕ → List Row) (count c : ℕ) (olds : List P
     matched = λ l link at.
         let m = laws.1 l link at in (
           m.0,
-          ap (all_sent l) (history (platform_of plan.graph link.from) (is_wired.homes link.from)) ∙ m.1
-              ∙ ap (λ (turns : List Turn). all_taken l turns ++ m.0) (sym (history (platform_of plan.graph link.to) (is_wired.homes link.to))),
+          ap (all_sent l) (history plan rows h.together platforms are_there (platform_of plan.graph link.from) (is_wired.homes link.from)) ∙ m.1
+              ∙ ap (λ (turns : List Turn). all_taken l turns ++ m.0) (sym (history plan rows h.together platforms are_there (platform_of plan.graph link.to) (is_wired.homes link.to))),
         );
     linked = λ none l link at.
-        ap (all_sent l) (history (platform_of plan.graph link.from) (is_wired.homes link.from)) ∙ laws.2 (done none) l link at
-        ∙ ap (all_taken l) (sym (history (platform_of plan.graph link.to) (is_wired.homes link.to)));
+        ap (all_sent l) (history plan rows h.together platforms are_there (platform_of plan.graph link.from) (is_wired.homes link.from)) ∙ laws.2 (done none) l link at
+        ∙ ap (all_taken l) (sym (history plan rows h.together platforms are_there (platform_of plan.graph link.to) (is_wired.homes link.to)));
     none_late = λ i v there.
         subst (λ turns. LegalOnTime plan.graph (level_of plan.ranks) i (opened plan.graph i rows) turns (state_at v)) (sym (h.shown.kept_turns i v there))
         (subst (LegalOnTime plan.graph (level_of plan.ranks) i (opened plan.graph i rows) (kept (h.together.did i))) (h.shown.states i v there)
@@ -173,8 +139,8 @@ module _ (plan : Parts) (rows : ℕ → List Row) (count c : ℕ) (olds : List P
     all_claimed = λ none rank xs ranks meaning u. claims u ∙ (claimed_as_meant plan.graph (level_of plan.ranks) rank rows h.together xs end ranks meaning).1 (done none) u;
     missed_as_meant = λ none rank xs ranks meaning a t reading limit.
         let both = missed_as_meant plan.graph (level_of plan.ranks) rank rows h.together xs end (done none) ranks meaning a t reading limit in (
-          (λ missed. both.0 (missed.0, missed.1, missed.2, subst (IsIn missed.2) (history missed.0 missed.1) missed.3, missed.4, missed.5)),
-          (λ meant. let missed = both.1 meant in (missed.0, missed.1, missed.2, subst (IsIn missed.2) (sym (history missed.0 missed.1)) missed.3, missed.4, missed.5)),
+          (λ missed. both.0 (missed.0, missed.1, missed.2, subst (IsIn missed.2) (history plan rows h.together platforms are_there missed.0 missed.1) missed.3, missed.4, missed.5)),
+          (λ meant. let missed = both.1 meant in (missed.0, missed.1, missed.2, subst (IsIn missed.2) (sym (history plan rows h.together platforms are_there missed.0 missed.1)) missed.3, missed.4, missed.5)),
         );
     long = long;
   }
@@ -193,7 +159,7 @@ module _ (plan : Parts) (rows : ℕ → List Row) (count c : ℕ) (olds : List P
       below i v there = subst (λ n. i < n) h.shown.all.count (slice_get_within platforms i v there)
 
       claims : (u : Part) → all_claims plan.graph (histories_of platforms) u ≡ all_claims plan.graph (kept_by h.together) u
-      claims u = ap (λ (turns : List Turn). claims_of plan.graph turns u) (history (platform_of plan.graph u.actor) (is_wired.homes u.actor))
+      claims u = ap (λ (turns : List Turn). claims_of plan.graph turns u) (history plan rows h.together platforms are_there (platform_of plan.graph u.actor) (is_wired.homes u.actor))
 
       -- where its turn answered no fault a platform has none
       none_answered : (i : ℕ) (v : PlatformView) → slice_get platforms i ≡ Some v → ((m : Made) → IsIn m h.made → m.platform ≡ i → m.fault ≡ false) → v.fault ≡ None
@@ -205,9 +171,9 @@ module _ (plan : Parts) (rows : ℕ → List Row) (count c : ℕ) (olds : List P
 
   pub ended_finished : HaveNoFault platforms → AreAllFinished platforms → HaveRun plan (level_of plan.ranks) rows platforms None
   ended_finished none done =
-      let all = all_finished plan rows h.together platforms pipes results h.shown done in
+      let all = all_finished plan rows h.together platforms are_there done in
       ended (inl all) None
-      (λ i v there. (none i v there, subst (λ k. IsFinished plan.graph k (state_at v)) (h.shown.all.numbers i v there) (subst (λ (p : Parts). IsFinished p.graph v.number (state_at v)) (h.shown.all.plans i v there) (done i v there))))
+      (λ i v there. (none i v there, finished_here plan rows h.together platforms are_there done i v there))
       (λ e. all)
       (λ rank xs ranks meaning.
       (long_exactly plan.graph (level_of plan.ranks) rank rows (offset_of plan.offsets) s.rounds c (length plan.graph.platforms) h.made h.together xs is_wired s.admitted.levels ranks s.fit s.admitted.feasible s.admitted.offsets.units in_round meaning).1 all)
@@ -229,7 +195,7 @@ module _ (plan : Parts) (rows : ℕ → List Row) (count c : ℕ) (olds : List P
       (h.faults i first.view first.at))
 
   pub open_after_quiet : quiet ≡ true → HaveNoFault platforms → (AreAllFinished platforms → ⊥) → NoneIsOpen (length platforms) platforms → ⊥
-  open_after_quiet calm none going closed = going (each_finished plan rows h.together platforms pipes results h.shown
+  open_after_quiet calm none going closed = going (each_finished plan rows h.together platforms are_there
       (quiet_ends plan.graph (level_of plan.ranks) rows (offset_of plan.offsets) s.rounds c h.made s.together h.together is_wired s.admitted.levels s.fit s.admitted.feasible s.admitted.offsets.units s.run whole_round (h.fine none) (h.is_quiet_round calm)
       (all_closed plan rows h.together platforms pipes results h.shown closed)))
 
@@ -252,7 +218,7 @@ module _ (plan : Parts) (rows : ℕ → List Row) (count c : ℕ) (olds : List P
       begins = s.run.begins;
       begins_at = s.run.begins_at;
       goes = one_round plan.graph (level_of plan.ranks) s.rounds s.run.begins c b (together_at_start plan.graph rows) s.together h.together h.made s.run.goes whole_round (h.fine none)
-          (λ done. going (each_finished plan rows h.together platforms pipes results h.shown done)) follows;
+          (λ done. going (each_finished plan rows h.together platforms are_there done)) follows;
     };
     shown = h.shown;
     no_fault = none;

@@ -1,13 +1,7 @@
 -- What the engine asks the platforms between rounds.
 use Rattle.std.specs.Prelude.{◌≡◌, ◌<◌, ◌≤◌, ℕ, List, None, Option, Some, false, min, slice_get, true}
-use Rattle.pt_semantics.specs.History.{IsLegal}
-use Rattle.pt_semantics.specs.Linked.{IsFinished}
 use Rattle.pt_semantics.specs.Paced.{IsCandidate}
-use Rattle.pt_turn.specs.Platforms.{PlatformView, level_at, rows_at, state_at}
-
--- the recorded turns of each platform are a legal history
-abbrev pub AreLegal : List PlatformView → Type 0
-AreLegal platforms = (i : ℕ) (v : PlatformView) → slice_get platforms i ≡ Some v → IsLegal v.plan.graph (level_at v) v.number (rows_at v) v.turns (state_at v)
+use Rattle.pt_turn.specs.Platforms.{PlatformView, state_at}
 
 -- no platform has a fault
 abbrev pub HaveNoFault : List PlatformView → Type 0
@@ -19,10 +13,6 @@ pub record IsFirstFault (platforms : List PlatformView) (i : ℕ) : Type 0 where
   pub at : slice_get platforms i ≡ Some view
   pub fault : view.fault ≡ None → ⊥
   pub before : (j : ℕ) (w : PlatformView) → j < i → slice_get platforms j ≡ Some w → w.fault ≡ None
-
--- all platforms are finished
-abbrev pub AreAllFinished : List PlatformView → Type 0
-AreAllFinished platforms = (i : ℕ) (v : PlatformView) → slice_get platforms i ≡ Some v → IsFinished v.plan.graph v.number (state_at v)
 
 -- the first n platforms are closed
 abbrev pub NoneIsOpen : ℕ → List PlatformView → Type 0

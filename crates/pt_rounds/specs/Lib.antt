@@ -2,4 +2,3 @@ pub mod Agreeing
 pub mod Asked
 pub mod HaveRun
 pub mod Passing
-pub mod Shown

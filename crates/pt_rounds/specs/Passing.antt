@@ -1,6 +1,5 @@
 -- The effect of one visit and of one round on the engine's platforms, pipes and results.
-use Rattle.std.specs.Prelude.{◌≡◌, ◌<◌, ◌≤◌, ◌⊎◌, ◌↔◌, ℕ, Bool, List, None, Some, false, length, map, slice_get, true}
-use Rattle.std.specs.Global.{Vec}
+use Rattle.std.specs.Prelude.{◌≡◌, ◌<◌, ◌≤◌, ◌⊎◌, ◌↔◌, ℕ, Bool, List, None, Some, false, length, slice_get, true}
 use Rattle.pt_tags.specs.declared.message.Message.{Message}
 use Rattle.pt_types.specs.declared.firing.Done.{Done}
 use Rattle.pt_types.specs.declared.rows.Row.{Row}
@@ -15,15 +14,11 @@ use Rattle.pt_turn.specs.declared.fault.TurnFault.TheVariants.{Long}
 use Rattle.pt_turn.specs.Platforms.{PlatformView}
 use Rattle.pt_visits.specs.Visited.{IsVisited}
 use Rattle.pt_rounds.specs.Asked.{HaveNoFault}
-use Rattle.pt_rounds.specs.Shown.{AreShown}
-
--- the items of each vector
-abbrev pub lists_of : List (Vec Done) → List (List Done)
-lists_of vectors = map (λ (v : Vec Done). v.items) vectors
+use Rattle.pt_together.specs.Shown.{AreShown}
 
 -- a platform was visited, and `still` says whether it did nothing and did not close
 pub record WasVisited (r : ℕ) (dones results : List Done) (old new : PlatformView) (pipes piped : List (List Message)) (still : Bool) : Type 0 where
-  pub visited : IsVisited r dones results old new pipes piped
+  pub visited : IsVisited 64 r dones results old new pipes piped
   pub still_is : (still ≡ true) ↔ ((is_quiet visited.turn ≡ true) × (new.closed ≡ old.closed))
 
 -- the platforms, pipes and results are as in a paced run before a round at reading c, after `count` rounds

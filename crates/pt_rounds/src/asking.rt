@@ -1,8 +1,8 @@
 //! What the engine asks the platforms between rounds.
 
-ghost use Rattle.std.specs.Prelude.{◌≡◌, ◌<◌, ◌↔◌, ◌∷◌, ◌++◌, [], ℕ, List, MatchOption, None, length, true};
+ghost use Rattle.std.specs.Prelude.{◌≡◌, ◌<◌, ◌∷◌, ◌++◌, [], ℕ, List, MatchOption, None, length, true};
 ghost use Rattle.pt_semantics.specs.Turn.{Turn, is_quiet};
-ghost use Rattle.pt_rounds.specs.Asked.{AreAllFinished, HaveNoFault, IsFirstFault, IsLeastOf, NoneIsOpen, lesser};
+ghost use Rattle.pt_rounds.specs.Asked.{HaveNoFault, IsFirstFault, IsLeastOf, NoneIsOpen, lesser};
 
 use pt_turn::Platform;
 
@@ -24,18 +24,6 @@ pub fn first_fault(platforms: &[Platform]) -> Option<usize>
         }
     }
     None
-}
-
-/// Whether all platforms are finished.
-pub fn are_finished(platforms: &[Platform]) -> bool
-    ensures { (result ≡ true) ↔ AreAllFinished platforms.now }
-{
-    for i in 0..platforms.len() {
-        if !platforms[i].finished() {
-            return false;
-        }
-    }
-    true
 }
 
 /// The least next reading of the platforms that are not closed, in microseconds; `None` if all are closed.

@@ -5,14 +5,16 @@ ghost use Rattle.pt_types.specs.declared.rows.Row.{Row};
 ghost use Rattle.pt_causality.specs.Ranked.{level_of};
 ghost use Rattle.pt_offsets.specs.Plans.{Parts};
 ghost use Rattle.pt_rounds.specs.HaveRun.{HaveRun};
-ghost use Rattle.pt_rounds.specs.Passing.{Stands, lists_of};
+ghost use Rattle.pt_together.specs.Asked.{lists_of};
+ghost use Rattle.pt_rounds.specs.Passing.{Stands};
 
-use crate::asking::{are_finished, first_fault, next_reading};
+use crate::asking::{first_fault, next_reading};
 use crate::passing::pass;
 use pt_actors::Done;
 use pt_blocks::Blocks;
 use pt_links::Pipe;
 use pt_tags::Memory;
+use pt_together::are_finished;
 use pt_turn::Platform;
 use pt_visits::Desk;
 

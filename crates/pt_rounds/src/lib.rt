@@ -6,7 +6,6 @@
 
 mod asking;
 mod going_on;
-mod hand;
 mod laws;
 mod passing;
 mod rounds;

@@ -7,7 +7,8 @@ ghost use Rattle.pt_post.specs.Posted.{AreDone};
 ghost use Rattle.pt_turn.specs.Platforms.{level_at, state_at};
 ghost use Rattle.pt_turn.specs.Turned.{MayCome};
 ghost use Rattle.pt_visits.specs.Pipes.{arriving};
-ghost use Rattle.pt_rounds.specs.Passing.{HavePassed, Stands, WasVisited, lists_of};
+ghost use Rattle.pt_together.specs.Asked.{lists_of};
+ghost use Rattle.pt_rounds.specs.Passing.{HavePassed, Stands, WasVisited};
 
 use crate::asking::was_quiet;
 use pt_actors::Done;
@@ -16,6 +17,9 @@ use pt_links::Pipe;
 use pt_tags::Memory;
 use pt_turn::Platform;
 use pt_visits::{Desk, visit};
+
+/// The most units that a platform claims in one turn.
+const MOST: usize = 64;
 
 /// Visits a platform, and returns whether only its reading changed.
 fn visit_one(
@@ -34,7 +38,7 @@ fn visit_one(
     ensures visited { IfOk result (λ still. WasVisited reading results.old.items results.new.items platform.old platform.new pipes.old pipes.new still) }
 {
     let closed = platform.closed();
-    visit(platform, pipes, results, desk, blocks, reading)?;
+    visit(platform, pipes, results, desk, blocks, reading, MOST)?;
     Ok(platform.closed() == closed && was_quiet(platform))
 }
 

@@ -9,9 +9,9 @@ ghost use Rattle.pt_rounds.specs.HaveRun.{HaveRun};
 
 use crate::asking::next_reading;
 use crate::going_on::go_on;
-use crate::hand::{no_results, pipes};
 use pt_blocks::Blocks;
 use pt_tags::Memory;
+use pt_together::{no_results, pipes};
 use pt_turn::Platform;
 use pt_visits::Desk;
 use std::alloc::Global;

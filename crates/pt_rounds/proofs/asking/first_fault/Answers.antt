@@ -4,7 +4,7 @@ use Rattle.std.proofs.lemmas.Bool.{false≢true}
 use Rattle.std.proofs.lemmas.Option.{slice_get-get_or, slice_get_within}
 use Rattle.pt_turn.specs.Platforms.{PlatformView}
 use Rattle.pt_turn.specs.declared.fault.TurnFault.{TurnFault}
-use Rattle.pt_rounds.proofs.Listed.{one_more}
+use Rattle.pt_together.proofs.Listed.{one_more}
 use Rattle.pt_rounds.proofs.asking.first_fault.Goals as goal
 
 none_of : (fault : Option TurnFault) → is_some fault ≡ false → fault ≡ None

@@ -1,7 +1,8 @@
 use Rattle.std.proofs.Common.{◌-◌, ℕ, List}
 use Rattle.pt_types.specs.declared.rows.Row.{Row}
 use Rattle.pt_offsets.specs.Plans.{Parts}
-use Rattle.pt_rounds.specs.Passing.{Stands, lists_of}
+use Rattle.pt_together.specs.Asked.{lists_of}
+use Rattle.pt_rounds.specs.Passing.{Stands}
 use Rattle.pt_rounds.proofs.going_on.go_on.Given as goal
 
 abbrev pub invariant-loop-round : goal.invariant-loop-round

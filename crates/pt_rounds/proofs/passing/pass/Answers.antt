@@ -9,8 +9,9 @@ use Rattle.pt_post.specs.Posted.{AreDone}
 use Rattle.pt_semantics.proofs.Lookups.{same_some}
 use Rattle.pt_offsets.specs.Plans.{Parts}
 use Rattle.pt_turn.specs.Platforms.{PlatformView, state_at}
-use Rattle.pt_rounds.specs.Passing.{HavePassed, lists_of}
-use Rattle.pt_rounds.proofs.Listed.{list_at}
+use Rattle.pt_together.specs.Asked.{lists_of}
+use Rattle.pt_rounds.specs.Passing.{HavePassed}
+use Rattle.pt_together.proofs.Listed.{list_at}
 use Rattle.pt_rounds.proofs.Showing.{may_come}
 use Rattle.pt_rounds.proofs.Passes.{none_passed, not_faulty, one_by, one_visited, passed_onward}
 use Rattle.pt_rounds.proofs.passing.pass.Goals as goal
@@ -55,10 +56,10 @@ visit_one-requires-clause-done g c =
     let lt : c.loop-i.i < length c.loop-i.platforms = omega (arith, c.loop-i-test.true, c.loop-i.auto.platforms) in
     let h = c.loop-i.invariant plan rows count s in
     let there = slice_get-get_or c.loop-i.platforms c.loop-i.i c.index-platforms-i-in-loop-i.result lt in
-    let within : c.loop-i.i < length c.loop-i.results = omega (arith, lt, h.shown.hands, length-map c.loop-i.results (λ (v : Vec Done). v.items)) in
+    let within : c.loop-i.i < length c.loop-i.results = omega (arith, lt, h.shown.count, length-map c.loop-i.results (λ (v : Vec Done). v.items)) in
     let hand = list_at c.loop-i.results c.loop-i.i (get_or c.loop-i.results c.loop-i.i c.index-results-i.result) (slice_get-get_or c.loop-i.results c.loop-i.i c.index-results-i.result within) in
     subst (λ (p : Parts). AreDone p.graph (get_or c.loop-i.results c.loop-i.i c.index-results-i.result).items) (sym (h.shown.all.plans c.loop-i.i (get_or c.loop-i.platforms c.loop-i.i c.index-platforms-i-in-loop-i.result) there))
-    (h.shown.in_hand c.loop-i.i (get_or c.loop-i.platforms c.loop-i.i c.index-platforms-i-in-loop-i.result) (get_or c.loop-i.results c.loop-i.i c.index-results-i.result).items there hand).done
+    (h.shown.pending c.loop-i.i (get_or c.loop-i.platforms c.loop-i.i c.index-platforms-i-in-loop-i.result) (get_or c.loop-i.results c.loop-i.i c.index-results-i.result).items there hand).done
 
 pub visit_one-requires-clause-taken : goal.visit_one-requires-clause-taken
 visit_one-requires-clause-taken g c =
@@ -75,7 +76,7 @@ pub loop-i-preserved : goal.loop-i-preserved
 loop-i-preserved g c = λ plan rows count s.
     let lt : c.loop-i.i < length c.loop-i.platforms = omega (arith, c.loop-i-test.true, c.loop-i.auto.platforms) in
     let h = c.loop-i.invariant plan rows count s in
-    let within : c.loop-i.i < length c.loop-i.results = omega (arith, lt, h.shown.hands, length-map c.loop-i.results (λ (v : Vec Done). v.items)) in
+    let within : c.loop-i.i < length c.loop-i.results = omega (arith, lt, h.shown.count, length-map c.loop-i.results (λ (v : Vec Done). v.items)) in
     let one = here c.loop-i.platforms c.loop-i.i c.index-platforms-i.result c.index-platforms-i-in-loop-i.result lt in
     subst (λ k. HavePassed plan rows c.args.reading s.together k (set c.loop-i.platforms c.loop-i.i c.visit_one.new.platform) c.visit_one.new.pipes (lists_of (set c.loop-i.results c.loop-i.i c.visit_one.new.results)) c.if-quiet.quiet) (sym (add-one c.loop-i.i))
     (subst (λ results. HavePassed plan rows c.args.reading s.together (suc c.loop-i.i) (set c.loop-i.platforms c.loop-i.i c.visit_one.new.platform) c.visit_one.new.pipes results c.if-quiet.quiet)

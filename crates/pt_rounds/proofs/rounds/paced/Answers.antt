@@ -1,40 +1,17 @@
-use Rattle.std.proofs.Common.{◌≡◌, ◌∙◌, ◌<◌, ◌++◌, [], ℕ, List, get_or, length, replicate, take, drop, arith, sym, ap, subst}
-use Rattle.std.proofs.Math.Seq.{take-append_seam}
-use Rattle.std.proofs.lemmas.Option.{slice_get-get_or}
+use Rattle.std.proofs.Common.{◌≡◌, ◌∙◌, ℕ, List, length, arith, sym, ap, subst}
 use Rattle.pt_tags.specs.declared.message.Message.{Message}
 use Rattle.pt_types.specs.declared.firing.Done.{Done}
-use Rattle.pt_types.specs.declared.graph.Graph.{Graph}
-use Rattle.pt_types.specs.declared.graph.Link.{Link}
 use Rattle.pt_types.specs.declared.rows.Row.{Row}
 use Rattle.pt_causality.specs.Ranked.{level_of}
-use Rattle.pt_offsets.specs.Plans.{IsAdmitted, Parts}
-use Rattle.pt_turn.specs.All.{AreReady}
+use Rattle.pt_offsets.specs.Plans.{Parts}
 use Rattle.pt_turn.specs.Platforms.{PlatformView}
-use Rattle.pt_rounds.specs.Asked.{AreLegal, IsLeastOf, NoneIsOpen}
+use Rattle.pt_together.specs.Asked.{lists_of}
+use Rattle.pt_rounds.specs.Asked.{IsLeastOf, NoneIsOpen}
 use Rattle.pt_rounds.specs.HaveRun.{HaveRun}
-use Rattle.pt_rounds.specs.Passing.{Stands, lists_of}
-use Rattle.pt_rounds.proofs.Runs.{AreOpened, some_open, stands_first}
+use Rattle.pt_rounds.specs.Passing.{Stands}
+use Rattle.pt_together.proofs.First.{AreOpened, opened, written}
+use Rattle.pt_rounds.proofs.Runs.{some_open, stands_first}
 use Rattle.pt_rounds.proofs.rounds.paced.Goals as goal
-
--- the plan that the first platform answers is that of all
-module _ (plan : Parts) (rows : ℕ → List Row) (platforms sliced : List PlatformView) (d : PlatformView) (first : Parts) (g : Graph) (links : List Link) (pipes : List (List Message)) (results : List (List Done))
-    (some : 0 < length platforms) (plan_is : first ≡ (get_or platforms 0 d).plan) (graph_is : g ≡ first.graph) (admitted : IsAdmitted first) (links_are : links ≡ g.links) (same : sliced ≡ platforms)
-    (no_message : pipes ≡ replicate (length links) []) (no_result : results ≡ replicate (length sliced) []) (legal : AreLegal sliced) where
-  opened : AreReady plan rows platforms → AreOpened plan rows platforms pipes results
-  opened ready =
-      let whole : first ≡ plan = plan_is ∙ ready.all.plans 0 (get_or platforms 0 d) (slice_get-get_or platforms 0 d some) in
-      record {
-        ready = ready;
-        some = some;
-        admitted = subst IsAdmitted whole admitted;
-        legal = subst AreLegal same legal;
-        no_message = no_message ∙ ap (λ (ls : List Link). replicate (length ls) []) (links_are ∙ ap (λ (z : Graph). z.links) graph_is ∙ ap (λ (p : Parts). p.graph.links) whole);
-        no_result = no_result ∙ ap (λ (vs : List PlatformView). replicate (length vs) []) same;
-      }
-
--- a list that was written as a whole
-written : {X : Type 0} (n : ℕ) (new old : List X) → n ≡ length new → take n (new ++ drop (length new) old) ≡ new
-written n new old e = ap (λ k. take k (new ++ drop (length new) old)) e ∙ take-append_seam new (drop (length new) old)
 
 pub next_reading-begins-requires : goal.next_reading-begins-requires
 next_reading-begins-requires g c = record {

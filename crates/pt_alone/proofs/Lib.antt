@@ -1,0 +1,4 @@
+pub mod Counting
+pub mod OneVisit
+pub mod Starting
+pub mod Steps

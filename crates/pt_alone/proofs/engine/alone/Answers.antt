@@ -1,0 +1,55 @@
+use Rattle.std.proofs.Common.{◌≡◌, ◌∙◌, ◌++◌, ℕ, List, length, take, drop, arith, sym, ap, subst}
+use Rattle.std.proofs.lemmas.List.{length-map}
+use Rattle.pt_io.specs.Told.{ClockView, tell}
+use Rattle.pt_tags.specs.declared.message.Message.{Message}
+use Rattle.pt_types.specs.declared.firing.Done.{Done}
+use Rattle.pt_types.specs.declared.rows.Row.{Row}
+use Rattle.pt_offsets.specs.Plans.{Parts}
+use Rattle.pt_turn.specs.Platforms.{PlatformView}
+use Rattle.pt_together.specs.Asked.{lists_of}
+use Rattle.pt_alone.specs.HasGone.{HasGone}
+use Rattle.pt_alone.specs.Between.{BeforeVisit}
+use Rattle.pt_alone.proofs.Steps.{view_of_clock}
+use Rattle.pt_together.proofs.First.{AreOpened, opened, written}
+use Rattle.pt_alone.proofs.Starting.{before_first}
+use Rattle.pt_alone.proofs.engine.alone.Goals as goal
+
+starts : (plan : Parts) (rows : ℕ → List Row) (most : ℕ) (clocks lent_clocks : List ClockView) (platforms lent : List PlatformView) (pipes lent_pipes : List (List Message)) (results lent_results : List (List Done)) →
+    AreOpened plan rows platforms pipes results → length clocks ≡ length platforms → lent_clocks ≡ clocks → lent ≡ platforms → lent_pipes ≡ pipes → lent_results ≡ results → BeforeVisit plan rows most 0 clocks lent_clocks lent lent_pipes lent_results
+starts plan rows most clocks lent_clocks platforms lent pipes lent_pipes results lent_results new count e0 e e2 e3 =
+    subst (λ (cs : List ClockView). BeforeVisit plan rows most 0 clocks cs lent lent_pipes lent_results) (sym e0)
+    (subst (λ (vs : List PlatformView). BeforeVisit plan rows most 0 clocks clocks vs lent_pipes lent_results) (sym e)
+    (subst (λ (ps : List (List Message)). BeforeVisit plan rows most 0 clocks clocks platforms ps lent_results) (sym e2)
+    (subst (λ (rs : List (List Done)). BeforeVisit plan rows most 0 clocks clocks platforms pipes rs) (sym e3)
+    (before_first plan rows most clocks platforms pipes results new count))))
+
+pub go_on-requires-clause-begun : goal.go_on-requires-clause-begun
+go_on-requires-clause-begun g c =
+    let (plan, rows, ready) = c.requires.ready in (
+      plan,
+      rows,
+      tell g.C.Clock.told g.C.Clock.ahead c.args.clocks.items,
+      starts plan rows c.args.most (tell g.C.Clock.told g.C.Clock.ahead c.args.clocks.items) (tell g.C.Clock.told g.C.Clock.ahead c.as_mut_slice-2.result.now) c.args.platforms.items c.as_mut_slice.result.now c.in_ok-pipes.pipes.items c.as_mut_slice-3.result.now (lists_of c.in_ok-results.results.items) (lists_of c.as_mut_slice-4.result.now)
+          (opened plan rows c.args.platforms.items c.as_slice.result.now c.index.result.now c.deref.result.now c.graph.result.now c.as_slice-links.result.now c.in_ok-pipes.pipes.items (lists_of c.in_ok-results.results.items)
+          c.requires.some (c.deref.ensures ∙ c.plan.ensures ∙ ap (λ (v : PlatformView). v.plan) c.index.ensures) c.graph.ensures.value c.graph.ensures.admitted c.as_slice-links.ensures c.as_slice.ensures.value
+          c.in_ok-pipes.ensures c.in_ok-results.ensures.none c.in_ok-results.ensures.legal ready)
+          (length-map c.args.clocks.items (view_of_clock g.C.Clock.told g.C.Clock.ahead) ∙ c.requires.clocks)
+          (ap (tell g.C.Clock.told g.C.Clock.ahead) c.as_mut_slice-2.ensures.value) c.as_mut_slice.ensures.value c.as_mut_slice-3.ensures.value (ap lists_of c.as_mut_slice-4.ensures.value),
+    )
+
+pub returns : goal.returns
+returns g c = record {
+  ran = λ plan rows ready.
+      let began : List ClockView = tell g.C.Clock.told g.C.Clock.ahead c.args.clocks.items in
+      subst (λ (vs : List PlatformView). HasGone plan rows c.args.most began (tell g.C.Clock.told g.C.Clock.ahead (take c.args.clocks.len (c.go_on.new.clocks ++ drop (length c.go_on.new.clocks) c.args.clocks.items))) vs c.in_ok-fault.fault)
+      (sym (written c.args.platforms.len c.go_on.new.platforms c.args.platforms.items (omega (arith, c.go_on.auto.platforms, c.as_mut_slice.ensures.len))))
+      (subst (λ (ns : List ClockView). HasGone plan rows c.args.most began ns c.go_on.new.platforms c.in_ok-fault.fault)
+      (sym (ap (tell g.C.Clock.told g.C.Clock.ahead) (written c.args.clocks.len c.go_on.new.clocks c.args.clocks.items (omega (arith, c.go_on.auto.clocks, c.as_mut_slice-2.ensures.len)))))
+      (c.in_ok-fault.ensures.gone plan rows began
+      (starts plan rows c.args.most began (tell g.C.Clock.told g.C.Clock.ahead c.as_mut_slice-2.result.now) c.args.platforms.items c.as_mut_slice.result.now c.in_ok-pipes.pipes.items c.as_mut_slice-3.result.now (lists_of c.in_ok-results.results.items) (lists_of c.as_mut_slice-4.result.now)
+      (opened plan rows c.args.platforms.items c.as_slice.result.now c.index.result.now c.deref.result.now c.graph.result.now c.as_slice-links.result.now c.in_ok-pipes.pipes.items (lists_of c.in_ok-results.results.items)
+      c.requires.some (c.deref.ensures ∙ c.plan.ensures ∙ ap (λ (v : PlatformView). v.plan) c.index.ensures) c.graph.ensures.value c.graph.ensures.admitted c.as_slice-links.ensures c.as_slice.ensures.value
+      c.in_ok-pipes.ensures c.in_ok-results.ensures.none c.in_ok-results.ensures.legal ready)
+      (length-map c.args.clocks.items (view_of_clock g.C.Clock.told g.C.Clock.ahead) ∙ c.requires.clocks)
+      (ap (tell g.C.Clock.told g.C.Clock.ahead) c.as_mut_slice-2.ensures.value) c.as_mut_slice.ensures.value c.as_mut_slice-3.ensures.value (ap lists_of c.as_mut_slice-4.ensures.value))));
+}

@@ -1,0 +1,12 @@
+//! The engine in fixed order: it visits all platforms in the order of the graph, again and again, each at the next reading of
+//! its own clock, until all are finished or one has a fault.
+//!
+//! Read first: `alone`, then `specs/HasGone.antt`.
+#![tactic(auto)]
+
+mod asking;
+mod engine;
+mod going_on;
+mod visiting;
+
+pub use engine::{Ended, alone};

@@ -1,0 +1,3 @@
+pub mod Touch
+pub mod Moves
+pub mod Opening

@@ -1,0 +1,5 @@
+pub mod Rule
+pub mod Plays
+pub mod Seats
+pub mod Keepers
+pub mod Hands

@@ -1,0 +1,35 @@
+-- Stations by their numbers.
+use Rattle.std.proofs.Common.{zero, suc}
+use Rattle.std.specs.Prelude.{◌≡◌, ℕ, ◌+◌, ◌^◌, ◌<◌, false, Option, None, Some, List, [], ◌∷◌, ◌++◌, length, map, slice_index_or}
+use Rattle.pt_semantics.specs.Linked.{IsFinished}
+use Rattle.pt_turn.specs.Platforms.{state_at}
+use Rattle.pt_pool.specs.Station.{StationView}
+
+abbrev pub numbers : List StationView → List ℕ
+numbers xs = map (λ (s : StationView). s.platform.number) xs
+
+-- the numbers below n
+abbrev pub count_up : ℕ → List ℕ
+count_up zero = []
+count_up (suc n) = count_up n ++ n ∷ []
+
+-- 2 to the power of each, added up
+abbrev pub weight : List ℕ → ℕ
+weight [] = 0
+weight (x ∷ xs) = 2 ^ x + weight xs
+
+-- the number is in the list
+abbrev pub Among : ℕ → List ℕ → Type 0
+Among w xs = (i : ℕ) × (i < length xs) × ((d : ℕ) → slice_index_or xs i d ≡ w)
+
+-- the station of this number has its place
+abbrev pub HasAt : List (Option StationView) → ℕ → Type 0
+HasAt slots w = (s : StationView) × ((d : Option StationView) → slice_index_or slots w d ≡ Some s) × (s.platform.number ≡ w)
+
+-- each station is finished, without a fault
+abbrev pub AllDone : List StationView → Type 0
+AllDone xs = (i : ℕ) (d : StationView) → i < length xs → IsFinished (slice_index_or xs i d).platform.plan.graph (slice_index_or xs i d).platform.number (state_at (slice_index_or xs i d).platform) × ((slice_index_or xs i d).platform.fault ≡ None) × ((slice_index_or xs i d).marked ≡ false)
+
+-- the n-th station has a fault, and none before it
+abbrev pub HasFailed : List StationView → ℕ → Type 0
+HasFailed xs n = (n < length xs) × ((d : StationView) → (slice_index_or xs n d).platform.fault ≡ None → ⊥) × ((i : ℕ) (d : StationView) → i < n → (slice_index_or xs i d).platform.fault ≡ None)

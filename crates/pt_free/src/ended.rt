@@ -1,0 +1,198 @@
+//! A threaded run: the workers visit the stations, and then the caller visits them to the end.
+ghost use Rattle.pt_pool.specs.Station.{graph_of};
+ghost use Rattle.std.specs.Prelude.{◌≡◌, ◌≤◌, Ok, None, length, vec_len, IfOk, IfSome};
+ghost use Rattle.pt_free.specs.Orders.{numbers, count_up, AllDone, HasFailed};
+ghost use Rattle.pt_free.specs.Surveys.{Surveyed};
+
+use crate::hand::Hand;
+use crate::order::in_order;
+use crate::results::Results;
+use crate::threads::{Gate, run_workers};
+use crate::workers::{MOST, Shared, lock_all, unlock_all};
+use pt_actors::Tasks;
+use pt_blocks::Blocks;
+use pt_io::Clock;
+use pt_pool::{Run, Station};
+use pt_tags::Memory;
+use pt_turn::Platform;
+use std::alloc::Global;
+use std::marker::Brand;
+use std::sync::Wait;
+use std::sync::ledger::{Blank, Ledger};
+use std::thread::Threads;
+
+/// The stations in the order of their platforms, and the number of the platform whose fault ended the run, if one did.
+#[derive(Drop)]
+pub struct Ended<J: Run, C: Clock> {
+    pub stations: Vec<Station<J, C>>,
+    pub fault: Option<usize>,
+}
+
+/// How far all stations are.
+pub enum Survey {
+    Going,
+    Over,
+    Failed(usize),
+    Marked,
+}
+
+fn look_over<J: Run, C: Clock>(stations: &Vec<Station<J, C>>) -> Survey
+    ensures { Surveyed result stations.now.items }
+{
+    let mut over = true;
+    for k in 0..stations.len() {
+        let station = &stations[k];
+        if station.marked() {
+            return Survey::Marked;
+        }
+        let platform = station.platform();
+        if platform.fault().is_some() {
+            return Survey::Failed(k);
+        }
+        if !platform.finished() {
+            over = false;
+        }
+    }
+    if over { Survey::Over } else { Survey::Going }
+}
+
+fn visit_each<J: Run, C: Clock, R: Wait>(
+    rt: &R,
+    alloc: Global,
+    hand: &Hand<J>,
+    blocks: &Blocks,
+    stations: &mut Vec<Station<J, C>>,
+) -> Result<(), Memory>
+    ensures { (numbers stations.new.items ≡ numbers stations.old.items) × (vec_len stations.new ≡ vec_len stations.old) }
+{
+    for k in 0..stations.len() {
+        let station = &mut stations[k];
+        visit_one(rt, alloc, hand, blocks, station)?;
+    }
+    Ok(())
+}
+
+/// The results of all open claims of a platform.
+fn results_of<J: Run>(
+    alloc: Global,
+    hand: &Hand<J>,
+    blocks: &Blocks,
+    platform: &Platform,
+) -> Result<Results<J>, Memory> {
+    let mut done = Results::new(alloc);
+    for k in 0..platform.open_claims() {
+        let Some(task) = platform.open_claim(k) else {
+            break;
+        };
+        if !done.keep(hand.fire(blocks, task)) {
+            return Err(Memory);
+        }
+    }
+    Ok(done)
+}
+
+/// Visits a station with the results of all open claims.
+fn visit_one<J: Run, C: Clock, R: Wait>(
+    rt: &R,
+    alloc: Global,
+    hand: &Hand<J>,
+    blocks: &Blocks,
+    station: &mut Station<J, C>,
+) -> Result<(), Memory>
+    ensures { station.new.platform.number ≡ station.old.platform.number }
+{
+    let platform = station.platform();
+    if platform.fault().is_some() {
+        return Ok(());
+    }
+    let done = results_of(alloc, hand, blocks, platform)?;
+    let mut tasks = Tasks::new(alloc);
+    let _ = station.visit(rt, alloc, done.as_slice(), MOST, &mut tasks);
+    Ok(())
+}
+
+/// Visits until all are finished or one has a fault.
+fn finish<J: Run, C: Clock, R: Wait>(
+    rt: &R,
+    alloc: Global,
+    hand: &Hand<J>,
+    blocks: &Blocks,
+    stations: &mut Vec<Station<J, C>>,
+) -> Result<Option<usize>, Memory>
+    ensures numbers { (numbers stations.new.items ≡ numbers stations.old.items) × (vec_len stations.new ≡ vec_len stations.old) }
+    ensures done { result ≡ Ok None → AllDone stations.new.items }
+    ensures fault { IfOk result (λ r. IfSome r (HasFailed stations.new.items)) }
+{
+    'rounds: for _ in rt.forever() {
+        match look_over(stations) {
+            Survey::Marked => return Err(Memory),
+            Survey::Failed(n) => return Ok(Some(n)),
+            Survey::Over => return Ok(None),
+            Survey::Going => visit_each(rt, alloc, hand, blocks, stations)?,
+        }
+    }
+    unreachable!()
+}
+
+fn free_in<
+    J: Run + Send + Sync,
+    L: Ledger + Send + Sync,
+    C: Clock + Send,
+    G: Gate + Sync,
+    R: Threads + Wait + Sync,
+>(
+    rt: &R,
+    alloc: Global,
+    blank: Blank,
+    stations: Vec<Station<J, C>>,
+    hand: Hand<J>,
+    blocks: &Blocks,
+    workers: u32,
+    gate: &G,
+) -> Result<Ended<J, C>, Memory>
+    requires name { (blank.name ≡ L.name) × (blank.parts ≡ L.parts) × (blank.parts ≡ vec_len stations) }
+    requires count { vec_len stations ≡ length (graph_of J.plan).platforms }
+    requires order { numbers stations.items ≡ count_up (vec_len stations) }
+    requires few { length (graph_of J.plan).platforms ≤ 16 }
+    ensures order { IfOk result (λ e. (vec_len e.stations ≡ length (graph_of J.plan).platforms) × (numbers e.stations.items ≡ count_up (length (graph_of J.plan).platforms))) }
+    ensures done { IfOk result (λ e. e.fault ≡ None → AllDone e.stations.items) }
+    ensures fault { IfOk result (λ e. IfSome e.fault (HasFailed e.stations.items)) }
+{
+    let (bays, total, rest) = lock_all::<J, L, C>(alloc, blank, stations)?;
+    let shared = Shared::new(hand, bays);
+    run_workers(rt, alloc, &shared, blocks, workers, gate);
+    let Shared {
+        hand,
+        bays,
+        signs: _,
+    } = shared;
+    let stations = unlock_all(alloc, bays, &total, rest)?;
+    let mut stations = in_order(alloc, stations)?;
+    let fault = finish(rt, alloc, &hand, blocks, &mut stations)?;
+    Ok(Ended { stations, fault })
+}
+
+/// Runs the stations of all platforms of a plan by `workers` threads: each visits the stations one after another, each under
+/// its lock, and fires what a visit claimed. After the workers the caller visits all stations until all are finished or one has
+/// a fault: the first that has one is named.
+///
+/// If the readings of a clock stop rising, the run may go on forever. If memory runs out, the stations are lost.
+pub fn free<J: Run + Send + Sync, C: Clock + Send, G: Gate + Sync, R: Threads + Wait + Sync>(
+    rt: &R,
+    alloc: Global,
+    stations: Vec<Station<J, C>>,
+    hand: Hand<J>,
+    blocks: &Blocks,
+    workers: u32,
+    gate: &G,
+) -> Result<Ended<J, C>, Memory>
+    requires count { vec_len stations ≡ length (graph_of J.plan).platforms }
+    requires order { numbers stations.items ≡ count_up (vec_len stations) }
+    requires few { length (graph_of J.plan).platforms ≤ 16 }
+    ensures order { IfOk result (λ e. (vec_len e.stations ≡ length (graph_of J.plan).platforms) × (numbers e.stations.items ≡ count_up (length (graph_of J.plan).platforms))) }
+    ensures done { IfOk result (λ e. e.fault ≡ None → AllDone e.stations.items) }
+    ensures fault { IfOk result (λ e. IfSome e.fault (HasFailed e.stations.items)) }
+{
+    let blank = Blank::new(stations.len() as u64);
+    free_in::<J, Brand, C, G, R>(rt, alloc, blank, stations, hand, blocks, workers, gate)
+}

@@ -1,0 +1,15 @@
+//! The threaded engine: workers visit the stations under locks, and after them the caller visits all stations to the end.
+//!
+//! Read first: `free`, then `specs/Orders.antt`.
+#![tactic(auto)]
+
+mod ended;
+mod hand;
+mod order;
+mod results;
+mod threads;
+mod workers;
+
+pub use ended::{Ended, free};
+pub use hand::Hand;
+pub use threads::{Gate, Open};

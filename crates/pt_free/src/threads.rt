@@ -1,0 +1,57 @@
+//! Threads that do the work of a run.
+
+use pt_blocks::Blocks;
+use pt_types::Task;
+use std::alloc::Global;
+use std::sync::Wait;
+use std::thread;
+use std::thread::Threads;
+
+/// Is called between the claim and the firing of each task, while no lock is held.
+pub trait Gate {
+    fn at(&self, platform: u32, task: &Task);
+}
+
+/// Does nothing.
+pub struct Open;
+
+impl Gate for Open {
+    fn at(&self, _platform: u32, _task: &Task) {}
+}
+
+/// The stations of a run, which any thread may work on.
+pub(crate) trait Rota: Sync {
+    /// Does one worker's part of the run, from station `first` on.
+    fn work<G: Gate, R: Wait>(
+        &self,
+        rt: &R,
+        alloc: Global,
+        blocks: &Blocks,
+        first: usize,
+        gate: &G,
+    );
+}
+
+/// Starts the workers and waits for them. If a thread can't be started, the caller does its part.
+///
+/// The stations are behind a type parameter: that they may be shared follows from its bound.
+pub(crate) fn run_workers<S: Rota, G: Gate + Sync, R: Threads + Wait + Sync>(
+    rt: &R,
+    alloc: Global,
+    rota: &S,
+    blocks: &Blocks,
+    workers: u32,
+    gate: &G,
+) {
+    thread::scope(thread::scope_env(), rt, |scope| {
+        for w in 0..workers {
+            let first = w as usize;
+            if scope
+                .spawn(move || rota.work(rt, alloc, blocks, first, gate))
+                .is_err()
+            {
+                rota.work(rt, alloc, blocks, first, gate);
+            }
+        }
+    });
+}

@@ -1,0 +1,162 @@
+//! A platform with its clock and the ends of its links.
+
+ghost use Rattle.std.specs.Prelude.{◌≡◌, ◌<◌, ◌≤◌, None, Some, length, false, true};
+ghost use Rattle.pt_post.specs.Posted.{AreDone};
+ghost use Rattle.pt_pool.specs.Station.{IsOfRun, graph_of};
+ghost use Rattle.pt_pool.specs.Answers.{Answers, answer_of};
+
+use crate::run::Run;
+use crate::visiting::visit_platform;
+use pt_actors::{Done, Tasks};
+use pt_io::Clock;
+use pt_links::{Inlet, Outlet};
+use pt_turn::{Platform, TurnFault};
+use std::alloc::Global;
+use std::marker::{Model, PhantomData};
+use std::sync::Wait;
+
+/// Why a visit gave up.
+#[derive(Clone, Copy, Debug, PartialEq, Eq)]
+pub enum VisitFault {
+    /// The turn of the visit ended with this fault.
+    Turn(TurnFault),
+    Memory,
+}
+
+/// The parts of a station.
+#[derive(Drop)]
+pub struct Parts<C: Clock> {
+    pub platform: Platform,
+    pub clock: C,
+    pub outlets: Vec<(u32, Outlet)>,
+    pub inlets: Vec<(u32, Inlet)>,
+}
+
+/// A platform of a run, with its clock and the ends of its links.
+#[derive(Drop)]
+pub struct Station<J: Run, C: Clock> {
+    platform: Platform,
+    clock: C,
+    outlets: Vec<(u32, Outlet)>,
+    inlets: Vec<(u32, Inlet)>,
+    /// Whether a visit gave up for want of memory.
+    marked: bool,
+    of: PhantomData<J>,
+}
+
+impl<J: Run, C: Clock> Model for Station<J, C> {
+    ghost use Rattle.pt_pool.specs.Station.{IsOfRun, StationView};
+
+    ghost Value = { StationView };
+
+    ghost view = { λ s. record { platform = s.platform; told = C.told s.clock; outs = s.outlets.items; ins = s.inlets.items; marked = s.marked } };
+
+    ghost invariant = { λ s. IsOfRun J.plan J.rows J.link (J.began s.platform.number) (J.fixed s.platform.number) (C.ahead s.clock) (C.told s.clock) s.platform s.outlets.items s.inlets.items s.marked };
+}
+
+/// The result of a visit, from the fault of its turn.
+fn answer(fault: Option<TurnFault>) -> Result<(), VisitFault>
+    ensures { result ≡ answer_of fault }
+{
+    match fault {
+        None => Ok(()),
+        Some(fault) => Err(VisitFault::Turn(fault)),
+    }
+}
+
+impl<J: Run, C: Clock> Station<J, C> {
+    /// A station of these parts. No memory is taken.
+    pub fn new(
+        platform: Platform,
+        clock: C,
+        outlets: Vec<(u32, Outlet)>,
+        inlets: Vec<(u32, Inlet)>,
+    ) -> Station<J, C>
+        requires kept { IsOfRun J.plan J.rows J.link (J.began platform.number) (J.fixed platform.number) (C.ahead clock) (C.told clock) platform outlets.items inlets.items false }
+        ensures { result ≡ record { platform = platform; told = C.told clock; outs = outlets.items; ins = inlets.items; marked = false } }
+    {
+        Station {
+            platform,
+            clock,
+            outlets,
+            inlets,
+            marked: false,
+            of: PhantomData,
+        }
+    }
+
+    /// Its platform, which belongs to the run's plan.
+    pub fn platform(&self) -> &Platform
+        ensures platform { result.now ≡ self.now.platform }
+        ensures below { result.now.number < length (graph_of J.plan).platforms }
+        ensures plan { J.plan ≡ Some result.now.plan }
+    {
+        &self.platform
+    }
+
+    /// Whether a visit gave up for want of memory.
+    pub fn marked(&self) -> bool
+        ensures { result ≡ self.now.marked }
+    {
+        self.marked
+    }
+
+    /// Its parts, and that they belong to the run.
+    pub fn into_parts(self) -> Parts<C>
+        ensures kept { IsOfRun J.plan J.rows J.link (J.began result.platform.number) (J.fixed result.platform.number) (C.ahead result.clock) (C.told result.clock) result.platform result.outlets.items result.inlets.items self.marked }
+        ensures same { self ≡ record { platform = result.platform; told = C.told result.clock; outs = result.outlets.items; ins = result.inlets.items; marked = self.marked } }
+    {
+        let Station {
+            platform,
+            clock,
+            outlets,
+            inlets,
+            marked: _,
+            of: _,
+        } = self;
+        Parts {
+            platform,
+            clock,
+            outlets,
+            inlets,
+        }
+    }
+
+    /// One visit: reads the clock, takes at most 64 messages from each incoming link, makes one turn, and sends what is pending
+    /// on each outgoing link until its outbox is empty, the link is full, or 64 messages were sent. If memory runs out, no
+    /// message is taken, no turn is made, and the station is marked.
+    pub fn visit<R: Wait>(
+        &mut self,
+        rt: &R,
+        alloc: Global,
+        done: &[Done],
+        most: usize,
+        tasks: &mut Tasks,
+    ) -> Result<(), VisitFault>
+        requires no_fault { self.old.platform.fault ≡ None }
+        requires most { (1 ≤ most) × (most ≤ 64) }
+        requires done { AreDone self.old.platform.plan.graph done.now }
+        ensures number { self.new.platform.number ≡ self.old.platform.number }
+        ensures answer { Answers result most done.now self.old self.new tasks.old.tasks tasks.new.tasks }
+    {
+        let marked = self.marked;
+        let _ = self.platform.fault();
+        let reading = self.clock.read();
+        self.marked = true;
+        let Ok(()) = visit_platform(
+            rt,
+            alloc,
+            &mut self.platform,
+            self.outlets.as_mut_slice(),
+            self.inlets.as_mut_slice(),
+            reading,
+            done,
+            most,
+            tasks,
+        ) else {
+            return Err(VisitFault::Memory);
+        };
+        self.marked = marked;
+        answer(self.platform.fault())
+    }
+}

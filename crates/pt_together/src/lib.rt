@@ -1,0 +1,13 @@
+//! All platforms of a plan, owned by one engine: what the platforms, the pipes and the pending results represent between two
+//! visits, and what a visit does to it.
+//!
+//! Read first: `specs/Shown.antt`, then `specs/Showing.antt`.
+#![tactic(auto)]
+
+mod asking;
+mod laws;
+mod starting;
+
+pub use asking::are_finished;
+pub use laws::{may_come, start_shows, visit_shows};
+pub use starting::{no_results, pipes};
