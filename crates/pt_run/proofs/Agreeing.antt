@@ -1,5 +1,5 @@
 -- Two runs of one program.
-use Rattle.std.proofs.Common.{◌≡◌, ℕ, Bool, List, Option, None, Some, Result, Ok, IfSome, sym, subst, ◌∙◌}
+use Rattle.std.proofs.Common.{◌≡◌, ℕ, Bool, List, Option, None, Some, Result, Ok, IfSome, refl, sym, subst, ◌∙◌}
 use Rattle.pt_types.specs.declared.graph.Graph.{Graph}
 use Rattle.pt_blocks.specs.declared.blocks.Named.{Named}
 use Rattle.pt_graph_text.specs.declared.fault.GraphFault.{GraphFault}
@@ -10,7 +10,8 @@ use Rattle.pt_sensors.specs.Asked.{Contents}
 use Rattle.pt_run.specs.RunsAgreeing.{TellsSensors}
 use Rattle.pt_run.proofs.RunsAgreeing.{finished_agree, runs_agree as left_agree}
 use Rattle.pt_run.specs.Agreeing.{RunsAgree}
-use Rattle.pt_run.specs.Written.{IsRun, Leaves}
+use Rattle.pt_words.specs.declared.orders.ClockChoice.TheVariants.{Paced}
+use Rattle.pt_run.specs.Written.{IsRun, Leaves, clocking}
 
 -- a file that is told defines one graph
 same_ok : (g h : Graph) → ◌≡◌ {A = Result Graph GraphFault} (Ok g) (Ok h) → g ≡ h
@@ -20,16 +21,18 @@ defined : (blocks : List Named) (told : Option (List ℕ)) (bytes : List ℕ) (g
 defined blocks None bytes g e h = absurd (none_some bytes e)
 defined blocks (Some told) bytes g e h = subst (λ b. graph_of blocks b ≡ Ok g) (same_some told bytes e) h
 
-over_graph : (tells : Contents) (g h : Graph) (log : Bool) (left other : Leaves) (text written : List ℕ) → g ≡ h → TellsSensors tells g → IsRun tells g log left text → IsRun tells h log other written →
+over_graph : (tells : Contents) (g h : Graph) (workers others : ℕ) (log : Bool) (left other : Leaves) (text written : List ℕ) → g ≡ h → TellsSensors tells g → IsRun tells g workers Paced log left text → IsRun tells h others Paced log other written →
     (text ≡ written) × (left.misses ≡ other.misses) × ((i : ℕ) → histories_of left.platforms i ≡ histories_of other.platforms i)
-over_graph tells g h log left other text written same files a b =
+over_graph tells g h workers others log left other text written same files a b =
     let graphs : a.plan.graph ≡ b.plan.graph = a.graph ∙ same ∙ sym b.graph in
     let told : TellsSensors tells a.plan.graph = subst (TellsSensors tells) (sym a.graph) files in
-    let texts = finished_agree tells a.plan b.plan log left.platforms other.platforms left.misses other.misses text written graphs told a.finished b.finished in
-    (texts.0, texts.1, (left_agree tells a.plan b.plan left.platforms other.platforms None None graphs told a.finished.run b.finished.run).0)
+    let c = clocking workers Paced left in
+    let d = clocking others Paced other in
+    let texts = finished_agree tells c d a.plan b.plan log left.platforms other.platforms left.misses other.misses text written refl refl graphs told a.finished b.finished in
+    (texts.0, texts.1, (left_agree tells c d a.plan b.plan left.platforms other.platforms None None refl refl graphs told a.finished.run b.finished.run).0)
 
 pub runs_agree : RunsAgree
 runs_agree workers others log tells blocks name left other text written all (g, read, (free, run)) (h, read2, (free2, run2)) =
     let one = defined blocks (tells name) all.bytes g all.told read in
     let two = defined blocks (tells name) all.bytes h all.told read2 in
-    over_graph tells g h log left other text written (same_ok g h (sym one ∙ two)) (all.files g one) run run2
+    over_graph tells g h workers others log left other text written (same_ok g h (sym one ∙ two)) (all.files g one) run run2

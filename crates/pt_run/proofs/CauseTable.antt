@@ -1,6 +1,6 @@
 -- Each answer has its cause.
-use Rattle.std.proofs.Common.{◌≡◌, ◌≢◌, ℕ, List, [], ◌∷◌, Option, Some, None, Err, IfSome, ℤ, refl, sym, ap, subst, ◌∙◌, arith}
-use Rattle.std.specs.Prelude.{◌↔◌, flat_map}
+use Rattle.std.proofs.Common.{◌≡◌, ◌≢◌, ℕ, Bool, List, [], ◌∷◌, Option, Some, None, Err, IfSome, ℤ, refl, sym, ap, subst, ◌∙◌, arith}
+use Rattle.std.specs.Prelude.{flat_map}
 use Rattle.pt_io.specs.Causes.{Rose}
 use Rattle.pt_types.specs.declared.graph.Graph.{Graph}
 use Rattle.pt_blocks.specs.declared.blocks.Named.{Named}
@@ -11,6 +11,7 @@ use Rattle.pt_causality.specs.Ranked.{IsFreeCycle}
 use Rattle.pt_offsets.specs.Margins.{IsFirstInfeasible}
 use Rattle.pt_sensors.specs.declared.fault.RowFault.{RowFault}
 use Rattle.pt_semantics.specs.Cycles.{NoFreeCycle}
+use Rattle.pt_semantics.specs.Offsets.{IsFeasible}
 use Rattle.pt_monitors.specs.Platforms.{missed_by}
 use Rattle.pt_sensors.specs.Asked.{Contents, ReadFails, Reading}
 use Rattle.pt_sensors.specs.Recorded.{SensorFails, SensorLate, SensorUnread}
@@ -18,8 +19,15 @@ use Rattle.pt_run.specs.declared.fault.Fault.{Fault}
 use Rattle.pt_run.specs.declared.fault.Fault.TheVariants as fault
 use Rattle.pt_run.specs.declared.words.Command.{Command}
 use Rattle.pt_run.specs.declared.words.Command.TheVariants.{Run, Check, Meaning}
-use Rattle.pt_run.specs.Causes.{CauseOfText, MeansLong, RunsLong, Writing}
-use Rattle.pt_run.specs.CauseTable.{CauseTable, OfRows, OverFile, OverGraph}
+use Rattle.pt_tags.specs.declared.tag.Tag.{Tag}
+use Rattle.pt_turn.specs.declared.fault.TurnFault.{TurnFault}
+use Rattle.pt_turn.specs.declared.fault.TurnFault.TheVariants as turn
+use Rattle.pt_turn.specs.Platforms.{state_at}
+use Rattle.pt_turn.specs.Running.{Shows, ShowsLate, ShowsLong}
+use Rattle.pt_words.specs.declared.orders.ClockChoice.{ClockChoice}
+use Rattle.pt_words.specs.declared.orders.ClockChoice.TheVariants.{Paced}
+use Rattle.pt_run.specs.Causes.{CauseOfText, MeansLong, RunStops, Writing}
+use Rattle.pt_run.specs.CauseTable.{CauseTable, IsAccepted, IsNotPaced, IsRunCommand, OfRows, OnPlatform, OverFile, OverGraph}
 use Rattle.pt_run.specs.Making.{Ends}
 use Rattle.pt_run.specs.Statuses.{status_of, status_of_fault}
 use Rattle.pt_run.specs.Words.{Order, over, make}
@@ -33,6 +41,7 @@ not_missed (fault.Cycle actors) e = omega (arith, e)
 not_missed (fault.Infeasible send offset slack) e = omega (arith, e)
 not_missed (fault.Sensor actor f) e = omega (arith, e)
 not_missed (fault.LateRow actor row seen limit) e = omega (arith, e)
+not_missed (fault.LateMessage platform actor tag reading limit) e = omega (arith, e)
 not_missed (fault.Long platform) e = omega (arith, e)
 not_missed (fault.Read file) e = omega (arith, e)
 not_missed fault.Write e = omega (arith, e)
@@ -46,6 +55,12 @@ none_misses (Some f) misses e = absurd (not_missed f e)
 is_missed : (misses : List Miss) → misses ≢ [] → status_of None misses ≡ 5
 is_missed [] h = absurd (h refl)
 is_missed (m ∷ ms) h = refl
+
+run_reads : (workers : ℕ) (clock : ClockChoice) (log : Bool) → Run workers clock log ≢ Meaning
+run_reads workers clock log e = cc
+
+check_reads : Check ≢ Meaning
+check_reads e = cc
 
 module _ (left : Leaves) (tells : Contents) (blocks : List Named) (r : Reading) (w : Writing) where
   usage : (order : Option Order) → Ends (Some fault.Usage) left order tells blocks r w → order ≡ None
@@ -68,64 +83,90 @@ module _ (left : Leaves) (tells : Contents) (blocks : List Named) (r : Reading) 
   cycle actors (Some (over command name)) (k, same) = (k.0, k.1, k.2.0)
   cycle actors (Some (make n workers)) k = absurd k
 
-  infeasible : (send : ℕ) (offset : ℤ) (slack : ℕ) (order : Option Order) → Ends (Some (fault.Infeasible send offset slack)) left order tells blocks r w → OverGraph order tells blocks (λ command name g. NoFreeCycle g × IsFirstInfeasible g send offset slack)
+  infeasible : (send : ℕ) (offset : ℤ) (slack : ℕ) (order : Option Order) → Ends (Some (fault.Infeasible send offset slack)) left order tells blocks r w → OverGraph order tells blocks (λ command name g. (command ≢ Meaning) × NoFreeCycle g × IsFirstInfeasible g send offset slack)
   infeasible send offset slack None k = absurd (let e = k.0 in cc)
-  infeasible send offset slack (Some (over command name)) (k, same) = (k.0, k.1, (k.2.0, of command k.0 k.2.1))
+  infeasible send offset slack (Some (over command name)) (k, same) = (k.0, k.1, of command k.0 k.2.0 k.2.1)
     where
-      of : (c : Command) (g : Graph) → CauseOfText c (fault.Infeasible send offset slack) left tells g (name ∷ []) r → IsFirstInfeasible g send offset slack
-      of (Run workers log) g h = h.0
-      of Check g h = h.0
-      of Meaning g h = absurd h.0
+      of : (c : Command) (g : Graph) → NoFreeCycle g → CauseOfText c (fault.Infeasible send offset slack) left tells g (name ∷ []) r → (c ≢ Meaning) × NoFreeCycle g × IsFirstInfeasible g send offset slack
+      of (Run workers clock log) g free h = (run_reads workers clock log, free, h.0)
+      of Check g free h = (check_reads, free, h.0)
+      of Meaning g free h = absurd h.0
   infeasible send offset slack (Some (make n workers)) k = absurd k
 
-  sensor_unread : (actor : ℕ) (order : Option Order) → Ends (Some (fault.Read (Some actor))) left order tells blocks r w → OverGraph order tells blocks (λ command name g. OfRows command (λ late. SensorUnread late tells g actor (name ∷ []) r))
+  sensor_unread : (actor : ℕ) (order : Option Order) → Ends (Some (fault.Read (Some actor))) left order tells blocks r w → OverGraph order tells blocks (λ command name g. IsAccepted command g × OfRows command (λ late. SensorUnread late tells g actor (name ∷ []) r))
   sensor_unread actor None k = absurd (let e = k.0 in cc)
-  sensor_unread actor (Some (over command name)) (k, same) = (k.0, k.1, of command k.0 k.2.1)
+  sensor_unread actor (Some (over command name)) (k, same) = (k.0, k.1, of command k.0 k.2.0 k.2.1)
     where
-      of : (c : Command) (g : Graph) → CauseOfText c (fault.Read (Some actor)) left tells g (name ∷ []) r → OfRows c (λ late. SensorUnread late tells g actor (name ∷ []) r)
-      of (Run workers log) g h = h.1
-      of Check g h = absurd h.0
-      of Meaning g h = h.0
+      of : (c : Command) (g : Graph) → NoFreeCycle g → CauseOfText c (fault.Read (Some actor)) left tells g (name ∷ []) r → IsAccepted c g × OfRows c (λ late. SensorUnread late tells g actor (name ∷ []) r)
+      of (Run workers clock log) g free h = ((free, λ reads. h.0), h.1)
+      of Check g free h = absurd h.0
+      of Meaning g free h = ((free, λ reads. absurd (reads refl)), h.0)
   sensor_unread actor (Some (make n workers)) k = absurd k
 
-  sensor : (actor : ℕ) (f : RowFault) (order : Option Order) → Ends (Some (fault.Sensor actor f)) left order tells blocks r w → OverGraph order tells blocks (λ command name g. OfRows command (λ late. SensorFails late tells g actor f))
+  sensor : (actor : ℕ) (f : RowFault) (order : Option Order) → Ends (Some (fault.Sensor actor f)) left order tells blocks r w → OverGraph order tells blocks (λ command name g. IsAccepted command g × OfRows command (λ late. SensorFails late tells g actor f))
   sensor actor f None k = absurd (let e = k.0 in cc)
-  sensor actor f (Some (over command name)) (k, same) = (k.0, k.1, of command k.0 k.2.1)
+  sensor actor f (Some (over command name)) (k, same) = (k.0, k.1, of command k.0 k.2.0 k.2.1)
     where
-      of : (c : Command) (g : Graph) → CauseOfText c (fault.Sensor actor f) left tells g (name ∷ []) r → OfRows c (λ late. SensorFails late tells g actor f)
-      of (Run workers log) g h = h.1
-      of Check g h = absurd h.0
-      of Meaning g h = h.0
+      of : (c : Command) (g : Graph) → NoFreeCycle g → CauseOfText c (fault.Sensor actor f) left tells g (name ∷ []) r → IsAccepted c g × OfRows c (λ late. SensorFails late tells g actor f)
+      of (Run workers clock log) g free h = ((free, λ reads. h.0), h.1)
+      of Check g free h = absurd h.0
+      of Meaning g free h = ((free, λ reads. absurd (reads refl)), h.0)
   sensor actor f (Some (make n workers)) k = absurd k
 
-  late_row : (actor row seen limit : ℕ) (order : Option Order) → Ends (Some (fault.LateRow actor row seen limit)) left order tells blocks r w → OverGraph order tells blocks (λ command name g. SensorLate tells g actor row seen limit)
+  late_row : (actor row seen limit : ℕ) (order : Option Order) → Ends (Some (fault.LateRow actor row seen limit)) left order tells blocks r w → OverGraph order tells blocks (λ command name g. IsRunCommand command × IsAccepted command g × SensorLate tells g actor row seen limit)
   late_row actor row seen limit None k = absurd (let e = k.0 in cc)
-  late_row actor row seen limit (Some (over command name)) (k, same) = (k.0, k.1, of command k.0 k.2.1)
+  late_row actor row seen limit (Some (over command name)) (k, same) = (k.0, k.1, of command k.0 k.2.0 k.2.1)
     where
-      of : (c : Command) (g : Graph) → CauseOfText c (fault.LateRow actor row seen limit) left tells g (name ∷ []) r → SensorLate tells g actor row seen limit
-      of (Run workers log) g h = h.1
-      of Check g h = absurd h.0
-      of Meaning g h = absurd h.0
+      of : (c : Command) (g : Graph) → NoFreeCycle g → CauseOfText c (fault.LateRow actor row seen limit) left tells g (name ∷ []) r → IsRunCommand c × IsAccepted c g × SensorLate tells g actor row seen limit
+      of (Run workers clock log) g free h = (tt, (free, λ reads. h.0), h.1)
+      of Check g free h = absurd h.0
+      of Meaning g free h = absurd h.0
   late_row actor row seen limit (Some (make n workers)) k = absurd k
 
-  long : (platform : ℕ) (order : Option Order) → Ends (Some (fault.Long (Some platform))) left order tells blocks r w → OverGraph order tells blocks (λ command name g. RunsLong tells g left platform)
-  long platform None k = absurd (let e = k.0 in cc)
-  long platform (Some (over command name)) (k, same) = (k.0, k.1, of command k.0 k.2.1)
+  -- the platform that stopped a run, as its recorded turns show
+  pub stopped : (g : Graph) (workers : ℕ) (clock : ClockChoice) (platform : ℕ) (f : TurnFault) → RunStops tells g workers clock left platform f → OnPlatform left platform (λ v. Shows g v.turns (state_at v) f)
+  stopped g workers clock platform f stop = let (v, at, is, shows, before) = stop.run.went.kept.ends in (v, at, subst (λ z. Shows z v.turns (state_at v) f) stop.graph shows)
+
+  -- a run that began is of a graph whose senders can send in time
+  feasible : (g : Graph) (workers : ℕ) (clock : ClockChoice) (platform : ℕ) (f : TurnFault) → RunStops tells g workers clock left platform f → IsFeasible g
+  feasible g workers clock platform f stop = subst IsFeasible stop.graph stop.run.admitted.feasible
+
+  -- no message is late in a paced run
+  pub never_paced : (g : Graph) (workers : ℕ) (clock : ClockChoice) (platform actor : ℕ) (tag : Tag) (reading limit : ℕ) → RunStops tells g workers clock left platform (turn.Late actor tag reading limit) → clock ≢ Paced
+  never_paced g workers clock platform actor tag reading limit stop paced = late (stop.run.went.paced paced).0
     where
-      of : (c : Command) (g : Graph) → CauseOfText c (fault.Long (Some platform)) left tells g (name ∷ []) r → RunsLong tells g left platform
-      of (Run workers log) g h = h
-      of Check g h = absurd h.0
-      of Meaning g h = absurd h.0
+      late : turn.Late actor tag reading limit ≡ turn.Long → ⊥
+      late e = cc
+
+  late_message : (platform actor : ℕ) (tag : Tag) (reading limit : ℕ) (order : Option Order) → Ends (Some (fault.LateMessage platform actor tag reading limit)) left order tells blocks r w →
+      OverGraph order tells blocks (λ command name g. IsNotPaced command × IsAccepted command g × OnPlatform left platform (λ v. ShowsLate g v.turns actor tag reading limit))
+  late_message platform actor tag reading limit None k = absurd (let e = k.0 in cc)
+  late_message platform actor tag reading limit (Some (over command name)) (k, same) = (k.0, k.1, of command k.0 k.2.0 k.2.1)
+    where
+      of : (c : Command) (g : Graph) → NoFreeCycle g → CauseOfText c (fault.LateMessage platform actor tag reading limit) left tells g (name ∷ []) r → IsNotPaced c × IsAccepted c g × OnPlatform left platform (λ v. ShowsLate g v.turns actor tag reading limit)
+      of (Run workers clock log) g free h = (never_paced g workers clock platform actor tag reading limit h, (free, λ reads. feasible g workers clock platform (turn.Late actor tag reading limit) h), stopped g workers clock platform (turn.Late actor tag reading limit) h)
+      of Check g free h = absurd h.0
+      of Meaning g free h = absurd h.0
+  late_message platform actor tag reading limit (Some (make n workers)) k = absurd k
+
+  long : (platform : ℕ) (order : Option Order) → Ends (Some (fault.Long (Some platform))) left order tells blocks r w → OverGraph order tells blocks (λ command name g. IsRunCommand command × IsAccepted command g × OnPlatform left platform (λ v. ShowsLong g (state_at v)))
+  long platform None k = absurd (let e = k.0 in cc)
+  long platform (Some (over command name)) (k, same) = (k.0, k.1, of command k.0 k.2.0 k.2.1)
+    where
+      of : (c : Command) (g : Graph) → NoFreeCycle g → CauseOfText c (fault.Long (Some platform)) left tells g (name ∷ []) r → IsRunCommand c × IsAccepted c g × OnPlatform left platform (λ v. ShowsLong g (state_at v))
+      of (Run workers clock log) g free h = (tt, (free, λ reads. feasible g workers clock platform turn.Long h), stopped g workers clock platform turn.Long h)
+      of Check g free h = absurd h.0
+      of Meaning g free h = absurd h.0
   long platform (Some (make n workers)) k = absurd k
 
-  long_meaning : (order : Option Order) → Ends (Some (fault.Long None)) left order tells blocks r w → OverGraph order tells blocks (λ command name g. MeansLong tells g)
+  long_meaning : (order : Option Order) → Ends (Some (fault.Long None)) left order tells blocks r w → OverGraph order tells blocks (λ command name g. (command ≡ Meaning) × NoFreeCycle g × MeansLong tells g)
   long_meaning None k = absurd (let e = k.0 in cc)
-  long_meaning (Some (over command name)) (k, same) = (k.0, k.1, of command k.0 k.2.1)
+  long_meaning (Some (over command name)) (k, same) = (k.0, k.1, of command k.0 k.2.0 k.2.1)
     where
-      of : (c : Command) (g : Graph) → CauseOfText c (fault.Long None) left tells g (name ∷ []) r → MeansLong tells g
-      of (Run workers log) g h = absurd h
-      of Check g h = absurd h.0
-      of Meaning g h = h.0
+      of : (c : Command) (g : Graph) → NoFreeCycle g → CauseOfText c (fault.Long None) left tells g (name ∷ []) r → (c ≡ Meaning) × NoFreeCycle g × MeansLong tells g
+      of (Run workers clock log) g free h = absurd h
+      of Check g free h = absurd h.0
+      of Meaning g free h = (refl, free, h.0)
   long_meaning (Some (make n workers)) k = absurd k
 
   write : (order : Option Order) → Ends (Some fault.Write) left order tells blocks r w → Rose w.before w.now
@@ -141,6 +182,7 @@ module _ (left : Leaves) (tells : Contents) (blocks : List Named) (r : Reading) 
   unwritten (fault.Infeasible send offset slack) None never k = k.2
   unwritten (fault.Sensor actor f) None never k = k.2
   unwritten (fault.LateRow actor row seen limit) None never k = k.2
+  unwritten (fault.LateMessage platform actor tag reading limit) None never k = k.2
   unwritten (fault.Long platform) None never k = k.2
   unwritten (fault.Read file) None never k = k.2
   unwritten fault.Write order never k = absurd (never refl)
@@ -151,6 +193,7 @@ module _ (left : Leaves) (tells : Contents) (blocks : List Named) (r : Reading) 
   unwritten (fault.Infeasible send offset slack) (Some (over command name)) never k = k.1
   unwritten (fault.Sensor actor f) (Some (over command name)) never k = k.1
   unwritten (fault.LateRow actor row seen limit) (Some (over command name)) never k = k.1
+  unwritten (fault.LateMessage platform actor tag reading limit) (Some (over command name)) never k = k.1
   unwritten (fault.Long platform) (Some (over command name)) never k = k.1
   unwritten (fault.Read None) (Some (over command name)) never k = k.2
   unwritten (fault.Read (Some actor)) (Some (over command name)) never k = k.1
@@ -161,6 +204,7 @@ module _ (left : Leaves) (tells : Contents) (blocks : List Named) (r : Reading) 
   unwritten (fault.Infeasible send offset slack) (Some (make n workers)) never k = absurd k
   unwritten (fault.Sensor actor f) (Some (make n workers)) never k = absurd k
   unwritten (fault.LateRow actor row seen limit) (Some (make n workers)) never k = absurd k
+  unwritten (fault.LateMessage platform actor tag reading limit) (Some (make n workers)) never k = absurd k
   unwritten (fault.Long platform) (Some (make n workers)) never k = absurd k
   unwritten (fault.Read file) (Some (make n workers)) never k = absurd k
 
@@ -169,9 +213,9 @@ module _ (left : Leaves) (tells : Contents) (blocks : List Named) (r : Reading) 
   missed_are (Some (over command name)) (text, (g, file, (free, writes)), appends) = of command writes
     where
       of : (c : Command) → WritesText c tells g left text → left.misses ≡ flat_map missed_by left.platforms
-      of (Run workers log) run = run.finished.missed
-      of Check h = ap (λ (l : Leaves). l.misses) h.0 ∙ sym (ap (λ (l : Leaves). flat_map missed_by l.platforms) h.0)
-      of Meaning h = ap (λ (l : Leaves). l.misses) h.0 ∙ sym (ap (λ (l : Leaves). flat_map missed_by l.platforms) h.0)
+      of (Run workers clock log) run = run.finished.missed
+      of Check h = h.0.0 ∙ sym (ap (flat_map missed_by) h.0.1)
+      of Meaning h = h.0.0 ∙ sym (ap (flat_map missed_by) h.0.1)
   missed_are (Some (make n workers)) (none, text, run, appends) = none ∙ sym run.none_missed
 
 pub caused : (status : ℕ) (o : Option Fault) (left : Leaves) (order : Option Order) (tells : Contents) (blocks : List Named) (r : Reading) (w : Writing) → status ≡ status_of o left.misses → Ends o left order tells blocks r w → CauseTable status o left order tells blocks r w
@@ -184,6 +228,7 @@ caused status o left order tells blocks r w is ends = record {
   sensor_unread = λ actor e. sensor_unread left tells blocks r w actor order (by (fault.Read (Some actor)) e);
   sensor = λ actor f e. sensor left tells blocks r w actor f order (by (fault.Sensor actor f) e);
   late_row = λ actor row seen limit e. late_row left tells blocks r w actor row seen limit order (by (fault.LateRow actor row seen limit) e);
+  late_message = λ platform actor tag reading limit e. late_message left tells blocks r w platform actor tag reading limit order (by (fault.LateMessage platform actor tag reading limit) e);
   long = λ platform e. long left tells blocks r w platform order (by (fault.Long (Some platform)) e);
   long_meaning = λ e. long_meaning left tells blocks r w order (by (fault.Long None) e);
   write = λ e. write left tells blocks r w order (by fault.Write e);

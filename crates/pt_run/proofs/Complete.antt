@@ -27,23 +27,29 @@ use Rattle.pt_semantics.proofs.Acyclic.{ranks_are_one}
 use Rattle.pt_semantics.proofs.Lookups.{none_some}
 use Rattle.pt_laws.proofs.Unique.{meaning_is_one}
 use Rattle.pt_schedule.specs.Schedule.{IsMissedByMeaning}
-use Rattle.pt_causality.specs.Ranked.{rank_of}
 use Rattle.pt_offsets.specs.Margins.{IsFirstInfeasible}
 use Rattle.pt_offsets.specs.Plans.{Parts}
 use Rattle.pt_turn.specs.Platforms.{PlatformView}
-use Rattle.pt_rounds.specs.HaveRun.{IsLongOn}
+use Rattle.pt_rounds.specs.HaveRun.{HaveRun, IsLongOn}
 use Rattle.pt_sensors.specs.declared.recorded_fault.LateRows.TheVariants.{Refused}
 use Rattle.pt_sensors.specs.Asked.{Contents, Reading}
 use Rattle.pt_sensors.specs.Places.{of_run}
 use Rattle.pt_sensors.specs.Recorded.{AreRows, InTime, RowsOfKind, SensorFails, SensorLate}
 use Rattle.pt_run.proofs.RunsAgreeing.{rows_are_one}
-use Rattle.pt_run.specs.Runs.{HasRun, IsFinishedRun}
+use Rattle.pt_run.specs.Runs.{IsFinishedRun}
 use Rattle.pt_run.specs.declared.fault.Fault.{Fault}
 use Rattle.pt_run.specs.declared.fault.Fault.TheVariants as fault
 use Rattle.pt_run.specs.declared.words.Command.TheVariants.{Run}
-use Rattle.pt_run.specs.Causes.{CauseOf, RunsLong, Writing}
-use Rattle.pt_run.specs.Complete.{CanRun, FitsClaims, IsComplete, StatusIsMeant}
-use Rattle.pt_run.specs.Written.{GraphWith, Leaves}
+use Rattle.pt_run.specs.Causes.{CauseOf, RunStops, Writing}
+use Rattle.pt_run.specs.Complete.{CanRun, EndsAsShown, FitsClaims, IsComplete, IsCompleteByAnyClock, StatusIsMeant}
+use Rattle.pt_run.specs.Written.{GraphWith, Leaves, clocking}
+use Rattle.pt_run.proofs.CauseTable.{never_paced, stopped as stopped_at}
+use Rattle.pt_causality.specs.Ranked.{level_of, rank_of}
+use Rattle.pt_turn.specs.declared.fault.TurnFault.{TurnFault}
+use Rattle.pt_turn.specs.declared.fault.TurnFault.TheVariants as turn
+use Rattle.pt_words.specs.declared.orders.ClockChoice.{ClockChoice}
+use Rattle.pt_words.specs.declared.orders.ClockChoice.TheVariants.{Paced}
+use Rattle.pt_run.specs.Readings.{Clocking}
 use Rattle.pt_run.specs.Statuses.{status_of}
 use Rattle.pt_run.specs.Texts.{EndsBy}
 use Rattle.pt_run.specs.Making.{Ends}
@@ -103,12 +109,13 @@ module _ (tells : Contents) (blocks : List Named) (name : List ℕ) (g : Graph) 
       subst (λ h. IsMeaning h can.means.rank (of_run h rows) xs) (sym same)
       (subst (λ r. IsMeaning g can.means.rank (of_run g r) xs) (rows_are_one tells g can.rows rows can.files can.sensors (subst (λ h. AreRows tells h rows) same are)) can.means.meaning)
 
-  is_long : (plan : Parts) (platforms : List PlatformView) (fault : Option ℕ) → plan.graph ≡ g → (run : HasRun tells plan platforms fault) → IsLongOn plan.graph xs fault
-  is_long plan platforms fault same run = run.kept.long can.means.rank xs (subst (λ h. AreRanks h can.means.rank) (sym same) can.means.ranks) (meaning plan run.rows same run.sensors)
+  is_long : (plan : Parts) (rows : ℕ → List Row) (platforms : List PlatformView) (stop : Option ℕ) → plan.graph ≡ g → AreRows tells plan.graph rows → HaveRun plan (level_of plan.ranks) (of_run plan.graph rows) platforms stop → IsLongOn plan.graph xs stop
+  is_long plan rows platforms stop same are run = run.long can.means.rank xs (subst (λ h. AreRanks h can.means.rank) (sym same) can.means.ranks) (meaning plan rows same are)
 
   -- a run that finished
-  finished : (status : ℕ) (plan : Parts) (log : Bool) (platforms : List PlatformView) (misses : List Miss) (text : List ℕ) → status ≡ status_of None misses → plan.graph ≡ g → IsFinishedRun tells plan log platforms misses text → StatusIsMeant status g xs
-  finished status plan log platforms misses text is same done = by_misses misses is meant
+  finished : (status : ℕ) (c : Clocking) (plan : Parts) (log : Bool) (platforms : List PlatformView) (misses : List Miss) (text : List ℕ) → c.choice ≡ Paced → status ≡ status_of None misses → plan.graph ≡ g →
+      IsFinishedRun tells c plan log platforms misses text → StatusIsMeant status g xs
+  finished status c plan log platforms misses text paced is same done = by_misses misses is meant
     where
       firings : done.firings ≡ xs
       firings =
@@ -118,23 +125,23 @@ module _ (tells : Contents) (blocks : List Named) (name : List ℕ) (g : Graph) 
           (meaning plan done.run.rows same done.run.sensors))
 
       few : FitsClaims g xs
-      few = subst (λ h. FitsClaims h xs) same (is_long plan platforms None same done.run)
+      few = subst (λ h. FitsClaims h xs) same (is_long plan done.run.rows platforms None same done.run.sensors (done.run.went.paced paced))
 
       meant : (m : Miss) → IsIn m misses ↔ IsMissedByMeaning g xs m.actor m.tag m.reading m.limit
-      meant m = subst (λ h. IsIn m misses ↔ IsMissedByMeaning h xs m.actor m.tag m.reading m.limit) same (subst (λ zs. IsIn m misses ↔ IsMissedByMeaning plan.graph zs m.actor m.tag m.reading m.limit) firings (done.missed_as_meant m))
+      meant m = subst (λ h. IsIn m misses ↔ IsMissedByMeaning h xs m.actor m.tag m.reading m.limit) same (subst (λ zs. IsIn m misses ↔ IsMissedByMeaning plan.graph zs m.actor m.tag m.reading m.limit) firings (done.missed_as_meant paced m))
 
       by_misses : (ms : List Miss) → status ≡ status_of None ms → ((m : Miss) → IsIn m ms ↔ IsMissedByMeaning g xs m.actor m.tag m.reading m.limit) → StatusIsMeant status g xs
       by_misses [] e all = inl (e, few, (λ missed. (all (record { actor = missed.0; tag = missed.1; reading = missed.2; limit = missed.3 })).1 missed.4))
       by_misses (m ∷ ms) e all = inr (inl (e, few, (m.actor, m.tag, m.reading, m.limit, (all m).0 (inl refl))))
 
   -- a run that stopped
-  stopped : (status : ℕ) (left : Leaves) (platform : ℕ) → status ≡ 6 → RunsLong tells g left platform → StatusIsMeant status g xs
-  stopped status left platform is h = inr (inr (inl (
+  stopped : (status workers : ℕ) (left : Leaves) (platform : ℕ) (f : TurnFault) → status ≡ 6 → RunStops tells g workers Paced left platform f → StatusIsMeant status g xs
+  stopped status workers left platform f is h = inr (inr (inl (
     is,
     λ few.
-        let over : most_claims < unit_firings g platform (parts g xs) = subst (λ z. most_claims < unit_firings z platform (parts z xs)) h.graph (is_long h.plan left.platforms (Some platform) h.graph h.run) in
-        let view = h.run.kept.ends in
-        let within : platform < length g.platforms = subst (λ z. platform < length z) (ap (λ (z : Graph). z.platforms) h.graph) (subst (λ n. platform < n) h.run.kept.all.count (slice_get_within left.platforms platform view.0 view.1)) in
+        let over : most_claims < unit_firings g platform (parts g xs) = subst (λ z. most_claims < unit_firings z platform (parts z xs)) h.graph (is_long h.plan h.run.rows left.platforms (Some platform) h.graph h.run.sensors (h.run.went.paced refl).1) in
+        let view = h.run.went.kept.ends in
+        let within : platform < length g.platforms = subst (λ z. platform < length z) (ap (λ (z : Graph). z.platforms) h.graph) (subst (λ n. platform < n) h.run.went.kept.all.count (slice_get_within left.platforms platform view.0 view.1)) in
         clash (unit_firings g platform (parts g xs)) over (few platform within),
   )))
     where
@@ -143,25 +150,26 @@ module _ (tells : Contents) (blocks : List Named) (name : List ℕ) (g : Graph) 
 
   module _ (status : ℕ) (left : Leaves) (workers : ℕ) (log : Bool) (r : Reading) (w : Writing) (reads : Rose r.before r.now → ⊥) (writes : Rose w.before w.now → ⊥) where
     -- by the fault over the graph
-    by_cause : (f : Fault) → status ≡ status_of (Some f) left.misses → GraphWith tells blocks name (λ h. CauseOf (Run workers log) f left tells h (name ∷ []) r) → StatusIsMeant status g xs
-    by_cause f is (h, file, cause) = on_graph f is (subst (λ z. CauseOf (Run workers log) f left tells z (name ∷ []) r) (this_graph h file) cause)
+    by_cause : (f : Fault) → status ≡ status_of (Some f) left.misses → GraphWith tells blocks name (λ h. CauseOf (Run workers Paced log) f left tells h (name ∷ []) r) → StatusIsMeant status g xs
+    by_cause f is (h, file, cause) = on_graph f is (subst (λ z. CauseOf (Run workers Paced log) f left tells z (name ∷ []) r) (this_graph h file) cause)
       where
-        on_graph : (e : Fault) → status ≡ status_of (Some e) left.misses → CauseOf (Run workers log) e left tells g (name ∷ []) r → StatusIsMeant status g xs
+        on_graph : (e : Fault) → status ≡ status_of (Some e) left.misses → CauseOf (Run workers Paced log) e left tells g (name ∷ []) r → StatusIsMeant status g xs
         on_graph (fault.Cycle actors) is k = absurd (can.no_free_cycle k.0.first k.0.edge k.0.path k.0.cycle k.0.free)
         on_graph fault.Memory is k = inr (inr (inr is))
         on_graph (fault.Infeasible send offset slack) is k = absurd (too_late g send slack offset can.feasible k.1.0)
         on_graph (fault.Read (Some actor)) is k = absurd (reads k.1.1.failed.rose)
         on_graph (fault.Sensor actor e) is k = absurd (sensor_fails actor e k.1.1)
         on_graph (fault.LateRow actor row seen limit) is k = absurd (sensor_late actor row seen limit k.1.1)
-        on_graph (fault.Long (Some platform)) is k = stopped status left platform is k.1
+        on_graph (fault.LateMessage platform actor tag reading limit) is k = absurd (never_paced left tells blocks r w g workers Paced platform actor tag reading limit k.1 refl)
+        on_graph (fault.Long (Some platform)) is k = stopped status workers left platform turn.Long is k.1
         on_graph (fault.Long None) is k = absurd k.1
         on_graph (fault.Read None) is k = absurd k.1
         on_graph fault.Usage is k = absurd k.1
         on_graph (fault.Graph e) is k = absurd k.1
         on_graph fault.Write is k = absurd k.1
 
-    by_outcome : (o : Option Fault) → status ≡ status_of o left.misses → EndsBy o left (Some (Run workers log, name)) tells blocks r w → StatusIsMeant status g xs
-    by_outcome None is (text, (h, file, (free, run)), appends) = finished status run.plan log left.platforms left.misses text is (run.graph ∙ this_graph h file) run.finished
+    by_outcome : (o : Option Fault) → status ≡ status_of o left.misses → EndsBy o left (Some (Run workers Paced log, name)) tells blocks r w → StatusIsMeant status g xs
+    by_outcome None is (text, (h, file, (free, run)), appends) = finished status (clocking workers Paced left) run.plan log left.platforms left.misses text refl is (run.graph ∙ this_graph h file) run.finished
     by_outcome (Some fault.Usage) is k = absurd k
     by_outcome (Some (fault.Graph f)) is k = absurd (no_fault f k.0)
     by_outcome (Some (fault.Read None)) is k = absurd (reads k.0.rose)
@@ -172,9 +180,49 @@ module _ (tells : Contents) (blocks : List Named) (name : List ℕ) (g : Graph) 
     by_outcome (Some (fault.Read (Some actor))) is k = by_cause (fault.Read (Some actor)) is k.0
     by_outcome (Some (fault.Sensor actor e)) is k = by_cause (fault.Sensor actor e) is k.0
     by_outcome (Some (fault.LateRow actor row seen limit)) is k = by_cause (fault.LateRow actor row seen limit) is k.0
+    by_outcome (Some (fault.LateMessage platform actor tag reading limit)) is k = by_cause (fault.LateMessage platform actor tag reading limit) is k.0
     by_outcome (Some (fault.Long platform)) is k = by_cause (fault.Long platform) is k.0
+
+  -- by whatever clock
+  module _ (left : Leaves) (workers : ℕ) (clock : ClockChoice) (log : Bool) (r : Reading) (w : Writing) (reads : Rose r.before r.now → ⊥) (writes : Rose w.before w.now → ⊥) where
+    own_cause : (f : Fault) → GraphWith tells blocks name (λ h. CauseOf (Run workers clock log) f left tells h (name ∷ []) r) → EndsAsShown (Some f) left g
+    own_cause f (h, file, cause) = on_graph f (subst (λ z. CauseOf (Run workers clock log) f left tells z (name ∷ []) r) (this_graph h file) cause)
+      where
+        on_graph : (e : Fault) → CauseOf (Run workers clock log) e left tells g (name ∷ []) r → EndsAsShown (Some e) left g
+        on_graph (fault.Cycle actors) k = absurd (can.no_free_cycle k.0.first k.0.edge k.0.path k.0.cycle k.0.free)
+        on_graph fault.Memory k = tt
+        on_graph (fault.Infeasible send offset slack) k = absurd (too_late g send slack offset can.feasible k.1.0)
+        on_graph (fault.Read (Some actor)) k = absurd (reads k.1.1.failed.rose)
+        on_graph (fault.Sensor actor e) k = absurd (sensor_fails actor e k.1.1)
+        on_graph (fault.LateRow actor row seen limit) k = absurd (sensor_late actor row seen limit k.1.1)
+        on_graph (fault.LateMessage platform actor tag reading limit) k = stopped_at left tells blocks r w g workers clock platform (turn.Late actor tag reading limit) k.1
+        on_graph (fault.Long (Some platform)) k = stopped_at left tells blocks r w g workers clock platform turn.Long k.1
+        on_graph (fault.Long None) k = absurd k.1
+        on_graph (fault.Read None) k = absurd k.1
+        on_graph fault.Usage k = absurd k.1
+        on_graph (fault.Graph e) k = absurd k.1
+        on_graph fault.Write k = absurd k.1
+
+    own_outcome : (o : Option Fault) → EndsBy o left (Some (Run workers clock log, name)) tells blocks r w → EndsAsShown o left g
+    own_outcome None (text, (h, file, (free, run)), appends) = run.finished.missed
+    own_outcome (Some fault.Usage) k = absurd k
+    own_outcome (Some (fault.Graph f)) k = absurd (no_fault f k.0)
+    own_outcome (Some (fault.Read None)) k = absurd (reads k.0.rose)
+    own_outcome (Some fault.Write) k = absurd (writes k.0)
+    own_outcome (Some fault.Memory) k = tt
+    own_outcome (Some (fault.Cycle actors)) k = own_cause (fault.Cycle actors) k.0
+    own_outcome (Some (fault.Infeasible send offset slack)) k = own_cause (fault.Infeasible send offset slack) k.0
+    own_outcome (Some (fault.Read (Some actor))) k = own_cause (fault.Read (Some actor)) k.0
+    own_outcome (Some (fault.Sensor actor e)) k = own_cause (fault.Sensor actor e) k.0
+    own_outcome (Some (fault.LateRow actor row seen limit)) k = own_cause (fault.LateRow actor row seen limit) k.0
+    own_outcome (Some (fault.LateMessage platform actor tag reading limit)) k = own_cause (fault.LateMessage platform actor tag reading limit) k.0
+    own_outcome (Some (fault.Long platform)) k = own_cause (fault.Long platform) k.0
 
 -- a call that ends by its words
 pub complete : (status : ℕ) (o : Option Fault) (left : Leaves) (order : Option Order) (tells : Contents) (blocks : List Named) (r : Reading) (w : Writing) → status ≡ status_of o left.misses → Ends o left order tells blocks r w → IsComplete status order tells blocks r w
 complete status o left order tells blocks r w is ends workers log name g xs words can reads writes =
     by_outcome tells blocks name g xs can status left workers log r w reads writes o is (subst (λ z. Ends o left z tells blocks r w) words ends)
+
+pub complete_by_any_clock : (o : Option Fault) (left : Leaves) (order : Option Order) (tells : Contents) (blocks : List Named) (r : Reading) (w : Writing) → Ends o left order tells blocks r w → IsCompleteByAnyClock o left order tells blocks r w
+complete_by_any_clock o left order tells blocks r w ends workers clock log name g xs words can reads writes =
+    own_outcome tells blocks name g xs can left workers clock log r w reads writes o (subst (λ z. Ends o left z tells blocks r w) words ends)

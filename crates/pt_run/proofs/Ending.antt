@@ -1,5 +1,5 @@
 -- How a command over a graph file ends, by how it ended over the graph.
-use Rattle.std.proofs.Common.{◌≡◌, ◌≢◌, ◌++◌, ℕ, ◌≤◌, List, [], ◌∷◌, Option, Some, None, Result, Ok, Err, IfSome, refl, sym, subst, ◌∙◌, inl, inr, ⊎_elim}
+use Rattle.std.proofs.Common.{◌≡◌, ◌≢◌, ℕ, ◌≤◌, List, [], ◌∷◌, Option, Some, None, Result, Ok, Err, IfSome, refl, sym, ap, subst, inl, inr, ⊎_elim}
 use Rattle.std.specs.Prelude.{IfErr, IfOk, String, string_bytes}
 use Rattle.std.specs.declared.alloc.Global.{Global}
 use Rattle.pt_types.specs.declared.graph.Graph.{Graph}
@@ -14,13 +14,15 @@ use Rattle.pt_sensors.specs.Recorded.{SensorUnread}
 use Rattle.pt_sensors.proofs.Asking.{asks_more, read_after}
 use Rattle.pt_run.specs.declared.fault.Fault.{Fault}
 use Rattle.pt_run.specs.declared.fault.Fault.TheVariants as fault
-use Rattle.pt_run.specs.declared.fault.Outcome.{Outcome}
+use Rattle.pt_io.specs.Told.{ClockView}
+use Rattle.pt_words.specs.declared.orders.ClockChoice.{ClockChoice}
+use Rattle.pt_run.specs.declared.outcome.Ending.{Ending}
 use Rattle.pt_run.specs.declared.words.Command.{Command}
 use Rattle.pt_run.specs.declared.words.Command.TheVariants.{Run, Check, Meaning}
 use Rattle.pt_run.specs.Faults.{fault_of_graph}
-use Rattle.pt_run.specs.Written.{Leaves, Writes, nothing}
+use Rattle.pt_run.specs.Written.{HasNothing, Leaves, Writes, nothing}
 use Rattle.pt_run.specs.Causes.{CauseOf, CauseOfGraph, CauseOfMeaning, CauseOfRun, CauseOfText, Writing}
-use Rattle.pt_run.specs.Texts.{Answers, AsksBy, AsksFor, AsksInOrder, EndsBy, EndsOver, PutBy, files_for, left_by}
+use Rattle.pt_run.specs.Texts.{Answers, AsksBy, AsksFor, AsksInOrder, EndsBy, EndsOver, PutBy, files_for, left_by, left_with}
 
 -- a fault of the graph file
 pub graph_fails : (tells : Contents) (blocks : List Named) (name : List ℕ) (f : GraphFault) (r : Reading) → (f ≢ graph.Memory → IfSome (tells name) (λ bytes. graph_of blocks bytes ≡ Err f)) → CauseOfGraph (fault_of_graph f) tells blocks name r
@@ -57,19 +59,20 @@ module _ (tells : Contents) (g : Graph) (left : Leaves) (name : List ℕ) (first
     failed = read_after (name ∷ []) (files_before g actor) u.file first asked now start before last asks grew u.failed;
   }
 
-  of_run : (f : Fault) → CauseOfRun f left tells g [] inner → CauseOfRun f left tells g (name ∷ []) outer
-  of_run fault.Usage h = h
-  of_run (fault.Graph e) h = h
-  of_run (fault.Cycle actors) h = h
-  of_run (fault.Infeasible send offset slack) h = h
-  of_run (fault.Sensor actor e) h = h
-  of_run (fault.LateRow actor row seen limit) h = h
-  of_run (fault.Long None) h = h
-  of_run (fault.Long (Some platform)) h = h
-  of_run (fault.Read None) h = h
-  of_run (fault.Read (Some actor)) h = (h.0, unread Refused actor h.1, h.2)
-  of_run fault.Write h = h
-  of_run fault.Memory h = h
+  of_run : (workers : ℕ) (clock : ClockChoice) (f : Fault) → CauseOfRun workers clock f left tells g [] inner → CauseOfRun workers clock f left tells g (name ∷ []) outer
+  of_run workers clock fault.Usage h = h
+  of_run workers clock (fault.Graph e) h = h
+  of_run workers clock (fault.Cycle actors) h = h
+  of_run workers clock (fault.Infeasible send offset slack) h = h
+  of_run workers clock (fault.Sensor actor e) h = h
+  of_run workers clock (fault.LateRow actor row seen limit) h = h
+  of_run workers clock (fault.LateMessage platform actor tag reading limit) h = h
+  of_run workers clock (fault.Long None) h = h
+  of_run workers clock (fault.Long (Some platform)) h = h
+  of_run workers clock (fault.Read None) h = h
+  of_run workers clock (fault.Read (Some actor)) h = (h.0, unread Refused actor h.1, h.2)
+  of_run workers clock fault.Write h = h
+  of_run workers clock fault.Memory h = h
 
   of_meaning : (f : Fault) → CauseOfMeaning f tells g [] inner → CauseOfMeaning f tells g (name ∷ []) outer
   of_meaning fault.Usage h = h
@@ -78,6 +81,7 @@ module _ (tells : Contents) (g : Graph) (left : Leaves) (name : List ℕ) (first
   of_meaning (fault.Infeasible send offset slack) h = h
   of_meaning (fault.Sensor actor e) h = h
   of_meaning (fault.LateRow actor row seen limit) h = h
+  of_meaning (fault.LateMessage platform actor tag reading limit) h = h
   of_meaning (fault.Long None) h = h
   of_meaning (fault.Long (Some platform)) h = h
   of_meaning (fault.Read None) h = h
@@ -86,7 +90,7 @@ module _ (tells : Contents) (g : Graph) (left : Leaves) (name : List ℕ) (first
   of_meaning fault.Memory h = h
 
   of_text : (c : Command) (f : Fault) → CauseOfText c f left tells g [] inner → CauseOfText c f left tells g (name ∷ []) outer
-  of_text (Run workers log) f h = of_run f h
+  of_text (Run workers clock log) f h = of_run workers clock f h
   of_text Check f h = h
   of_text Meaning f h = (of_meaning f h.0, h.1)
 
@@ -97,14 +101,19 @@ module _ (tells : Contents) (g : Graph) (left : Leaves) (name : List ℕ) (first
   after_file c (fault.Infeasible send offset slack) h = (h.0, of_text c (fault.Infeasible send offset slack) h.1)
   after_file c (fault.Sensor actor e) h = (h.0, of_text c (fault.Sensor actor e) h.1)
   after_file c (fault.LateRow actor row seen limit) h = (h.0, of_text c (fault.LateRow actor row seen limit) h.1)
+  after_file c (fault.LateMessage platform actor tag reading limit) h = (h.0, of_text c (fault.LateMessage platform actor tag reading limit) h.1)
   after_file c (fault.Long platform) h = (h.0, of_text c (fault.Long platform) h.1)
   after_file c (fault.Read sensor) h = (h.0, of_text c (fault.Read sensor) h.1)
   after_file c fault.Write h = (h.0, of_text c fault.Write h.1)
   after_file c fault.Memory h = h
 
+-- where nothing is left, there are no misses and no platforms
+pub has_nothing : (o : Ending) (before now : List ClockView) → left_by o ≡ nothing → HasNothing (left_with o before now)
+has_nothing o before now e = (ap (λ (l : Leaves). l.misses) e, ap (λ (l : Leaves). l.platforms) e)
+
 -- no command's text fails in these ways
 never : (c : Command) (left : Leaves) (tells : Contents) (g : Graph) (r : Reading) → (CauseOfText c fault.Usage left tells g [] r → ⊥) × ((e : GraphFault) → CauseOfText c (fault.Graph e) left tells g [] r → ⊥) × (CauseOfText c (fault.Read None) left tells g [] r → ⊥)
-never (Run workers log) left tells g r = (λ h. h, (λ e h. h), λ h. h)
+never (Run workers clock log) left tells g r = (λ h. h, (λ e h. h), λ h. h)
 never Check left tells g r = (λ h. h.0, (λ e h. h.0), λ h. h.0)
 never Meaning left tells g r = (λ h. h.0, (λ e h. h.0), λ h. h.0)
 
@@ -132,6 +141,7 @@ ends_file c outcome left tells told blocks name g first asked now start before l
     by_fault (fault.Infeasible send offset slack) h = ((g, read, on (fault.Infeasible send offset slack) h.0), h.1)
     by_fault (fault.Sensor actor e) h = ((g, read, on (fault.Sensor actor e) h.0), h.1)
     by_fault (fault.LateRow actor row seen limit) h = ((g, read, on (fault.LateRow actor row seen limit) h.0), h.1)
+    by_fault (fault.LateMessage platform actor tag reading limit) h = ((g, read, on (fault.LateMessage platform actor tag reading limit) h.0), h.1)
     by_fault (fault.Long platform) h = ((g, read, on (fault.Long platform) h.0), h.1)
     by_fault (fault.Read None) h = absurd ((never c left tells g within).2 h.0.1)
     by_fault (fault.Read (Some actor)) h = ((g, read, on (fault.Read (Some actor)) h.0), h.1)
@@ -157,7 +167,7 @@ asked_nothing None tells blocks r h = h
 asked_nothing (Some order) tells blocks r h = inl h
 
 -- and memory ran out
-pub ends_memory : (order : Option (Command × List ℕ)) (left : Leaves) (tells : Contents) (blocks : List Named) (r : Reading) (w : Writing) → left ≡ nothing → w.written_now ≡ w.written_before → EndsBy (Some fault.Memory) left order tells blocks r w
+pub ends_memory : (order : Option (Command × List ℕ)) (left : Leaves) (tells : Contents) (blocks : List Named) (r : Reading) (w : Writing) → HasNothing left → w.written_now ≡ w.written_before → EndsBy (Some fault.Memory) left order tells blocks r w
 ends_memory order left tells blocks r w none still = (none, still)
 
 -- a fact of any contents is one of these
@@ -171,12 +181,12 @@ err_at tells r W (Err f) h = h tells r
 
 -- a text is there before it is written
 never_written : (d : Command) (tells : Contents) (g : Graph) (r : Reading) → CauseOfText d fault.Write nothing tells g [] r → ⊥
-never_written (Run workers log) tells g r k = k
+never_written (Run workers clock log) tells g r k = k
 never_written Check tells g r k = k.0
 never_written Meaning tells g r k = k.0
 
 -- a question over a graph ends with its answer
-pub ends_answer : (c : Command) (made : Result (String Global) Fault) (o : Outcome) (tells : Contents) (g : Graph) (r : Reading) (w : Writing) →
+pub ends_answer : (c : Command) (made : Result (String Global) Fault) (o : Ending) (tells : Contents) (g : Graph) (r : Reading) (w : Writing) →
     IfOk made (λ text. Writes c tells g nothing (string_bytes text)) → IfErr made (λ f. CauseOf c f nothing tells g [] r) → Answers made o w → EndsOver o.fault (left_by o) c tells g r w
 ends_answer c (Ok text) o tells g r w good bad h = subst (λ left. EndsOver o.fault left c tells g r w) (sym h.0) (by_outcome o.fault h.1)
   where
@@ -186,7 +196,7 @@ ends_answer c (Ok text) o tells g r w good bad h = subst (λ left. EndsOver o.fa
 ends_answer c (Err f) o tells g r w good bad h = subst (λ left. EndsOver o.fault left c tells g r w) (sym h.0)
     (⊎_elim
     (λ (is : o.fault ≡ Some f). subst (λ e. EndsOver e nothing c tells g r w) (sym is) (by_fault f bad))
-    (λ (is : o.fault ≡ Some fault.Memory). subst (λ e. EndsOver e nothing c tells g r w) (sym is) (refl, h.2))
+    (λ (is : o.fault ≡ Some fault.Memory). subst (λ e. EndsOver e nothing c tells g r w) (sym is) ((refl, refl), h.2))
     h.1)
   where
     by_fault : (e : Fault) → CauseOf c e nothing tells g [] r → EndsOver (Some e) nothing c tells g r w
@@ -196,6 +206,7 @@ ends_answer c (Err f) o tells g r w good bad h = subst (λ left. EndsOver o.faul
     by_fault (fault.Infeasible send offset slack) k = (k, h.2)
     by_fault (fault.Sensor actor e) k = (k, h.2)
     by_fault (fault.LateRow actor row seen limit) k = (k, h.2)
+    by_fault (fault.LateMessage platform actor tag reading limit) k = (k, h.2)
     by_fault (fault.Long platform) k = (k, h.2)
     by_fault (fault.Read sensor) k = (k, h.2)
     by_fault fault.Write k = absurd (never_written c tells g r k.1)

@@ -33,6 +33,10 @@ use Rattle.pt_sensors.specs.Asked.{Contents, Reading}
 use Rattle.pt_sensors.specs.Places.{of_run}
 use Rattle.pt_sensors.specs.Recorded.{AllPass, AreRows, HaveRows, InTime, IsLateRow, RowsOfKind, SensorFails, SensorLate}
 use Rattle.pt_run.specs.RunsAgreeing.{TellsSensors}
+use Rattle.pt_turn.specs.declared.fault.TurnFault.{TurnFault}
+use Rattle.pt_turn.specs.declared.fault.TurnFault.TheVariants as turn
+use Rattle.pt_words.specs.declared.orders.ClockChoice.{ClockChoice}
+use Rattle.pt_run.specs.Readings.{Clocking}
 use Rattle.pt_run.specs.Runs.{HasRun}
 use Rattle.pt_run.proofs.RunsAgreeing.{rows_are_one}
 use Rattle.pt_run.specs.declared.fault.Fault.{Fault}
@@ -45,7 +49,7 @@ use Rattle.pt_run.specs.Exact.{Defines, IsExact, WantsGraph, WantsMemory, WantsR
 use Rattle.pt_run.specs.Making.{Ends}
 use Rattle.pt_run.specs.Texts.{EndsBy}
 use Rattle.pt_run.specs.Words.{Order}
-use Rattle.pt_run.specs.Written.{GraphWith, IsMeant, Leaves, Writes}
+use Rattle.pt_run.specs.Written.{GraphWith, IsMeant, Leaves, Writes, clocking}
 use Rattle.pt_run.proofs.Complete.{agrees, ok_err, same_ok, too_late}
 use Rattle.pt_types.specs.Limits.{most_claims}
 
@@ -218,11 +222,11 @@ data Answer (command : Command) (tells : Contents) (g : Graph) (outcome : Option
   long : outcome ≡ Some (fault.Long None) → IsFit command g → OfRows command (λ late. AllHave late tells g) → Answer command tells g outcome
   whole : IsFit command g → (command ≢ Check → OfRows command (λ late. AllHave late tells g)) → (command ≡ Meaning → (text : List ℕ) × IsMeant tells g text) → Answer command tells g outcome
 
-run_meaning : (workers : ℕ) (log : Bool) → Run workers log ≡ Meaning → ⊥
-run_meaning workers log e = cc
+run_meaning : (workers : ℕ) (clock : ClockChoice) (log : Bool) → Run workers clock log ≡ Meaning → ⊥
+run_meaning workers clock log e = cc
 
-run_check : (workers : ℕ) (log : Bool) → Run workers log ≡ Check → ⊥
-run_check workers log e = cc
+run_check : (workers : ℕ) (clock : ClockChoice) (log : Bool) → Run workers clock log ≡ Check → ⊥
+run_check workers clock log e = cc
 
 check_meaning : Check ≡ Meaning → ⊥
 check_meaning e = cc
@@ -235,17 +239,19 @@ taken_refused e = cc
 
 -- a fault over a graph
 module _ (left : Leaves) (tells : Contents) (g : Graph) (others : List (List ℕ)) (r : Reading) where
-  run_kept : (workers : ℕ) (log : Bool) (plan : Parts) (platforms : List PlatformView) (stop : Option ℕ) (outcome : Option Fault) → NoFreeCycle g → plan.graph ≡ g → HasRun tells plan platforms stop → Answer (Run workers log) tells g outcome
-  run_kept workers log plan platforms stop outcome free same run =
-      whole (free, λ e. subst IsFeasible same run.admitted.feasible) (λ e. subst (λ z. AllHave Refused tells z) same (run.rows, run.sensors, run.in_time)) (λ e. absurd (run_meaning workers log e))
+  run_kept : (workers : ℕ) (clock : ClockChoice) (log : Bool) (c : Clocking) (plan : Parts) (platforms : List PlatformView) (stop : Option (ℕ × TurnFault)) (outcome : Option Fault) → NoFreeCycle g → plan.graph ≡ g → HasRun tells c plan platforms stop → Answer (Run workers clock log) tells g outcome
+  run_kept workers clock log c plan platforms stop outcome free same run =
+      whole (free, λ e. subst IsFeasible same run.admitted.feasible) (λ e. subst (λ z. AllHave Refused tells z) same (run.rows, run.sensors, run.in_time)) (λ e. absurd (run_meaning workers clock log e))
 
-  by_run : (workers : ℕ) (log : Bool) (f : Fault) → NoFreeCycle g → CauseOfRun f left tells g others r → Answer (Run workers log) tells g (Some f)
-  by_run workers log (fault.Infeasible send offset slack) free h = slow send offset slack refl free (run_meaning workers log) h.0
-  by_run workers log (fault.Read (Some actor)) free h = unread actor refl (free, λ e. h.0)
-  by_run workers log (fault.Sensor actor f) free h = wrong actor f refl (free, λ e. h.0) h.1
-  by_run workers log (fault.LateRow actor row seen limit) free h = tardy actor row seen limit refl (free, λ e. h.0) (refl, h.1)
-  by_run workers log (fault.Long (Some platform)) free h = run_kept workers log h.plan left.platforms (Some platform) (Some (fault.Long (Some platform))) free h.graph h.run
-  by_run workers log f free h = absurd h
+  by_run : (workers : ℕ) (clock : ClockChoice) (log : Bool) (f : Fault) → NoFreeCycle g → CauseOfRun workers clock f left tells g others r → Answer (Run workers clock log) tells g (Some f)
+  by_run workers clock log (fault.Infeasible send offset slack) free h = slow send offset slack refl free (run_meaning workers clock log) h.0
+  by_run workers clock log (fault.Read (Some actor)) free h = unread actor refl (free, λ e. h.0)
+  by_run workers clock log (fault.Sensor actor f) free h = wrong actor f refl (free, λ e. h.0) h.1
+  by_run workers clock log (fault.LateRow actor row seen limit) free h = tardy actor row seen limit refl (free, λ e. h.0) (refl, h.1)
+  by_run workers clock log (fault.Long (Some platform)) free h = run_kept workers clock log (clocking workers clock left) h.plan left.platforms (Some (platform, turn.Long)) (Some (fault.Long (Some platform))) free h.graph h.run
+  by_run workers clock log (fault.LateMessage platform actor tag reading limit) free h =
+      run_kept workers clock log (clocking workers clock left) h.plan left.platforms (Some (platform, turn.Late actor tag reading limit)) (Some (fault.LateMessage platform actor tag reading limit)) free h.graph h.run
+  by_run workers clock log f free h = absurd h
 
   by_check : (f : Fault) → NoFreeCycle g → CauseOfCheck f g → Answer Check tells g (Some f)
   by_check (fault.Infeasible send offset slack) free h = slow send offset slack refl free check_meaning h
@@ -258,7 +264,7 @@ module _ (left : Leaves) (tells : Contents) (g : Graph) (others : List (List ℕ
   by_meaning f free h = absurd h
 
   by_text : (command : Command) (f : Fault) → NoFreeCycle g → CauseOfText command f left tells g others r → Answer command tells g (Some f)
-  by_text (Run workers log) f free h = by_run workers log f free h
+  by_text (Run workers clock log) f free h = by_run workers clock log f free h
   by_text Check f free h = by_check f free h.0
   by_text Meaning f free h = by_meaning f free h.0
 
@@ -268,7 +274,7 @@ module _ (left : Leaves) (tells : Contents) (g : Graph) (others : List (List ℕ
   by_cause command f h = by_text command f h.0 h.1
 
   wrote : (command : Command) (l : Leaves) (text : List ℕ) (outcome : Option Fault) → Writes command tells g l text → Answer command tells g outcome
-  wrote (Run workers log) l text outcome (free, run) = run_kept workers log run.plan l.platforms None outcome free run.graph run.finished.run
+  wrote (Run workers clock log) l text outcome (free, run) = run_kept workers clock log (clocking workers clock l) run.plan l.platforms None outcome free run.graph run.finished.run
   wrote Check l text outcome (free, (none, checked)) = whole (free, λ e. checked.feasible) (λ e. absurd (e refl)) (λ e. absurd (check_meaning e))
   wrote Meaning l text outcome (free, (none, meant)) = whole (free, λ e. absurd (e refl)) (λ e. (meant.rows, meant.sensors, λ a. tt)) (λ e. (text, meant))
 
@@ -325,12 +331,12 @@ usage left tells blocks r w (Some f) k = inl k.0
 
 -- two facts of the rows that a command reads
 both : (command : Command) (A B : LateRows → Type 0) (C : Type 0) → ((late : LateRows) → A late → B late → C) → OfRows command A → OfRows command B → C
-both (Run workers log) A B C h a b = h Refused a b
+both (Run workers clock log) A B C h a b = h Refused a b
 both Meaning A B C h a b = h Taken a b
 both Check A B C h a b = absurd a
 
 reads_rows : (command : Command) (A : LateRows → Type 0) → OfRows command A → command ≢ Check
-reads_rows (Run workers log) A a e = run_check workers log e
+reads_rows (Run workers clock log) A a e = run_check workers clock log e
 reads_rows Meaning A a e = meaning_check e
 reads_rows Check A a e = a
 
@@ -386,16 +392,16 @@ module _ (tells : Contents) (g : Graph) (outcome : Option Fault) where
           by_answer (long is fit h) = absurd (have_rows h)
           by_answer (whole fit rows meant) = absurd (have_rows (rows (reads_rows command (λ late. SensorFails late tells g actor f) fails)))
 
-      first_late : (workers : ℕ) (log : Bool) (actor row seen limit : ℕ) → IsFeasible g → SensorLate tells g actor row seen limit → Answer (Run workers log) tells g outcome → (outcome ≡ Some (fault.LateRow actor row seen limit)) ⊎ WantsRows outcome
-      first_late workers log actor row seen limit feasible late (memory is) = inr (inl (inl is))
-      first_late workers log actor row seen limit feasible late (graph_unread is) = inr (inl (inr is))
-      first_late workers log actor row seen limit feasible late (cyclic actors is h) = absurd (free h.first h.edge h.path h.cycle h.free)
-      first_late workers log actor row seen limit feasible late (slow send offset slack is free2 judges h) = absurd (too_late g send slack offset feasible h)
-      first_late workers log actor row seen limit feasible late (unread other is fit) = inr (inr (other, is))
-      first_late workers log actor row seen limit feasible late (wrong other f is fit h) = absurd (fails_late tells g told other actor row seen limit f h late)
-      first_late workers log actor row seen limit feasible late (tardy other row2 seen2 limit2 is fit h) = inl (is ∙ ap Some (one_late tells g told actor other row row2 seen seen2 limit limit2 late h.1))
-      first_late workers log actor row seen limit feasible late (long is fit h) = absurd (late_all tells g told actor row seen limit late h)
-      first_late workers log actor row seen limit feasible late (whole fit rows meant) = absurd (late_all tells g told actor row seen limit late (rows (run_check workers log)))
+      first_late : (workers : ℕ) (clock : ClockChoice) (log : Bool) (actor row seen limit : ℕ) → IsFeasible g → SensorLate tells g actor row seen limit → Answer (Run workers clock log) tells g outcome → (outcome ≡ Some (fault.LateRow actor row seen limit)) ⊎ WantsRows outcome
+      first_late workers clock log actor row seen limit feasible late (memory is) = inr (inl (inl is))
+      first_late workers clock log actor row seen limit feasible late (graph_unread is) = inr (inl (inr is))
+      first_late workers clock log actor row seen limit feasible late (cyclic actors is h) = absurd (free h.first h.edge h.path h.cycle h.free)
+      first_late workers clock log actor row seen limit feasible late (slow send offset slack is free2 judges h) = absurd (too_late g send slack offset feasible h)
+      first_late workers clock log actor row seen limit feasible late (unread other is fit) = inr (inr (other, is))
+      first_late workers clock log actor row seen limit feasible late (wrong other f is fit h) = absurd (fails_late tells g told other actor row seen limit f h late)
+      first_late workers clock log actor row seen limit feasible late (tardy other row2 seen2 limit2 is fit h) = inl (is ∙ ap Some (one_late tells g told actor other row row2 seen seen2 limit limit2 late h.1))
+      first_late workers clock log actor row seen limit feasible late (long is fit h) = absurd (late_all tells g told actor row seen limit late h)
+      first_late workers clock log actor row seen limit feasible late (whole fit rows meant) = absurd (late_all tells g told actor row seen limit late (rows (run_check workers clock log)))
 
       long_meaning : (rows : ℕ → List Row) → AreRows tells g rows → IsTooLongForAll g rows → Answer Meaning tells g outcome → (outcome ≡ Some (fault.Long None)) ⊎ WantsRows outcome
       long_meaning rows are too_long (memory is) = inr (inl (inl is))
@@ -415,7 +421,7 @@ exact o left order tells blocks r w ends = record {
   cycle = λ command g d never. cycle tells g o command never (over_graph command g d);
   infeasible = λ command g send offset slack judges d free first. infeasible tells g o free command send offset slack judges first (over_graph command g d);
   sensor = λ command g actor f reads fails. sensor tells g o reads.no_free_cycle reads.files command actor f reads.feasible fails (over_graph command g reads.graph);
-  late_row = λ workers log g actor row seen limit reads late. first_late tells g o reads.no_free_cycle reads.files workers log actor row seen limit (reads.feasible (run_meaning workers log)) late (over_graph (Run workers log) g reads.graph);
+  late_row = λ workers clock log g actor row seen limit reads late. first_late tells g o reads.no_free_cycle reads.files workers clock log actor row seen limit (reads.feasible (run_meaning workers clock log)) late (over_graph (Run workers clock log) g reads.graph);
   long_meaning = λ g rows reads are too_long. long_meaning tells g o reads.no_free_cycle reads.files rows are too_long (over_graph Meaning g reads.graph);
 }
   where

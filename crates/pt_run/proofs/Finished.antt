@@ -1,12 +1,11 @@
 -- Platforms that have finished a run.
-use Rattle.std.proofs.Common.{◌≡◌, ◌++◌, ℕ, Bool, true, false, List, None, refl, sym, ap, subst, ◌∙◌, append-nil}
+use Rattle.std.proofs.Common.{◌≡◌, ◌++◌, ℕ, Bool, true, false, List, Option, None, Some, Result, Ok, Err, IfOk, IfErr, refl, sym, ap, subst, ◌∙◌, append-nil}
 use Rattle.std.specs.Prelude.{flat_map}
 use Rattle.pt_types.specs.declared.rows.Row.{Row}
 use Rattle.pt_types.specs.declared.graph.Graph.{Graph}
 use Rattle.pt_semantics.specs.Rows.{FitRows}
 use Rattle.pt_semantics.specs.Tables.{tables_text}
 use Rattle.pt_causality.specs.Ranked.{level_of, rank_of}
-use Rattle.pt_offsets.specs.Plans.{Parts}
 use Rattle.pt_turn.specs.Platforms.{PlatformView}
 use Rattle.pt_turn.specs.All.{AreAll}
 use Rattle.pt_tables.specs.Log.{log_text}
@@ -14,10 +13,18 @@ use Rattle.pt_tables.specs.Platforms.{AreInOrder, histories}
 use Rattle.pt_monitors.specs.Platforms.{missed_by}
 use Rattle.pt_confluence.specs.Gathered.{AreTables, HaveFinished}
 use Rattle.pt_rounds.specs.HaveRun.{HaveRun}
-use Rattle.pt_sensors.specs.Asked.{Contents}
+use Rattle.pt_sensors.specs.Asked.{Contents, Reading}
 use Rattle.pt_sensors.specs.Places.{of_run}
+use Rattle.pt_offsets.specs.Plans.{IsAdmitted, Parts}
+use Rattle.pt_sensors.specs.declared.recorded_fault.LateRows.TheVariants.{Refused}
+use Rattle.pt_sensors.specs.Recorded.{AllPass, AreRows}
+use Rattle.pt_turn.specs.declared.fault.TurnFault.{TurnFault}
+use Rattle.pt_turn.specs.declared.fault.TurnFault.TheVariants as turn
 use Rattle.pt_run.specs.declared.finished_run.Ran.{Ran}
-use Rattle.pt_run.specs.Runs.{HasRun, IsRun, IsText, IsTold, log_if}
+use Rattle.pt_run.specs.declared.plan_run.RunFault.{RunFault}
+use Rattle.pt_run.specs.declared.plan_run.RunFault.TheVariants as stop
+use Rattle.pt_run.specs.Readings.{Clocking}
+use Rattle.pt_run.specs.Runs.{CauseOfRun, HasRun, IsKept, IsOutput, IsRun, IsStop, IsText, IsTold, WentBy, log_if}
 use Rattle.pt_run.proofs.Missed.{missed_in}
 
 pub in_order : (plan : Parts) (rows : ℕ → List Row) (platforms : List PlatformView) → AreAll plan rows platforms → AreInOrder plan.graph platforms
@@ -37,19 +44,51 @@ with_log plan platforms front text tables logged rows finished =
 pub have_finished : (plan : Parts) (rows : ℕ → List Row) (platforms : List PlatformView) → FitRows plan.graph rows → HaveRun plan (level_of plan.ranks) rows platforms None → HaveFinished plan rows platforms
 have_finished plan rows platforms fit run = record { all = run.all; fit = fit; finished = λ i v at. (run.ends i v at).1; linked = run.linked refl }
 
-pub is_run : (tells : Contents) (plan : Parts) (log : Bool) (platforms : List PlatformView) (ran : Ran) (run : HasRun tells plan platforms None) → FitRows plan.graph (of_run plan.graph run.rows) → IsTold plan log platforms ran → IsRun tells plan log ran
-is_run tells plan log platforms ran run fit told =
-    let text = told.text (of_run plan.graph run.rows) (have_finished plan (of_run plan.graph run.rows) platforms fit run.kept) in (
+kept_finished : (plan : Parts) (rows : ℕ → List Row) (platforms : List PlatformView) → FitRows plan.graph rows → IsKept plan rows platforms None → HaveFinished plan rows platforms
+kept_finished plan rows platforms fit kept = record { all = kept.all; fit = fit; finished = λ i v at. (kept.ends i v at).1; linked = kept.linked refl }
+
+-- a run that finished, with its outputs
+is_run : (tells : Contents) (c : Clocking) (plan : Parts) (log : Bool) (platforms : List PlatformView) (ran : Ran) (run : HasRun tells c plan platforms None) → FitRows plan.graph (of_run plan.graph run.rows) → IsTold plan log platforms ran → IsRun tells c plan log ran
+is_run tells c plan log platforms ran run fit told =
+    let rows : ℕ → List Row = of_run plan.graph run.rows in
+    let text = told.text rows (kept_finished plan rows platforms fit run.went.kept) in (
       record {
-        run = record { admitted = run.admitted; rows = run.rows; sensors = run.sensors; in_time = run.in_time; kept = subst (λ ps. HaveRun plan (level_of plan.ranks) (of_run plan.graph run.rows) ps None) (sym told.platforms_are) run.kept };
+        run = record { admitted = run.admitted; rows = run.rows; sensors = run.sensors; in_time = run.in_time; went = subst (λ ps. WentBy c plan rows ps None) (sym told.platforms_are) run.went };
         firings = text.0;
         meaning = text.1;
         written = text.2 ∙ ap (λ ps. tables_text plan.graph text.0 ++ log_if log plan.graph ps) (sym told.platforms_are);
         missed = told.misses ∙ ap (flat_map missed_by) (sym told.platforms_are);
-        missed_as_meant = λ m.
-            let kept = missed_in plan (of_run plan.graph run.rows) platforms run.kept.all ran.misses.items told.misses m in
-            let meant = run.kept.missed_as_meant refl (rank_of plan.ranks) text.0 run.admitted.ranks text.1 m.actor m.tag m.reading m.limit in
+        missed_as_meant = λ paced m.
+            let have : HaveRun plan (level_of plan.ranks) rows platforms None = run.went.paced paced in
+            let kept = missed_in plan rows platforms have.all ran.misses.items told.misses m in
+            let meant = have.missed_as_meant refl (rank_of plan.ranks) text.0 run.admitted.ranks text.1 m.actor m.tag m.reading m.limit in
             ((λ mem. meant.0 (kept.0 mem)), (λ missed. kept.1 (meant.1 missed)));
       },
       told.lines,
     )
+
+-- a run over the rows of the sensors' files, by how its platforms went
+pub run_of_went : (tells : Contents) (c : Clocking) (plan : Parts) (log : Bool) (rows : ℕ → List Row) (platforms : List PlatformView) (fault : Option (ℕ × TurnFault)) (result : Result Ran RunFault) (r : Reading) →
+    IsAdmitted plan → AreRows tells plan.graph rows → AllPass Refused plan.graph rows → FitRows plan.graph (of_run plan.graph rows) → WentBy c plan (of_run plan.graph rows) platforms fault →
+    IfOk result (IsOutput fault plan log platforms) → IfErr result (IsStop fault platforms) → IfOk result (IsRun tells c plan log) × IfErr result (λ f. CauseOfRun f tells c plan r)
+run_of_went tells c plan log rows platforms fault result r admitted sensors in_time fit went output stopped = (by_output result output, by_stop result stopped)
+  where
+    run : (ps : List PlatformView) (f : Option (ℕ × TurnFault)) → ps ≡ platforms → fault ≡ f → HasRun tells c plan ps f
+    run ps f same is = record {
+      admitted = admitted;
+      rows = rows;
+      sensors = sensors;
+      in_time = in_time;
+      went = subst (λ z. WentBy c plan (of_run plan.graph rows) z f) (sym same) (subst (λ z. WentBy c plan (of_run plan.graph rows) platforms z) is went);
+    }
+
+    by_output : (result : Result Ran RunFault) → IfOk result (IsOutput fault plan log platforms) → IfOk result (IsRun tells c plan log)
+    by_output (Ok ran) (none, told) = is_run tells c plan log platforms ran (run platforms None refl none) fit told
+    by_output (Err f) h = tt
+
+    by_stop : (result : Result Ran RunFault) → IfErr result (IsStop fault platforms) → IfErr result (λ f. CauseOfRun f tells c plan r)
+    by_stop (Ok ran) h = tt
+    by_stop (Err (stop.Rows f)) h = absurd h
+    by_stop (Err (stop.Long platform left)) h = run left.items (Some (platform, turn.Long)) h.1 h.0
+    by_stop (Err (stop.Late platform actor tag reading limit left)) h = run left.items (Some (platform, turn.Late actor tag reading limit)) h.1 h.0
+    by_stop (Err stop.Memory) h = tt

@@ -1,163 +1,168 @@
 -- The headline, of how a call ends.
-use Rattle.std.proofs.Common.{◌≡◌, ◌⊎◌, ◌++◌, ℕ, Bool, List, [], ◌∷◌, Option, Some, None, Ok, IfSome, refl, sym, subst, ◌∙◌, arith, inl, inr}
-use Rattle.pt_io.specs.Causes.{Appends}
+use Rattle.std.proofs.Common.{◌≡◌, ◌≢◌, [], ℕ, Bool, true, false, List, Option, Some, None, Ok, IfSome, refl, sym, subst}
+use Rattle.std.specs.Prelude.{flat_map}
+use Rattle.pt_io.specs.Causes.{Appends, AppendsPart}
+use Rattle.pt_tags.specs.declared.tag.Tag.{Tag}
 use Rattle.pt_types.specs.declared.graph.Graph.{Graph}
-use Rattle.pt_types.specs.declared.rows.Row.{Row}
 use Rattle.pt_blocks.specs.declared.blocks.Named.{Named}
 use Rattle.pt_graph.specs.GraphOf.{graph_of}
 use Rattle.pt_history.specs.declared.miss.Miss.{Miss}
+use Rattle.pt_monitors.specs.Platforms.{missed_by}
 use Rattle.pt_offsets.specs.Plans.{Parts}
 use Rattle.pt_sensors.specs.Asked.{Contents, Reading}
 use Rattle.pt_sensors.specs.Places.{of_run}
 use Rattle.pt_sensors.specs.Recorded.{SensorLate}
-use Rattle.pt_run.specs.Runs.{HasRun}
+use Rattle.pt_words.specs.declared.orders.ClockChoice.{ClockChoice}
+use Rattle.pt_run.specs.Runs.{HasRun, IsFinishedRun}
 use Rattle.pt_run.specs.declared.fault.Fault.{Fault}
 use Rattle.pt_run.specs.declared.fault.Fault.TheVariants as fault
 use Rattle.pt_run.specs.declared.words.Command.TheVariants.{Run}
 use Rattle.pt_run.specs.Causes.{Writing}
-use Rattle.pt_run.specs.Headline.{Headline, IsEnded, IsHeadline, KeptAll, ReadPaced, RunWith, WroteMeaning}
+use Rattle.pt_run.specs.Headline.{Headline, IsHeadline, LeavesRun, PutsMeaning, RunWith, stop_of}
 use Rattle.pt_run.specs.Making.{Ends}
-use Rattle.pt_run.specs.Statuses.{status_of}
 use Rattle.pt_run.specs.Texts.{EndsBy}
-use Rattle.pt_run.specs.Words.{Order, over}
-use Rattle.pt_run.specs.Written.{GraphWith, Leaves, nothing}
+use Rattle.pt_run.specs.Words.{Order}
+use Rattle.pt_run.specs.Written.{GraphWith, HasNothing, Leaves, clocking, has_run}
+use Rattle.pt_run.proofs.CauseTable.{never_paced}
 
-module _ (tells : Contents) (blocks : List Named) (name : List ℕ) (g : Graph) (file : IfSome (tells name) (λ bytes. graph_of blocks bytes ≡ Ok g)) (plan : Parts) (same : plan.graph ≡ g) (left : Leaves) where
+-- the text of a run that finished, as it was put
+puts : (tells : Contents) (left : Leaves) (workers : ℕ) (clock : ClockChoice) (log : Bool) (plan : Parts) (misses : List Miss) (text : List ℕ) (Put : List ℕ → Type 0) →
+    (done : IsFinishedRun tells (clocking workers clock left) plan log left.platforms misses text) → Put text → PutsMeaning plan (of_run plan.graph done.run.rows) log left.platforms Put
+puts tells left workers clock log plan misses text Put done put = record { firings = done.firings; meaning = done.meaning; text = subst Put done.written put }
+
+module _ (left : Leaves) (workers : ℕ) (clock : ClockChoice) (log : Bool) (tells : Contents) (blocks : List Named) (name : List ℕ) (r : Reading) (w : Writing) where
   -- a run over a plan of the graph
-  over_plan : (end : Option ℕ) (run : HasRun tells plan left.platforms end) (Fact : Parts → (ℕ → List Row) → Type 0) → Fact plan (of_run plan.graph run.rows) → RunWith tells blocks name Fact
-  over_plan end run Fact fact = record {
+  over_plan : (o : Option Fault) (g : Graph) (file : IfSome (tells name) (λ bytes. graph_of blocks bytes ≡ Ok g)) (plan : Parts) (same : plan.graph ≡ g) (run : HasRun tells (clocking workers clock left) plan left.platforms (stop_of o)) →
+      (o ≡ None → PutsMeaning plan (of_run plan.graph run.rows) log left.platforms (Appends w.written_before w.written_now)) → (o ≡ None → left.misses ≡ flat_map missed_by left.platforms) →
+      (o ≡ Some fault.Write → PutsMeaning plan (of_run plan.graph run.rows) log left.platforms (AppendsPart w.written_before w.written_now)) →
+      (stop_of o ≢ None → w.written_now ≡ w.written_before) → (o ≢ None → left.misses ≡ []) → RunWith tells blocks name (LeavesRun (clocking workers clock left) log o left w)
+  over_plan o g file plan same run written misses part unwritten none = record {
     plan = plan;
     file = subst (λ h. IfSome (tells name) (λ bytes. graph_of blocks bytes ≡ Ok h)) (sym same) file;
     admitted = run.admitted;
     rows = run.rows;
     sensors = run.sensors;
     in_time = run.in_time;
-    fact = fact;
+    fact = record { kept = run.went.kept; readings = run.went.readings; written = written; misses = misses; part = part; unwritten = unwritten; no_misses = none };
   }
 
-  -- what it keeps, where no platform had too much to claim
-  keeps : (Ended : Type 0) → HasRun tells plan left.platforms None → RunWith tells blocks name (λ plan rows. KeptAll plan rows left.platforms Ended)
-  keeps Ended run = over_plan None run (λ plan rows. KeptAll plan rows left.platforms Ended) (record {
-    all = run.kept.all;
-    legal = run.kept.none_late;
-    matched = run.kept.matched;
-    linked = λ e. run.kept.linked refl;
-    finished = λ e i v at. (run.kept.ends i v at).1;
-  })
-
-  -- and where one had
-  keeps_long : (Ended : Type 0) (platform : ℕ) → (Ended → ⊥) → HasRun tells plan left.platforms (Some platform) → RunWith tells blocks name (λ plan rows. KeptAll plan rows left.platforms Ended)
-  keeps_long Ended platform never run = over_plan (Some platform) run (λ plan rows. KeptAll plan rows left.platforms Ended) (record {
-    all = run.kept.all;
-    legal = run.kept.none_late;
-    matched = run.kept.matched;
-    linked = λ e. absurd (never e);
-    finished = λ e. absurd (never e);
-  })
-
-  reads : (end : Option ℕ) → HasRun tells plan left.platforms end → RunWith tells blocks name (λ plan rows. ReadPaced plan rows left.platforms)
-  reads end run = over_plan end run (λ plan rows. ReadPaced plan rows left.platforms) (record { rounds = run.kept.after; on_schedule = run.kept.on_schedule })
-
--- a status that a fault has, and no other
-none_ended : (n : ℕ) → (n ≡ 0 → ⊥) → (n ≡ 5 → ⊥) → (n ≡ 8 → ⊥) → (n ≡ 6 → ⊥) → (IsEnded n ⊎ (n ≡ 6)) → ⊥
-none_ended n a b c d (inl (inl e)) = a e
-none_ended n a b c d (inl (inr (inl e))) = b e
-none_ended n a b c d (inl (inr (inr e))) = c e
-none_ended n a b c d (inr e) = d e
-
--- a status at which nothing is left, and no row is late
-abbrev IsOther : ℕ → Type 0
-IsOther n = (n ≡ 0 → ⊥) × (n ≡ 5 → ⊥) × (n ≡ 8 → ⊥) × (n ≡ 6 → ⊥) × (n ≡ 4 → ⊥)
-
-two : IsOther 2
-two = ((λ e. omega (arith, e)), (λ e. omega (arith, e)), (λ e. omega (arith, e)), (λ e. omega (arith, e)), (λ e. omega (arith, e)))
-
-three : IsOther 3
-three = ((λ e. omega (arith, e)), (λ e. omega (arith, e)), (λ e. omega (arith, e)), (λ e. omega (arith, e)), (λ e. omega (arith, e)))
-
-seven : IsOther 7
-seven = ((λ e. omega (arith, e)), (λ e. omega (arith, e)), (λ e. omega (arith, e)), (λ e. omega (arith, e)), (λ e. omega (arith, e)))
-
-nine : IsOther 9
-nine = ((λ e. omega (arith, e)), (λ e. omega (arith, e)), (λ e. omega (arith, e)), (λ e. omega (arith, e)), (λ e. omega (arith, e)))
-
-module _ (left : Leaves) (workers : ℕ) (log : Bool) (tells : Contents) (blocks : List Named) (name : List ℕ) (w : Writing) where
-  -- a status at which nothing is left
-  refused : (status : ℕ) (o : Option Fault) → (status ≡ 0 → ⊥) → (status ≡ 5 → ⊥) → (status ≡ 8 → ⊥) → (status ≡ 6 → ⊥) → left ≡ nothing →
-      (status ≡ 4 → (actor row seen limit : ℕ) × (o ≡ Some (fault.LateRow actor row seen limit)) × GraphWith tells blocks name (λ g. SensorLate tells g actor row seen limit)) →
-      Headline status o left log tells blocks name w
-  refused status o a b c d none late = record {
-    written = λ (e : (status ≡ 0) ⊎ (status ≡ 5)). absurd (none_ended status a b c d (inl (either e)));
-    kept = λ e. absurd (none_ended status a b c d e);
-    readings = λ e. absurd (none_ended status a b c d e);
-    late = late;
-    nothing_else = λ e. none;
+  -- a call without a run
+  refused : (f : Fault) → has_run (Some f) ≡ false → HasNothing left × (w.written_now ≡ w.written_before) → ((platform actor : ℕ) (tag : Tag) (reading limit : ℕ) → Some f ≡ Some (fault.LateMessage platform actor tag reading limit) → ⊥) →
+      ((actor row seen limit : ℕ) → Some f ≡ Some (fault.LateRow actor row seen limit) → GraphWith tells blocks name (λ g. SensorLate tells g actor row seen limit)) → Headline (Some f) left workers clock log tells blocks name w
+  refused f none nothing no_message late_row = record {
+    run = λ e. absurd (both (has_run (Some f)) e none);
+    nothing_else = λ e. nothing;
+    late_message = λ platform actor tag reading limit e. absurd (no_message platform actor tag reading limit e);
+    late_row = late_row;
   }
     where
-      either : (status ≡ 0) ⊎ (status ≡ 5) → IsEnded status
-      either (inl e) = inl e
-      either (inr e) = inr (inl e)
+      both : (b : Bool) → b ≡ true → b ≡ false → ⊥
+      both b e h = cc
 
-  -- a fault of a status that is none of these
-  other : (n status : ℕ) (o : Option Fault) → status ≡ n → IsOther n → left ≡ nothing → Headline status o left log tells blocks name w
-  other n status o is h none = refused status o (λ e. h.0 (sym is ∙ e)) (λ e. h.1 (sym is ∙ e)) (λ e. h.2 (sym is ∙ e)) (λ e. h.3 (sym is ∙ e)) none (λ e. absurd (h.4 (sym is ∙ e)))
-
-  -- all was written
-  done : (status : ℕ) (misses : List Miss) → left.misses ≡ misses → status ≡ status_of None misses → (IsEnded status × (status ≡ 4 → ⊥))
-  done status [] same is = (inl is, λ e. omega (arith, is, e))
-  done status (m ∷ ms) same is = (inr (inl is), λ e. omega (arith, is, e))
-
-  by_outcome : (status : ℕ) (o : Option Fault) (r : Reading) → status ≡ status_of o left.misses → EndsBy o left (Some (Run workers log, name)) tells blocks r w → Headline status o left log tells blocks name w
-  by_outcome status None r is (text, (g, file, (free, run)), appends) =
-      let ended = done status left.misses refl is in record {
-        written = λ e. over_plan tells blocks name g file run.plan run.graph left None run.finished.run (λ plan rows. WroteMeaning plan rows log left.platforms w) (record {
-          firings = run.finished.firings;
-          meaning = run.finished.meaning;
-          text = subst (Appends w.written_before w.written_now) run.finished.written appends;
-        });
-        kept = λ e. keeps tells blocks name g file run.plan run.graph left (IsEnded status) run.finished.run;
-        readings = λ e. reads tells blocks name g file run.plan run.graph left None run.finished.run;
-        late = λ e. absurd (ended.1 e);
-        nothing_else = λ never. absurd (never (inl ended.0));
-      }
-  by_outcome status (Some fault.Write) r is (rose, (none, misses, text, (g, file, (free, run)), part)) = record {
-    written = λ e. absurd (not_zero e);
-    kept = λ e. keeps tells blocks name g file run.plan run.graph left (IsEnded status) run.finished.run;
-    readings = λ e. reads tells blocks name g file run.plan run.graph left None run.finished.run;
-    late = λ e. absurd (omega (arith, is, e));
-    nothing_else = λ never. absurd (never (inl (inr (inr is))));
+  by_outcome : (o : Option Fault) → EndsBy o left (Some (Run workers clock log, name)) tells blocks r w → Headline o left workers clock log tells blocks name w
+  by_outcome None (text, (g, file, (free, run)), appends) = record {
+    run = λ e.
+        over_plan None g file run.plan run.graph run.finished.run (λ h. puts tells left workers clock log run.plan left.misses text (Appends w.written_before w.written_now) run.finished appends) (λ h. run.finished.missed) (λ h. absurd (written h)) (λ never. absurd (never refl)) (λ never. absurd (never refl));
+    nothing_else = λ e. absurd (has e);
+    late_message = λ platform actor tag reading limit e. absurd (no_fault (fault.LateMessage platform actor tag reading limit) e);
+    late_row = λ actor row seen limit e. absurd (no_fault (fault.LateRow actor row seen limit) e);
   }
     where
-      not_zero : (status ≡ 0) ⊎ (status ≡ 5) → ⊥
-      not_zero (inl e) = omega (arith, is, e)
-      not_zero (inr e) = omega (arith, is, e)
-  by_outcome status (Some (fault.Long (Some platform))) r is ((g, file, (free, long)), same) = record {
-    written = λ e. absurd (not_zero e);
-    kept = λ e. keeps_long tells blocks name g file long.plan long.graph left (IsEnded status) platform not_ended long.run;
-    readings = λ e. reads tells blocks name g file long.plan long.graph left (Some platform) long.run;
-    late = λ e. absurd (omega (arith, is, e));
-    nothing_else = λ never. absurd (never (inr is));
+      written : ◌≡◌ {A = Option Fault} None (Some fault.Write) → ⊥
+      written h = cc
+
+      has : true ≡ false → ⊥
+      has e = cc
+
+      no_fault : (f : Fault) → ◌≡◌ {A = Option Fault} None (Some f) → ⊥
+      no_fault f e = cc
+  by_outcome (Some fault.Write) (rose, (none, misses, text, (g, file, (free, run)), part)) = record {
+    run = λ e.
+        over_plan (Some fault.Write) g file run.plan run.graph run.finished.run (λ h. absurd (all h)) (λ h. absurd (all h))
+        (λ h. puts tells left workers clock log run.plan misses text (AppendsPart w.written_before w.written_now) run.finished part) (λ never. absurd (never refl)) (λ h. none);
+    nothing_else = λ e. absurd (has e);
+    late_message = λ platform actor tag reading limit e. absurd (message platform actor tag reading limit e);
+    late_row = λ actor row seen limit e. absurd (late actor row seen limit e);
   }
     where
-      not_zero : (status ≡ 0) ⊎ (status ≡ 5) → ⊥
-      not_zero (inl e) = omega (arith, is, e)
-      not_zero (inr e) = omega (arith, is, e)
+      all : ◌≡◌ {A = Option Fault} (Some fault.Write) None → ⊥
+      all h = cc
 
-      not_ended : IsEnded status → ⊥
-      not_ended (inl e) = omega (arith, is, e)
-      not_ended (inr (inl e)) = omega (arith, is, e)
-      not_ended (inr (inr e)) = omega (arith, is, e)
-  by_outcome status (Some (fault.LateRow actor row seen limit)) r is ((g, file, (free, cause)), same) = refused status (Some (fault.LateRow actor row seen limit)) (λ e. omega (arith, is, e)) (λ e. omega (arith, is, e)) (λ e. omega (arith, is, e)) (λ e. omega (arith, is, e)) cause.2 (λ e. (actor, row, seen, limit, refl, (g, file, cause.1)))
-  by_outcome status (Some (fault.Long None)) r is ((g, file, (free, cause)), same) = absurd cause
-  by_outcome status (Some fault.Usage) r is k = absurd k
-  by_outcome status (Some (fault.Graph f)) r is k = other 2 status (Some (fault.Graph f)) is two k.1
-  by_outcome status (Some (fault.Cycle actors)) r is ((g, file, cause), same) = other 2 status (Some (fault.Cycle actors)) is two cause.1
-  by_outcome status (Some (fault.Infeasible send offset slack)) r is ((g, file, (free, cause)), same) = other 2 status (Some (fault.Infeasible send offset slack)) is two cause.1
-  by_outcome status (Some (fault.Sensor actor f)) r is ((g, file, (free, cause)), same) = other 3 status (Some (fault.Sensor actor f)) is three cause.2
-  by_outcome status (Some (fault.Read None)) r is k = other 7 status (Some (fault.Read None)) is seven k.1
-  by_outcome status (Some (fault.Read (Some actor))) r is ((g, file, (free, cause)), same) = other 7 status (Some (fault.Read (Some actor))) is seven cause.2
-  by_outcome status (Some fault.Memory) r is k = other 9 status (Some fault.Memory) is nine k.0
+      has : true ≡ false → ⊥
+      has e = cc
 
-pub headline : (status : ℕ) (o : Option Fault) (left : Leaves) (order : Option Order) (tells : Contents) (blocks : List Named) (r : Reading) (w : Writing) → status ≡ status_of o left.misses → Ends o left order tells blocks r w → IsHeadline status o left order tells blocks w
-headline status o left order tells blocks r w is ends workers log name words =
-    by_outcome left workers log tells blocks name w status o r is (subst (λ z. Ends o left z tells blocks r w) words ends)
+      message : (platform actor : ℕ) (tag : Tag) (reading limit : ℕ) → ◌≡◌ {A = Option Fault} (Some fault.Write) (Some (fault.LateMessage platform actor tag reading limit)) → ⊥
+      message platform actor tag reading limit e = cc
+
+      late : (actor row seen limit : ℕ) → ◌≡◌ {A = Option Fault} (Some fault.Write) (Some (fault.LateRow actor row seen limit)) → ⊥
+      late actor row seen limit e = cc
+  by_outcome (Some (fault.Long (Some platform))) ((g, file, (free, stop)), same) = record {
+    run = λ e. over_plan (Some (fault.Long (Some platform))) g file stop.plan stop.graph stop.run (λ h. absurd (all h)) (λ h. absurd (all h)) (λ h. absurd (part h)) (λ h. same) (λ h. stop.no_misses);
+    nothing_else = λ e. absurd (has e);
+    late_message = λ other actor tag reading limit e. absurd (message other actor tag reading limit e);
+    late_row = λ actor row seen limit e. absurd (late actor row seen limit e);
+  }
+    where
+      all : ◌≡◌ {A = Option Fault} (Some (fault.Long (Some platform))) None → ⊥
+      all h = cc
+
+      part : ◌≡◌ {A = Option Fault} (Some (fault.Long (Some platform))) (Some fault.Write) → ⊥
+      part h = cc
+
+      has : true ≡ false → ⊥
+      has e = cc
+
+      message : (other actor : ℕ) (tag : Tag) (reading limit : ℕ) → ◌≡◌ {A = Option Fault} (Some (fault.Long (Some platform))) (Some (fault.LateMessage other actor tag reading limit)) → ⊥
+      message other actor tag reading limit e = cc
+
+      late : (actor row seen limit : ℕ) → ◌≡◌ {A = Option Fault} (Some (fault.Long (Some platform))) (Some (fault.LateRow actor row seen limit)) → ⊥
+      late actor row seen limit e = cc
+  by_outcome (Some (fault.LateMessage platform actor tag reading limit)) ((g, file, (free, stop)), same) = record {
+    run = λ e. over_plan (Some (fault.LateMessage platform actor tag reading limit)) g file stop.plan stop.graph stop.run (λ h. absurd (all h)) (λ h. absurd (all h)) (λ h. absurd (part h)) (λ h. same) (λ h. stop.no_misses);
+    nothing_else = λ e. absurd (has e);
+    late_message = λ other receiver at read past e. never_paced left tells blocks r w g workers clock platform actor tag reading limit stop;
+    late_row = λ sensor row seen past e. absurd (late sensor row seen past e);
+  }
+    where
+      all : ◌≡◌ {A = Option Fault} (Some (fault.LateMessage platform actor tag reading limit)) None → ⊥
+      all h = cc
+
+      part : ◌≡◌ {A = Option Fault} (Some (fault.LateMessage platform actor tag reading limit)) (Some fault.Write) → ⊥
+      part h = cc
+
+      has : true ≡ false → ⊥
+      has e = cc
+
+      late : (sensor row seen past : ℕ) → ◌≡◌ {A = Option Fault} (Some (fault.LateMessage platform actor tag reading limit)) (Some (fault.LateRow sensor row seen past)) → ⊥
+      late sensor row seen past e = cc
+  by_outcome (Some (fault.LateRow actor row seen limit)) ((g, file, (free, cause)), same) = refused (fault.LateRow actor row seen limit) refl (cause.2, same) (λ platform receiver tag reading past e. absurd (message platform receiver tag reading past e)) rows
+    where
+      message : (platform receiver : ℕ) (tag : Tag) (reading past : ℕ) → ◌≡◌ {A = Option Fault} (Some (fault.LateRow actor row seen limit)) (Some (fault.LateMessage platform receiver tag reading past)) → ⊥
+      message platform receiver tag reading past e = cc
+
+      rows : (a b c d : ℕ) → Some (fault.LateRow actor row seen limit) ≡ Some (fault.LateRow a b c d) → GraphWith tells blocks name (λ h. SensorLate tells h a b c d)
+      rows a b c d e = (g, file, subst (λ z. SensorLate tells g a b c z) limits (subst (λ z. SensorLate tells g a b z limit) seens (subst (λ z. SensorLate tells g a z seen limit) rows_are (subst (λ z. SensorLate tells g z row seen limit) actors cause.1))))
+        where
+          actors : actor ≡ a
+          actors = cc
+
+          rows_are : row ≡ b
+          rows_are = cc
+
+          seens : seen ≡ c
+          seens = cc
+
+          limits : limit ≡ d
+          limits = cc
+  by_outcome (Some (fault.Long None)) ((g, file, (free, cause)), same) = absurd cause
+  by_outcome (Some fault.Usage) k = absurd k
+  by_outcome (Some (fault.Graph f)) k = refused (fault.Graph f) refl (k.1, k.2) (λ platform actor tag reading limit e. absurd cc) (λ actor row seen limit e. absurd cc)
+  by_outcome (Some (fault.Cycle actors)) ((g, file, cause), same) = refused (fault.Cycle actors) refl (cause.1, same) (λ platform actor tag reading limit e. absurd cc) (λ actor row seen limit e. absurd cc)
+  by_outcome (Some (fault.Infeasible send offset slack)) ((g, file, (free, cause)), same) = refused (fault.Infeasible send offset slack) refl (cause.1, same) (λ platform actor tag reading limit e. absurd cc) (λ actor row seen limit e. absurd cc)
+  by_outcome (Some (fault.Sensor actor f)) ((g, file, (free, cause)), same) = refused (fault.Sensor actor f) refl (cause.2, same) (λ platform actor tag reading limit e. absurd cc) (λ actor row seen limit e. absurd cc)
+  by_outcome (Some (fault.Read None)) k = refused (fault.Read None) refl (k.1, k.2) (λ platform actor tag reading limit e. absurd cc) (λ actor row seen limit e. absurd cc)
+  by_outcome (Some (fault.Read (Some actor))) ((g, file, (free, cause)), same) = refused (fault.Read (Some actor)) refl (cause.2, same) (λ platform actor tag reading limit e. absurd cc) (λ actor row seen limit e. absurd cc)
+  by_outcome (Some fault.Memory) k = refused fault.Memory refl k (λ platform actor tag reading limit e. absurd cc) (λ actor row seen limit e. absurd cc)
+
+pub headline : (o : Option Fault) (left : Leaves) (order : Option Order) (tells : Contents) (blocks : List Named) (r : Reading) (w : Writing) → Ends o left order tells blocks r w → IsHeadline o left order tells blocks w
+headline o left order tells blocks r w ends workers clock log name words = by_outcome left workers clock log tells blocks name r w o (subst (λ z. Ends o left z tells blocks r w) words ends)

@@ -11,3 +11,6 @@ pub mod Exact
 pub mod RunsAgreeing
 pub mod Finished
 pub mod Missed
+pub mod WentPaced
+pub mod OwnClocks
+pub mod StepsAgreeing

@@ -39,9 +39,9 @@ use Rattle.pt_made.proofs.Shape.{feasible, no_cycle}
 use Rattle.pt_made.proofs.Steady.{never_long}
 use Rattle.pt_made.proofs.Timely.{never_missed}
 use Rattle.pt_run.specs.declared.fault.Fault.{Fault}
-use Rattle.pt_run.specs.declared.fault.Fault.TheVariants as fault
 use Rattle.pt_turn.specs.All.{AreReady}
 use Rattle.pt_io.specs.Causes.{Appends}
+use Rattle.pt_words.specs.declared.orders.ClockChoice.{ClockChoice}
 use Rattle.pt_words.specs.Grammar as grammar
 use Rattle.pt_words.proofs.Numbers.{made_number}
 use Rattle.pt_run.specs.declared.words.Asked.{Asked}
@@ -168,10 +168,10 @@ made_number_in words order n k says is = by_request (grammar.order_of words) ref
   where
     by_request : (o : Option grammar.Request) → grammar.order_of words ≡ o → option_map order_by o ≡ Some (make n k) → n ≤ 100
     by_request None e h = absurd (none_some (make n k) h)
-    by_request (Some (grammar.run graph workers clock log)) e h = absurd (other graph workers log h)
+    by_request (Some (grammar.run graph workers clock log)) e h = absurd (other graph workers clock log h)
       where
-        other : (graph : List ℕ) (workers : ℕ) (log : Bool) → Some (over (Run workers log) graph) ≡ Some (make n k) → ⊥
-        other graph workers log h = cc
+        other : (graph : List ℕ) (workers : ℕ) (clock : ClockChoice) (log : Bool) → Some (over (Run workers clock log) graph) ≡ Some (make n k) → ⊥
+        other graph workers clock log h = cc
     by_request (Some (grammar.check graph)) e h = absurd (other graph h)
       where
         other : (graph : List ℕ) → Some (over Check graph) ≡ Some (make n k) → ⊥

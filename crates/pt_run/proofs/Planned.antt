@@ -1,5 +1,5 @@
 -- How a run over a graph ends, by how it ends over its plan.
-use Rattle.std.proofs.Common.{◌≡◌, ℕ, Bool, List, [], Option, Some, None, Result, Ok, Err, IfOk, IfErr, refl, sym, subst, ◌∙◌, ⊎_elim}
+use Rattle.std.proofs.Common.{◌≡◌, ℕ, Bool, List, [], Option, Some, None, Result, Ok, Err, IfOk, IfErr, refl, sym, subst, ⊎_elim}
 use Rattle.std.specs.Prelude.{IfSome, String, string_bytes}
 use Rattle.std.specs.declared.alloc.Global.{Global}
 use Rattle.pt_types.specs.declared.graph.Graph.{Graph}
@@ -10,7 +10,6 @@ use Rattle.pt_semantics.specs.Cycles.{NoFreeCycle}
 use Rattle.pt_semantics.specs.Offsets.{IsFeasible}
 use Rattle.pt_semantics.specs.Ranks.{AreLevels}
 use Rattle.pt_semantics.proofs.Acyclic.{levels_forbid_cycles}
-use Rattle.pt_offsets.specs.declared.fault.OffsetFault.TheVariants as offset
 use Rattle.pt_offsets.specs.Faults.{CauseOfPlan}
 use Rattle.pt_offsets.specs.declared.fault.PlanFault.{PlanFault}
 use Rattle.pt_offsets.specs.declared.fault.PlanFault.TheVariants as plan
@@ -26,46 +25,61 @@ use Rattle.pt_run.specs.declared.finished_run.Ran.{Ran}
 use Rattle.pt_run.specs.Runs.{CauseOfRun as CauseOfStop, IsRun}
 use Rattle.pt_run.specs.declared.fault.Fault.{Fault}
 use Rattle.pt_run.specs.declared.fault.Fault.TheVariants as fault
-use Rattle.pt_run.specs.declared.fault.Outcome.{Outcome}
+use Rattle.pt_io.specs.Told.{ClockView}
+use Rattle.pt_words.specs.declared.orders.ClockChoice.{ClockChoice}
+use Rattle.pt_run.specs.declared.outcome.Ending.{Ending}
 use Rattle.pt_run.specs.declared.words.Command.{Command}
 use Rattle.pt_run.specs.Telling.{Tells, TellsBy}
 use Rattle.pt_run.specs.declared.words.Command.TheVariants.{Check, Meaning, Run}
 use Rattle.pt_run.specs.Faults.{fault_of_plan, fault_of_rows}
 use Rattle.pt_run.specs.Written.{IsChecked, IsMeant, Leaves, Writes, nothing}
 use Rattle.pt_run.specs.Causes.{CauseOf, Writing}
-use Rattle.pt_run.specs.Texts.{CheckFails, EndsOver, EndsPlan, IsStopped, MeaningFails, OrMemory, WroteRun, left_by}
+use Rattle.pt_run.specs.Texts.{CheckFails, EndsOver, EndsPlan, IsStopped, MeaningFails, OrMemory, WroteRun, left_by, left_with, of_run}
+
+-- what a call leaves, with what the clocks showed before its run and after it
+abbrev over : Leaves → List ClockView → List ClockView → Leaves
+over left before now = record { misses = left.misses; platforms = left.platforms; before = before; now = now }
 
 -- a run that finished was written
-pub wrote_plan : (ran : Ran) (o : Outcome) (log : Bool) (tells : Contents) (plan : Parts) (r : Reading) (w : Writing) → IsRun tells plan log ran → WroteRun ran o w → EndsPlan o.fault (left_by o) log tells plan r w
-wrote_plan ran o log tells plan r w run h =
+pub wrote_plan : (ran : Ran) (o : Ending) (before now : List ClockView) (workers : ℕ) (clock : ClockChoice) (log : Bool) (tells : Contents) (plan : Parts) (r : Reading) (w : Writing) →
+    IsRun tells (record { choice = clock; workers = workers; before = before; now = now }) plan log ran → WroteRun ran o w → EndsPlan o.fault (left_with o before now) workers clock log tells plan r w
+wrote_plan ran o before now workers clock log tells plan r w run h =
     ⊎_elim
-    (λ all. subst (λ left. EndsPlan o.fault left log tells plan r w) (sym all.1) (subst (λ f. EndsPlan f (record { misses = ran.misses.items; platforms = ran.platforms.items }) log tells plan r w) (sym all.0) (string_bytes ran.text, run.0, all.2)))
-    (λ part. subst (λ left. EndsPlan o.fault left log tells plan r w) (sym part.1) (subst (λ f. EndsPlan f (record { misses = []; platforms = ran.platforms.items }) log tells plan r w) (sym part.0) (part.2, refl, ran.misses.items, string_bytes ran.text, run.0, part.3)))
+    (λ all. subst (λ left. EndsPlan o.fault (over left before now) workers clock log tells plan r w) (sym all.1) (subst (λ f. EndsPlan f (over (of_run ran.misses.items ran.platforms.items) before now) workers clock log tells plan r w) (sym all.0) (string_bytes ran.text, run.0, all.2)))
+    (λ part. subst (λ left. EndsPlan o.fault (over left before now) workers clock log tells plan r w) (sym part.1) (subst (λ f. EndsPlan f (over (of_run [] ran.platforms.items) before now) workers clock log tells plan r w) (sym part.0) (part.2, refl, ran.misses.items, string_bytes ran.text, run.0, part.3)))
     h
 
--- a run that did not finish is told
-pub stopped_plan : (stopped : RunFault) (o : Outcome) (log : Bool) (tells : Contents) (plan : Parts) (r : Reading) (w : Writing) → CauseOfStop stopped tells plan r → IsStopped stopped o → w.written_now ≡ w.written_before → EndsPlan o.fault (left_by o) log tells plan r w
-stopped_plan (stop.Rows f) o log tells plan r w cause h still = subst (λ left. EndsPlan o.fault left log tells plan r w) (sym h.1)
+-- a run that did not finish is reported
+pub stopped_plan : (stopped : RunFault) (o : Ending) (before now : List ClockView) (workers : ℕ) (clock : ClockChoice) (log : Bool) (tells : Contents) (plan : Parts) (r : Reading) (w : Writing) →
+    CauseOfStop stopped tells (record { choice = clock; workers = workers; before = before; now = now }) plan r → IsStopped stopped o → w.written_now ≡ w.written_before → EndsPlan o.fault (left_with o before now) workers clock log tells plan r w
+stopped_plan (stop.Rows f) o before now workers clock log tells plan r w cause h still = subst (λ left. EndsPlan o.fault (over left before now) workers clock log tells plan r w) (sym h.1)
     (⊎_elim
-    (λ (is : o.fault ≡ Some (fault_of_rows f)). subst (λ e. EndsPlan e nothing log tells plan r w) (sym is) (by_rows f cause))
-    (λ (is : o.fault ≡ Some fault.Memory). subst (λ e. EndsPlan e nothing log tells plan r w) (sym is) (refl, still))
+    (λ (is : o.fault ≡ Some (fault_of_rows f)). subst (λ e. EndsPlan e (over nothing before now) workers clock log tells plan r w) (sym is) (by_rows f cause))
+    (λ (is : o.fault ≡ Some fault.Memory). subst (λ e. EndsPlan e (over nothing before now) workers clock log tells plan r w) (sym is) ((refl, refl), still))
     h.0)
   where
-    by_rows : (e : RecordedFault) → CauseOfRows Refused e tells plan.graph [] r → EndsPlan (Some (fault_of_rows e)) nothing log tells plan r w
-    by_rows rows.Memory k = (refl, still)
-    by_rows (rows.Read sensor) k = (k, refl, still)
-    by_rows (rows.Sensor actor e) k = (k, refl, still)
-    by_rows (rows.Late actor row seen limit) k = (k.1, refl, still)
-stopped_plan (stop.Long platform platforms) o log tells plan r w cause h still =
+    by_rows : (e : RecordedFault) → CauseOfRows Refused e tells plan.graph [] r → EndsPlan (Some (fault_of_rows e)) (over nothing before now) workers clock log tells plan r w
+    by_rows rows.Memory k = ((refl, refl), still)
+    by_rows (rows.Read sensor) k = (k, (refl, refl), still)
+    by_rows (rows.Sensor actor e) k = (k, (refl, refl), still)
+    by_rows (rows.Late actor row seen limit) k = (k.1, (refl, refl), still)
+stopped_plan (stop.Long platform platforms) o before now workers clock log tells plan r w cause h still =
     ⊎_elim
-    (λ long. subst (λ left. EndsPlan o.fault left log tells plan r w) (sym long.1) (subst (λ e. EndsPlan e (record { misses = []; platforms = platforms.items }) log tells plan r w) (sym long.0) (cause, refl, still)))
-    (λ memory. subst (λ left. EndsPlan o.fault left log tells plan r w) (sym memory.1) (subst (λ e. EndsPlan e nothing log tells plan r w) (sym memory.0) (refl, still)))
+    (λ long. subst (λ left. EndsPlan o.fault (over left before now) workers clock log tells plan r w) (sym long.1) (subst (λ e. EndsPlan e (over (of_run [] platforms.items) before now) workers clock log tells plan r w) (sym long.0) (cause, refl, still)))
+    (λ memory. subst (λ left. EndsPlan o.fault (over left before now) workers clock log tells plan r w) (sym memory.1) (subst (λ e. EndsPlan e (over nothing before now) workers clock log tells plan r w) (sym memory.0) ((refl, refl), still)))
     h
-stopped_plan stop.Memory o log tells plan r w cause h still = subst (λ left. EndsPlan o.fault left log tells plan r w) (sym h.1) (subst (λ e. EndsPlan e nothing log tells plan r w) (sym h.0) (refl, still))
+stopped_plan (stop.Late platform actor tag reading limit platforms) o before now workers clock log tells plan r w cause h still =
+    ⊎_elim
+    (λ late. subst (λ left. EndsPlan o.fault (over left before now) workers clock log tells plan r w) (sym late.1) (subst (λ e. EndsPlan e (over (of_run [] platforms.items) before now) workers clock log tells plan r w) (sym late.0) (cause, refl, still)))
+    (λ memory. subst (λ left. EndsPlan o.fault (over left before now) workers clock log tells plan r w) (sym memory.1) (subst (λ e. EndsPlan e (over nothing before now) workers clock log tells plan r w) (sym memory.0) ((refl, refl), still)))
+    h
+stopped_plan stop.Memory o before now workers clock log tells plan r w cause h still =
+    subst (λ left. EndsPlan o.fault (over left before now) workers clock log tells plan r w) (sym h.1) (subst (λ e. EndsPlan e (over nothing before now) workers clock log tells plan r w) (sym h.0) ((refl, refl), still))
 
 -- over a plan, so over its graph
-pub ends_plan : (o : Option Fault) (left : Leaves) (workers : ℕ) (log : Bool) (tells : Contents) (g : Graph) (plan : Parts) (r : Reading) (w : Writing) → IsAdmitted plan → plan.graph ≡ g → EndsPlan o left log tells plan r w → EndsOver o left (Run workers log) tells g r w
-ends_plan o left workers log tells g plan r w admitted is ends = by_outcome o ends
+pub ends_plan : (o : Option Fault) (left : Leaves) (workers : ℕ) (clock : ClockChoice) (log : Bool) (tells : Contents) (g : Graph) (plan : Parts) (r : Reading) (w : Writing) → IsAdmitted plan → plan.graph ≡ g →
+    EndsPlan o left workers clock log tells plan r w → EndsOver o left (Run workers clock log) tells g r w
+ends_plan o left workers clock log tells g plan r w admitted is ends = by_outcome o ends
   where
     free : NoFreeCycle g
     free = subst NoFreeCycle is admitted.no_free_cycle
@@ -73,11 +87,12 @@ ends_plan o left workers log tells g plan r w admitted is ends = by_outcome o en
     feasible : IsFeasible g
     feasible = subst IsFeasible is admitted.feasible
 
-    by_outcome : (e : Option Fault) → EndsPlan e left log tells plan r w → EndsOver e left (Run workers log) tells g r w
+    by_outcome : (e : Option Fault) → EndsPlan e left workers clock log tells plan r w → EndsOver e left (Run workers clock log) tells g r w
     by_outcome None h = (h.0, (free, record { plan = plan; graph = is; finished = h.1 }), h.2)
     by_outcome (Some fault.Write) h = (h.0, h.1, h.2, h.3, (free, record { plan = plan; graph = is; finished = h.4 }), h.5)
     by_outcome (Some fault.Memory) h = h
-    by_outcome (Some (fault.Long (Some platform))) h = ((free, record { plan = plan; graph = is; run = h.0; none_told = h.1 }), h.2)
+    by_outcome (Some (fault.Long (Some platform))) h = ((free, record { plan = plan; graph = is; run = h.0; no_misses = h.1 }), h.2)
+    by_outcome (Some (fault.LateMessage platform actor tag reading limit)) h = ((free, record { plan = plan; graph = is; run = h.0; no_misses = h.1 }), h.2)
     by_outcome (Some (fault.Long None)) h = absurd h
     by_outcome (Some (fault.Read (Some actor))) h = ((free, (feasible, subst (λ z. SensorUnread Refused tells z actor [] r) is h.0, h.1)), h.2)
     by_outcome (Some (fault.Read None)) h = absurd h
@@ -89,20 +104,21 @@ ends_plan o left workers log tells g plan r w admitted is ends = by_outcome o en
     by_outcome (Some (fault.Infeasible send offset slack)) h = absurd h
 
 -- a graph without a plan was reported
-pub unplanned : (f : PlanFault) (o : Outcome) (workers : ℕ) (log : Bool) (tells : Contents) (g : Graph) (r : Reading) (w : Writing) → CauseOfPlan f g → OrMemory o.fault (fault_of_plan f) → left_by o ≡ nothing → w.written_now ≡ w.written_before → EndsOver o.fault (left_by o) (Run workers log) tells g r w
-unplanned f o workers log tells g r w cause is none still = subst (λ left. EndsOver o.fault left (Run workers log) tells g r w) (sym none) (⊎_elim
-    (λ (it : o.fault ≡ Some (fault_of_plan f)). subst (λ e. EndsOver e nothing (Run workers log) tells g r w) (sym it) (by_fault f cause))
-    (λ (it : o.fault ≡ Some fault.Memory). subst (λ e. EndsOver e nothing (Run workers log) tells g r w) (sym it) (refl, still))
+pub unplanned : (f : PlanFault) (o : Ending) (before now : List ClockView) (workers : ℕ) (clock : ClockChoice) (log : Bool) (tells : Contents) (g : Graph) (r : Reading) (w : Writing) →
+    CauseOfPlan f g → OrMemory o.fault (fault_of_plan f) → left_by o ≡ nothing → w.written_now ≡ w.written_before → EndsOver o.fault (left_with o before now) (Run workers clock log) tells g r w
+unplanned f o before now workers clock log tells g r w cause is none still = subst (λ left. EndsOver o.fault (over left before now) (Run workers clock log) tells g r w) (sym none) (⊎_elim
+    (λ (it : o.fault ≡ Some (fault_of_plan f)). subst (λ e. EndsOver e (over nothing before now) (Run workers clock log) tells g r w) (sym it) (by_fault f cause))
+    (λ (it : o.fault ≡ Some fault.Memory). subst (λ e. EndsOver e (over nothing before now) (Run workers clock log) tells g r w) (sym it) ((refl, refl), still))
     is)
   where
-    by_fault : (e : PlanFault) → CauseOfPlan e g → EndsOver (Some (fault_of_plan e)) nothing (Run workers log) tells g r w
-    by_fault (plan.Cycle actors) k = ((k, refl), still)
-    by_fault (plan.Infeasible send offset slack) k = ((k.0, (k.1, refl)), still)
-    by_fault plan.Memory k = (refl, still)
+    by_fault : (e : PlanFault) → CauseOfPlan e g → EndsOver (Some (fault_of_plan e)) (over nothing before now) (Run workers clock log) tells g r w
+    by_fault (plan.Cycle actors) k = ((k, (refl, refl)), still)
+    by_fault (plan.Infeasible send offset slack) k = ((k.0, (k.1, (refl, refl))), still)
+    by_fault plan.Memory k = ((refl, refl), still)
 
 -- `check` over a graph that has levels
 pub checked : (g : Graph) (level : ℕ → ℕ) (made : Result (String Global) Fault) → AreLevels g level → IfOk made (λ text. IsChecked g (string_bytes text)) → IfOk made (λ text. (tells : Contents) → Writes Check tells g nothing (string_bytes text))
-checked g level (Ok text) levels h = λ tells. (levels_forbid_cycles g level levels, (refl, h))
+checked g level (Ok text) levels h = λ tells. (levels_forbid_cycles g level levels, ((refl, refl), h))
 checked g level (Err f) levels h = tt
 
 pub check_fails : (g : Graph) (level : ℕ → ℕ) (made : Result (String Global) Fault) → AreLevels g level → IfErr made (λ f. CheckFails f g) → IfErr made (λ f. (tells : Contents) (r : Reading) → CauseOf Check f nothing tells g [] r)
@@ -113,20 +129,21 @@ check_fails g level (Err f) levels h = λ tells r. by_fault f h tells r
     free = levels_forbid_cycles g level levels
 
     by_fault : (e : Fault) → CheckFails e g → (tells : Contents) (r : Reading) → CauseOf Check e nothing tells g [] r
-    by_fault (fault.Infeasible send offset slack) k tells r = (free, (k, refl))
-    by_fault fault.Memory k tells r = refl
+    by_fault (fault.Infeasible send offset slack) k tells r = (free, (k, (refl, refl)))
+    by_fault fault.Memory k tells r = (refl, refl)
     by_fault (fault.Cycle actors) k tells r = absurd k
     by_fault fault.Usage k tells r = absurd k
     by_fault (fault.Graph e) k tells r = absurd k
     by_fault (fault.Sensor actor e) k tells r = absurd k
     by_fault (fault.LateRow actor row seen limit) k tells r = absurd k
+    by_fault (fault.LateMessage platform actor tag reading limit) k tells r = absurd k
     by_fault (fault.Long platform) k tells r = absurd k
     by_fault (fault.Read sensor) k tells r = absurd k
     by_fault fault.Write k tells r = absurd k
 
 -- `meaning` over such a graph
 pub meant : (tells : Contents) (g : Graph) (level : ℕ → ℕ) (made : Result (String Global) Fault) → AreLevels g level → IfOk made (λ text. IsMeant tells g (string_bytes text)) → IfOk made (λ text. Writes Meaning tells g nothing (string_bytes text))
-meant tells g level (Ok text) levels h = (levels_forbid_cycles g level levels, (refl, h))
+meant tells g level (Ok text) levels h = (levels_forbid_cycles g level levels, ((refl, refl), h))
 meant tells g level (Err f) levels h = tt
 
 pub meaning_fails : (tells : Contents) (g : Graph) (r : Reading) (level : ℕ → ℕ) (made : Result (String Global) Fault) → AreLevels g level → IfErr made (λ f. MeaningFails f tells g r) → IfErr made (λ f. CauseOf Meaning f nothing tells g [] r)
@@ -137,16 +154,17 @@ meaning_fails tells g r level (Err f) levels h = by_fault f h
     free = levels_forbid_cycles g level levels
 
     by_fault : (e : Fault) → MeaningFails e tells g r → CauseOf Meaning e nothing tells g [] r
-    by_fault fault.Memory k = refl
+    by_fault fault.Memory k = (refl, refl)
     by_fault (fault.Cycle actors) k = absurd k
-    by_fault (fault.Infeasible send offset slack) k = (free, (k, refl))
-    by_fault fault.Usage k = (free, (k, refl))
-    by_fault (fault.Graph e) k = (free, (k, refl))
-    by_fault (fault.Sensor actor e) k = (free, (k, refl))
-    by_fault (fault.LateRow actor row seen limit) k = (free, (k, refl))
-    by_fault (fault.Long platform) k = (free, (k, refl))
-    by_fault (fault.Read sensor) k = (free, (k, refl))
-    by_fault fault.Write k = (free, (k, refl))
+    by_fault (fault.Infeasible send offset slack) k = (free, (k, (refl, refl)))
+    by_fault fault.Usage k = (free, (k, (refl, refl)))
+    by_fault (fault.Graph e) k = (free, (k, (refl, refl)))
+    by_fault (fault.Sensor actor e) k = (free, (k, (refl, refl)))
+    by_fault (fault.LateRow actor row seen limit) k = (free, (k, (refl, refl)))
+    by_fault (fault.LateMessage platform actor tag reading limit) k = (free, (k, (refl, refl)))
+    by_fault (fault.Long platform) k = (free, (k, (refl, refl)))
+    by_fault (fault.Read sensor) k = (free, (k, (refl, refl)))
+    by_fault fault.Write k = (free, (k, (refl, refl)))
 
 -- what is told over a graph that was read from the file of that name
 pub told_file : (c : Command) (outcome : Option Fault) (misses : List Miss) (tells : Contents) (blocks : List Named) (name : List ℕ) (g : Graph) (w : Writing) → IfSome (tells name) (λ bytes. graph_of blocks bytes ≡ Ok g) → Tells outcome misses (Some g) w → TellsBy outcome misses (Some (c, name)) tells blocks w
@@ -160,5 +178,6 @@ told_file c (Some (fault.Cycle actors)) misses tells blocks name g w read h = (g
 told_file c (Some (fault.Infeasible send offset slack)) misses tells blocks name g w read h = (g, read, h)
 told_file c (Some (fault.Sensor actor f)) misses tells blocks name g w read h = (g, read, h)
 told_file c (Some (fault.LateRow actor row seen limit)) misses tells blocks name g w read h = (g, read, h)
+told_file c (Some (fault.LateMessage platform actor tag reading limit)) misses tells blocks name g w read h = (g, read, h)
 told_file c (Some (fault.Long platform)) misses tells blocks name g w read h = (g, read, h)
 told_file c (Some fault.Write) misses tells blocks name g w read h = (g, read, h)

@@ -15,7 +15,7 @@ use Rattle.pt_semantics.specs.Meaning.{IsMeaning}
 use Rattle.pt_semantics.specs.Ranks.{AreRanks}
 use Rattle.pt_semantics.specs.Tables.{tables_text}
 use Rattle.pt_semantics.proofs.Acyclic.{ranks_are_one}
-use Rattle.pt_semantics.proofs.Lookups.{none_some}
+use Rattle.pt_semantics.proofs.Lookups.{none_some, same_some}
 use Rattle.pt_laws.proofs.Unique.{meaning_is_one}
 use Rattle.pt_causality.specs.Ranked.{level_of, rank_of}
 use Rattle.pt_offsets.specs.Plans.{Parts}
@@ -31,7 +31,9 @@ use Rattle.pt_sensors.specs.Asked.{Contents}
 use Rattle.pt_sensors.specs.Places.{of_run}
 use Rattle.pt_sensors.specs.Recorded.{AreRows, RowsOfKind}
 use Rattle.pt_run.specs.RunsAgreeing.{FinishedRunsAgree, RunsAgree, TellsSensors}
-use Rattle.pt_run.specs.Runs.{IsFinishedRun, log_if}
+use Rattle.pt_turn.specs.declared.fault.TurnFault.{TurnFault}
+use Rattle.pt_run.specs.Readings.{Clocking}
+use Rattle.pt_run.specs.Runs.{IsFinishedRun, RunsPaced, log_if}
 
 -- a file that is told has one list of rows
 same_ok : (rows more : List Row) → ◌≡◌ {A = Result (List Row) RowFault} (Ok rows) (Ok more) → rows ≡ more
@@ -50,14 +52,37 @@ pub rows_are_one : (tells : Contents) (g : Graph) (rows more : ℕ → List Row)
 rows_are_one tells g rows more told h k = fun_ext (λ a. kind_rows tells (kind_of g a) (rows a) (more a) (told a) (h a) (k a))
 
 -- the rows of the other run
-same_rows : (tells : Contents) (g other : Graph) (rows more : ℕ → List Row) → g ≡ other → TellsSensors tells g → AreRows tells g rows → AreRows tells other more → of_run other more ≡ of_run g rows
+pub same_rows : (tells : Contents) (g other : Graph) (rows more : ℕ → List Row) → g ≡ other → TellsSensors tells g → AreRows tells g rows → AreRows tells other more → of_run other more ≡ of_run g rows
 same_rows tells g other rows more same told h k =
     ap₂ of_run (sym same) (sym (rows_are_one tells g rows more told h (subst (λ z. AreRows tells z more) (sym same) k)))
 
+-- the platform that stopped a paced run
+abbrev stop_in : Option (ℕ × TurnFault) → Option ℕ
+stop_in None = None
+stop_in (Some f) = Some f.0
+
+have_run : (plan : Parts) (rows : ℕ → List Row) (platforms : List PlatformView) (fault : Option (ℕ × TurnFault)) → RunsPaced plan rows platforms fault → HaveRun plan (level_of plan.ranks) rows platforms (stop_in fault)
+have_run plan rows platforms None run = run
+have_run plan rows platforms (Some f) run = run.1
+
+-- its fault is that it needed more claims than it may make
+same_stop : (plan other : Parts) (rows more : ℕ → List Row) (platforms others : List PlatformView) (fault stop : Option (ℕ × TurnFault)) → RunsPaced plan rows platforms fault → RunsPaced other more others stop → stop_in fault ≡ stop_in stop → fault ≡ stop
+same_stop plan other rows more platforms others None None h k e = refl
+same_stop plan other rows more platforms others None (Some g) h k e = absurd (none_some g.0 e)
+same_stop plan other rows more platforms others (Some f) None h k e = absurd (none_some f.0 (sym e))
+same_stop plan other rows more platforms others (Some (i, f)) (Some (j, g)) (h, run) (k, run2) e =
+    let fault : f ≡ g = h ∙ sym k in
+    let number : i ≡ j = same_some i j e in
+    λ x. Some (number x, fault x)
+
 pub runs_agree : RunsAgree
-runs_agree tells plan other platforms others fault stop same told h k =
-    paced_runs_agree plan other (of_run plan.graph h.rows) platforms others fault stop same h.kept
-    (subst (λ rows. HaveRun other (level_of other.ranks) rows others stop) (same_rows tells plan.graph other.graph h.rows k.rows same told h.sensors k.sensors) k.kept)
+runs_agree tells c d plan other platforms others fault stop one two same told h k =
+    let run : HaveRun plan (level_of plan.ranks) (of_run plan.graph h.rows) platforms (stop_in fault) = have_run plan (of_run plan.graph h.rows) platforms fault (h.went.paced one) in
+    let run2 : HaveRun other (level_of other.ranks) (of_run other.graph k.rows) others (stop_in stop) = have_run other (of_run other.graph k.rows) others stop (k.went.paced two) in
+    let agree =
+    paced_runs_agree plan other (of_run plan.graph h.rows) platforms others (stop_in fault) (stop_in stop) same run
+    (subst (λ rows. HaveRun other (level_of other.ranks) rows others (stop_in stop)) (same_rows tells plan.graph other.graph h.rows k.rows same told h.sensors k.sensors) run2) in
+    (agree.0, same_stop plan other (of_run plan.graph h.rows) (of_run other.graph k.rows) platforms others fault stop (h.went.paced one) (k.went.paced two) agree.1)
 
 -- the histories one by one are the list of them
 same_list : (ps os : List PlatformView) → length ps ≡ length os → ((i : ℕ) → histories_of ps i ≡ histories_of os i) → histories ps ≡ histories os
@@ -92,8 +117,8 @@ record Shows (tells : Contents) (g : Graph) (log : Bool) (platforms : List Platf
   graphs : (i : ℕ) (v : PlatformView) → slice_get platforms i ≡ Some v → v.plan.graph ≡ g
   count : length platforms ≡ length g.platforms
 
-shows : (tells : Contents) (plan : Parts) (log : Bool) (platforms : List PlatformView) (misses : List Miss) (text : List ℕ) → IsFinishedRun tells plan log platforms misses text → Shows tells plan.graph log platforms misses text
-shows tells plan log platforms misses text h = record {
+shows : (tells : Contents) (c : Clocking) (plan : Parts) (log : Bool) (platforms : List PlatformView) (misses : List Miss) (text : List ℕ) → IsFinishedRun tells c plan log platforms misses text → Shows tells plan.graph log platforms misses text
+shows tells c plan log platforms misses text h = record {
   rank = rank_of plan.ranks;
   ranks = h.run.admitted.ranks;
   rows = h.run.rows;
@@ -102,8 +127,8 @@ shows tells plan log platforms misses text h = record {
   meaning = h.meaning;
   written = h.written;
   missed = h.missed;
-  graphs = λ i v at. ap (λ (p : Parts). p.graph) (h.run.kept.all.plans i v at);
-  count = h.run.kept.all.count;
+  graphs = λ i v at. ap (λ (p : Parts). p.graph) (h.run.went.kept.all.plans i v at);
+  count = h.run.went.kept.all.count;
 }
 
 module _ (tells : Contents) (g : Graph) (log : Bool) (platforms others : List PlatformView) (misses missed : List Miss) (text written : List ℕ) (told : TellsSensors tells g) (same : (i : ℕ) → histories_of platforms i ≡ histories_of others i)
@@ -126,9 +151,14 @@ module _ (tells : Contents) (g : Graph) (log : Bool) (platforms others : List Pl
   both : (text ≡ written) × (misses ≡ missed)
   both = (texts, all_missed)
 
+-- finished runs with the same histories
+pub texts_agree : (tells : Contents) (c d : Clocking) (plan other : Parts) (log : Bool) (platforms others : List PlatformView) (misses missed : List Miss) (text written : List ℕ) → plan.graph ≡ other.graph → TellsSensors tells plan.graph → ((i : ℕ) → histories_of platforms i ≡ histories_of others i) →
+    IsFinishedRun tells c plan log platforms misses text → IsFinishedRun tells d other log others missed written → (text ≡ written) × (misses ≡ missed)
+texts_agree tells c d plan other log platforms others misses missed text written same told alike h k =
+    both tells plan.graph log platforms others misses missed text written told alike
+    (shows tells c plan log platforms misses text h)
+    (subst (λ g. Shows tells g log others missed written) (sym same) (shows tells d other log others missed written k))
+
 pub finished_agree : FinishedRunsAgree
-finished_agree tells plan other log platforms others misses missed text written same told h k =
-    both tells plan.graph log platforms others misses missed text written told
-    (runs_agree tells plan other platforms others None None same told h.run k.run).0
-    (shows tells plan log platforms misses text h)
-    (subst (λ g. Shows tells g log others missed written) (sym same) (shows tells other log others missed written k))
+finished_agree tells c d plan other log platforms others misses missed text written one two same told h k =
+    texts_agree tells c d plan other log platforms others misses missed text written same told (runs_agree tells c d plan other platforms others None None one two same told h.run k.run).0 h k

@@ -5,6 +5,7 @@ use Rattle.pt_blocks.specs.declared.blocks.Named.{Named}
 use Rattle.pt_graph.specs.GraphOf.{graph_of}
 use Rattle.pt_turn.specs.All.{histories_of}
 use Rattle.pt_sensors.specs.Asked.{Contents}
+use Rattle.pt_words.specs.declared.orders.ClockChoice.TheVariants.{Paced}
 use Rattle.pt_run.specs.RunsAgreeing.{TellsSensors}
 use Rattle.pt_run.specs.declared.words.Command.TheVariants.{Run}
 use Rattle.pt_run.specs.Written.{Leaves, Ran}
@@ -15,9 +16,9 @@ pub record TellsAll (tells : Contents) (blocks : List Named) (name : List ℕ) :
   pub told : tells name ≡ Some bytes
   pub files : (g : Graph) → graph_of blocks bytes ≡ Ok g → TellsSensors tells g
 
--- the text of a run, the log included, its misses and its histories depend on these files alone, not on the number of
+-- the text of a paced run, the log included, its misses and its histories depend on these files alone, not on the number of
 -- workers
 abbrev pub RunsAgree : Type 0
 RunsAgree = (workers others : ℕ) (log : Bool) (tells : Contents) (blocks : List Named) (name : List ℕ) (left other : Leaves) (text written : List ℕ) → TellsAll tells blocks name →
-    Ran (Run workers log) tells blocks name left text → Ran (Run others log) tells blocks name other written →
+    Ran (Run workers Paced log) tells blocks name left text → Ran (Run others Paced log) tells blocks name other written →
     (text ≡ written) × (left.misses ≡ other.misses) × ((i : ℕ) → histories_of left.platforms i ≡ histories_of other.platforms i)

@@ -1,6 +1,6 @@
--- The table of causes: for each answer, why it came. The order matters: an answer further down has none of the causes
--- before it.
-use Rattle.std.specs.Prelude.{◌≡◌, ◌≢◌, ◌↔◌, ℕ, ℤ, List, [], ◌∷◌, Option, Some, None, Err, IfSome, flat_map}
+-- The table of causes: for each answer, why it came. The order matters: of a graph, an answer further down has none of the
+-- causes before it.
+use Rattle.std.specs.Prelude.{◌≡◌, ◌≢◌, ◌↔◌, ℕ, ℤ, List, [], ◌∷◌, Option, Some, None, Err, IfSome, flat_map, slice_get}
 use Rattle.pt_io.specs.Causes.{Rose}
 use Rattle.pt_types.specs.declared.graph.Graph.{Graph}
 use Rattle.pt_blocks.specs.declared.blocks.Named.{Named}
@@ -10,16 +10,21 @@ use Rattle.pt_causality.specs.Ranked.{IsFreeCycle}
 use Rattle.pt_offsets.specs.Margins.{IsFirstInfeasible}
 use Rattle.pt_sensors.specs.declared.fault.RowFault.{RowFault}
 use Rattle.pt_semantics.specs.Cycles.{NoFreeCycle}
+use Rattle.pt_semantics.specs.Offsets.{IsFeasible}
 use Rattle.pt_monitors.specs.Platforms.{missed_by}
 use Rattle.pt_sensors.specs.declared.recorded_fault.LateRows.{LateRows}
 use Rattle.pt_sensors.specs.declared.recorded_fault.LateRows.TheVariants.{Refused, Taken}
 use Rattle.pt_sensors.specs.Asked.{Contents, ReadFails, Reading}
 use Rattle.pt_sensors.specs.Recorded.{SensorFails, SensorLate, SensorUnread}
+use Rattle.pt_tags.specs.declared.tag.Tag.{Tag}
+use Rattle.pt_turn.specs.Platforms.{PlatformView, state_at}
+use Rattle.pt_turn.specs.Running.{ShowsLate, ShowsLong}
+use Rattle.pt_words.specs.declared.orders.ClockChoice.TheVariants.{Paced}
 use Rattle.pt_run.specs.declared.fault.Fault.{Fault}
 use Rattle.pt_run.specs.declared.fault.Fault.TheVariants as fault
 use Rattle.pt_run.specs.declared.words.Command.{Command}
 use Rattle.pt_run.specs.declared.words.Command.TheVariants.{Run, Check, Meaning}
-use Rattle.pt_run.specs.Causes.{MeansLong, RunsLong, Writing}
+use Rattle.pt_run.specs.Causes.{MeansLong, Writing}
 use Rattle.pt_run.specs.Words.{Order, over, make}
 use Rattle.pt_run.specs.Written.{GraphWith, Leaves}
 
@@ -35,9 +40,27 @@ OverGraph None tells blocks Fact = ⊥
 OverGraph (Some (make number workers)) tells blocks Fact = ⊥
 OverGraph (Some (over command name)) tells blocks Fact = GraphWith tells blocks name (Fact command name)
 
+-- a run, by whatever clock
+abbrev pub IsRunCommand : Command → Type 0
+IsRunCommand (Run workers clock log) = Unit {0}
+IsRunCommand _ = ⊥
+
+-- nothing refuses the graph before its sensors' files are read; `meaning` accepts senders that can't send in time
+abbrev pub IsAccepted : Command → Graph → Type 0
+IsAccepted command g = NoFreeCycle g × (command ≢ Meaning → IsFeasible g)
+
+-- a run by a clock of its own, and not by the paced one
+abbrev pub IsNotPaced : Command → Type 0
+IsNotPaced (Run workers clock log) = clock ≢ Paced
+IsNotPaced _ = ⊥
+
+-- a fact holds of this platform of those that are left
+abbrev pub OnPlatform : Leaves → ℕ → (PlatformView → Type 0) → Type 0
+OnPlatform left platform Fact = (v : PlatformView) × (slice_get left.platforms platform ≡ Some v) × Fact v
+
 -- a command that reads the sensors' files: `run`, which refuses late rows, or `meaning`, which accepts them
 abbrev pub OfRows : Command → (LateRows → Type 0) → Type 0
-OfRows (Run workers log) Fact = Fact Refused
+OfRows (Run workers clock log) Fact = Fact Refused
 OfRows Meaning Fact = Fact Taken
 OfRows Check Fact = ⊥
 
@@ -49,15 +72,18 @@ pub record CauseTable (status : ℕ) (outcome : Option Fault) (left : Leaves) (o
   pub graph_unread : outcome ≡ Some (fault.Read None) → OverFile order (λ name. ReadFails [] name r)
   pub graph : (f : GraphFault) → outcome ≡ Some (fault.Graph f) → OverFile order (λ name. IfSome (tells name) (λ bytes. graph_of blocks bytes ≡ Err f))
   pub cycle : (actors : List ℕ) → outcome ≡ Some (fault.Cycle actors) → OverGraph order tells blocks (λ command name g. IsFreeCycle g actors)
-  -- that sender is the first that can't send in time
-  pub infeasible : (send : ℕ) (offset : ℤ) (slack : ℕ) → outcome ≡ Some (fault.Infeasible send offset slack) → OverGraph order tells blocks (λ command name g. NoFreeCycle g × IsFirstInfeasible g send offset slack)
+  -- that sender is the first that can't send in time, which `meaning` accepts
+  pub infeasible : (send : ℕ) (offset : ℤ) (slack : ℕ) → outcome ≡ Some (fault.Infeasible send offset slack) → OverGraph order tells blocks (λ command name g. (command ≢ Meaning) × NoFreeCycle g × IsFirstInfeasible g send offset slack)
   -- that sensor is the first without rows: its file could not be read, the file has that fault, or that row is late
-  pub sensor_unread : (actor : ℕ) → outcome ≡ Some (fault.Read (Some actor)) → OverGraph order tells blocks (λ command name g. OfRows command (λ late. SensorUnread late tells g actor (name ∷ []) r))
-  pub sensor : (actor : ℕ) (f : RowFault) → outcome ≡ Some (fault.Sensor actor f) → OverGraph order tells blocks (λ command name g. OfRows command (λ late. SensorFails late tells g actor f))
-  pub late_row : (actor row seen limit : ℕ) → outcome ≡ Some (fault.LateRow actor row seen limit) → OverGraph order tells blocks (λ command name g. SensorLate tells g actor row seen limit)
-  -- that platform needed more claims than it may make, as its recorded turns show; or the meaning is too long
-  pub long : (platform : ℕ) → outcome ≡ Some (fault.Long (Some platform)) → OverGraph order tells blocks (λ command name g. RunsLong tells g left platform)
-  pub long_meaning : outcome ≡ Some (fault.Long None) → OverGraph order tells blocks (λ command name g. MeansLong tells g)
+  pub sensor_unread : (actor : ℕ) → outcome ≡ Some (fault.Read (Some actor)) → OverGraph order tells blocks (λ command name g. IsAccepted command g × OfRows command (λ late. SensorUnread late tells g actor (name ∷ []) r))
+  pub sensor : (actor : ℕ) (f : RowFault) → outcome ≡ Some (fault.Sensor actor f) → OverGraph order tells blocks (λ command name g. IsAccepted command g × OfRows command (λ late. SensorFails late tells g actor f))
+  pub late_row : (actor row seen limit : ℕ) → outcome ≡ Some (fault.LateRow actor row seen limit) → OverGraph order tells blocks (λ command name g. IsRunCommand command × IsAccepted command g × SensorLate tells g actor row seen limit)
+  -- the recorded turns of that platform end with that late message, which no paced run meets; or they made all claims that a
+  -- platform may make, and a unit is still safe; or the meaning is too long
+  pub late_message : (platform actor : ℕ) (tag : Tag) (reading limit : ℕ) → outcome ≡ Some (fault.LateMessage platform actor tag reading limit) →
+      OverGraph order tells blocks (λ command name g. IsNotPaced command × IsAccepted command g × OnPlatform left platform (λ v. ShowsLate g v.turns actor tag reading limit))
+  pub long : (platform : ℕ) → outcome ≡ Some (fault.Long (Some platform)) → OverGraph order tells blocks (λ command name g. IsRunCommand command × IsAccepted command g × OnPlatform left platform (λ v. ShowsLong g (state_at v)))
+  pub long_meaning : outcome ≡ Some (fault.Long None) → OverGraph order tells blocks (λ command name g. (command ≡ Meaning) × NoFreeCycle g × MeansLong tells g)
   -- the sink's count of faults rose; with any other fault nothing is written
   pub write : outcome ≡ Some fault.Write → Rose w.before w.now
   pub unwritten : (f : Fault) → outcome ≡ Some f → f ≢ fault.Write → w.written_now ≡ w.written_before

@@ -1,5 +1,5 @@
--- Completeness: the status of a run in which no read, write or allocation fails.
-use Rattle.std.specs.Prelude.{◌≡◌, ◌<◌, ◌≤◌, ◌⊎◌, ℕ, Bool, List, Option, Ok, Some, length}
+-- Completeness: how a run ends if no read and no write fails.
+use Rattle.std.specs.Prelude.{◌≡◌, ◌<◌, ◌≤◌, ◌⊎◌, ℕ, Bool, List, Option, None, Ok, Some, flat_map, length}
 use Rattle.pt_io.specs.Causes.{Rose}
 use Rattle.pt_tags.specs.declared.tag.Tag.{Tag}
 use Rattle.pt_types.specs.declared.graph.Graph.{Graph}
@@ -16,9 +16,17 @@ use Rattle.pt_sensors.specs.declared.recorded_fault.LateRows.TheVariants.{Refuse
 use Rattle.pt_sensors.specs.Asked.{Contents, Reading}
 use Rattle.pt_sensors.specs.Recorded.{AllPass, AreRows}
 use Rattle.pt_run.specs.RunsAgreeing.{TellsSensors}
+use Rattle.pt_turn.specs.Platforms.{state_at}
+use Rattle.pt_turn.specs.Running.{ShowsLate, ShowsLong}
+use Rattle.pt_monitors.specs.Platforms.{missed_by}
+use Rattle.pt_words.specs.declared.orders.ClockChoice.{ClockChoice}
+use Rattle.pt_words.specs.declared.orders.ClockChoice.TheVariants.{Paced}
+use Rattle.pt_run.specs.declared.fault.Fault.{Fault}
+use Rattle.pt_run.specs.declared.fault.Fault.TheVariants.{LateMessage, Long, Memory}
 use Rattle.pt_run.specs.declared.words.Command.TheVariants.{Run}
 use Rattle.pt_run.specs.Causes.{Writing}
-use Rattle.pt_run.specs.Written.{Means}
+use Rattle.pt_run.specs.CauseTable.{OnPlatform}
+use Rattle.pt_run.specs.Written.{Leaves, Means}
 use Rattle.pt_run.specs.Words.{Order, over}
 use Rattle.pt_types.specs.Limits.{most_claims}
 
@@ -53,7 +61,21 @@ StatusIsMeant status g firings =
     ⊎ (((status ≡ 6) × (FitsClaims g firings → ⊥))
     ⊎ (status ≡ 9)))
 
--- for a run of such a program, if neither the source's nor the sink's count of faults rose
+-- for a paced run of such a program, if neither the source's nor the sink's count of faults rose
 abbrev pub IsComplete : ℕ → Option Order → Contents → List Named → Reading → Writing → Type 0
 IsComplete status order tells blocks r w = (workers : ℕ) (log : Bool) (name : List ℕ) (g : Graph) (firings : List ActorFiring) →
-    order ≡ Some (over (Run workers log) name) → CanRun tells blocks name g firings → (Rose r.before r.now → ⊥) → (Rose w.before w.now → ⊥) → StatusIsMeant status g firings
+    order ≡ Some (over (Run workers Paced log) name) → CanRun tells blocks name g firings → (Rose r.before r.now → ⊥) → (Rose w.before w.now → ⊥) → StatusIsMeant status g firings
+
+-- a run finished, with the misses of its histories; or a platform met a late message, or needed more
+-- claims than it may make, as its recorded turns show; or memory ran out
+abbrev pub EndsAsShown : Option Fault → Leaves → Graph → Type 0
+EndsAsShown None left g = left.misses ≡ flat_map missed_by left.platforms
+EndsAsShown (Some (LateMessage platform actor tag reading limit)) left g = OnPlatform left platform (λ v. ShowsLate g v.turns actor tag reading limit)
+EndsAsShown (Some (Long (Some platform))) left g = OnPlatform left platform (λ v. ShowsLong g (state_at v))
+EndsAsShown (Some Memory) left g = Unit {0}
+EndsAsShown (Some f) left g = ⊥
+
+-- so ends a run of such a program, by whatever clock, if neither count rose
+abbrev pub IsCompleteByAnyClock : Option Fault → Leaves → Option Order → Contents → List Named → Reading → Writing → Type 0
+IsCompleteByAnyClock outcome left order tells blocks r w = (workers : ℕ) (clock : ClockChoice) (log : Bool) (name : List ℕ) (g : Graph) (firings : List ActorFiring) →
+    order ≡ Some (over (Run workers clock log) name) → CanRun tells blocks name g firings → (Rose r.before r.now → ⊥) → (Rose w.before w.now → ⊥) → EndsAsShown outcome left g

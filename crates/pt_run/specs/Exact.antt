@@ -15,6 +15,7 @@ use Rattle.pt_semantics.specs.Offsets.{IsFeasible}
 use Rattle.pt_sensors.specs.Asked.{Contents}
 use Rattle.pt_sensors.specs.Recorded.{AreRows, SensorFails, SensorLate}
 use Rattle.pt_run.specs.RunsAgreeing.{TellsSensors}
+use Rattle.pt_words.specs.declared.orders.ClockChoice.{ClockChoice}
 use Rattle.pt_run.specs.declared.fault.Fault.{Fault}
 use Rattle.pt_run.specs.declared.fault.Fault.TheVariants as fault
 use Rattle.pt_run.specs.declared.words.Command.{Command}
@@ -63,6 +64,6 @@ pub record IsExact (outcome : Option Fault) (order : Option Order) (tells : Cont
       (outcome ≡ Some (fault.Infeasible send offset slack)) ⊎ WantsGraph outcome
   -- that sensor is the first without rows: its file has that fault, or that row is late, which `meaning` accepts
   pub sensor : (command : Command) (g : Graph) (actor : ℕ) (f : RowFault) → ReadsRows order tells blocks command g → OfRows command (λ late. SensorFails late tells g actor f) → (outcome ≡ Some (fault.Sensor actor f)) ⊎ WantsRows outcome
-  pub late_row : (workers : ℕ) (log : Bool) (g : Graph) (actor row seen limit : ℕ) → ReadsRows order tells blocks (Run workers log) g → SensorLate tells g actor row seen limit → (outcome ≡ Some (fault.LateRow actor row seen limit)) ⊎ WantsRows outcome
+  pub late_row : (workers : ℕ) (clock : ClockChoice) (log : Bool) (g : Graph) (actor row seen limit : ℕ) → ReadsRows order tells blocks (Run workers clock log) g → SensorLate tells g actor row seen limit → (outcome ≡ Some (fault.LateRow actor row seen limit)) ⊎ WantsRows outcome
   -- the meaning of these rows is too long
   pub long_meaning : (g : Graph) (rows : ℕ → List Row) → ReadsRows order tells blocks Meaning g → AreRows tells g rows → IsTooLongForAll g rows → (outcome ≡ Some (fault.Long None)) ⊎ WantsRows outcome

@@ -15,3 +15,6 @@ pub mod CauseTable
 pub mod Exact
 pub mod RunsAgreeing
 pub mod Runs
+pub mod Readings
+pub mod Went
+pub mod Clocks

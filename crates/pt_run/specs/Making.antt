@@ -16,7 +16,7 @@ use Rattle.pt_made.specs.Summary.{summary}
 use Rattle.pt_run.specs.declared.fault.Fault.{Fault}
 use Rattle.pt_run.specs.declared.fault.Fault.TheVariants as fault
 use Rattle.pt_run.specs.Causes.{Writing}
-use Rattle.pt_run.specs.Written.{Leaves, nothing}
+use Rattle.pt_run.specs.Written.{HasNothing, Leaves}
 use Rattle.pt_run.specs.Telling.{Tells, TellsBy}
 use Rattle.pt_run.specs.Texts.{AsksBy, EndsBy}
 use Rattle.pt_run.specs.Words.{Order, over, make}
@@ -37,7 +37,7 @@ pub record IsMadeRun (n : ℕ) (platforms : List PlatformView) (text : List ℕ)
 abbrev pub EndsMade : Option Fault → Leaves → ℕ → Writing → Type 0
 EndsMade None left n w = (left.misses ≡ []) × (text : List ℕ) × IsMadeRun n left.platforms text × Appends w.written_before w.written_now text
 EndsMade (Some fault.Write) left n w = Rose w.before w.now × (left.misses ≡ []) × (text : List ℕ) × IsMadeRun n left.platforms text × AppendsPart w.written_before w.written_now text
-EndsMade (Some fault.Memory) left n w = (left ≡ nothing) × (w.written_now ≡ w.written_before)
+EndsMade (Some fault.Memory) left n w = HasNothing left × (w.written_now ≡ w.written_before)
 EndsMade (Some f) left n w = ⊥
 
 -- how a call ends, by what the words ask for

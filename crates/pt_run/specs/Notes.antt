@@ -1,6 +1,7 @@
 -- The line that reports a fault.
 use Rattle.std.specs.Prelude.{ℕ, ℤ, List, [], ◌∷◌, ◌++◌, Option, Some, None, codes, slice_index_or}
 use Rattle.std.specs.Fmt.{decimal, signed_decimal}
+use Rattle.pt_tags.specs.declared.tag.Tag.{Tag}
 use Rattle.pt_types.specs.declared.graph.Graph.{Graph}
 use Rattle.pt_graph_text.specs.Lines as graph
 use Rattle.pt_sensors.specs.Lines as sensor
@@ -39,7 +40,15 @@ infeasible_line name offset slack = (codes "graph: infeasible " ++ name) ++ offs
 abbrev pub late_line : List ℕ → ℕ → ℕ → ℕ → List ℕ
 late_line name row seen limit = codes "late " ++ name ++ codes " row " ++ decimal row ++ codes ", seen " ++ decimal seen ++ codes " past " ++ decimal limit ++ 10 ∷ []
 
--- the line of a meaning that is too long: on this platform, or in total
+--  at TIME.STEP, reading N past L
+abbrev pub at_part : Tag → ℕ → ℕ → List ℕ
+at_part tag reading limit = codes " at " ++ decimal tag.time ++ codes "." ++ decimal tag.step ++ codes ", reading " ++ decimal reading ++ codes " past " ++ decimal limit ++ 10 ∷ []
+
+-- late RECEIVER at TIME.STEP, reading N past L
+abbrev pub late_message_line : List ℕ → Tag → ℕ → ℕ → List ℕ
+late_message_line name tag reading limit = (codes "late " ++ name) ++ at_part tag reading limit
+
+-- the line of a platform that needed more claims than it may make, or of a meaning that is too long
 abbrev pub long_line : Option ℕ → Option Graph → List ℕ
 long_line None g = codes "long meaning" ++ 10 ∷ []
 long_line (Some platform) g = codes "long " ++ platform_name g platform ++ 10 ∷ []
@@ -51,12 +60,13 @@ read_line (Some actor) g = codes "read fault: sensor " ++ actor_name g actor ++ 
 
 -- the line of each fault
 abbrev pub note_line : Fault → Option Graph → List ℕ
-note_line fault.Usage g = codes "usage: ptides run GRAPH [--workers N] [--clock paced] [--log] | check GRAPH | meaning GRAPH | make NUMBER [--workers N]" ++ 10 ∷ []
+note_line fault.Usage g = codes "usage: ptides run GRAPH [--workers N] [--clock paced|step:START:STEP|machine] [--log] | check GRAPH | meaning GRAPH | make NUMBER [--workers N]" ++ 10 ∷ []
 note_line (fault.Graph f) g = graph.fault_line f
 note_line (fault.Cycle actors) g = cycle_line g actors
 note_line (fault.Infeasible send offset slack) g = infeasible_line (actor_name g send) offset slack
 note_line (fault.Sensor actor f) g = sensor.fault_line (actor_name g actor) f
 note_line (fault.LateRow actor row seen limit) g = late_line (actor_name g actor) row seen limit
+note_line (fault.LateMessage platform actor tag reading limit) g = late_message_line (actor_name g actor) tag reading limit
 note_line (fault.Long platform) g = long_line platform g
 note_line (fault.Read sensor) g = read_line sensor g
 note_line fault.Write g = codes "write fault" ++ 10 ∷ []

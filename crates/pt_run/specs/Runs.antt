@@ -1,16 +1,22 @@
 -- A run over the files of a plan's sensors, and why a run did not finish.
-use Rattle.std.specs.Prelude.{◌≡◌, ◌↔◌, ◌++◌, [], ℕ, Bool, List, Option, None, Some, flat_map, if◌then◌else◌, string_bytes}
+use Rattle.std.specs.Prelude.{◌≡◌, ◌<◌, ◌↔◌, ◌++◌, [], ℕ, Bool, List, Option, None, Some, flat_map, if◌then◌else◌, slice_get, string_bytes}
 use Rattle.pt_types.specs.declared.firing.ActorFiring.{ActorFiring}
 use Rattle.pt_types.specs.declared.rows.Row.{Row}
 use Rattle.pt_types.specs.declared.graph.Graph.{Graph}
 use Rattle.pt_history.specs.declared.miss.Miss.{Miss}
+use Rattle.pt_semantics.specs.History.{IsLegal}
+use Rattle.pt_semantics.specs.Linked.{AreLinked, AreMatched, IsFinished}
 use Rattle.pt_semantics.specs.Lists.{IsIn}
 use Rattle.pt_semantics.specs.Meaning.{IsMeaning}
 use Rattle.pt_semantics.specs.Tables.{tables_text}
 use Rattle.pt_schedule.specs.Schedule.{IsMissedByMeaning}
 use Rattle.pt_causality.specs.Ranked.{level_of, rank_of}
 use Rattle.pt_offsets.specs.Plans.{IsAdmitted, Parts}
-use Rattle.pt_turn.specs.Platforms.{PlatformView}
+use Rattle.pt_turn.specs.declared.fault.TurnFault.{TurnFault}
+use Rattle.pt_turn.specs.declared.fault.TurnFault.TheVariants as turn
+use Rattle.pt_turn.specs.All.{AreAll, histories_of}
+use Rattle.pt_turn.specs.Platforms.{PlatformView, state_at}
+use Rattle.pt_turn.specs.Running.{Shows}
 use Rattle.pt_monitors.specs.Platforms.{missed_by}
 use Rattle.pt_tables.specs.Log.{log_text}
 use Rattle.pt_tables.specs.Misses.{miss_line}
@@ -21,32 +27,79 @@ use Rattle.pt_sensors.specs.declared.recorded_fault.LateRows.TheVariants.{Refuse
 use Rattle.pt_sensors.specs.Asked.{Contents, Reading}
 use Rattle.pt_sensors.specs.Places.{of_run}
 use Rattle.pt_sensors.specs.Recorded.{AllPass, AreRows, CauseOfRows}
+use Rattle.pt_words.specs.declared.orders.ClockChoice.{ClockChoice}
+use Rattle.pt_words.specs.declared.orders.ClockChoice.TheVariants.{Machine, Paced, Step}
 use Rattle.pt_run.specs.declared.plan_run.RunFault.{RunFault}
 use Rattle.pt_run.specs.declared.plan_run.RunFault.TheVariants as fault
 use Rattle.pt_run.specs.declared.finished_run.Ran.{Ran}
+use Rattle.pt_io.specs.Told.{ClockView}
+use Rattle.pt_run.specs.Readings.{Clocking, EachOf, ReadBy, read_by}
 
--- what a run leaves: its platforms ran in paced rounds over the rows of their sensors' files, none of which is late, until
--- all were finished, or until one needed more claims than it may make
-pub record HasRun (tells : Contents) (plan : Parts) (platforms : List PlatformView) (fault : Option ℕ) : Type 0 where
+-- without a fault no platform has one, and all are finished; else this platform has this fault, which its recorded turns
+-- show, and none before it has one
+abbrev pub EndsAt : Graph → List PlatformView → Option (ℕ × TurnFault) → Type 0
+EndsAt g platforms None = (i : ℕ) (v : PlatformView) → slice_get platforms i ≡ Some v → (v.fault ≡ None) × IsFinished g i (state_at v)
+EndsAt g platforms (Some f) =
+    (v : PlatformView) × (slice_get platforms f.0 ≡ Some v) × (v.fault ≡ Some f.1) × Shows g v.turns (state_at v) f.1 × ((j : ℕ) (w : PlatformView) → j < f.0 → slice_get platforms j ≡ Some w → w.fault ≡ None)
+
+-- the platforms are those of the graph, opened with these rows; each has a legal history that leads to its state; everything
+-- taken was sent, and unless a platform has a fault, everything sent was taken and all are finished
+pub record IsKept (plan : Parts) (rows : ℕ → List Row) (platforms : List PlatformView) (fault : Option (ℕ × TurnFault)) : Type 0 where
+  pub all : AreAll plan rows platforms
+  pub legal : EachOf platforms (λ i v. IsLegal plan.graph (level_of plan.ranks) i rows v.turns (state_at v))
+  pub matched : AreMatched plan.graph (histories_of platforms)
+  pub linked : fault ≡ None → AreLinked plan.graph (histories_of platforms)
+  pub ends : EndsAt plan.graph platforms fault
+
+-- what more is known of a paced run: only a platform that needed more claims than it may make has a fault
+abbrev pub RunsPaced : Parts → (ℕ → List Row) → List PlatformView → Option (ℕ × TurnFault) → Type 0
+RunsPaced plan rows platforms None = HaveRun plan (level_of plan.ranks) rows platforms None
+RunsPaced plan rows platforms (Some f) = (f.1 ≡ turn.Long) × HaveRun plan (level_of plan.ranks) rows platforms (Some f.0)
+
+-- the paced clock
+abbrev pub paced_by : ℕ → Clocking
+paced_by workers = record { choice = Paced; workers = workers; before = []; now = [] }
+
+-- clocks of steps
+abbrev pub steps_by : ℕ → ℕ → ℕ → Clocking
+steps_by workers start step = record { choice = Step start step; workers = workers; before = []; now = [] }
+
+-- clocks that were handed in
+abbrev pub clocks_by : ℕ → List ClockView → List ClockView → Clocking
+clocks_by workers before now = record { choice = Machine; workers = workers; before = before; now = now }
+
+-- a clock, with what the clocks that were handed in showed, as far as it reads them
+abbrev pub read_with : ℕ → ClockChoice → List ClockView → List ClockView → Clocking
+read_with workers clock before now = record { choice = clock; workers = workers; before = read_by clock before; now = read_by clock now }
+
+-- the platforms of a plan after a run over these rows by its clock
+pub record WentBy (c : Clocking) (plan : Parts) (rows : ℕ → List Row) (platforms : List PlatformView) (fault : Option (ℕ × TurnFault)) : Type 0 where
+  pub kept : IsKept plan rows platforms fault
+  pub readings : ReadBy c plan rows platforms
+  pub paced : c.choice ≡ Paced → RunsPaced plan rows platforms fault
+
+-- what a run leaves: its platforms went on over the rows of their sensors' files, none of which is late, until all were
+-- finished, or until one had a fault
+pub record HasRun (tells : Contents) (c : Clocking) (plan : Parts) (platforms : List PlatformView) (fault : Option (ℕ × TurnFault)) : Type 0 where
   pub admitted : IsAdmitted plan
   pub rows : ℕ → List Row
   pub sensors : AreRows tells plan.graph rows
   pub in_time : AllPass Refused plan.graph rows
-  pub kept : HaveRun plan (level_of plan.ranks) (of_run plan.graph rows) platforms fault
+  pub went : WentBy c plan (of_run plan.graph rows) platforms fault
 
 -- the log of platforms, if it is asked for
 abbrev pub log_if : Bool → Graph → List PlatformView → List ℕ
 log_if log g platforms = if log then log_text g (histories platforms) else []
 
 -- a run that finished, with the text that it must write: the tables of the meaning and, if asked for, the log
-pub record IsFinishedRun (tells : Contents) (plan : Parts) (log : Bool) (platforms : List PlatformView) (misses : List Miss) (text : List ℕ) : Type 0 where
-  pub run : HasRun tells plan platforms None
+pub record IsFinishedRun (tells : Contents) (c : Clocking) (plan : Parts) (log : Bool) (platforms : List PlatformView) (misses : List Miss) (text : List ℕ) : Type 0 where
+  pub run : HasRun tells c plan platforms None
   pub firings : List ActorFiring
   pub meaning : IsMeaning plan.graph (rank_of plan.ranks) (of_run plan.graph run.rows) firings
   pub written : text ≡ tables_text plan.graph firings ++ log_if log plan.graph platforms
   pub missed : misses ≡ flat_map missed_by platforms
-  -- the misses are exactly the firings of actuators whose paced reading is past their tag's time plus slack
-  pub missed_as_meant : (m : Miss) → IsIn m misses ↔ IsMissedByMeaning plan.graph firings m.actor m.tag m.reading m.limit
+  -- in a paced run the misses are exactly the firings of actuators whose paced reading is past their tag's time plus slack
+  pub missed_as_meant : c.choice ≡ Paced → (m : Miss) → IsIn m misses ↔ IsMissedByMeaning plan.graph firings m.actor m.tag m.reading m.limit
 
 -- the text of finished platforms
 abbrev pub IsText : Parts → Bool → List PlatformView → List ℕ → Type 0
@@ -61,11 +114,23 @@ pub record IsTold (plan : Parts) (log : Bool) (platforms : List PlatformView) (r
   pub lines : string_bytes ran.lines ≡ flat_map (miss_line plan.graph) ran.misses.items
 
 -- what a finished run returns: its platforms, its text, its misses and their lines
-abbrev pub IsRun : Contents → Parts → Bool → Ran → Type 0
-IsRun tells plan log ran = IsFinishedRun tells plan log ran.platforms.items ran.misses.items (string_bytes ran.text) × (string_bytes ran.lines ≡ flat_map (miss_line plan.graph) ran.misses.items)
+abbrev pub IsRun : Contents → Clocking → Parts → Bool → Ran → Type 0
+IsRun tells c plan log ran = IsFinishedRun tells c plan log ran.platforms.items ran.misses.items (string_bytes ran.text) × (string_bytes ran.lines ≡ flat_map (miss_line plan.graph) ran.misses.items)
+
+-- the outputs of platforms after a run without a fault
+abbrev pub IsOutput : Option (ℕ × TurnFault) → Parts → Bool → List PlatformView → Ran → Type 0
+IsOutput fault plan log platforms ran = (fault ≡ None) × IsTold plan log platforms ran
+
+-- the fault of a run is that of its platforms, which it leaves, or memory ran out
+abbrev pub IsStop : Option (ℕ × TurnFault) → List PlatformView → RunFault → Type 0
+IsStop stop platforms (fault.Rows f) = ⊥
+IsStop stop platforms (fault.Long platform left) = (stop ≡ Some (platform, turn.Long)) × (left.items ≡ platforms)
+IsStop stop platforms (fault.Late platform actor tag reading limit left) = (stop ≡ Some (platform, turn.Late actor tag reading limit)) × (left.items ≡ platforms)
+IsStop stop platforms fault.Memory = Unit {0}
 
 -- why a run did not finish
-abbrev pub CauseOfRun : RunFault → Contents → Parts → Reading → Type 0
-CauseOfRun (fault.Rows f) tells plan r = CauseOfRows Refused f tells plan.graph [] r
-CauseOfRun (fault.Long platform platforms) tells plan r = HasRun tells plan platforms.items (Some platform)
-CauseOfRun fault.Memory tells plan r = Unit {0}
+abbrev pub CauseOfRun : RunFault → Contents → Clocking → Parts → Reading → Type 0
+CauseOfRun (fault.Rows f) tells c plan r = CauseOfRows Refused f tells plan.graph [] r
+CauseOfRun (fault.Long platform platforms) tells c plan r = HasRun tells c plan platforms.items (Some (platform, turn.Long))
+CauseOfRun (fault.Late platform actor tag reading limit platforms) tells c plan r = HasRun tells c plan platforms.items (Some (platform, turn.Late actor tag reading limit))
+CauseOfRun fault.Memory tells c plan r = Unit {0}

@@ -10,17 +10,24 @@ use Rattle.pt_offsets.specs.Plans.{Parts}
 use Rattle.pt_sensors.specs.declared.recorded_fault.LateRows.TheVariants.{Refused}
 use Rattle.pt_sensors.specs.Asked.{Asks, Contents, Reading, files_before}
 use Rattle.pt_sensors.specs.Recorded.{SensorFails, SensorLate, SensorUnread}
+use Rattle.pt_io.specs.Told.{ClockView}
+use Rattle.pt_turn.specs.declared.fault.TurnFault.TheVariants as turn
+use Rattle.pt_turn.specs.Platforms.{PlatformView}
+use Rattle.pt_words.specs.declared.orders.ClockChoice.{ClockChoice}
 use Rattle.pt_run.specs.declared.plan_run.RunFault.{RunFault}
 use Rattle.pt_run.specs.declared.plan_run.RunFault.TheVariants as stop
 use Rattle.pt_run.specs.declared.finished_run.Ran.{Ran}
 use Rattle.pt_run.specs.Runs.{HasRun, IsFinishedRun}
 use Rattle.pt_run.specs.declared.fault.Fault.{Fault}
 use Rattle.pt_run.specs.declared.fault.Fault.TheVariants as fault
-use Rattle.pt_run.specs.declared.fault.Outcome.{Outcome}
+use Rattle.pt_run.specs.declared.outcome.Ending.{Ending}
+use Rattle.pt_run.specs.declared.outcome.Outcome.{Outcome}
+use Rattle.pt_run.specs.Clocks.{read_for, read_in}
+use Rattle.pt_run.specs.Words.{Order}
 use Rattle.pt_run.specs.Faults.{fault_of_rows}
 use Rattle.pt_run.specs.declared.words.Command.{Command}
 use Rattle.pt_run.specs.declared.words.Command.TheVariants.{Check}
-use Rattle.pt_run.specs.Written.{GraphWith, Leaves, Writes, Wrote, nothing}
+use Rattle.pt_run.specs.Written.{GraphWith, HasNothing, Leaves, Writes, Wrote, clocking, nothing}
 use Rattle.pt_run.specs.Causes.{CauseOf, CauseOfCheck, CauseOfMeaning, IsCause, IsTooLongForAll, Writing}
 
 -- the sensors' files that a command asks for, among the first n actors of a graph: none for `check`
@@ -46,14 +53,30 @@ AsksBy (Some order) tells blocks r = AsksInOrder order.0 tells blocks order.1 r.
 -- how a call ends: out of memory; if the words are not a valid command line, with the usage; else with what the command must
 -- write, or with a fault that has its cause
 abbrev pub EndsBy : Option Fault → Leaves → Option (Command × List ℕ) → Contents → List Named → Reading → Writing → Type 0
-EndsBy (Some fault.Memory) left order tells blocks r w = (left ≡ nothing) × (w.written_now ≡ w.written_before)
-EndsBy outcome left None tells blocks r w = (outcome ≡ Some fault.Usage) × (left ≡ nothing) × (w.written_now ≡ w.written_before)
+EndsBy (Some fault.Memory) left order tells blocks r w = HasNothing left × (w.written_now ≡ w.written_before)
+EndsBy outcome left None tells blocks r w = (outcome ≡ Some fault.Usage) × HasNothing left × (w.written_now ≡ w.written_before)
 EndsBy None left (Some order) tells blocks r w = Wrote order.0 tells blocks order.1 left w.written_before w.written_now
 EndsBy (Some f) left (Some order) tells blocks r w = IsCause f left order.0 tells blocks order.1 r w
 
+-- what a call that ended so leaves, with what the clocks that its run read showed before it and after it
+abbrev pub left_with : Ending → List ClockView → List ClockView → Leaves
+left_with o before now = record { misses = o.misses; platforms = o.platforms.items; before = before; now = now }
+
+-- what a call that ended so leaves, if its run read no clock that was handed in
+abbrev pub left_by : Ending → Leaves
+left_by o = left_with o [] []
+
+-- what a command leaves
+abbrev pub left_over : Ending → Command → List ClockView → List ClockView → Leaves
+left_over o command before now = left_with o (read_for command before) (read_for command now)
+
+-- what an order leaves
+abbrev pub left_at : Ending → Option Order → List ClockView → List ClockView → Leaves
+left_at o order before now = left_with o (read_in order before) (read_in order now)
+
 -- what an outcome leaves
-abbrev pub left_by : Outcome → Leaves
-left_by o = record { misses = o.misses; platforms = o.platforms.items }
+abbrev pub left_of : {C : Type 0} → Outcome C → Option Order → List ClockView → List ClockView → Leaves
+left_of o order before now = record { misses = o.misses; platforms = o.platforms.items; before = read_in order before; now = read_in order now }
 
 -- how a command on a graph ends
 abbrev pub EndsOver : Option Fault → Leaves → Command → Contents → Graph → Reading → Writing → Type 0
@@ -72,33 +95,50 @@ abbrev pub OrMemory : Option Fault → Fault → Type 0
 OrMemory outcome f = (outcome ≡ Some f) ⊎ (outcome ≡ Some fault.Memory)
 
 -- how `check` or `meaning` ends: its text is put, or its fault is reported
-abbrev pub Answers : Result (String Global) Fault → Outcome → Writing → Type 0
+abbrev pub Answers : Result (String Global) Fault → Ending → Writing → Type 0
 Answers (Ok text) o w = (left_by o ≡ nothing) × PutBy o.fault (string_bytes text) w
 Answers (Err f) o w = (left_by o ≡ nothing) × OrMemory o.fault f × (w.written_now ≡ w.written_before)
 
 -- how a run of a plan ends
-abbrev pub EndsPlan : Option Fault → Leaves → Bool → Contents → Parts → Reading → Writing → Type 0
-EndsPlan None left log tells plan r w = (text : List ℕ) × IsFinishedRun tells plan log left.platforms left.misses text × Appends w.written_before w.written_now text
-EndsPlan (Some fault.Write) left log tells plan r w =
-    Rose w.before w.now × (left.misses ≡ []) × (misses : List Miss) × (text : List ℕ) × IsFinishedRun tells plan log left.platforms misses text × AppendsPart w.written_before w.written_now text
-EndsPlan (Some fault.Memory) left log tells plan r w = (left ≡ nothing) × (w.written_now ≡ w.written_before)
-EndsPlan (Some (fault.Long (Some platform))) left log tells plan r w = HasRun tells plan left.platforms (Some platform) × (left.misses ≡ []) × (w.written_now ≡ w.written_before)
-EndsPlan (Some (fault.Read (Some actor))) left log tells plan r w = SensorUnread Refused tells plan.graph actor [] r × (left ≡ nothing) × (w.written_now ≡ w.written_before)
-EndsPlan (Some (fault.Sensor actor f)) left log tells plan r w = SensorFails Refused tells plan.graph actor f × (left ≡ nothing) × (w.written_now ≡ w.written_before)
-EndsPlan (Some (fault.LateRow actor row seen limit)) left log tells plan r w = SensorLate tells plan.graph actor row seen limit × (left ≡ nothing) × (w.written_now ≡ w.written_before)
-EndsPlan (Some f) left log tells plan r w = ⊥
+abbrev pub EndsPlan : Option Fault → Leaves → ℕ → ClockChoice → Bool → Contents → Parts → Reading → Writing → Type 0
+EndsPlan None left workers clock log tells plan r w = (text : List ℕ) × IsFinishedRun tells (clocking workers clock left) plan log left.platforms left.misses text × Appends w.written_before w.written_now text
+EndsPlan (Some fault.Write) left workers clock log tells plan r w =
+    Rose w.before w.now × (left.misses ≡ []) × (misses : List Miss) × (text : List ℕ) × IsFinishedRun tells (clocking workers clock left) plan log left.platforms misses text × AppendsPart w.written_before w.written_now text
+EndsPlan (Some fault.Memory) left workers clock log tells plan r w = HasNothing left × (w.written_now ≡ w.written_before)
+EndsPlan (Some (fault.Long (Some platform))) left workers clock log tells plan r w = HasRun tells (clocking workers clock left) plan left.platforms (Some (platform, turn.Long)) × (left.misses ≡ []) × (w.written_now ≡ w.written_before)
+EndsPlan (Some (fault.LateMessage platform actor tag reading limit)) left workers clock log tells plan r w =
+    HasRun tells (clocking workers clock left) plan left.platforms (Some (platform, turn.Late actor tag reading limit)) × (left.misses ≡ []) × (w.written_now ≡ w.written_before)
+EndsPlan (Some (fault.Read (Some actor))) left workers clock log tells plan r w = SensorUnread Refused tells plan.graph actor [] r × HasNothing left × (w.written_now ≡ w.written_before)
+EndsPlan (Some (fault.Sensor actor f)) left workers clock log tells plan r w = SensorFails Refused tells plan.graph actor f × HasNothing left × (w.written_now ≡ w.written_before)
+EndsPlan (Some (fault.LateRow actor row seen limit)) left workers clock log tells plan r w = SensorLate tells plan.graph actor row seen limit × HasNothing left × (w.written_now ≡ w.written_before)
+EndsPlan (Some f) left workers clock log tells plan r w = ⊥
+
+-- the misses and the platforms of a run that read no clock that was handed in
+abbrev pub of_run : List Miss → List PlatformView → Leaves
+of_run misses platforms = record { misses = misses; platforms = platforms; before = []; now = [] }
 
 -- the text of a run that finished was put, all of it or a prefix; if all of it, the outcome has its misses
-abbrev pub WroteRun : Ran → Outcome → Writing → Type 0
+abbrev pub WroteRun : Ran → Ending → Writing → Type 0
 WroteRun ran o w =
-    ((o.fault ≡ None) × (left_by o ≡ record { misses = ran.misses.items; platforms = ran.platforms.items }) × Appends w.written_before w.written_now (string_bytes ran.text))
-    ⊎ ((o.fault ≡ Some fault.Write) × (left_by o ≡ record { misses = []; platforms = ran.platforms.items }) × Rose w.before w.now × AppendsPart w.written_before w.written_now (string_bytes ran.text))
+    ((o.fault ≡ None) × (left_by o ≡ of_run ran.misses.items ran.platforms.items) × Appends w.written_before w.written_now (string_bytes ran.text))
+    ⊎ ((o.fault ≡ Some fault.Write) × (left_by o ≡ of_run [] ran.platforms.items) × Rose w.before w.now × AppendsPart w.written_before w.written_now (string_bytes ran.text))
 
--- the outcome of a run that did not finish
-abbrev pub IsStopped : RunFault → Outcome → Type 0
+-- the fault of a call, from that of a run, with the platforms that the run leaves
+abbrev pub IsOfRun : RunFault → Fault → List PlatformView → Type 0
+IsOfRun (stop.Rows e) f platforms = (f ≡ fault_of_rows e) × (platforms ≡ [])
+IsOfRun (stop.Long platform left) f platforms = (f ≡ fault.Long (Some platform)) × (platforms ≡ left.items)
+IsOfRun (stop.Late platform actor tag reading limit left) f platforms = (f ≡ fault.LateMessage platform actor tag reading limit) × (platforms ≡ left.items)
+IsOfRun stop.Memory f platforms = (f ≡ fault.Memory) × (platforms ≡ [])
+
+-- a run that did not finish left these platforms with a fault, or memory ran out
+abbrev pub LeftAll : Fault → List PlatformView → Ending → Type 0
+LeftAll f platforms o = ((o.fault ≡ Some f) × (left_by o ≡ of_run [] platforms)) ⊎ ((o.fault ≡ Some fault.Memory) × (left_by o ≡ nothing))
+
+-- the end of a run that did not finish
+abbrev pub IsStopped : RunFault → Ending → Type 0
 IsStopped (stop.Rows f) o = OrMemory o.fault (fault_of_rows f) × (left_by o ≡ nothing)
-IsStopped (stop.Long platform platforms) o =
-    ((o.fault ≡ Some (fault.Long (Some platform))) × (left_by o ≡ record { misses = []; platforms = platforms.items })) ⊎ ((o.fault ≡ Some fault.Memory) × (left_by o ≡ nothing))
+IsStopped (stop.Long platform platforms) o = LeftAll (fault.Long (Some platform)) platforms.items o
+IsStopped (stop.Late platform actor tag reading limit platforms) o = LeftAll (fault.LateMessage platform actor tag reading limit) platforms.items o
 IsStopped stop.Memory o = (o.fault ≡ Some fault.Memory) × (left_by o ≡ nothing)
 
 -- why there is no text of the margins

@@ -11,9 +11,9 @@ pub data Order : Type 0 where
   over : (command : Command) (graph : List ℕ) → Order
   make : (number workers : ℕ) → Order
 
--- the order of a request; the clock is dropped, since all runs are paced
+-- the order of a request
 abbrev pub order_by : Request → Order
-order_by (grammar.run graph workers clock log) = over (Run workers log) graph
+order_by (grammar.run graph workers clock log) = over (Run workers clock log) graph
 order_by (grammar.check graph) = over Check graph
 order_by (grammar.meaning graph) = over Meaning graph
 order_by (grammar.make number workers) = make number workers

@@ -1,5 +1,5 @@
 -- What a command must write.
-use Rattle.std.specs.Prelude.{◌≡◌, ◌≤◌, ◌*◌, [], ℕ, ℤ, Bool, List, length, Option, Ok, IfSome}
+use Rattle.std.specs.Prelude.{◌≡◌, ◌≤◌, ◌*◌, [], ℕ, ℤ, Bool, true, false, List, length, Option, None, Some, Ok, IfSome}
 use Rattle.pt_io.specs.Causes.{Appends, AppendsPart}
 use Rattle.pt_types.specs.declared.graph.Graph.{Graph}
 use Rattle.pt_types.specs.declared.rows.Row.{Row}
@@ -18,7 +18,12 @@ use Rattle.pt_tables.specs.Margins.{margins_text}
 use Rattle.pt_sensors.specs.Asked.{Contents}
 use Rattle.pt_sensors.specs.Places.{of_run}
 use Rattle.pt_sensors.specs.Recorded.{AreRows}
+use Rattle.pt_io.specs.Told.{ClockView}
+use Rattle.pt_words.specs.declared.orders.ClockChoice.{ClockChoice}
+use Rattle.pt_run.specs.Readings.{Clocking}
 use Rattle.pt_run.specs.Runs.{IsFinishedRun}
+use Rattle.pt_run.specs.declared.fault.Fault.{Fault}
+use Rattle.pt_run.specs.declared.fault.Fault.TheVariants as fault
 use Rattle.pt_run.specs.declared.words.Command.{Command}
 use Rattle.pt_run.specs.declared.words.Command.TheVariants.{Run, Check, Meaning}
 use Rattle.pt_types.specs.Limits.{most_claims}
@@ -27,14 +32,33 @@ use Rattle.pt_types.specs.Limits.{most_claims}
 abbrev pub GraphWith : Contents → List Named → List ℕ → (Graph → Type 0) → Type 0
 GraphWith tells blocks name Fact = (g : Graph) × IfSome (tells name) (λ bytes. graph_of blocks bytes ≡ Ok g) × Fact g
 
--- what a call leaves besides what it wrote: the misses and the platforms of a run
+-- what a call leaves besides what it wrote: the misses and the platforms of a run and, for a run by the machine's clock, what
+-- the clocks handed in showed before it and after it
 pub record Leaves : Type 0 where
   pub misses : List Miss
   pub platforms : List PlatformView
+  pub before : List ClockView
+  pub now : List ClockView
+
+-- no misses, no platforms and no clocks
+abbrev pub nothing : Leaves
+nothing = record { misses = []; platforms = []; before = []; now = [] }
 
 -- no misses and no platforms
-abbrev pub nothing : Leaves
-nothing = record { misses = []; platforms = [] }
+abbrev pub HasNothing : Leaves → Type 0
+HasNothing left = (left.misses ≡ []) × (left.platforms ≡ [])
+
+-- for the command `run`: whether a call that ended so had a run and leaves its platforms: it wrote all, or a write failed, or a platform stopped it
+abbrev pub has_run : Option Fault → Bool
+has_run None = true
+has_run (Some fault.Write) = true
+has_run (Some (fault.Long (Some platform))) = true
+has_run (Some (fault.LateMessage platform actor tag reading limit)) = true
+has_run _ = false
+
+-- the clock of a run, with what it leaves
+abbrev pub clocking : ℕ → ClockChoice → Leaves → Clocking
+clocking workers clock left = record { choice = clock; workers = workers; before = left.before; now = left.now }
 
 -- the firings are the meaning of a graph and these rows
 pub record Means (g : Graph) (rows : ℕ → List Row) (firings : List ActorFiring) : Type 0 where
@@ -60,10 +84,10 @@ abbrev pub FitOnAll : Graph → List ActorFiring → Type 0
 FitOnAll g firings = length firings ≤ most_claims * length g.platforms
 
 -- what a run of this graph must write and leave
-pub record IsRun (tells : Contents) (g : Graph) (log : Bool) (left : Leaves) (text : List ℕ) : Type 0 where
+pub record IsRun (tells : Contents) (g : Graph) (workers : ℕ) (clock : ClockChoice) (log : Bool) (left : Leaves) (text : List ℕ) : Type 0 where
   pub plan : Parts
   pub graph : plan.graph ≡ g
-  pub finished : IsFinishedRun tells plan log left.platforms left.misses text
+  pub finished : IsFinishedRun tells (clocking workers clock left) plan log left.platforms left.misses text
 
 -- what `meaning` must write for this graph: the tables of its meaning, whatever the bounds of its sensors
 pub record IsMeant (tells : Contents) (g : Graph) (text : List ℕ) : Type 0 where
@@ -82,9 +106,9 @@ pub record IsChecked (g : Graph) (text : List ℕ) : Type 0 where
 
 -- what a command must write for a graph without a free cycle, and what it leaves
 abbrev pub WritesText : Command → Contents → Graph → Leaves → List ℕ → Type 0
-WritesText (Run workers log) tells g left text = IsRun tells g log left text
-WritesText Check tells g left text = (left ≡ nothing) × IsChecked g text
-WritesText Meaning tells g left text = (left ≡ nothing) × IsMeant tells g text
+WritesText (Run workers clock log) tells g left text = IsRun tells g workers clock log left text
+WritesText Check tells g left text = HasNothing left × IsChecked g text
+WritesText Meaning tells g left text = HasNothing left × IsMeant tells g text
 
 -- what a command must write for a graph, which has no free cycle, and what it leaves
 abbrev pub Writes : Command → Contents → Graph → Leaves → List ℕ → Type 0

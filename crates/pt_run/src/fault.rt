@@ -1,19 +1,14 @@
-//! How a call ends.
+//! Why a call did not write its whole answer.
 
-ghost use Rattle.std.specs.Prelude.{◌≡◌, [], None, Some};
-ghost use Rattle.pt_run.specs.Written.{nothing};
-ghost use Rattle.pt_run.specs.Statuses.{status_of, status_of_fault};
-ghost use Rattle.pt_run.specs.Texts.{left_by};
+ghost use Rattle.std.specs.Prelude.{◌≡◌};
+ghost use Rattle.pt_run.specs.Statuses.{status_of_fault};
 ghost use Rattle.pt_run.specs.Faults.{fault_of_cycle, fault_of_graph, fault_of_offset, fault_of_plan, fault_of_rows};
 
 use pt_causality::CycleFault;
 use pt_graph::GraphFault;
-use pt_history::Miss;
 use pt_offsets::{OffsetFault, PlanFault};
 use pt_sensors::{RecordedFault, RowFault};
-use pt_tags::List;
-use pt_turn::Platform;
-use std::alloc::Global;
+use pt_tags::{List, Tag};
 
 /// Why a call did not write its whole answer. Actors are numbered as in the graph, from 0; times are microseconds.
 #[derive(Drop)]
@@ -42,8 +37,17 @@ pub enum Fault {
         seen: u64,
         limit: u64,
     },
-    /// The meaning has more than 200,000 firings of units on this platform; for `None`, it has more than 200,000 firings
-    /// times the number of platforms.
+    /// A message for this receiver at this tag was late on this platform: its last reading was `reading`, past `limit`, the
+    /// tag's time plus the link's bound. Its recorded turns end with it. Never in a paced run.
+    LateMessage {
+        platform: u32,
+        actor: u32,
+        tag: Tag,
+        reading: u64,
+        limit: u64,
+    },
+    /// This platform made 200,000 claims and needed more: in a paced run, the meaning has more firings of units on it. For
+    /// `None`, the meaning has more than 200,000 firings times the number of platforms.
     Long {
         platform: Option<u32>,
     },
@@ -57,62 +61,6 @@ pub enum Fault {
     Memory,
 }
 
-/// How a call ended, and what a run left.
-#[derive(Drop)]
-pub struct Outcome {
-    /// 0 if all was written, 5 if in addition something was missed, else the status of the fault.
-    pub status: u8,
-    pub fault: Option<Fault>,
-    /// All misses: platform by platform, turn by turn, results before messages. Empty unless the status is 5.
-    pub misses: List<Miss>,
-    /// The platforms as the run left them, in the order of the graph; none if no run began.
-    pub platforms: Vec<Platform>,
-}
-
-impl Outcome {
-    /// A call that ended with a fault before a run began.
-    pub(crate) fn refused(alloc: Global, fault: Fault) -> Outcome
-        ensures status { result.status ≡ status_of result.fault result.misses }
-        ensures fault { result.fault ≡ Some fault }
-        ensures left { left_by result ≡ nothing }
-    {
-        Outcome {
-            status: status_of(&fault),
-            fault: Some(fault),
-            misses: List::new(Vec::new(alloc)),
-            platforms: Vec::new(alloc),
-        }
-    }
-
-    /// A call that ended with a fault and left these platforms.
-    pub(crate) fn stopped(alloc: Global, fault: Fault, platforms: Vec<Platform>) -> Outcome
-        ensures status { result.status ≡ status_of result.fault result.misses }
-        ensures fault { result.fault ≡ Some fault }
-        ensures left { left_by result ≡ record { misses = []; platforms = platforms.items } }
-    {
-        Outcome {
-            status: status_of(&fault),
-            fault: Some(fault),
-            misses: List::new(Vec::new(alloc)),
-            platforms,
-        }
-    }
-
-    /// A call that wrote everything, with the misses and the platforms of its run.
-    pub(crate) fn done(misses: Vec<Miss>, platforms: Vec<Platform>) -> Outcome
-        ensures status { result.status ≡ status_of result.fault result.misses }
-        ensures fault { result.fault ≡ None }
-        ensures left { left_by result ≡ record { misses = misses.items; platforms = platforms.items } }
-    {
-        Outcome {
-            status: if misses.is_empty() { 0 } else { 5 },
-            fault: None,
-            misses: List::new(misses),
-            platforms,
-        }
-    }
-}
-
 /// The status of a fault.
 pub fn status_of(fault: &Fault) -> u8
     ensures { result ≡ status_of_fault fault.now }
@@ -124,6 +72,7 @@ pub fn status_of(fault: &Fault) -> u8
         Fault::Infeasible { .. } => 2,
         Fault::Sensor { .. } => 3,
         Fault::LateRow { .. } => 4,
+        Fault::LateMessage { .. } => 4,
         Fault::Long { .. } => 6,
         Fault::Read { .. } => 7,
         Fault::Write => 8,

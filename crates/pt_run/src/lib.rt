@@ -1,11 +1,12 @@
 //! The top call: runs the command of a command line, with a source of files and sinks for output.
 //!
-//! `run GRAPH` reads the graph file and the rows of its sensors, runs all platforms in paced rounds, and writes the table of
-//! every actuator. `make NUMBER` makes a graph and rows from a number and writes a summary. What holds of a run is in
+//! `run GRAPH` reads the graph file and the rows of its sensors, runs all platforms by the clock that the words name, and writes
+//! the table of every actuator. `make NUMBER` makes a graph and rows from a number and writes a summary. What holds of a run is in
 //! `specs/Headline.antt`, why a call ended as it did in `specs/CauseTable.antt` and `specs/Exact.antt`, and what each command
 //! must write in `specs/Written.antt`, `specs/Runs.antt` and `specs/Making.antt`.
 //!
-//! Read first: `ptides`, then `specs/Headline.antt`; `run_of` is a run of a plan.
+//! Read first: `ptides`, then `specs/Headline.antt`; `run_of` is a paced run of a plan. Only the functions between `ptides` and
+//! `own_clocks` may wait; paced runs, `check`, `meaning` and `make` return, as the absence of that bound in them says.
 #![tactic(auto)]
 
 mod admission;
@@ -16,17 +17,21 @@ mod laws;
 mod make;
 mod meaning;
 mod notes;
+mod outcome;
 mod output;
+mod own_clocks;
 mod plan_laws;
 mod plan_run;
 mod run;
 mod top;
+mod went;
 mod words;
 
-pub use fault::{Fault, Outcome};
+pub use fault::Fault;
 pub use finished_run::Ran;
 pub use laws::runs_agree;
-pub use plan_laws::{finished_runs_agree, plan_runs_agree};
+pub use outcome::Outcome;
+pub use plan_laws::{finished_runs_agree, plan_runs_agree, step_runs_agree};
 pub use plan_run::{RunFault, run_of};
 pub use top::ptides;
 pub use words::{Asked, Command};

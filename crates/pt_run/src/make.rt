@@ -12,8 +12,9 @@ ghost use Rattle.pt_run.specs.Making.{EndsMade, IsMadeRun};
 ghost use Rattle.pt_run.specs.Telling.{Tells};
 ghost use Rattle.pt_run.specs.Texts.{left_by};
 
-use crate::fault::{Fault, Outcome};
+use crate::fault::Fault;
 use crate::notes::{tell, tell_write};
+use crate::outcome::Ending;
 use crate::output::put_text;
 use pt_blocks::Blocks;
 use pt_confluence::gather;
@@ -45,7 +46,7 @@ pub fn make<K: Sink, E: Sink>(
     out: &mut K,
     notes: &mut E,
     blocks: &Blocks,
-) -> Outcome
+) -> Ending
     requires { number ≤ 100 }
     ensures status { result.status ≡ status_of result.fault result.misses }
     ensures ends { EndsMade result.fault (left_by result) number
@@ -56,13 +57,13 @@ pub fn make<K: Sink, E: Sink>(
 {
     let Ok(MadeRun { summary, platforms }) = run_made(alloc, number, workers, blocks) else {
         let fault = tell(alloc, notes, Fault::Memory, None);
-        return Outcome::refused(alloc, fault);
+        return Ending::refused(alloc, fault);
     };
     if put_text(out, summary.as_str().as_bytes()).is_err() {
         tell_write(notes);
-        return Outcome::stopped(alloc, Fault::Write, platforms);
+        return Ending::stopped(alloc, Fault::Write, platforms);
     }
-    Outcome::done(Vec::new(alloc), platforms)
+    Ending::done(Vec::new(alloc), platforms)
 }
 
 /// Runs the input made from a number.

@@ -3,18 +3,19 @@
 ghost use Rattle.std.specs.Prelude.{◌≡◌, ◌⊎◌, ◌++◌, [], ◌∷◌, IfOk, None, OnOk, Some, option_map, string_bytes};
 ghost use Rattle.pt_run.specs.declared.fault.Fault.TheVariants.{Memory, Write};
 ghost use Rattle.pt_run.specs.Telling.{Tells};
-ghost use Rattle.pt_run.specs.Notes.{actor_name, cycle_line, infeasible_line, late_line, long_line, names_of, note_line, offset_part, platform_name, read_line};
+ghost use Rattle.pt_run.specs.Notes.{actor_name, at_part, cycle_line, infeasible_line, late_line, late_message_line, long_line, names_of, note_line, offset_part, platform_name, read_line};
 
 use crate::fault::Fault;
 use pt_graph::fault_line as graph_line;
 use pt_io::Sink;
 use pt_sensors::fault_line as sensor_line;
+use pt_tags::Tag;
 use pt_types::Graph;
 use std::alloc::{AllocError, Global};
 
 /// The line for a command line that is not valid.
 const USAGE: &str =
-    "usage: ptides run GRAPH [--workers N] [--clock paced] [--log] | check GRAPH | meaning GRAPH | make NUMBER [--workers N]\n";
+    "usage: ptides run GRAPH [--workers N] [--clock paced|step:START:STEP|machine] [--log] | check GRAPH | meaning GRAPH | make NUMBER [--workers N]\n";
 
 /// Puts the line of a fault on `notes`, and returns the fault; if there is no memory for the line, that becomes the fault.
 /// A failed put has no other effect.
@@ -72,6 +73,13 @@ fn push_line(line: &mut String, fault: &Fault, graph: Option<&Graph>) -> Result<
             seen,
             limit,
         } => push_late(line, actor_name(graph, *actor), *row, *seen, *limit),
+        Fault::LateMessage {
+            platform: _,
+            actor,
+            tag,
+            reading,
+            limit,
+        } => push_late_message(line, actor_name(graph, *actor), tag, *reading, *limit),
         Fault::Long { platform } => push_long(line, *platform, graph),
         Fault::Read { sensor } => push_read(line, *sensor, graph),
         Fault::Write => line.push_str("write fault\n"),
@@ -146,6 +154,33 @@ fn push_late(
     ensures { OnOk result (string_bytes line.new ≡ string_bytes line.old ++ late_line name.now row seen limit) }
 {
     write!(line, "late {name} row {row}, seen {seen} past {limit}\n")
+}
+
+/// Appends the line of a late message.
+fn push_late_message(
+    line: &mut String,
+    name: &str,
+    tag: &Tag,
+    reading: u64,
+    limit: u64,
+) -> Result<(), AllocError>
+    ensures { OnOk result (string_bytes line.new ≡ string_bytes line.old ++ late_message_line name.now tag.now reading limit) }
+{
+    push_words(line, "late ", name)?;
+    push_at(line, tag.time, tag.step, reading, limit)
+}
+
+/// Appends a tag, a reading and a limit, and ends the line.
+fn push_at(
+    line: &mut String,
+    time: u64,
+    step: u64,
+    reading: u64,
+    limit: u64,
+) -> Result<(), AllocError>
+    ensures { OnOk result (string_bytes line.new ≡ string_bytes line.old ++ at_part (record { time = time; step = step }) reading limit) }
+{
+    write!(line, " at {time}.{step}, reading {reading} past {limit}\n")
 }
 
 /// Appends the line of a meaning that is too long.

@@ -3,14 +3,15 @@
 ghost use Rattle.std.specs.Prelude.{◌≡◌, ◌≤◌, IfErr, IfOk};
 ghost use Rattle.std.specs.Arc.{arc_value};
 ghost use Rattle.pt_sensors.specs.Asked.{AsksFiles};
-ghost use Rattle.pt_run.specs.Runs.{CauseOfRun, IsRun};
+ghost use Rattle.pt_run.specs.Runs.{CauseOfRun, IsRun, paced_by};
 
-use crate::finished_run::{Ran, told};
+use crate::finished_run::Ran;
+use crate::went::{go_paced, outputs_of};
 use pt_blocks::Blocks;
 use pt_io::Source;
 use pt_offsets::Plan;
-use pt_rounds::{Rounds, paced};
 use pt_sensors::{LateRows, RecordedFault, recorded};
+use pt_tags::Tag;
 use pt_turn::{Platform, open_all};
 use std::alloc::Global;
 use std::sync::Arc;
@@ -23,6 +24,16 @@ pub enum RunFault {
     /// This platform is the first that made all its claims and needed more; all platforms are as they were then.
     Long {
         platform: u32,
+        platforms: Vec<Platform>,
+    },
+    /// On this platform a message for this receiver at this tag was late: its last reading was `reading`, past `limit`. All
+    /// platforms are as they were then.
+    Late {
+        platform: u32,
+        actor: u32,
+        tag: Tag,
+        reading: u64,
+        limit: u64,
         platforms: Vec<Platform>,
     },
     /// Memory ran out.
@@ -40,8 +51,8 @@ pub fn run_of<S: Source>(
     source: &mut S,
     blocks: &Blocks,
 ) -> Result<Ran, RunFault>
-    ensures ran { IfOk result (IsRun (S.tells source.old) (arc_value plan.now) log) }
-    ensures fault { IfErr result (λ f. CauseOfRun f (S.tells source.old) (arc_value plan.now)
+    ensures ran { IfOk result (IsRun (S.tells source.old) (paced_by workers) (arc_value plan.now) log) }
+    ensures fault { IfErr result (λ f. CauseOfRun f (S.tells source.old) (paced_by workers) (arc_value plan.now)
         (record { asked_before = S.asked source.old; asked_now = S.asked source.new; before = S.faults source.old; now = S.faults source.new })) }
     ensures asks { AsksFiles (arc_value plan.now).graph (S.asked source.old) (S.asked source.new) }
     ensures keeps { S.tells source.new ≡ S.tells source.old }
@@ -54,17 +65,8 @@ pub fn run_of<S: Source>(
     let Ok(platforms) = open_all(alloc, plan, entries) else {
         return Err(RunFault::Memory);
     };
-    let Ok(Rounds { platforms, fault }) = paced(alloc, platforms, blocks, workers) else {
+    let Ok(went) = go_paced(alloc, platforms, blocks, workers) else {
         return Err(RunFault::Memory);
     };
-    if let Some(platform) = fault {
-        return Err(RunFault::Long {
-            platform,
-            platforms,
-        });
-    }
-    match told(alloc, plan, platforms, log) {
-        Ok(ran) => Ok(ran),
-        Err(_) => Err(RunFault::Memory),
-    }
+    outputs_of(alloc, plan, went, log)
 }

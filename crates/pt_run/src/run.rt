@@ -5,24 +5,27 @@ ghost use Rattle.std.specs.Arc.{arc_value};
 ghost use Rattle.pt_types.specs.Lawful.{IsLawful};
 ghost use Rattle.pt_offsets.specs.Plans.{IsAdmitted};
 ghost use Rattle.pt_sensors.specs.Asked.{AsksFiles};
+ghost use Rattle.pt_words.specs.declared.orders.ClockChoice.TheVariants.{Paced};
 ghost use Rattle.pt_run.specs.declared.words.Command.TheVariants.{Run};
 ghost use Rattle.pt_run.specs.Statuses.{status_of};
 ghost use Rattle.pt_tables.specs.Misses.{miss_line};
 ghost use Rattle.pt_run.specs.Telling.{Tells};
-ghost use Rattle.pt_run.specs.Texts.{EndsOver, EndsPlan, IsStopped, WroteRun, left_by};
+ghost use Rattle.pt_run.specs.Texts.{EndsOver, EndsPlan, IsOfRun, IsStopped, WroteRun, left_by};
 
-use crate::fault::{Fault, Outcome, fault_of_plan, fault_of_rows};
+use crate::fault::{Fault, fault_of_plan, fault_of_rows};
 use crate::notes::{tell, tell_write};
+use crate::outcome::Ending;
 use crate::output::{put_lines, put_text};
 use crate::{Ran, RunFault, run_of};
 use pt_blocks::Blocks;
 use pt_io::{Sink, Source};
 use pt_offsets::{Plan, Unplanned, plan_of};
+use pt_turn::Platform;
 use pt_types::Graph;
 use std::alloc::Global;
 use std::sync::Arc;
 
-/// Runs a graph over the files of its sensors.
+/// Runs a graph over the files of its sensors, under the paced clock.
 pub fn run_graph<S: Source, K: Sink, E: Sink>(
     alloc: Global,
     workers: u32,
@@ -32,11 +35,11 @@ pub fn run_graph<S: Source, K: Sink, E: Sink>(
     out: &mut K,
     notes: &mut E,
     blocks: &Blocks,
-) -> Outcome
+) -> Ending
     requires { IsLawful graph }
     ensures status { result.status ≡ status_of result.fault result.misses }
     ensures asks { AsksFiles graph (S.asked source.old) (S.asked source.new) }
-    ensures ends { EndsOver result.fault (left_by result) (Run workers log) (S.tells source.old) graph
+    ensures ends { EndsOver result.fault (left_by result) (Run workers Paced log) (S.tells source.old) graph
         (record { asked_before = S.asked source.old; asked_now = S.asked source.new; before = S.faults source.old; now = S.faults source.new })
         (record { before = K.faults out.old; now = K.faults out.new; written_before = K.written out.old; written_now = K.written out.new }) }
     ensures flushed { result.fault ≡ None → K.flushed out.new }
@@ -47,12 +50,12 @@ pub fn run_graph<S: Source, K: Sink, E: Sink>(
         Ok(plan) => plan,
         Err(Unplanned { graph, fault }) => {
             let fault = tell(alloc, notes, fault_of_plan(fault), Some(&graph));
-            return Outcome::refused(alloc, fault);
+            return Ending::refused(alloc, fault);
         }
     };
     let Ok(plan) = Arc::new(alloc, plan) else {
         let fault = tell(alloc, notes, Fault::Memory, None);
-        return Outcome::refused(alloc, fault);
+        return Ending::refused(alloc, fault);
     };
     run_plan(alloc, workers, log, &plan, source, out, notes, blocks)
 }
@@ -67,11 +70,11 @@ fn run_plan<S: Source, K: Sink, E: Sink>(
     out: &mut K,
     notes: &mut E,
     blocks: &Blocks,
-) -> Outcome
+) -> Ending
     ensures status { result.status ≡ status_of result.fault result.misses }
     ensures admitted { IsAdmitted (arc_value plan.now) }
     ensures asks { AsksFiles (arc_value plan.now).graph (S.asked source.old) (S.asked source.new) }
-    ensures ends { EndsPlan result.fault (left_by result) log (S.tells source.old) (arc_value plan.now)
+    ensures ends { EndsPlan result.fault (left_by result) workers Paced log (S.tells source.old) (arc_value plan.now)
         (record { asked_before = S.asked source.old; asked_now = S.asked source.new; before = S.faults source.old; now = S.faults source.new })
         (record { before = K.faults out.old; now = K.faults out.new; written_before = K.written out.old; written_now = K.written out.new }) }
     ensures flushed { result.fault ≡ None → K.flushed out.new }
@@ -85,13 +88,13 @@ fn run_plan<S: Source, K: Sink, E: Sink>(
 }
 
 /// Puts the text of a run on `out`, and the lines of its misses on `notes`.
-fn write_run<K: Sink, E: Sink>(
+pub fn write_run<K: Sink, E: Sink>(
     alloc: Global,
     graph: &Graph,
     ran: Ran,
     out: &mut K,
     notes: &mut E,
-) -> Outcome
+) -> Ending
     ensures status { result.status ≡ status_of result.fault result.misses }
     ensures wrote { WroteRun ran result (record { before = K.faults out.old; now = K.faults out.new; written_before = K.written out.old; written_now = K.written out.new }) }
     ensures flushed { result.fault ≡ None → K.flushed out.new }
@@ -106,21 +109,32 @@ fn write_run<K: Sink, E: Sink>(
     } = ran;
     if put_text(out, text.as_str().as_bytes()).is_err() {
         tell_write(notes);
-        return Outcome::stopped(alloc, Fault::Write, platforms);
+        return Ending::stopped(alloc, Fault::Write, platforms);
     }
     let _ = put_lines(notes, lines.as_str().as_bytes());
-    Outcome::done(misses, platforms)
+    Ending::done(misses, platforms)
 }
 
 /// Reports why a run did not finish.
-fn stop_run<E: Sink>(alloc: Global, graph: &Graph, fault: RunFault, notes: &mut E) -> Outcome
+pub fn stop_run<E: Sink>(alloc: Global, graph: &Graph, fault: RunFault, notes: &mut E) -> Ending
     ensures status { result.status ≡ status_of result.fault result.misses }
     ensures stopped { IsStopped fault result }
     ensures fault { result.fault ≢ None }
     ensures notes { Tells result.fault result.misses (Some graph.now)
         (record { before = E.faults notes.old; now = E.faults notes.new; written_before = E.written notes.old; written_now = E.written notes.new }) }
 {
-    let (fault, platforms) = match fault {
+    let (fault, platforms) = faults_of(alloc, fault);
+    match tell(alloc, notes, fault, Some(graph)) {
+        Fault::Memory => Ending::refused(alloc, Fault::Memory),
+        fault => Ending::stopped(alloc, fault, platforms),
+    }
+}
+
+/// The fault of a call, from that of a run, with the platforms that the run leaves.
+fn faults_of(alloc: Global, fault: RunFault) -> (Fault, Vec<Platform>)
+    ensures { IsOfRun fault result.0 result.1.items }
+{
+    match fault {
         RunFault::Rows(fault) => (fault_of_rows(fault), Vec::new(alloc)),
         RunFault::Memory => (Fault::Memory, Vec::new(alloc)),
         RunFault::Long {
@@ -132,9 +146,22 @@ fn stop_run<E: Sink>(alloc: Global, graph: &Graph, fault: RunFault, notes: &mut 
             },
             platforms,
         ),
-    };
-    match tell(alloc, notes, fault, Some(graph)) {
-        Fault::Memory => Outcome::refused(alloc, Fault::Memory),
-        fault => Outcome::stopped(alloc, fault, platforms),
+        RunFault::Late {
+            platform,
+            actor,
+            tag,
+            reading,
+            limit,
+            platforms,
+        } => (
+            Fault::LateMessage {
+                platform,
+                actor,
+                tag,
+                reading,
+                limit,
+            },
+            platforms,
+        ),
     }
 }

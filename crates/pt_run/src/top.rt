@@ -1,98 +1,132 @@
 //! The top call.
 
-ghost use Rattle.std.specs.Prelude.{◌≡◌, None, Some};
+ghost use Rattle.std.specs.Prelude.{◌≡◌, ◌≢◌, None, Some, length};
+ghost use Rattle.pt_io.specs.Told.{tell};
 ghost use Rattle.pt_types.specs.Lawful.{IsLawful};
 ghost use Rattle.pt_run.specs.CauseTable.{CauseTable};
-ghost use Rattle.pt_run.specs.Complete.{IsComplete};
+ghost use Rattle.pt_run.specs.Clocks.{AreBack, AreBackFor};
+ghost use Rattle.pt_run.specs.Complete.{IsComplete, IsCompleteByAnyClock};
+ghost use Rattle.pt_run.specs.declared.fault.Fault.TheVariants.{Memory};
 ghost use Rattle.pt_run.specs.Exact.{IsExact};
 ghost use Rattle.pt_run.specs.Headline.{IsHeadline};
 ghost use Rattle.pt_run.specs.Statuses.{status_of};
 ghost use Rattle.pt_run.specs.Words.{order_of};
 ghost use Rattle.pt_run.specs.Making.{AsksOf, Ends, TellsOf};
 ghost use Rattle.pt_run.specs.Telling.{Tells, TellsBy};
-ghost use Rattle.pt_run.specs.Texts.{Answers, AsksBy, AsksFor, EndsBy, EndsOver, left_by};
+ghost use Rattle.pt_run.specs.Texts.{Answers, AsksBy, AsksFor, EndsBy, EndsOver, left_at, left_of, left_over};
 
 use crate::admission::graph_at;
 use crate::check::check_answer;
-use crate::fault::{Fault, Outcome};
+use crate::fault::Fault;
 use crate::make::make;
 use crate::meaning::meaning_answer;
 use crate::notes::{tell, tell_write};
+use crate::outcome::{Ending, Outcome};
 use crate::output::put_text;
+use crate::own_clocks::run_own;
 use crate::run::run_graph;
 use crate::words::{Asked, Command, order_of};
 use pt_blocks::Blocks;
-use pt_io::{Sink, Source};
+use pt_io::{Clock, Sink, Source};
 use pt_types::Graph;
+use pt_words::ClockChoice;
 use std::alloc::Global;
+use std::sync::Wait;
 
 /// Runs the command of these words, those after the program's name: `run GRAPH`, `check GRAPH`, `meaning GRAPH` or
 /// `make NUMBER`.
 ///
 /// Files are read from the source by name; `make` reads none. The text goes to `out`, line by line. After a fault, one line
-/// on `notes` says why; after a run with misses, one line for each. `blocks` has the functions that actors may name.
-pub fn ptides<S: Source, K: Sink, E: Sink>(
+/// on `notes` says why; after a run with misses, one line for each. In a run by the machine's clock platform i reads clock i of
+/// the 16 that are handed in; no other call reads them. `blocks` has the functions that actors may name.
+///
+/// This call may wait. No clause says which commands end: the parts of `check`, `meaning`, `make` and a paced run that don't take
+/// `rt` do, and a run by a clock of its own, `--clock step:..` or `--clock machine`, may go on forever if its clock stops.
+pub fn ptides<S: Source, K: Sink, E: Sink, C: Clock, R: Wait>(
+    rt: &R,
     alloc: Global,
     words: &[String],
     source: &mut S,
     out: &mut K,
     notes: &mut E,
+    clocks: Vec<C>,
     blocks: &Blocks,
-) -> Outcome
+) -> Outcome<C>
+    requires clocks { length clocks.items ≡ 16 }
     ensures status { result.status ≡ status_of result.fault result.misses }
-    // The source is asked for the graph file, then for the files of its sensors in order, and for nothing else.
+    // The source is asked at most for the graph file and then for the files of its sensors, in order.
     ensures asks { AsksOf (order_of words.now) (S.tells source.old) blocks.now.listed.items
         (record { asked_before = S.asked source.old; asked_now = S.asked source.new; before = S.faults source.old; now = S.faults source.new }) }
-    // The headline: what a run has written, what it leaves, at which readings, and why it ended with status 4.
-    ensures headline { IsHeadline result.status result.fault (left_by result) (order_of words.now) (S.tells source.old) blocks.now.listed.items
+    // The headline: what a run has written, what it leaves, by which readings, and why it stopped.
+    ensures headline { IsHeadline result.fault (left_of result (order_of words.now) (tell C.told C.ahead clocks.items) (tell C.told C.ahead result.clocks.items)) (order_of words.now) (S.tells source.old) blocks.now.listed.items
         (record { before = K.faults out.old; now = K.faults out.new; written_before = K.written out.old; written_now = K.written out.new }) }
     // Why the call ended as it did: one field for each answer.
-    ensures causes { CauseTable result.status result.fault (left_by result) (order_of words.now) (S.tells source.old) blocks.now.listed.items
+    ensures causes { CauseTable result.status result.fault (left_of result (order_of words.now) (tell C.told C.ahead clocks.items) (tell C.told C.ahead result.clocks.items)) (order_of words.now) (S.tells source.old) blocks.now.listed.items
         (record { asked_before = S.asked source.old; asked_now = S.asked source.new; before = S.faults source.old; now = S.faults source.new })
         (record { before = K.faults out.old; now = K.faults out.new; written_before = K.written out.old; written_now = K.written out.new }) }
-    // And it ends so whenever the words and the files have that cause and none before it: one field for each answer that
+    // And it ends so, unless memory runs out or a read fails, whenever the words and the files have that cause and none before it: one field for each answer that
     // depends on them alone.
     ensures exact { IsExact result.fault (order_of words.now) (S.tells source.old) blocks.now.listed.items }
     // All of it, for every command: what was written and what is left, and the cause of each fault, by cases in `EndsBy` and
     // `EndsMade`.
-    ensures ends { Ends result.fault (left_by result) (order_of words.now) (S.tells source.old) blocks.now.listed.items
+    ensures ends { Ends result.fault (left_of result (order_of words.now) (tell C.told C.ahead clocks.items) (tell C.told C.ahead result.clocks.items)) (order_of words.now) (S.tells source.old) blocks.now.listed.items
         (record { asked_before = S.asked source.old; asked_now = S.asked source.new; before = S.faults source.old; now = S.faults source.new })
         (record { before = K.faults out.old; now = K.faults out.new; written_before = K.written out.old; written_now = K.written out.new }) }
-    // A run of a program that can run ends as its meaning says: by cases in `IsComplete`.
+    // A paced run of a program that can run ends as its meaning says: by cases in `StatusIsMeant`.
     ensures complete { IsComplete result.status (order_of words.now) (S.tells source.old) blocks.now.listed.items
         (record { asked_before = S.asked source.old; asked_now = S.asked source.new; before = S.faults source.old; now = S.faults source.new })
         (record { before = K.faults out.old; now = K.faults out.new; written_before = K.written out.old; written_now = K.written out.new }) }
+    // By whatever clock, it finishes or its platforms show why not: by cases in `EndsAsShown`.
+    ensures complete_by_any_clock { IsCompleteByAnyClock result.fault (left_of result (order_of words.now) (tell C.told C.ahead clocks.items) (tell C.told C.ahead result.clocks.items)) (order_of words.now) (S.tells source.old) blocks.now.listed.items
+        (record { asked_before = S.asked source.old; asked_now = S.asked source.new; before = S.faults source.old; now = S.faults source.new })
+        (record { before = K.faults out.old; now = K.faults out.new; written_before = K.written out.old; written_now = K.written out.new }) }
+    // Unless memory ran out, the clocks come back: as many after a run by the machine's clock, else as they were.
+    ensures clocks { result.fault ≢ Some Memory → AreBack (order_of words.now) result.fault clocks.items result.clocks.items }
     // Without a fault, all output is flushed.
     ensures flushed { result.fault ≡ None → K.flushed out.new }
     // What was put on `notes`.
     ensures notes { TellsOf result.fault result.misses (order_of words.now) (S.tells source.old) blocks.now.listed.items
         (record { before = E.faults notes.old; now = E.faults notes.new; written_before = E.written notes.old; written_now = E.written notes.new }) }
 {
-    run_words(alloc, words, source, out, notes, blocks)
+    let mut handed = clocks;
+    let ending = run_words(rt, alloc, words, source, out, notes, &mut handed, blocks);
+    Outcome {
+        status: ending.status,
+        fault: ending.fault,
+        misses: ending.misses,
+        platforms: ending.platforms,
+        clocks: handed,
+    }
 }
 
 /// Runs the command of these words. The other clauses of `ptides` follow from these.
-fn run_words<S: Source, K: Sink, E: Sink>(
+fn run_words<S: Source, K: Sink, E: Sink, C: Clock, R: Wait>(
+    rt: &R,
     alloc: Global,
     words: &[String],
     source: &mut S,
     out: &mut K,
     notes: &mut E,
+    clocks: &mut Vec<C>,
     blocks: &Blocks,
-) -> Outcome
+) -> Ending
+    requires clocks { length clocks.old.items ≡ 16 }
     ensures status { result.status ≡ status_of result.fault result.misses }
     ensures asks { AsksOf (order_of words.now) (S.tells source.old) blocks.now.listed.items
         (record { asked_before = S.asked source.old; asked_now = S.asked source.new; before = S.faults source.old; now = S.faults source.new }) }
-    ensures ends { Ends result.fault (left_by result) (order_of words.now) (S.tells source.old) blocks.now.listed.items
+    ensures ends { Ends result.fault (left_at result (order_of words.now) (tell C.told C.ahead clocks.old.items) (tell C.told C.ahead clocks.new.items)) (order_of words.now) (S.tells source.old) blocks.now.listed.items
         (record { asked_before = S.asked source.old; asked_now = S.asked source.new; before = S.faults source.old; now = S.faults source.new })
         (record { before = K.faults out.old; now = K.faults out.new; written_before = K.written out.old; written_now = K.written out.new }) }
+    ensures clocks { result.fault ≢ Some Memory → AreBack (order_of words.now) result.fault clocks.old.items clocks.new.items }
     ensures flushed { result.fault ≡ None → K.flushed out.new }
     ensures notes { TellsOf result.fault result.misses (order_of words.now) (S.tells source.old) blocks.now.listed.items
         (record { before = E.faults notes.old; now = E.faults notes.new; written_before = E.written notes.old; written_now = E.written notes.new }) }
 {
     let fault = match order_of(alloc, words) {
         Ok(Some(Asked::Over { command, graph })) => {
-            return run_file(alloc, command, graph, source, out, notes, blocks);
+            return run_file(
+                rt, alloc, command, graph, source, out, notes, clocks, blocks,
+            );
         }
         Ok(Some(Asked::Make { number, workers })) => {
             return make(alloc, number, workers, out, notes, blocks);
@@ -101,62 +135,81 @@ fn run_words<S: Source, K: Sink, E: Sink>(
         Err(_) => Fault::Memory,
     };
     let fault = tell(alloc, notes, fault, None);
-    Outcome::refused(alloc, fault)
+    Ending::refused(alloc, fault)
 }
 
 /// Runs a command on the graph in the file with this name.
-fn run_file<S: Source, K: Sink, E: Sink>(
+fn run_file<S: Source, K: Sink, E: Sink, C: Clock, R: Wait>(
+    rt: &R,
     alloc: Global,
     command: Command,
     name: &str,
     source: &mut S,
     out: &mut K,
     notes: &mut E,
+    clocks: &mut Vec<C>,
     blocks: &Blocks,
-) -> Outcome
+) -> Ending
+    requires clocks { length clocks.old.items ≡ 16 }
     ensures status { result.status ≡ status_of result.fault result.misses }
     ensures asks { AsksBy (Some (command, name.now)) (S.tells source.old) blocks.now.listed.items
         (record { asked_before = S.asked source.old; asked_now = S.asked source.new; before = S.faults source.old; now = S.faults source.new }) }
-    ensures ends { EndsBy result.fault (left_by result) (Some (command, name.now)) (S.tells source.old) blocks.now.listed.items
+    ensures ends { EndsBy result.fault (left_over result command (tell C.told C.ahead clocks.old.items) (tell C.told C.ahead clocks.new.items)) (Some (command, name.now)) (S.tells source.old) blocks.now.listed.items
         (record { asked_before = S.asked source.old; asked_now = S.asked source.new; before = S.faults source.old; now = S.faults source.new })
         (record { before = K.faults out.old; now = K.faults out.new; written_before = K.written out.old; written_now = K.written out.new }) }
+    ensures clocks { result.fault ≢ Some Memory → AreBackFor command result.fault clocks.old.items clocks.new.items }
     ensures flushed { result.fault ≡ None → K.flushed out.new }
     ensures notes { TellsBy result.fault result.misses (Some (command, name.now)) (S.tells source.old) blocks.now.listed.items
         (record { before = E.faults notes.old; now = E.faults notes.new; written_before = E.written notes.old; written_now = E.written notes.new }) }
 {
     match graph_at(alloc, source, name, blocks) {
-        Ok(graph) => run_command(alloc, command, graph, source, out, notes, blocks),
+        Ok(graph) => {
+            run_command(
+                rt, alloc, command, graph, source, out, notes, clocks, blocks,
+            )
+        }
         Err(fault) => {
             let fault = tell(alloc, notes, fault, None);
-            Outcome::refused(alloc, fault)
+            Ending::refused(alloc, fault)
         }
     }
 }
 
 /// Runs a command on a graph.
-fn run_command<S: Source, K: Sink, E: Sink>(
+fn run_command<S: Source, K: Sink, E: Sink, C: Clock, R: Wait>(
+    rt: &R,
     alloc: Global,
     command: Command,
     graph: Graph,
     source: &mut S,
     out: &mut K,
     notes: &mut E,
+    clocks: &mut Vec<C>,
     blocks: &Blocks,
-) -> Outcome
-    requires { IsLawful graph }
+) -> Ending
+    requires lawful { IsLawful graph }
+    requires clocks { length clocks.old.items ≡ 16 }
     ensures status { result.status ≡ status_of result.fault result.misses }
     ensures asks { AsksFor command graph (S.asked source.old) (S.asked source.new) }
-    ensures ends { EndsOver result.fault (left_by result) command (S.tells source.old) graph
+    ensures ends { EndsOver result.fault (left_over result command (tell C.told C.ahead clocks.old.items) (tell C.told C.ahead clocks.new.items)) command (S.tells source.old) graph
         (record { asked_before = S.asked source.old; asked_now = S.asked source.new; before = S.faults source.old; now = S.faults source.new })
         (record { before = K.faults out.old; now = K.faults out.new; written_before = K.written out.old; written_now = K.written out.new }) }
+    ensures clocks { result.fault ≢ Some Memory → AreBackFor command result.fault clocks.old.items clocks.new.items }
     ensures flushed { result.fault ≡ None → K.flushed out.new }
     ensures notes { Tells result.fault result.misses (Some graph)
         (record { before = E.faults notes.old; now = E.faults notes.new; written_before = E.written notes.old; written_now = E.written notes.new }) }
 {
     match command {
-        Command::Run { workers, log } => {
-            run_graph(alloc, workers, log, graph, source, out, notes, blocks)
-        }
+        Command::Run {
+            workers,
+            clock,
+            log,
+        } => match clock {
+            ClockChoice::Paced => run_graph(alloc, workers, log, graph, source, out, notes, blocks),
+            _ => run_own(
+                rt, alloc, workers, clock, log, graph, source, out, notes, clocks, blocks,
+            ),
+        },
         Command::Check => {
             let answer = check_answer(alloc, &graph);
             give(alloc, answer, &graph, out, notes)
@@ -175,7 +228,7 @@ fn give<K: Sink, E: Sink>(
     graph: &Graph,
     out: &mut K,
     notes: &mut E,
-) -> Outcome
+) -> Ending
     ensures status { result.status ≡ status_of result.fault result.misses }
     ensures gives { Answers answer result
         (record { before = K.faults out.old; now = K.faults out.new; written_before = K.written out.old; written_now = K.written out.new }) }
@@ -187,14 +240,14 @@ fn give<K: Sink, E: Sink>(
         Ok(text) => text,
         Err(fault) => {
             let fault = tell(alloc, notes, fault, Some(graph));
-            return Outcome::refused(alloc, fault);
+            return Ending::refused(alloc, fault);
         }
     };
     match put_text(out, text.as_str().as_bytes()) {
-        Ok(()) => Outcome::done(Vec::new(alloc), Vec::new(alloc)),
+        Ok(()) => Ending::done(Vec::new(alloc), Vec::new(alloc)),
         Err(_) => {
             tell_write(notes);
-            Outcome::refused(alloc, Fault::Write)
+            Ending::refused(alloc, Fault::Write)
         }
     }
 }

@@ -5,15 +5,19 @@ ghost use Rattle.pt_run.specs.Asking.{in_words};
 ghost use Rattle.pt_run.specs.Words.{order_by, order_of};
 ghost use Rattle.pt_words.specs.Views.{asked};
 
-use pt_words::Order;
+use pt_words::{ClockChoice, Order};
 use std::alloc::{AllocError, Global};
 
 /// A command on a graph.
 #[derive(Clone, Copy, Debug, PartialEq, Eq)]
 pub enum Command {
-    /// Run it over the rows of its sensors with `workers` workers (1 to 64), and write its tables and, if `log` is true,
-    /// what each platform did.
-    Run { workers: u32, log: bool },
+    /// Run it over the rows of its sensors with `workers` workers (1 to 64) and this clock, and write its tables and, if
+    /// `log` is true, what each platform did.
+    Run {
+        workers: u32,
+        clock: ClockChoice,
+        log: bool,
+    },
     /// Check whether it is admitted, and write the offset and the margin of each actor.
     Check,
     /// Write the tables of its meaning, whatever its bounds and slacks.
@@ -30,8 +34,6 @@ pub enum Asked<'a> {
 }
 
 /// What the words ask for; `None` if the command line is not valid.
-///
-/// The clock of a run is dropped, since all runs are paced.
 pub fn order_of<'a>(alloc: Global, words: &'a [String]) -> Result<Option<Asked<'a>>, AllocError>
     ensures { IfOk result (λ order. option_map in_words order ≡ order_of words.entry.now) }
 {
@@ -49,10 +51,14 @@ fn asked_by<'a>(order: Order<'a>) -> Asked<'a>
         Order::Run {
             graph,
             workers,
-            clock: _,
+            clock,
             log,
         } => Asked::Over {
-            command: Command::Run { workers, log },
+            command: Command::Run {
+                workers,
+                clock,
+                log,
+            },
             graph,
         },
         Order::Check { graph } => Asked::Over {

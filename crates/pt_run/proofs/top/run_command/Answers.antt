@@ -23,3 +23,6 @@ returns-in-Meaning-clause-ends g c =
     let r : Reading = record { asked_before = g.S.Source.asked c.args.source.now; asked_now = g.S.Source.asked c.meaning_answer-answer.new.source; before = g.S.Source.faults c.args.source.now; now = g.S.Source.faults c.meaning_answer-answer.new.source } in
     let w : Writing = record { before = g.K.Sink.faults c.args.out.now; now = g.K.Sink.faults c.give-in-Meaning.new.out; written_before = g.K.Sink.written c.args.out.now; written_now = g.K.Sink.written c.give-in-Meaning.new.out } in
     rw c.in-Meaning.is (ends_answer Meaning c.meaning_answer-answer.result c.give-in-Meaning.result tells c.args.graph r w c.meaning_answer-answer.ensures.text c.meaning_answer-answer.ensures.fault c.give-in-Meaning.ensures.gives)
+
+pub returns-in-Meaning-clause-asks : goal.returns-in-Meaning-clause-asks
+returns-in-Meaning-clause-asks g c = rw c.in-Meaning.is c.meaning_answer-answer.ensures.asks

@@ -1,5 +1,6 @@
+use Rattle.pt_io.specs.Told.{tell}
 use Rattle.pt_run.specs.Causes.{Writing}
-use Rattle.pt_run.specs.Texts.{left_by}
+use Rattle.pt_run.specs.Texts.{left_over}
 use Rattle.pt_run.proofs.Planned.{told_file}
 use Rattle.pt_run.proofs.Ending.{asked_in_order, ends_file}
 use Rattle.pt_run.proofs.top.run_file.Goals as goal
@@ -7,7 +8,7 @@ use Rattle.pt_run.proofs.top.run_file.Goals as goal
 pub returns-in-Ok-clause-ends : goal.returns-in-Ok-clause-ends
 returns-in-Ok-clause-ends g c =
     let w : Writing = record { before = g.K.Sink.faults c.args.out.now; now = g.K.Sink.faults c.run_command.new.out; written_before = g.K.Sink.written c.args.out.now; written_now = g.K.Sink.written c.run_command.new.out } in
-    ends_file c.args.command c.run_command.result.fault (left_by c.run_command.result) (g.S.Source.tells c.args.source.now) (g.S.Source.tells c.graph_at.new.source) c.args.blocks.now.listed.items c.args.name.now c.in-Ok.graph
+    ends_file c.args.command c.run_command.result.fault (left_over c.run_command.result c.args.command (tell g.C.Clock.told g.C.Clock.ahead c.args.clocks.now.items) (tell g.C.Clock.told g.C.Clock.ahead c.run_command.new.clocks.items)) (g.S.Source.tells c.args.source.now) (g.S.Source.tells c.graph_at.new.source) c.args.blocks.now.listed.items c.args.name.now c.in-Ok.graph
     (g.S.Source.asked c.args.source.now) (g.S.Source.asked c.graph_at.new.source) (g.S.Source.asked c.run_command.new.source)
     (g.S.Source.faults c.args.source.now) (g.S.Source.faults c.graph_at.new.source) (g.S.Source.faults c.run_command.new.source) w
     c.graph_at.ensures.keeps c.in-Ok.ensures.graph c.in-Ok.ensures.asks c.graph_at.ensures.grows c.run_command.ensures.ends

@@ -1,0 +1,79 @@
+//! How a call ends.
+
+ghost use Rattle.std.specs.Prelude.{◌≡◌, [], None, Some};
+ghost use Rattle.pt_run.specs.Written.{nothing};
+ghost use Rattle.pt_run.specs.Statuses.{status_of};
+ghost use Rattle.pt_run.specs.Texts.{left_by, of_run};
+
+use crate::fault::{Fault, status_of};
+use pt_history::Miss;
+use pt_tags::List;
+use pt_turn::Platform;
+use std::alloc::Global;
+
+/// How a call ended, and what a run left.
+#[derive(Drop)]
+pub struct Outcome<C> {
+    /// 0 if all was written, 5 if in addition something was missed, else the status of the fault.
+    pub status: u8,
+    pub fault: Option<Fault>,
+    /// All misses: platform by platform, turn by turn, results before messages. Empty unless the status is 5.
+    pub misses: List<Miss>,
+    /// The platforms as the run left them, in the order of the graph; none if no run began or memory ran out.
+    pub platforms: Vec<Platform>,
+    /// The clocks that were handed in, in their order. If memory ran out, they may be missing.
+    pub clocks: Vec<C>,
+}
+
+/// The same without the clocks.
+#[derive(Drop)]
+pub struct Ending {
+    pub status: u8,
+    pub fault: Option<Fault>,
+    pub misses: List<Miss>,
+    pub platforms: Vec<Platform>,
+}
+
+impl Ending {
+    /// A call that ended with a fault before a run began.
+    pub(crate) fn refused(alloc: Global, fault: Fault) -> Ending
+        ensures status { result.status ≡ status_of result.fault result.misses }
+        ensures fault { result.fault ≡ Some fault }
+        ensures left { left_by result ≡ nothing }
+    {
+        Ending {
+            status: status_of(&fault),
+            fault: Some(fault),
+            misses: List::new(Vec::new(alloc)),
+            platforms: Vec::new(alloc),
+        }
+    }
+
+    /// A call that ended with a fault and left these platforms.
+    pub(crate) fn stopped(alloc: Global, fault: Fault, platforms: Vec<Platform>) -> Ending
+        ensures status { result.status ≡ status_of result.fault result.misses }
+        ensures fault { result.fault ≡ Some fault }
+        ensures left { left_by result ≡ of_run [] platforms.items }
+    {
+        Ending {
+            status: status_of(&fault),
+            fault: Some(fault),
+            misses: List::new(Vec::new(alloc)),
+            platforms,
+        }
+    }
+
+    /// A call that wrote everything, with the misses and the platforms of its run.
+    pub(crate) fn done(misses: Vec<Miss>, platforms: Vec<Platform>) -> Ending
+        ensures status { result.status ≡ status_of result.fault result.misses }
+        ensures fault { result.fault ≡ None }
+        ensures left { left_by result ≡ of_run misses.items platforms.items }
+    {
+        Ending {
+            status: if misses.is_empty() { 0 } else { 5 },
+            fault: None,
+            misses: List::new(misses),
+            platforms,
+        }
+    }
+}
