@@ -1,24 +1,29 @@
 //! The program `ptides`: runs the command of its command line in the current folder.
 //!
-//! It makes the real source, sinks and blocks and passes them to the top call, `ptides` of pt_run, whose clauses say what is
+//! It makes the real source, sinks, clocks and blocks and passes them to the top call, `ptides` of pt_run, whose clauses say what is
 //! written. The program ends with the status of the outcome.
 #![tactic(auto)]
 
-ghost use Rattle.std.specs.Prelude.{◌≡◌, pos};
+ghost use Rattle.std.specs.Prelude.{◌≡◌, IfOk, length, pos};
 ghost use Rattle.pt_semantics.specs.Laws.{law_value};
 ghost use Rattle.pt_types.specs.declared.kind.Law.TheVariants.{Weighted};
 
-use pt_blocks::{Block, Blocks, clip100, dead5, greatest, least};
-use pt_io::{FileSource, NotesSink, OutSink};
+use pt_blocks::{Blocks, Function, clip100, dead5, greatest, least, shipped_blocks};
+use pt_io::{Clock, FileSource, MachineClock, NotesSink, OutSink, Sink, Source, SystemFiles};
 use pt_run::ptides;
 use pt_tags::Memory;
 use pt_types::Law;
+use std::alloc::Global;
 use std::io::ErrorKind;
 use std::process::ExitCode;
+use std::sync::Wait;
 use std::{env, io};
 
 /// The status if there is not enough memory to begin.
 const NO_MEMORY: u8 = 9;
+
+/// The most platforms of a graph.
+const MOST_PLATFORMS: usize = 16;
 
 /// The mean of both, rounded toward zero.
 fn mean(a: i64, b: i64) -> i64
@@ -40,52 +45,72 @@ fn words(rt: &HostRuntime) -> Result<Vec<String>, Memory> {
     Ok(arguments.skip(1).collect::<Vec<String>>(alloc)?)
 }
 
+/// A clock of the machine for each platform that a graph may have. Each begins now.
+fn machine_clocks<'r>(rt: &'r HostRuntime) -> Result<Vec<MachineClock<&'r HostRuntime>>, Memory>
+    ensures { IfOk result (λ clocks. length clocks.items ≡ 16) }
+{
+    let mut clocks = Vec::with_capacity(rt.alloc(), MOST_PLATFORMS)?;
+    while clocks.len() < MOST_PLATFORMS {
+        clocks.push(MachineClock::new(rt))?;
+    }
+    Ok(clocks)
+}
+
+/// The status of the command of these words. The clocks are let go, and so is all that a run leaves.
+fn status<S: Source, K: Sink, E: Sink, C: Clock, R: Wait>(
+    rt: &R,
+    alloc: Global,
+    words: &[String],
+    source: &mut S,
+    out: &mut K,
+    notes: &mut E,
+    clocks: Vec<C>,
+    blocks: &Blocks,
+) -> u8
+    requires clocks { length clocks.items ≡ 16 }
+{
+    let outcome = ptides(rt, alloc, words, source, out, notes, clocks, blocks);
+    outcome.status
+}
+
 fn main(rt: HostRuntime) -> ExitCode {
     let alloc = rt.alloc();
     let Ok(words) = words(&rt) else {
-        return ExitCode::from(NO_MEMORY);
-    };
-    let (Ok(first), Ok(second), Ok(third), Ok(fourth), Ok(fifth)) = (
-        String::from_str(alloc, "least"),
-        String::from_str(alloc, "greatest"),
-        String::from_str(alloc, "clip100"),
-        String::from_str(alloc, "dead5"),
-        String::from_str(alloc, "mean"),
-    ) else {
         return ExitCode::from(NO_MEMORY);
     };
     let middle = Law::Middle {
         low: -100,
         high: 100,
     };
-    let mut blocks = Blocks::new(alloc);
-    if blocks.add(Block::new(first, least, Law::Least)).is_err()
-        || blocks
-            .add(Block::new(second, greatest, Law::Greatest))
-            .is_err()
-        || blocks.add(Block::new(third, clip100, middle)).is_err()
-        || blocks
-            .add(Block::new(fourth, dead5, Law::Deadband { width: 5 }))
-            .is_err()
-        || blocks
-            .add(Block::new(fifth, mean, Law::Weighted { num: 1, den: 2 }))
-            .is_err()
-    {
+    let blocks = shipped_blocks(
+        alloc,
+        Function::new(least, Law::Least),
+        Function::new(greatest, Law::Greatest),
+        Function::new(clip100, middle),
+        Function::new(dead5, Law::Deadband { width: 5 }),
+        Function::new(mean, Law::Weighted { num: 1, den: 2 }),
+    );
+    let Ok(blocks) = blocks else {
         return ExitCode::from(NO_MEMORY);
-    }
+    };
     let (stdout, stderr) = (rt.stdout(), rt.stderr());
     let Ok(mut out) = OutSink::new(alloc, io::writer(&stdout)) else {
         return ExitCode::from(NO_MEMORY);
     };
     let mut notes = NotesSink::new(io::writer(&stderr));
-    let mut source = FileSource::new(rt);
-    let outcome = ptides(
+    let mut source = FileSource::new(SystemFiles::new(&rt));
+    let Ok(clocks) = machine_clocks(&rt) else {
+        return ExitCode::from(NO_MEMORY);
+    };
+    let status = status(
+        &rt,
         alloc,
         words.as_slice(),
         &mut source,
         &mut out,
         &mut notes,
+        clocks,
         &blocks,
     );
-    ExitCode::from(outcome.status)
+    ExitCode::from(status)
 }
