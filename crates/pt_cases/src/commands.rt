@@ -1,25 +1,40 @@
 //! Commands over files in memory, and what each of them left.
 //!
 //! `file NAME LINES` gives a file these lines, which spaces separate; `fetch N` and `put N` let a call of the next command
-//! fail; and any other line is a command.
+//! fail; `clock N READINGS` gives clock N of the next command these readings, of which it repeats the last; and any other
+//! line is a command.
+
+ghost use Rattle.std.specs.Prelude.{◌≡◌, IfOk, length};
 
 use crate::files::{Files, push_lines};
 use pt_blocks::Blocks;
 use pt_history::Miss;
-use pt_io::Page;
+use pt_io::{ListClock, Page};
 use pt_run::{Outcome, ptides};
 use pt_tags::Memory;
 use std::alloc::{AllocError, Global};
+use std::sync::Wait;
 
 const ROOM: usize = 4_194_304;
 
-/// The blocks and the files, and which calls of the next command fail.
+/// How many clocks a command gets.
+const CLOCKS: usize = 16;
+
+/// The readings of a clock.
+#[derive(Drop)]
+struct Readings {
+    clock: usize,
+    readings: Vec<u64>,
+}
+
+/// The blocks and the files, which calls of the next command fail, and what its clocks read.
 #[derive(Drop)]
 pub struct CommandScript {
     blocks: Blocks,
     files: Files,
     fetch: Option<u64>,
     put: Option<u64>,
+    clocks: Vec<Readings>,
 }
 
 impl CommandScript {
@@ -30,11 +45,17 @@ impl CommandScript {
             files: Files::new(alloc),
             fetch: None,
             put: None,
+            clocks: Vec::new(alloc),
         }
     }
 
     /// Does what a line says; gives what there is to write.
-    pub fn follow(&mut self, alloc: Global, line: &str) -> Result<String, AllocError> {
+    pub fn follow<R: Wait>(
+        &mut self,
+        rt: &R,
+        alloc: Global,
+        line: &str,
+    ) -> Result<String, AllocError> {
         if let Some(file) = line.strip_prefix("file ") {
             self.give(alloc, file)?;
             return Ok(String::new(alloc));
@@ -47,7 +68,11 @@ impl CommandScript {
             self.put = number.parse().ok();
             return Ok(String::new(alloc));
         }
-        self.run(alloc, line)
+        if let Some(clock) = line.strip_prefix("clock ") {
+            self.set(alloc, clock)?;
+            return Ok(String::new(alloc));
+        }
+        self.run(rt, alloc, line)
     }
 
     /// Gives a file its lines.
@@ -58,8 +83,24 @@ impl CommandScript {
         self.files.give(String::from_str(alloc, name)?, content)
     }
 
+    /// Gives a clock its readings.
+    fn set(&mut self, alloc: Global, text: &str) -> Result<(), AllocError> {
+        let (clock, rest) = text.split_once(' ').unwrap_or((text, ""));
+        let mut readings = Vec::new(alloc);
+        for reading in rest.split(' ') {
+            if let Ok(reading) = reading.parse() {
+                readings.push(reading)?;
+            }
+        }
+        self.clocks.push(Readings {
+            clock: clock.parse().unwrap_or(0),
+            readings,
+        })?;
+        Ok(())
+    }
+
     /// Runs a command; from then on no call fails.
-    fn run(&mut self, alloc: Global, line: &str) -> Result<String, AllocError> {
+    fn run<R: Wait>(&mut self, rt: &R, alloc: Global, line: &str) -> Result<String, AllocError> {
         let words = words(alloc, line)?;
         let failing = match self.fetch {
             Some(number) => vec![in alloc; number]?,
@@ -68,14 +109,18 @@ impl CommandScript {
         let mut source = self.files.shelf(alloc, failing)?;
         let mut out = page(alloc, self.put)?;
         let mut notes = page(alloc, None)?;
+        let clocks = clocks(alloc, self.clocks.as_slice())?;
         self.fetch = None;
         self.put = None;
+        self.clocks = Vec::new(alloc);
         let outcome = ptides(
+            rt,
             alloc,
             words.as_slice(),
             &mut source,
             &mut out,
             &mut notes,
+            clocks,
             &self.blocks,
         );
         report(alloc, line, &out, &notes, &outcome)
@@ -91,6 +136,29 @@ fn page(alloc: Global, put: Option<u64>) -> Result<Page, AllocError> {
         Ok(page) => Ok(page),
         Err(Memory) => Err(AllocError),
     }
+}
+
+/// The clocks of a command: those that were given readings, and else clocks that always read 0.
+fn clocks(alloc: Global, given: &[Readings]) -> Result<Vec<ListClock>, AllocError>
+    ensures { IfOk result (λ clocks. length clocks.items ≡ 16) }
+{
+    let mut clocks = Vec::with_capacity(alloc, CLOCKS)?;
+    while clocks.len() < CLOCKS {
+        let clock = clock_of(alloc, given, clocks.len())?;
+        clocks.push(clock)?;
+    }
+    Ok(clocks)
+}
+
+/// The clock of that number.
+fn clock_of(alloc: Global, given: &[Readings], number: usize) -> Result<ListClock, AllocError> {
+    let mut readings = Vec::new(alloc);
+    for it in given {
+        if it.clock == number {
+            readings = it.readings.clone()?;
+        }
+    }
+    Ok(ListClock::new(readings))
 }
 
 fn words(alloc: Global, line: &str) -> Result<Vec<String>, AllocError> {
@@ -109,7 +177,7 @@ fn report(
     line: &str,
     out: &Page,
     notes: &Page,
-    outcome: &Outcome,
+    outcome: &Outcome<ListClock>,
 ) -> Result<String, AllocError> {
     let mut text = format!(in alloc; "$ {line}\n")?;
     push_bytes(alloc, &mut text, out.bytes())?;

@@ -1,10 +1,9 @@
 //! Tables of cases, one program for all of them: the first word of each line of its input says which.
 //!
-//! `graph JSON` writes `ok` or the first fault of a graph, `delays JSON` its least delays, `queue JSON` what a queue of its
-//! events answers, `margins JSON` its margins, and `readings JSON` the readings of its platforms. `command LINE` is a line
-//! of a script of commands over files in memory, and `platform LINE` one of a script that drives platforms turn by turn.
-//! `measure N` measures the reader of rows and the firing of kinds. A line that begins with `#` is a heading, which is
-//! written as it is.
+//! `graph JSON` writes `ok` or the first fault of a graph, `delays JSON` its least delays, `margins JSON` its margins, and
+//! `readings JSON` the readings of its platforms. `command LINE` is a line of a script of commands over files in memory, and
+//! `platform LINE` one of a script that drives platforms turn by turn. `measure N` measures the reader of rows and the
+//! firing of kinds. A line that begins with `#` is a heading, which is written as it is.
 //!
 //! `stdin` has the tables and `stdout` what each line must give. That was worked out by hand, but for random graphs, of
 //! which only `agree` says something.
@@ -18,7 +17,6 @@ mod margins;
 mod measure;
 mod plans;
 mod platforms;
-mod queue;
 mod readings;
 
 use commands::CommandScript;
@@ -27,13 +25,13 @@ use pt_blocks::{Block, Blocks, dead5};
 use pt_types::Law;
 use std::alloc::AllocError;
 use std::io;
+use std::sync::Wait;
 
 /// What a line is for.
 enum Word {
     Heading,
     Graph,
     Delays,
-    Queue,
     Margins,
     Readings,
     Command,
@@ -47,7 +45,6 @@ impl Word {
         let word = match name {
             "graph" => Word::Graph,
             "delays" => Word::Delays,
-            "queue" => Word::Queue,
             "margins" => Word::Margins,
             "readings" => Word::Readings,
             "command" => Word::Command,
@@ -85,14 +82,19 @@ fn main(rt: HostRuntime) -> io::Result<()> {
     };
     for line in rt.lines(alloc) {
         let line = line?;
-        let text = answer(&rt, &mut tables, line.as_str())?;
+        let text = answer(&rt, &rt, &mut tables, line.as_str())?;
         print!(rt; "{text}")?;
     }
     Ok(())
 }
 
-/// The text that a line gives.
-fn answer(rt: &HostRuntime, tables: &mut Tables, line: &str) -> io::Result<String> {
+/// The text that a line gives. A command may wait: a run by a clock that doesn't rise goes on forever.
+fn answer<R: Wait>(
+    rt: &HostRuntime,
+    waiting: &R,
+    tables: &mut Tables,
+    line: &str,
+) -> io::Result<String> {
     let alloc = rt.alloc();
     let (name, rest) = line.split_once(' ').unwrap_or((line, ""));
     let Some(word) = Word::from_name(name) else {
@@ -102,10 +104,9 @@ fn answer(rt: &HostRuntime, tables: &mut Tables, line: &str) -> io::Result<Strin
         Word::Heading => format!(in alloc; "{line}\n")?,
         Word::Graph => graphs::verdict(alloc, rest, &tables.blocks)?,
         Word::Delays => delays::table(alloc, rest, &tables.blocks)?,
-        Word::Queue => queue::answers(alloc, rest, &tables.blocks)?,
         Word::Margins => margins::verdict(alloc, rest, &tables.blocks)?,
         Word::Readings => readings::readings(alloc, rest, &tables.blocks)?,
-        Word::Command => tables.commands.follow(alloc, rest)?,
+        Word::Command => tables.commands.follow(waiting, alloc, rest)?,
         Word::Platform => tables.platforms.follow(alloc, rest, &tables.blocks)?,
         Word::Measure => measure::measured(rt, rest.parse().unwrap_or(0))?,
     };

@@ -1,7 +1,7 @@
 //! Texts that were worked out by hand, and graphs that are read back from their texts.
 
 use pt_blocks::{Block, Blocks, clip100, dead5, least};
-use pt_graph::{GraphFault, read_graph};
+use pt_graph::read_graph;
 use pt_graph_writer::graph_text;
 use pt_types::Law;
 use std::alloc::Global;
@@ -68,29 +68,4 @@ fn writes_every_kind(rt: HostRuntime) -> Result<(), Fail> {
         return Err("no block added".into());
     }
     writes(alloc, KINDS, KINDS_WRITTEN, &blocks)
-}
-
-/// The fault of a file that has one.
-fn fault_of(alloc: Global, bytes: &[u8], blocks: &Blocks) -> Option<GraphFault> {
-    match read_graph(alloc, bytes, blocks) {
-        Ok(_) => None,
-        Err(fault) => Some(fault),
-    }
-}
-
-/// A file of 1,048,577 spaces is too long; with one less it is read, and is no JSON text.
-#[test]
-fn judges_the_length_first(rt: HostRuntime) -> Result<(), Fail> {
-    let alloc = rt.alloc();
-    let blocks = Blocks::new(alloc);
-    let mut spaces = Vec::new(alloc);
-    for _ in 0..1_048_576u32 {
-        spaces.push(b' ')?;
-    }
-    let fault = fault_of(alloc, spaces.as_slice(), &blocks);
-    assert_eq!(rt; fault, Some(GraphFault::NotJson));
-    spaces.push(b' ')?;
-    let fault = fault_of(alloc, spaces.as_slice(), &blocks);
-    assert_eq!(rt; fault, Some(GraphFault::TooLong));
-    Ok(())
 }

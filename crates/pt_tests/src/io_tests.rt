@@ -1,6 +1,8 @@
 //! What no clause says: that calls can succeed, and what the system's files and streams do.
 
-use pt_io::{FetchFault, FileSource, NotesSink, OutSink, Page, PutFault, Shelf, Sink, Source};
+use pt_io::{
+    FetchFault, FileSource, NotesSink, OutSink, Page, PutFault, Shelf, Sink, Source, SystemFiles,
+};
 use pt_tags::{List, Name};
 use std::alloc::{AllocError, Global};
 use std::io;
@@ -150,7 +152,7 @@ fn notes_go_on_after_a_part_and_fail_where_nothing_is_taken(rt: HostRuntime) {
 #[test]
 fn a_file_is_read_to_its_end_or_one_byte_past_the_limit(rt: HostRuntime) -> Result<(), Fail> {
     let alloc = rt.alloc();
-    let mut files = FileSource::new(rt);
+    let mut files = FileSource::new(SystemFiles::new(rt));
     let empty = files.fetch(alloc, "/dev/null", 9).ok().ok_or("nothing")?;
     assert!(rt; empty.is_empty());
     let zeros = files.fetch(alloc, "/dev/zero", 40000).ok().ok_or("zeros")?;
@@ -162,7 +164,7 @@ fn a_file_is_read_to_its_end_or_one_byte_past_the_limit(rt: HostRuntime) -> Resu
 #[test]
 fn files_that_cannot_be_opened_or_read_are_faults(rt: HostRuntime) {
     let alloc = rt.alloc();
-    let mut files = FileSource::new(rt);
+    let mut files = FileSource::new(SystemFiles::new(rt));
     assert!(rt;
         matches!(
             files.fetch(alloc, "no/such/file", 9),

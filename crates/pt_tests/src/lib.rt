@@ -1,6 +1,6 @@
-//! Tests of public calls of the other crates: the happy path of each, and what no clause says.
+//! Tests of what no clause says and no stored run shows: the system's files and streams, and calls that the program doesn't make.
 //!
-//! A file is named by the crate that it tests.
+//! A file is named by the crate that it tests. Tables of cases are lines of `pt_cases`, which are run and not proved.
 #![tactic(auto)]
 
 #[cfg(test)]
@@ -10,24 +10,8 @@ mod causality_tests;
 #[cfg(test)]
 mod graph_writer_tests;
 #[cfg(test)]
-mod history_tests;
-#[cfg(test)]
 mod io_tests;
 #[cfg(test)]
 mod links_tests;
-#[cfg(test)]
-mod meaning_tests;
-#[cfg(test)]
-mod monitors_tests;
-#[cfg(test)]
-mod offsets_tests;
-#[cfg(test)]
-mod samples;
-#[cfg(test)]
-mod sensors_tests;
-#[cfg(test)]
-mod state_tests;
-#[cfg(test)]
-mod tables_tests;
 #[cfg(test)]
 mod words_tests;

@@ -17,7 +17,7 @@ const RUNS: [&str; 8] = [
 ];
 
 /// Lines outside the grammar; two spaces enclose an empty word.
-const REFUSED: [&str; 48] = [
+const REFUSED: [&str; 50] = [
     "",
     "run",
     "Run g.json",
@@ -28,6 +28,7 @@ const REFUSED: [&str; 48] = [
     "make g.json",
     "make 7 --log",
     "make 7 --clock paced",
+    "make 7 --clock=step:0:1",
     "make 7 --workers 0",
     "run a b",
     "run ",
@@ -58,14 +59,63 @@ const REFUSED: [&str; 48] = [
     "run g.json --Log",
     "run g.json --lo",
     "run g.json --clock=Paced",
-    "run g.json --clock machine",
-    "run g.json --clock=step:0:1000",
+    "run g.json --clock",
     "run g.json --clock paced --clock paced",
+    "run g.json --clock machine --clock=step:0:1",
+    "check g.json --clock machine",
     "check g.json --workers 2",
     "check g.json --help",
     "check g.json --log",
     "meaning --log g.json",
     "meaning -- --clock=paced g.json",
+];
+
+/// Values that no clock has.
+const REFUSED_CLOCKS: [&str; 44] = [
+    "",
+    "Paced",
+    "paced:",
+    "paced:0:1",
+    "Machine",
+    "machines",
+    "machine:",
+    "machine:0:1",
+    "step",
+    "Step:0:1",
+    "steps:0:1",
+    "ste:0:1",
+    ":0:1",
+    "0:1",
+    "step:",
+    "step::",
+    "step:1",
+    "step:1:",
+    "step::1",
+    "step:1:1:",
+    "step:1:1:1",
+    "step::1:1",
+    "step:1:0",
+    "step:1:00",
+    "step:01:1",
+    "step:1:01",
+    "step:00:1",
+    "step:+1:1",
+    "step:1:+1",
+    "step:-1:1",
+    "step:1:-1",
+    "step:1000000000000001:1",
+    "step:1:1000000000000001",
+    "step:18446744073709551616:1",
+    "step:1:18446744073709551617",
+    "step:a:1",
+    "step:1:a",
+    "step:0x1:1",
+    "step:1_0:1",
+    "step:1.0:1",
+    "step:1:1us",
+    "step=0:1",
+    "step;0;1",
+    "step,0,1",
 ];
 
 /// Whether a line, whose words a single space separates, gives this order.
@@ -148,6 +198,46 @@ fn a_log_is_asked_for_before_or_after_the_graph(rt: HostRuntime) -> Result<(), F
     assert!(rt; gives(alloc, "run g.json --log", logged(4))?);
     assert!(rt; gives(alloc, "run g.json --log --workers 3", logged(3))?);
     assert!(rt; gives(alloc, "run --workers 3 --log -- g.json", logged(3))?);
+    Ok(())
+}
+
+#[test]
+fn a_clock_is_chosen_by_its_name(rt: HostRuntime) -> Result<(), Fail> {
+    let alloc = rt.alloc();
+    let most = 1_000_000_000_000_000;
+    let step = |start, step| ClockChoice::Step { start, step };
+    for (value, clock) in [
+        ("paced", ClockChoice::Paced),
+        ("machine", ClockChoice::Machine),
+        ("step:0:1", step(0, 1)),
+        ("step:7:250", step(7, 250)),
+        ("step:250:7", step(250, 7)),
+        ("step:1000000000000000:1", step(most, 1)),
+        ("step:0:1000000000000000", step(0, most)),
+    ] {
+        let expected = Order::Run {
+            graph: "g.json",
+            workers: 2,
+            clock,
+            log: true,
+        };
+        let apart = format!(in alloc; "run --clock {value} --log g.json --workers 2")?;
+        let joined = format!(in alloc; "run g.json --workers=2 --log --clock={value}")?;
+        assert!(rt; gives(alloc, apart.as_str(), Some(expected))?, "{apart}");
+        assert!(rt; gives(alloc, joined.as_str(), Some(expected))?, "{joined}");
+    }
+    Ok(())
+}
+
+#[test]
+fn other_clocks_are_refused(rt: HostRuntime) -> Result<(), Fail> {
+    let alloc = rt.alloc();
+    for value in REFUSED_CLOCKS {
+        let apart = format!(in alloc; "run g.json --clock {value}")?;
+        let joined = format!(in alloc; "run --clock={value} g.json")?;
+        assert!(rt; gives(alloc, apart.as_str(), None)?, "{apart}");
+        assert!(rt; gives(alloc, joined.as_str(), None)?, "{joined}");
+    }
     Ok(())
 }
 
