@@ -123,6 +123,8 @@ check_junit() {
     equal "JUnit: cases" "6 5 1" "$(xmllint --xpath 'concat(count(//testsuite/testcase), " ", count(//failure[@message]), " ",
         count(//testcase[not(*)][@classname="planted"][@name="as_it_is"][@time]))' planted.xml)"
     equal "JUnit: a message" 'status line 1: expected `5`, found `0`' "$(xmllint --xpath 'string(//testcase[@name="status"]/failure)' planted.xml)"
+    (cd planted/as_it_is && "$bench" . --junit "$work/here.xml" >"$work/here.tap")
+    equal "JUnit: the current folder" "0 . ok 1 - ." "$? $(xmllint --xpath 'string(//testcase/@name)' here.xml) $(tail -n 1 here.tap)"
     if python3 -c 'import sys; open(sys.argv[1], encoding="utf-8").read()' tap; then pass; else fail "the report is not UTF-8"; fi
 }
 
@@ -193,6 +195,9 @@ check_refusals() {
         "$("$bench" four/1 --junit none/a.xml 2>&1 >/dev/null)"
     cp -r four/1 empty/one && echo x >empty/one/status
     refuses "no status" "ptides bench: empty/one/status: \`x\` is no status" "$bench" empty
+    printf 'wave\ngraph.json\n' >empty/one/words
+    refuses "a companion" "ptides bench: empty/one/words: \`wave\` is no command of ptides: the first word has to be one of run, check, meaning, make" \
+        "$bench" empty
     [ ! -e /dev/full ] || equal "a full disk" "ptides bench: cannot write standard output: No space left on device" "$("$bench" four/1 2>&1 >/dev/full)"
 }
 

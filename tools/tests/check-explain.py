@@ -88,7 +88,7 @@ class Explain(Case):
         cases = [("rnu graph.json", 8, "rnu", "did you mean `run`?"), ("run graph.json --workers 65", 33, "65", "1 to 64"),
                  ("run graph.json --workers=0", 23, "--workers=0", "1 to 64"), ("run graph.json --worker 4", 23, "--worker", "did you mean `--workers`?"),
                  ("check graph.json --log", 25, "--log", "no option `--log`"), ("run graph.json --log --log", 29, "--log", "there already"),
-                 ("run graph.json --clock machine", 31, "machine", "`paced`"), ("run graph.json other.json", 23, "other.json", "a word too many"),
+                 ("run graph.json --clock step:0:0", 31, "step:0:0", "STEP from 1"), ("run graph.json other.json", 23, "other.json", "a word too many"),
                  ("make 101", 13, "101", "a number from 1 to 100"), ("run --log", 18, "", "the path of a graph is missing"),
                  ("run graph.json --workers", 33, "", "1 to 64"), ("run graph.json --log=1", 23, "--log=1", "takes no value")]
         for line, column, underlined, words in cases:

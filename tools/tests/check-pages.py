@@ -48,17 +48,17 @@ class Pages(Case):
                 self.assertRegex(done.output + done.notes, rf"\A{pattern}\Z")
 
     def test_heads(self) -> None:
-        """Each companion can be executed and has a line that the launcher shows; on the page are the same words."""
+        """Each companion can be executed and has a line that the launcher shows; the page lists each with the same words."""
         table = dict(re.findall(r"^\| \[`ptides (\w+) .*?\]\(#\w+\) \| (.*) \|$", PAGE.read_text(), re.M))
         files = sorted(path for path in (TOP / "tools").glob("ptides-*"))
-        self.assertLessEqual(set(table), {path.name[len("ptides-"):] for path in files})
+        self.assertEqual(set(table), {path.name[len("ptides-"):] for path in files})
         for path in files:
             with self.subTest(path=path.name):
                 head = path.read_text().split("\n")[:10]
                 says = [line[len("# ptides: "):] for line in head if line.startswith("# ptides: ")]
                 self.assertEqual((len(says), bool(path.stat().st_mode & 0o111)), (1, True))
                 name = path.name[len("ptides-"):]
-                self.assertEqual(table.get(name, says[0]), says[0])
+                self.assertEqual(table[name], says[0])
 
 
 if __name__ == "__main__":

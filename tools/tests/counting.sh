@@ -91,7 +91,7 @@ page() {
     cat >"$place/ptides" <<'PTIDES'
 #!/bin/sh
 case $1 in
-    rows | wave | bench) tool=$1; shift; exec "$COMPANIONS/ptides-$tool" "$@" ;;
+    rows | wave | bench | explain) tool=$1; shift; exec "$COMPANIONS/ptides-$tool" "$@" ;;
 esac
 exec "$PTIDES" "$@"
 PTIDES
