@@ -29,6 +29,10 @@ _ptides_files() { # FOLDER WORD
 _ptides() {
     local current=${COMP_WORDS[COMP_CWORD]} before=${COMP_WORDS[COMP_CWORD - 1]} first=1 folder=. options='' option command
     COMPREPLY=()
+    # In `step:0:1` each `:` is a word of its own, and after the first there are only numbers.
+    if [[ $current == : || $before == : ]]; then
+        return
+    fi
     # In `--workers=4` the `=` is a word of its own.
     if [[ $current == = ]]; then
         current=
@@ -57,7 +61,8 @@ _ptides() {
     elif [[ $before == --workers ]]; then
         mapfile -t COMPREPLY < <(compgen -W "$(seq 1 64)" -- "$current")
     elif [[ $before == --clock ]]; then
-        mapfile -t COMPREPLY < <(compgen -W paced -- "$current")
+        mapfile -t COMPREPLY < <(compgen -W 'machine paced step:' -- "$current")
+        [[ ${COMPREPLY[*]} != step: ]] || compopt -o nospace 2>/dev/null
     elif [[ $current == -* ]]; then
         case $command in
             run) options='--workers --clock --log' ;;

@@ -156,5 +156,7 @@ for document in ./*.md docs/*.md bench/*.md examples/README.md examples/*/README
     check_clauses "$document" "$line"
     check_tables_of_clauses "$document"
 done
+tools/count-definitions.py --check
+judge docs/PROOF-TOUR.md 'how many definitions have to be believed' $?
 echo "$passed passed, $failed failed"
 [ "$failed" -eq 0 ]

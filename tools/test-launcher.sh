@@ -262,6 +262,10 @@ for word in --help -h help; do
     expect "$word: notes" '' "$(cat "$place/notes")"
     expect "$word: commands" 'run check meaning make' \
         "$(sed -n 's/^  \([a-z]*\) [A-Z].*/\1/p' "$place/output" | tr '\n' ' ' | sed 's/ $//')"
+    for clock in paced step:START:STEP machine; do
+        grep -q -e "\b$clock\b" "$place/output"
+        expect "$word: the clock $clock" 0 $?
+    done
     expect "$word: companions" '  show ...                 shows what it is given' "$(grep -A 9 'not proved' "$place/output" | grep '^  ')"
     for place_of in docs/ptides.1 examples schemas/graph.schema.json; do
         [[ $(<"$place/output")$'\n' == *" $place/repo/$place_of"$'\n'* ]]

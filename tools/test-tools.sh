@@ -299,8 +299,8 @@ test_read_only() {
 }
 
 test_read_only_mount() {
-    if ! unshare -m true 2>/dev/null; then
-        skip 'a mount that can only be read, since no mount is permitted'
+    if ! command -v mount >/dev/null || ! unshare -m true 2>/dev/null; then
+        skip 'a mount that can only be read, since no mount is there or permitted'
         return
     fi
     mkdir "$work/mount"
