@@ -1,0 +1,6 @@
+mod Lists
+mod Laying
+mod Matching
+mod Returning
+mod Apart
+mod Whole

@@ -1,0 +1,81 @@
+use Rattle.std.proofs.Common.{◌≡◌, ◌+◌, ◌≤◌, List, [], ◌∷◌, ◌++◌, length, map, vec_len, sym, ap, subst, ◌∙◌, append-nil, arith}
+use mathlib.Core.List.{reverse, reverse-append}
+use Rattle.std.proofs.lemmas.Option.{slice_get_within}
+use Rattle.pt_pool.specs.Station.{StationView, graph_of}
+use Rattle.pt_ends.proofs.Apart.{ins_distinct, ins_more, ins_within, outs_distinct, outs_more, outs_within, station_is, stations_more}
+use Rattle.pt_ends.proofs.Returning.{more_left}
+use Rattle.pt_ends.proofs.settling.take_apart.Goals as goal
+
+pub loop-station-init : goal.loop-station-init
+loop-station-init g c =
+    let xs = c.args.stations.items in record {
+      count = (c.in_ok-outlets.ensures, c.in_ok-inlets.ensures);
+      room = (omega (arith, c.in-Ok-Ok.ensures.len), omega (arith, c.in-Ok-Ok.ensures'.len));
+      exact = (c.in-Ok-Ok.ensures.exact ∙ c.len.ensures, c.in-Ok-Ok.ensures'.exact ∙ c.len-2.ensures);
+      front = ([], sym (append-nil xs), ap reverse c.in-Ok-Ok.ensures.items, ap (λ z. map g.C.Clock.told (reverse z)) c.in-Ok-Ok.ensures'.items);
+      sent = λ l link i s at le at_i home. let w = slice_get_within xs i s at_i in absurd (omega (arith, w, le));
+      taken = λ l link i s at le at_i home. let w = slice_get_within xs i s at_i in absurd (omega (arith, w, le));
+      of_run = λ i s le at_i. let w = slice_get_within xs i s at_i in absurd (omega (arith, w, le));
+    }
+
+pub lay-requires-clause-within : goal.lay-requires-clause-within
+lay-requires-clause-within g c =
+    let r = g.J.Run in
+    let e = c.into_parts-parts.ensures in
+    outs_within r.plan r.rows r.link r.began r.fixed c.in-Some.station (station_is r.plan r.rows r.link r.began r.fixed c.in-Some.station _ _ _ _ _ e.kept e.same) (vec_len c.loop-station.outlets) c.into_parts-parts.result.outlets.items
+    (ap (λ (s : StationView). s.outs) e.same) (subst (λ n. length (graph_of r.plan).links ≤ n) (sym c.loop-station.invariant.count.0) c.requires.links)
+
+pub lay-requires-clause-distinct : goal.lay-requires-clause-distinct
+lay-requires-clause-distinct g c =
+    let r = g.J.Run in
+    let e = c.into_parts-parts.ensures in
+    outs_distinct r.plan r.rows r.link r.began r.fixed c.in-Some.station (station_is r.plan r.rows r.link r.began r.fixed c.in-Some.station _ _ _ _ _ e.kept e.same) c.into_parts-parts.result.outlets.items
+    (ap (λ (s : StationView). s.outs) e.same)
+
+pub lay-requires-in-Some-clause-within : goal.lay-requires-in-Some-clause-within
+lay-requires-in-Some-clause-within g c =
+    let r = g.J.Run in
+    let e = c.into_parts-parts.ensures in
+    ins_within r.plan r.rows r.link r.began r.fixed c.in-Some.station (station_is r.plan r.rows r.link r.began r.fixed c.in-Some.station _ _ _ _ _ e.kept e.same) (vec_len c.loop-station.inlets) c.into_parts-parts.result.inlets.items
+    (ap (λ (s : StationView). s.ins) e.same) (subst (λ n. length (graph_of r.plan).links ≤ n) (sym c.loop-station.invariant.count.1) c.requires.links)
+
+pub lay-requires-in-Some-clause-distinct : goal.lay-requires-in-Some-clause-distinct
+lay-requires-in-Some-clause-distinct g c =
+    let r = g.J.Run in
+    let e = c.into_parts-parts.ensures in
+    ins_distinct r.plan r.rows r.link r.began r.fixed c.in-Some.station (station_is r.plan r.rows r.link r.began r.fixed c.in-Some.station _ _ _ _ _ e.kept e.same) c.into_parts-parts.result.inlets.items
+    (ap (λ (s : StationView). s.ins) e.same)
+
+pub loop-station-preserved : goal.loop-station-preserved
+loop-station-preserved g c =
+    let r = g.J.Run in
+    let inv = c.loop-station.invariant in
+    let e = c.into_parts-parts.ensures in
+    let s = c.in-Some.station in
+    let xs = c.pop.new.self.items in
+    let ys = c.loop-station.stations.items in
+    let orig = c.args.stations.items in
+    let rest : List StationView = inv.front.0 in
+    let is : ys ≡ xs ++ s ∷ [] = c.in-Some.ensures.items in
+    let st = station_is r.plan r.rows r.link r.began r.fixed s _ _ _ _ _ e.kept e.same in
+    let p : s.platform ≡ c.into_parts-parts.result.platform = ap (λ (v : StationView). v.platform) e.same in
+    let t : s.told ≡ g.C.Clock.told c.into_parts-parts.result.clock = ap (λ (v : StationView). v.told) e.same in
+    let len : vec_len c.pop.new.self + 1 ≡ vec_len c.loop-station.stations = c.in-Some.ensures.cases in record {
+      count = (c.lay.ensures.count ∙ inv.count.0, c.lay-in-Some.ensures.count ∙ inv.count.1);
+      room = (omega (arith, c.push_reserved.ensures.len, inv.room.0, len), omega (arith, c.push_reserved-in-Some.ensures.len, inv.room.1, len));
+      exact = (c.push_reserved.ensures.capacity ∙ inv.exact.0, c.push_reserved-in-Some.ensures.capacity ∙ inv.exact.1);
+      front = (
+        s ∷ rest,
+        more_left xs ys rest orig s is inv.front.1,
+        ap reverse c.push_reserved.ensures.items ∙ reverse-append c.loop-station.platforms.items (c.into_parts-parts.result.platform ∷ []) ∙ (λ i. sym p i ∷ inv.front.2 i),
+        ap (λ z. map g.C.Clock.told (reverse z)) c.push_reserved-in-Some.ensures.items ∙ ap (map g.C.Clock.told) (reverse-append c.loop-station.clocks.items (c.into_parts-parts.result.clock ∷ [])) ∙ (λ i. sym t i ∷ inv.front.3 i),
+      );
+      sent = outs_more r.plan r.rows r.link r.began r.fixed s st xs ys rest orig is inv.front.1 c.requires.order c.into_parts-parts.result.outlets.items (ap (λ (v : StationView). v.outs) e.same) c.loop-station.outlets.items c.lay.new.places.items c.lay.ensures.laid c.lay.ensures.others inv.sent;
+      taken = ins_more r.plan r.rows r.link r.began r.fixed s st xs ys rest orig is inv.front.1 c.requires.order c.into_parts-parts.result.inlets.items (ap (λ (v : StationView). v.ins) e.same) c.loop-station.inlets.items c.lay-in-Some.new.places.items c.lay-in-Some.ensures.laid c.lay-in-Some.ensures.others inv.taken;
+      of_run = stations_more r.plan r.rows r.link r.began r.fixed s st xs ys rest orig is inv.front.1 c.requires.order inv.of_run;
+    }
+
+pub returns-clause-of_run : goal.returns-clause-of_run
+returns-clause-of_run g c i s le at =
+    let none : length c.loop-station.stations.items ≡ 0 = sym c.loop-station.stations.ok.0 ∙ c.in_default-pop.ensures.cases.0 in
+    c.loop-station.invariant.of_run i s (omega (arith, none)) at

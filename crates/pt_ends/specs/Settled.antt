@@ -1,0 +1,58 @@
+-- What is left of the stations of a run.
+use Rattle.std.specs.Prelude.{◌≡◌, ◌≤◌, ◌++◌, ℕ, List, Option, Some, slice_get}
+use Rattle.pt_tags.specs.declared.message.Message.{Message}
+use Rattle.pt_types.specs.declared.graph.Graph.{Graph}
+use Rattle.pt_types.specs.declared.graph.Link.{Link}
+use Rattle.pt_types.specs.declared.rows.Row.{Row}
+use Rattle.pt_semantics.specs.Closing.{on_link}
+use Rattle.pt_semantics.specs.Linked.{all_sent}
+use Rattle.pt_offsets.specs.Plans.{Parts}
+use Rattle.pt_turn.specs.Platforms.{PlatformView, messages_of}
+use Rattle.pt_links.specs.Ends.{LinkId, SentBy, TakenBy}
+use Rattle.pt_pool.specs.Station.{IsOfRun, StationView}
+
+-- each has the number of its place
+abbrev pub AreInOrder : List StationView → Type 0
+AreInOrder stations = (i : ℕ) (s : StationView) → slice_get stations i ≡ Some s → s.platform.number ≡ i
+
+abbrev pub platform_of_station : StationView → PlatformView
+platform_of_station s = s.platform
+
+abbrev pub told_of_station : StationView → Option (List ℕ)
+told_of_station s = s.told
+
+-- a station of a run, whose clock has these readings fixed ahead
+pub record IsStation (plan : Option Parts) (rows : ℕ → List Row) (link : ℕ → LinkId) (began : ℕ → Option (List ℕ)) (fixed : ℕ → Option (ℕ → ℕ)) (s : StationView) : Type 0 where
+  pub ahead : Option (ℕ → ℕ)
+  pub of_run : IsOfRun plan rows link (began s.platform.number) (fixed s.platform.number) ahead s.told s.platform s.outs s.ins s.marked
+
+-- from the k-th on, these are stations of a run
+abbrev pub AreStations : Option Parts → (ℕ → List Row) → (ℕ → LinkId) → (ℕ → Option (List ℕ)) → (ℕ → Option (ℕ → ℕ)) → ℕ → List StationView → Type 0
+AreStations plan rows link began fixed k stations = (i : ℕ) (s : StationView) → k ≤ i → slice_get stations i ≡ Some s → IsStation plan rows link began fixed s
+
+-- the end of a link of the run, which sent what the station's platform sent on it
+pub record IsSentBy (link : ℕ → LinkId) (s : StationView) (l : ℕ) (e : SentBy) : Type 0 where
+  pub queue : e.link ≡ link l
+  pub sent : e.sent ≡ all_sent l s.platform.turns
+
+-- the end of a link of the run, which took what the station's platform took from it, and perhaps more after it
+pub record IsTakenBy (link : ℕ → LinkId) (s : StationView) (l : ℕ) (e : TakenBy) : Type 0 where
+  pub queue : e.link ≡ link l
+  pub rest : List Message
+  pub taken : e.taken ≡ on_link l (messages_of s.platform.turns) ++ rest
+
+-- the ends of the links of the stations from the k-th on, on one side, are in the places of their links
+abbrev pub AreReturned : {X : Type 0} → Graph → (Graph → Link → ℕ) → (StationView → ℕ → X → Type 0) → ℕ → List StationView → List (Option X) → Type 0
+AreReturned {X} g side is k stations places = (l : ℕ) (link : Link) (i : ℕ) (s : StationView) → slice_get g.links l ≡ Some link → k ≤ i → slice_get stations i ≡ Some s → side g link ≡ s.platform.number → (e : X) × (slice_get places l ≡ Some (Some e)) × is s l e
+
+-- what was sent at one end of a link is what was taken at the other, and then what is left
+abbrev pub IsSettled : SentBy → TakenBy → Type 0
+IsSettled o i = (left : List Message) × (o.sent ≡ i.taken ++ left)
+
+-- the two ends in each place are those of one link
+abbrev pub AreOfOneLink : List (Option SentBy) → List (Option TakenBy) → Type 0
+AreOfOneLink outs ins = (l : ℕ) (o : SentBy) (i : TakenBy) → slice_get outs l ≡ Some (Some o) → slice_get ins l ≡ Some (Some i) → i.link ≡ o.link
+
+-- the two ends in each place from the k-th on are settled
+abbrev pub AreSettled : ℕ → List (Option SentBy) → List (Option TakenBy) → Type 0
+AreSettled k outs ins = (l : ℕ) (o : SentBy) (i : TakenBy) → k ≤ l → slice_get outs l ≡ Some (Some o) → slice_get ins l ≡ Some (Some i) → IsSettled o i

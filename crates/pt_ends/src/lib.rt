@@ -1,0 +1,10 @@
+//! The ends of the links between stations, in places by the numbers of their links. After a run all links are settled.
+//!
+//! Read first: `settle_run`, then `specs/Settled.antt`.
+#![tactic(auto)]
+
+mod places;
+mod settling;
+
+pub use places::{collect, empty_places, lay};
+pub use settling::{Settled, settle_run};

@@ -1,0 +1,62 @@
+//! Things with a number, and their places.
+
+ghost use Rattle.std.specs.Prelude.{◌≡◌, ◌<◌, ◌≤◌, ◌^◌, ℕ, IfOk, Some, None, length, slice_get, vec_len};
+ghost use Rattle.pt_ends.specs.Places.{AreCollected, AreDistinct, AreLaid, IsFull, IsElsewhere, AreWithin};
+
+use pt_tags::Memory;
+use std::alloc::Global;
+
+/// An empty place for each number below `count`.
+pub fn empty_places<T: Drop>(alloc: Global, count: usize) -> Result<Vec<Option<T>>, Memory>
+    ensures { IfOk result (λ v. vec_len v ≡ count) }
+{
+    let Ok(mut places) = Vec::with_capacity(alloc, count) else {
+        return Err(Memory);
+    };
+    for _k in 0..count {
+        places.push_reserved(None);
+    }
+    Ok(places)
+}
+
+/// Takes the things of one owner out of their places, with their numbers. `owners` has the owner of each number.
+pub fn collect<T: Drop>(
+    alloc: Global,
+    owners: &[u32],
+    owner: u32,
+    places: &mut Vec<Option<T>>,
+) -> Result<Vec<(u32, T)>, Memory>
+    requires few { length owners.now ≤ 2 ^ 32 }
+    requires full { (l : ℕ) → slice_get owners.now l ≡ Some owner → IsFull places.old.items l }
+    ensures count { vec_len places.new ≡ vec_len places.old }
+    ensures collected { IfOk result (λ things. AreCollected owners.now owner (length owners.now) places.old.items things.items) }
+    ensures others { (l : ℕ) → IsElsewhere owners.now owner l → slice_get places.new.items l ≡ slice_get places.old.items l }
+{
+    let Ok(mut things) = Vec::with_capacity(alloc, owners.len()) else {
+        return Err(Memory);
+    };
+    for l in 0..owners.len() {
+        if owners[l] == owner {
+            let place = &mut places[l];
+            let Some(thing) = place.take() else {
+                unreachable!()
+            };
+            things.push_reserved((l as u32, thing));
+        }
+    }
+    Ok(things)
+}
+
+/// Puts each thing into the place of its number.
+pub fn lay<T: Drop>(mut things: Vec<(u32, T)>, places: &mut Vec<Option<T>>)
+    requires within { AreWithin (vec_len places.old) things.items }
+    requires distinct { AreDistinct things.items }
+    ensures count { vec_len places.new ≡ vec_len places.old }
+    ensures laid { AreLaid 0 things.items places.new.items }
+    ensures others { (l : ℕ) → ((i : ℕ) (e : ℕ × _) → slice_get things.items i ≡ Some e → e.0 ≡ l → ⊥) → slice_get places.new.items l ≡ slice_get places.old.items l }
+{
+    while let Some((number, thing)) = things.pop() {
+        let place = &mut places[number as usize];
+        let _ = place.replace(thing);
+    }
+}
