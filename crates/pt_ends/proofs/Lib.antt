@@ -4,3 +4,4 @@ mod Matching
 mod Returning
 mod Apart
 mod Whole
+mod Numbered

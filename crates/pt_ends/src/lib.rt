@@ -3,8 +3,10 @@
 //! Read first: `settle_run`, then `specs/Settled.antt`.
 #![tactic(auto)]
 
+mod laws;
 mod places;
 mod settling;
 
+pub use laws::numbered_stations_are_in_order;
 pub use places::{collect, empty_places, lay};
 pub use settling::{Settled, settle_run};
