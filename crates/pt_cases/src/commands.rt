@@ -14,6 +14,7 @@ use pt_run::{Outcome, ptides};
 use pt_tags::Memory;
 use std::alloc::{AllocError, Global};
 use std::sync::Wait;
+use std::thread::Threads;
 
 const ROOM: usize = 4_194_304;
 
@@ -50,7 +51,7 @@ impl CommandScript {
     }
 
     /// Does what a line says; gives what there is to write.
-    pub fn follow<R: Wait>(
+    pub fn follow<R: Threads + Wait + Sync>(
         &mut self,
         rt: &R,
         alloc: Global,
@@ -100,7 +101,7 @@ impl CommandScript {
     }
 
     /// Runs a command; from then on no call fails.
-    fn run<R: Wait>(&mut self, rt: &R, alloc: Global, line: &str) -> Result<String, AllocError> {
+    fn run<R: Threads + Wait + Sync>(&mut self, rt: &R, alloc: Global, line: &str) -> Result<String, AllocError> {
         let words = words(alloc, line)?;
         let failing = match self.fetch {
             Some(number) => vec![in alloc; number]?,

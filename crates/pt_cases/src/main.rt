@@ -26,6 +26,7 @@ use pt_types::Law;
 use std::alloc::AllocError;
 use std::io;
 use std::sync::Wait;
+use std::thread::Threads;
 
 /// What a line is for.
 enum Word {
@@ -89,7 +90,7 @@ fn main(rt: HostRuntime) -> io::Result<()> {
 }
 
 /// The text that a line gives. A command may wait: a run by a clock that doesn't rise goes on forever.
-fn answer<R: Wait>(
+fn answer<R: Threads + Wait + Sync>(
     rt: &HostRuntime,
     waiting: &R,
     tables: &mut Tables,

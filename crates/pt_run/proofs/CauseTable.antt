@@ -10,6 +10,7 @@ use Rattle.pt_history.specs.declared.miss.Miss.{Miss}
 use Rattle.pt_causality.specs.Ranked.{IsFreeCycle}
 use Rattle.pt_offsets.specs.Margins.{IsFirstInfeasible}
 use Rattle.pt_sensors.specs.declared.fault.RowFault.{RowFault}
+use Rattle.pt_offsets.specs.Plans.{Parts}
 use Rattle.pt_semantics.specs.Cycles.{NoFreeCycle}
 use Rattle.pt_semantics.specs.Offsets.{IsFeasible}
 use Rattle.pt_monitors.specs.Platforms.{missed_by}
@@ -124,8 +125,8 @@ module _ (left : Leaves) (tells : Contents) (blocks : List Named) (r : Reading) 
   late_row actor row seen limit (Some (make n workers)) k = absurd k
 
   -- the platform that stopped a run, as its recorded turns show
-  pub stopped : (g : Graph) (workers : ℕ) (clock : ClockChoice) (platform : ℕ) (f : TurnFault) → RunStops tells g workers clock left platform f → OnPlatform left platform (λ v. Shows g v.turns (state_at v) f)
-  stopped g workers clock platform f stop = let (v, at, is, shows, before) = stop.run.went.kept.ends in (v, at, subst (λ z. Shows z v.turns (state_at v) f) stop.graph shows)
+  pub stopped : (g : Graph) (workers : ℕ) (clock : ClockChoice) (platform : ℕ) (f : TurnFault) → RunStops tells g workers clock left platform f → OnPlatform left g platform (λ v. Shows g v.turns (state_at v) f)
+  stopped g workers clock platform f stop = let (v, at, is, shows, before) = stop.run.went.kept.ends in (v, at, ap (λ (p : Parts). p.graph) (stop.run.went.kept.all.plans platform v at) ∙ stop.graph, subst (λ z. Shows z v.turns (state_at v) f) stop.graph shows)
 
   -- a run that began is of a graph whose senders can send in time
   feasible : (g : Graph) (workers : ℕ) (clock : ClockChoice) (platform : ℕ) (f : TurnFault) → RunStops tells g workers clock left platform f → IsFeasible g
@@ -139,21 +140,21 @@ module _ (left : Leaves) (tells : Contents) (blocks : List Named) (r : Reading) 
       late e = cc
 
   late_message : (platform actor : ℕ) (tag : Tag) (reading limit : ℕ) (order : Option Order) → Ends (Some (fault.LateMessage platform actor tag reading limit)) left order tells blocks r w →
-      OverGraph order tells blocks (λ command name g. IsNotPaced command × IsAccepted command g × OnPlatform left platform (λ v. ShowsLate g v.turns actor tag reading limit))
+      OverGraph order tells blocks (λ command name g. IsNotPaced command × IsAccepted command g × OnPlatform left g platform (λ v. ShowsLate g v.turns actor tag reading limit))
   late_message platform actor tag reading limit None k = absurd (let e = k.0 in cc)
   late_message platform actor tag reading limit (Some (over command name)) (k, same) = (k.0, k.1, of command k.0 k.2.0 k.2.1)
     where
-      of : (c : Command) (g : Graph) → NoFreeCycle g → CauseOfText c (fault.LateMessage platform actor tag reading limit) left tells g (name ∷ []) r → IsNotPaced c × IsAccepted c g × OnPlatform left platform (λ v. ShowsLate g v.turns actor tag reading limit)
+      of : (c : Command) (g : Graph) → NoFreeCycle g → CauseOfText c (fault.LateMessage platform actor tag reading limit) left tells g (name ∷ []) r → IsNotPaced c × IsAccepted c g × OnPlatform left g platform (λ v. ShowsLate g v.turns actor tag reading limit)
       of (Run workers clock log) g free h = (never_paced g workers clock platform actor tag reading limit h, (free, λ reads. feasible g workers clock platform (turn.Late actor tag reading limit) h), stopped g workers clock platform (turn.Late actor tag reading limit) h)
       of Check g free h = absurd h.0
       of Meaning g free h = absurd h.0
   late_message platform actor tag reading limit (Some (make n workers)) k = absurd k
 
-  long : (platform : ℕ) (order : Option Order) → Ends (Some (fault.Long (Some platform))) left order tells blocks r w → OverGraph order tells blocks (λ command name g. IsRunCommand command × IsAccepted command g × OnPlatform left platform (λ v. ShowsLong g (state_at v)))
+  long : (platform : ℕ) (order : Option Order) → Ends (Some (fault.Long (Some platform))) left order tells blocks r w → OverGraph order tells blocks (λ command name g. IsRunCommand command × IsAccepted command g × OnPlatform left g platform (λ v. ShowsLong g (state_at v)))
   long platform None k = absurd (let e = k.0 in cc)
   long platform (Some (over command name)) (k, same) = (k.0, k.1, of command k.0 k.2.0 k.2.1)
     where
-      of : (c : Command) (g : Graph) → NoFreeCycle g → CauseOfText c (fault.Long (Some platform)) left tells g (name ∷ []) r → IsRunCommand c × IsAccepted c g × OnPlatform left platform (λ v. ShowsLong g (state_at v))
+      of : (c : Command) (g : Graph) → NoFreeCycle g → CauseOfText c (fault.Long (Some platform)) left tells g (name ∷ []) r → IsRunCommand c × IsAccepted c g × OnPlatform left g platform (λ v. ShowsLong g (state_at v))
       of (Run workers clock log) g free h = (tt, (free, λ reads. feasible g workers clock platform turn.Long h), stopped g workers clock platform turn.Long h)
       of Check g free h = absurd h.0
       of Meaning g free h = absurd h.0

@@ -41,8 +41,8 @@ use Rattle.pt_run.specs.declared.fault.Fault.{Fault}
 use Rattle.pt_run.specs.declared.fault.Fault.TheVariants as fault
 use Rattle.pt_run.specs.declared.words.Command.TheVariants.{Run}
 use Rattle.pt_run.specs.Causes.{CauseOf, RunStops, Writing}
-use Rattle.pt_run.specs.Complete.{CanRun, EndsAsShown, FitsClaims, IsComplete, IsCompleteByAnyClock, StatusIsMeant}
-use Rattle.pt_run.specs.Written.{GraphWith, Leaves, clocking}
+use Rattle.pt_run.specs.Complete.{CanBegin, EndsAsShown, FitsClaims, IsComplete, IsCompleteByAnyClock, StatusIsMeant}
+use Rattle.pt_run.specs.Written.{GraphWith, Leaves, Means, clocking}
 use Rattle.pt_run.proofs.CauseTable.{never_paced, stopped as stopped_at}
 use Rattle.pt_causality.specs.Ranked.{level_of, rank_of}
 use Rattle.pt_turn.specs.declared.fault.TurnFault.{TurnFault}
@@ -76,7 +76,7 @@ too_late g send slack offset feasible h =
     late : (b d slack : ℕ) (offset : ℤ) → (pos b -ℤ pos d) ≡ offset → b + 1 ≤ slack + d → pos slack <ℤ (offset +ℤ pos 1) → ⊥
     late b d slack offset e le lt = omega (arith, ints)
 
-module _ (tells : Contents) (blocks : List Named) (name : List ℕ) (g : Graph) (xs : List ActorFiring) (can : CanRun tells blocks name g xs) where
+module _ (tells : Contents) (blocks : List Named) (name : List ℕ) (g : Graph) (can : CanBegin tells blocks name g) where
   read : IfSome (tells name) (λ bytes. graph_of blocks bytes ≡ Ok g)
   read = subst (λ told. IfSome told (λ bytes. graph_of blocks bytes ≡ Ok g)) (sym can.told) can.graph
 
@@ -102,86 +102,6 @@ module _ (tells : Contents) (blocks : List Named) (name : List ℕ) (g : Graph) 
       let rows : can.rows actor ≡ h.rows = same_ok {E = RowFault} (can.rows actor) h.rows (agrees rows_of (tells h.file) told.0 (Ok (can.rows actor)) (Ok h.rows) told.1 (of_sensor actor h.file h.bound h.sensor) h.read) in
       let passes : late_row h.bound g.until (can.rows actor) ≡ None = subst (λ (k : Kind). InTime g.until k (can.rows actor)) h.sensor (can.in_time actor) in
       none_some row (sym passes ∙ ap (late_row h.bound g.until) rows ∙ h.is_late.first)
-
-  -- the meaning of a plan of this graph with the rows of the run
-  meaning : (plan : Parts) (rows : ℕ → List Row) → plan.graph ≡ g → AreRows tells plan.graph rows → IsMeaning plan.graph can.means.rank (of_run plan.graph rows) xs
-  meaning plan rows same are =
-      subst (λ h. IsMeaning h can.means.rank (of_run h rows) xs) (sym same)
-      (subst (λ r. IsMeaning g can.means.rank (of_run g r) xs) (rows_are_one tells g can.rows rows can.files can.sensors (subst (λ h. AreRows tells h rows) same are)) can.means.meaning)
-
-  is_long : (plan : Parts) (rows : ℕ → List Row) (platforms : List PlatformView) (stop : Option ℕ) → plan.graph ≡ g → AreRows tells plan.graph rows → HaveRun plan (level_of plan.ranks) (of_run plan.graph rows) platforms stop → IsLongOn plan.graph xs stop
-  is_long plan rows platforms stop same are run = run.long can.means.rank xs (subst (λ h. AreRanks h can.means.rank) (sym same) can.means.ranks) (meaning plan rows same are)
-
-  -- a run that finished
-  finished : (status : ℕ) (c : Clocking) (plan : Parts) (log : Bool) (platforms : List PlatformView) (misses : List Miss) (text : List ℕ) → c.choice ≡ Paced → status ≡ status_of None misses → plan.graph ≡ g →
-      IsFinishedRun tells c plan log platforms misses text → StatusIsMeant status g xs
-  finished status c plan log platforms misses text paced is same done = by_misses misses is meant
-    where
-      firings : done.firings ≡ xs
-      firings =
-          meaning_is_one plan.graph (rank_of plan.ranks) (of_run plan.graph done.run.rows) done.firings xs done.meaning
-          (subst (λ rank. IsMeaning plan.graph rank (of_run plan.graph done.run.rows) xs)
-          (ranks_are_one plan.graph can.means.rank (rank_of plan.ranks) (subst (λ h. AreRanks h can.means.rank) (sym same) can.means.ranks) done.run.admitted.ranks)
-          (meaning plan done.run.rows same done.run.sensors))
-
-      few : FitsClaims g xs
-      few = subst (λ h. FitsClaims h xs) same (is_long plan done.run.rows platforms None same done.run.sensors (done.run.went.paced paced))
-
-      meant : (m : Miss) → IsIn m misses ↔ IsMissedByMeaning g xs m.actor m.tag m.reading m.limit
-      meant m = subst (λ h. IsIn m misses ↔ IsMissedByMeaning h xs m.actor m.tag m.reading m.limit) same (subst (λ zs. IsIn m misses ↔ IsMissedByMeaning plan.graph zs m.actor m.tag m.reading m.limit) firings (done.missed_as_meant paced m))
-
-      by_misses : (ms : List Miss) → status ≡ status_of None ms → ((m : Miss) → IsIn m ms ↔ IsMissedByMeaning g xs m.actor m.tag m.reading m.limit) → StatusIsMeant status g xs
-      by_misses [] e all = inl (e, few, (λ missed. (all (record { actor = missed.0; tag = missed.1; reading = missed.2; limit = missed.3 })).1 missed.4))
-      by_misses (m ∷ ms) e all = inr (inl (e, few, (m.actor, m.tag, m.reading, m.limit, (all m).0 (inl refl))))
-
-  -- a run that stopped
-  stopped : (status workers : ℕ) (left : Leaves) (platform : ℕ) (f : TurnFault) → status ≡ 6 → RunStops tells g workers Paced left platform f → StatusIsMeant status g xs
-  stopped status workers left platform f is h = inr (inr (inl (
-    is,
-    λ few.
-        let over : most_claims < unit_firings g platform (parts g xs) = subst (λ z. most_claims < unit_firings z platform (parts z xs)) h.graph (is_long h.plan h.run.rows left.platforms (Some platform) h.graph h.run.sensors (h.run.went.paced refl).1) in
-        let view = h.run.went.kept.ends in
-        let within : platform < length g.platforms = subst (λ z. platform < length z) (ap (λ (z : Graph). z.platforms) h.graph) (subst (λ n. platform < n) h.run.went.kept.all.count (slice_get_within left.platforms platform view.0 view.1)) in
-        clash (unit_firings g platform (parts g xs)) over (few platform within),
-  )))
-    where
-      clash : (n : ℕ) → most_claims < n → n ≤ most_claims → ⊥
-      clash n over le = omega arith
-
-  module _ (status : ℕ) (left : Leaves) (workers : ℕ) (log : Bool) (r : Reading) (w : Writing) (reads : Rose r.before r.now → ⊥) (writes : Rose w.before w.now → ⊥) where
-    -- by the fault over the graph
-    by_cause : (f : Fault) → status ≡ status_of (Some f) left.misses → GraphWith tells blocks name (λ h. CauseOf (Run workers Paced log) f left tells h (name ∷ []) r) → StatusIsMeant status g xs
-    by_cause f is (h, file, cause) = on_graph f is (subst (λ z. CauseOf (Run workers Paced log) f left tells z (name ∷ []) r) (this_graph h file) cause)
-      where
-        on_graph : (e : Fault) → status ≡ status_of (Some e) left.misses → CauseOf (Run workers Paced log) e left tells g (name ∷ []) r → StatusIsMeant status g xs
-        on_graph (fault.Cycle actors) is k = absurd (can.no_free_cycle k.0.first k.0.edge k.0.path k.0.cycle k.0.free)
-        on_graph fault.Memory is k = inr (inr (inr is))
-        on_graph (fault.Infeasible send offset slack) is k = absurd (too_late g send slack offset can.feasible k.1.0)
-        on_graph (fault.Read (Some actor)) is k = absurd (reads k.1.1.failed.rose)
-        on_graph (fault.Sensor actor e) is k = absurd (sensor_fails actor e k.1.1)
-        on_graph (fault.LateRow actor row seen limit) is k = absurd (sensor_late actor row seen limit k.1.1)
-        on_graph (fault.LateMessage platform actor tag reading limit) is k = absurd (never_paced left tells blocks r w g workers Paced platform actor tag reading limit k.1 refl)
-        on_graph (fault.Long (Some platform)) is k = stopped status workers left platform turn.Long is k.1
-        on_graph (fault.Long None) is k = absurd k.1
-        on_graph (fault.Read None) is k = absurd k.1
-        on_graph fault.Usage is k = absurd k.1
-        on_graph (fault.Graph e) is k = absurd k.1
-        on_graph fault.Write is k = absurd k.1
-
-    by_outcome : (o : Option Fault) → status ≡ status_of o left.misses → EndsBy o left (Some (Run workers Paced log, name)) tells blocks r w → StatusIsMeant status g xs
-    by_outcome None is (text, (h, file, (free, run)), appends) = finished status (clocking workers Paced left) run.plan log left.platforms left.misses text refl is (run.graph ∙ this_graph h file) run.finished
-    by_outcome (Some fault.Usage) is k = absurd k
-    by_outcome (Some (fault.Graph f)) is k = absurd (no_fault f k.0)
-    by_outcome (Some (fault.Read None)) is k = absurd (reads k.0.rose)
-    by_outcome (Some fault.Write) is k = absurd (writes k.0)
-    by_outcome (Some fault.Memory) is k = inr (inr (inr is))
-    by_outcome (Some (fault.Cycle actors)) is k = by_cause (fault.Cycle actors) is k.0
-    by_outcome (Some (fault.Infeasible send offset slack)) is k = by_cause (fault.Infeasible send offset slack) is k.0
-    by_outcome (Some (fault.Read (Some actor))) is k = by_cause (fault.Read (Some actor)) is k.0
-    by_outcome (Some (fault.Sensor actor e)) is k = by_cause (fault.Sensor actor e) is k.0
-    by_outcome (Some (fault.LateRow actor row seen limit)) is k = by_cause (fault.LateRow actor row seen limit) is k.0
-    by_outcome (Some (fault.LateMessage platform actor tag reading limit)) is k = by_cause (fault.LateMessage platform actor tag reading limit) is k.0
-    by_outcome (Some (fault.Long platform)) is k = by_cause (fault.Long platform) is k.0
 
   -- by whatever clock
   module _ (left : Leaves) (workers : ℕ) (clock : ClockChoice) (log : Bool) (r : Reading) (w : Writing) (reads : Rose r.before r.now → ⊥) (writes : Rose w.before w.now → ⊥) where
@@ -218,11 +138,92 @@ module _ (tells : Contents) (blocks : List Named) (name : List ℕ) (g : Graph) 
     own_outcome (Some (fault.LateMessage platform actor tag reading limit)) k = own_cause (fault.LateMessage platform actor tag reading limit) k.0
     own_outcome (Some (fault.Long platform)) k = own_cause (fault.Long platform) k.0
 
+  module _ (xs : List ActorFiring) (means : Means g can.rows xs) where
+    -- the meaning of a plan of this graph with the rows of the run
+    meaning : (plan : Parts) (rows : ℕ → List Row) → plan.graph ≡ g → AreRows tells plan.graph rows → IsMeaning plan.graph means.rank (of_run plan.graph rows) xs
+    meaning plan rows same are =
+        subst (λ h. IsMeaning h means.rank (of_run h rows) xs) (sym same)
+        (subst (λ r. IsMeaning g means.rank (of_run g r) xs) (rows_are_one tells g can.rows rows can.files can.sensors (subst (λ h. AreRows tells h rows) same are)) means.meaning)
+
+    is_long : (plan : Parts) (rows : ℕ → List Row) (platforms : List PlatformView) (stop : Option ℕ) → plan.graph ≡ g → AreRows tells plan.graph rows → HaveRun plan (level_of plan.ranks) (of_run plan.graph rows) platforms stop → IsLongOn plan.graph xs stop
+    is_long plan rows platforms stop same are run = run.long means.rank xs (subst (λ h. AreRanks h means.rank) (sym same) means.ranks) (meaning plan rows same are)
+
+    -- a run that finished
+    finished : (status : ℕ) (c : Clocking) (plan : Parts) (log : Bool) (platforms : List PlatformView) (misses : List Miss) (text : List ℕ) → c.choice ≡ Paced → status ≡ status_of None misses → plan.graph ≡ g →
+        IsFinishedRun tells c plan log platforms misses text → StatusIsMeant status g xs
+    finished status c plan log platforms misses text paced is same done = by_misses misses is meant
+      where
+        firings : done.firings ≡ xs
+        firings =
+            meaning_is_one plan.graph (rank_of plan.ranks) (of_run plan.graph done.run.rows) done.firings xs done.meaning
+            (subst (λ rank. IsMeaning plan.graph rank (of_run plan.graph done.run.rows) xs)
+            (ranks_are_one plan.graph means.rank (rank_of plan.ranks) (subst (λ h. AreRanks h means.rank) (sym same) means.ranks) done.run.admitted.ranks)
+            (meaning plan done.run.rows same done.run.sensors))
+
+        few : FitsClaims g xs
+        few = subst (λ h. FitsClaims h xs) same (is_long plan done.run.rows platforms None same done.run.sensors (done.run.went.paced paced))
+
+        meant : (m : Miss) → IsIn m misses ↔ IsMissedByMeaning g xs m.actor m.tag m.reading m.limit
+        meant m = subst (λ h. IsIn m misses ↔ IsMissedByMeaning h xs m.actor m.tag m.reading m.limit) same (subst (λ zs. IsIn m misses ↔ IsMissedByMeaning plan.graph zs m.actor m.tag m.reading m.limit) firings (done.missed_as_meant paced m))
+
+        by_misses : (ms : List Miss) → status ≡ status_of None ms → ((m : Miss) → IsIn m ms ↔ IsMissedByMeaning g xs m.actor m.tag m.reading m.limit) → StatusIsMeant status g xs
+        by_misses [] e all = inl (e, few, (λ missed. (all (record { actor = missed.0; tag = missed.1; reading = missed.2; limit = missed.3 })).1 missed.4))
+        by_misses (m ∷ ms) e all = inr (inl (e, few, (m.actor, m.tag, m.reading, m.limit, (all m).0 (inl refl))))
+
+    -- a run that stopped
+    stopped : (status workers : ℕ) (left : Leaves) (platform : ℕ) (f : TurnFault) → status ≡ 6 → RunStops tells g workers Paced left platform f → StatusIsMeant status g xs
+    stopped status workers left platform f is h = inr (inr (inl (
+      is,
+      λ few.
+          let over : most_claims < unit_firings g platform (parts g xs) = subst (λ z. most_claims < unit_firings z platform (parts z xs)) h.graph (is_long h.plan h.run.rows left.platforms (Some platform) h.graph h.run.sensors (h.run.went.paced refl).1) in
+          let view = h.run.went.kept.ends in
+          let within : platform < length g.platforms = subst (λ z. platform < length z) (ap (λ (z : Graph). z.platforms) h.graph) (subst (λ n. platform < n) h.run.went.kept.all.count (slice_get_within left.platforms platform view.0 view.1)) in
+          clash (unit_firings g platform (parts g xs)) over (few platform within),
+    )))
+      where
+        clash : (n : ℕ) → most_claims < n → n ≤ most_claims → ⊥
+        clash n over le = omega arith
+
+    module _ (status : ℕ) (left : Leaves) (workers : ℕ) (log : Bool) (r : Reading) (w : Writing) (reads : Rose r.before r.now → ⊥) (writes : Rose w.before w.now → ⊥) where
+      -- by the fault over the graph
+      by_cause : (f : Fault) → status ≡ status_of (Some f) left.misses → GraphWith tells blocks name (λ h. CauseOf (Run workers Paced log) f left tells h (name ∷ []) r) → StatusIsMeant status g xs
+      by_cause f is (h, file, cause) = on_graph f is (subst (λ z. CauseOf (Run workers Paced log) f left tells z (name ∷ []) r) (this_graph h file) cause)
+        where
+          on_graph : (e : Fault) → status ≡ status_of (Some e) left.misses → CauseOf (Run workers Paced log) e left tells g (name ∷ []) r → StatusIsMeant status g xs
+          on_graph (fault.Cycle actors) is k = absurd (can.no_free_cycle k.0.first k.0.edge k.0.path k.0.cycle k.0.free)
+          on_graph fault.Memory is k = inr (inr (inr is))
+          on_graph (fault.Infeasible send offset slack) is k = absurd (too_late g send slack offset can.feasible k.1.0)
+          on_graph (fault.Read (Some actor)) is k = absurd (reads k.1.1.failed.rose)
+          on_graph (fault.Sensor actor e) is k = absurd (sensor_fails actor e k.1.1)
+          on_graph (fault.LateRow actor row seen limit) is k = absurd (sensor_late actor row seen limit k.1.1)
+          on_graph (fault.LateMessage platform actor tag reading limit) is k = absurd (never_paced left tells blocks r w g workers Paced platform actor tag reading limit k.1 refl)
+          on_graph (fault.Long (Some platform)) is k = stopped status workers left platform turn.Long is k.1
+          on_graph (fault.Long None) is k = absurd k.1
+          on_graph (fault.Read None) is k = absurd k.1
+          on_graph fault.Usage is k = absurd k.1
+          on_graph (fault.Graph e) is k = absurd k.1
+          on_graph fault.Write is k = absurd k.1
+
+      by_outcome : (o : Option Fault) → status ≡ status_of o left.misses → EndsBy o left (Some (Run workers Paced log, name)) tells blocks r w → StatusIsMeant status g xs
+      by_outcome None is (text, (h, file, (free, run)), appends) = finished status (clocking workers Paced left) run.plan log left.platforms left.misses text refl is (run.graph ∙ this_graph h file) run.finished
+      by_outcome (Some fault.Usage) is k = absurd k
+      by_outcome (Some (fault.Graph f)) is k = absurd (no_fault f k.0)
+      by_outcome (Some (fault.Read None)) is k = absurd (reads k.0.rose)
+      by_outcome (Some fault.Write) is k = absurd (writes k.0)
+      by_outcome (Some fault.Memory) is k = inr (inr (inr is))
+      by_outcome (Some (fault.Cycle actors)) is k = by_cause (fault.Cycle actors) is k.0
+      by_outcome (Some (fault.Infeasible send offset slack)) is k = by_cause (fault.Infeasible send offset slack) is k.0
+      by_outcome (Some (fault.Read (Some actor))) is k = by_cause (fault.Read (Some actor)) is k.0
+      by_outcome (Some (fault.Sensor actor e)) is k = by_cause (fault.Sensor actor e) is k.0
+      by_outcome (Some (fault.LateRow actor row seen limit)) is k = by_cause (fault.LateRow actor row seen limit) is k.0
+      by_outcome (Some (fault.LateMessage platform actor tag reading limit)) is k = by_cause (fault.LateMessage platform actor tag reading limit) is k.0
+      by_outcome (Some (fault.Long platform)) is k = by_cause (fault.Long platform) is k.0
+
 -- a call that ends by its words
 pub complete : (status : ℕ) (o : Option Fault) (left : Leaves) (order : Option Order) (tells : Contents) (blocks : List Named) (r : Reading) (w : Writing) → status ≡ status_of o left.misses → Ends o left order tells blocks r w → IsComplete status order tells blocks r w
 complete status o left order tells blocks r w is ends workers log name g xs words can reads writes =
-    by_outcome tells blocks name g xs can status left workers log r w reads writes o is (subst (λ z. Ends o left z tells blocks r w) words ends)
+    by_outcome tells blocks name g can.begins xs can.means status left workers log r w reads writes o is (subst (λ z. Ends o left z tells blocks r w) words ends)
 
 pub complete_by_any_clock : (o : Option Fault) (left : Leaves) (order : Option Order) (tells : Contents) (blocks : List Named) (r : Reading) (w : Writing) → Ends o left order tells blocks r w → IsCompleteByAnyClock o left order tells blocks r w
-complete_by_any_clock o left order tells blocks r w ends workers clock log name g xs words can reads writes =
-    own_outcome tells blocks name g xs can left workers clock log r w reads writes o (subst (λ z. Ends o left z tells blocks r w) words ends)
+complete_by_any_clock o left order tells blocks r w ends workers clock log name g words can reads writes =
+    own_outcome tells blocks name g can left workers clock log r w reads writes o (subst (λ z. Ends o left z tells blocks r w) words ends)

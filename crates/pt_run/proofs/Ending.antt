@@ -9,9 +9,9 @@ use Rattle.pt_graph_text.specs.declared.fault.GraphFault.TheVariants as graph
 use Rattle.pt_graph.specs.GraphOf.{graph_of}
 use Rattle.pt_sensors.specs.declared.recorded_fault.LateRows.{LateRows}
 use Rattle.pt_sensors.specs.declared.recorded_fault.LateRows.TheVariants.{Refused, Taken}
-use Rattle.pt_sensors.specs.Asked.{Asks, AsksOrNot, Contents, Reading, files_before}
+use Rattle.pt_sensors.specs.Asked.{Asks, Contents, Reading, files_before}
 use Rattle.pt_sensors.specs.Recorded.{SensorUnread}
-use Rattle.pt_sensors.proofs.Asking.{asks_more, read_after}
+use Rattle.pt_sensors.proofs.Asking.{read_after}
 use Rattle.pt_run.specs.declared.fault.Fault.{Fault}
 use Rattle.pt_run.specs.declared.fault.Fault.TheVariants as fault
 use Rattle.pt_io.specs.Told.{ClockView}
@@ -22,7 +22,7 @@ use Rattle.pt_run.specs.declared.words.Command.TheVariants.{Run, Check, Meaning}
 use Rattle.pt_run.specs.Faults.{fault_of_graph}
 use Rattle.pt_run.specs.Written.{HasNothing, Leaves, Writes, nothing}
 use Rattle.pt_run.specs.Causes.{CauseOf, CauseOfGraph, CauseOfMeaning, CauseOfRun, CauseOfText, Writing}
-use Rattle.pt_run.specs.Texts.{Answers, AsksBy, AsksFor, AsksInOrder, EndsBy, EndsOver, PutBy, files_for, left_by, left_with}
+use Rattle.pt_run.specs.Texts.{Answers, EndsBy, EndsOver, PutBy, left_by, left_with}
 
 -- a fault of the graph file
 pub graph_fails : (tells : Contents) (blocks : List Named) (name : List ℕ) (f : GraphFault) (r : Reading) → (f ≢ graph.Memory → IfSome (tells name) (λ bytes. graph_of blocks bytes ≡ Err f)) → CauseOfGraph (fault_of_graph f) tells blocks name r
@@ -112,7 +112,7 @@ pub has_nothing : (o : Ending) (before now : List ClockView) → left_by o ≡ n
 has_nothing o before now e = (ap (λ (l : Leaves). l.misses) e, ap (λ (l : Leaves). l.platforms) e)
 
 -- no command's text fails in these ways
-never : (c : Command) (left : Leaves) (tells : Contents) (g : Graph) (r : Reading) → (CauseOfText c fault.Usage left tells g [] r → ⊥) × ((e : GraphFault) → CauseOfText c (fault.Graph e) left tells g [] r → ⊥) × (CauseOfText c (fault.Read None) left tells g [] r → ⊥)
+pub never : (c : Command) (left : Leaves) (tells : Contents) (g : Graph) (r : Reading) → (CauseOfText c fault.Usage left tells g [] r → ⊥) × ((e : GraphFault) → CauseOfText c (fault.Graph e) left tells g [] r → ⊥) × (CauseOfText c (fault.Read None) left tells g [] r → ⊥)
 never (Run workers clock log) left tells g r = (λ h. h, (λ e h. h), λ h. h)
 never Check left tells g r = (λ h. h.0, (λ e h. h.0), λ h. h.0)
 never Meaning left tells g r = (λ h. h.0, (λ e h. h.0), λ h. h.0)
@@ -152,21 +152,7 @@ ends_file c outcome left tells told blocks name g first asked now start before l
     by_outcome None h = (h.0, (g, read, h.1), h.2)
     by_outcome (Some e) h = by_fault e h
 
--- what was asked for in all, where a command over a graph asked for files of its sensors
-pub asked_in_order : (c : Command) (tells : Contents) (blocks : List Named) (name : List ℕ) (g : Graph) (first asked now : Option (List (List ℕ))) → IfSome (tells name) (λ bytes. graph_of blocks bytes ≡ Ok g)
-    → Asks first asked (name ∷ []) → AsksFor c g asked now → AsksInOrder c tells blocks name first now
-asked_in_order c tells blocks name g first asked now read graph files = inr (inr (g, read, (files.0, asks_more first asked now (name ∷ []) (files_for c g files.0) graph files.1)))
-
--- and where there was no graph
-pub asked_for_graph : (c : Command) (tells : Contents) (blocks : List Named) (name : List ℕ) (first now : Option (List (List ℕ))) → AsksOrNot first now (name ∷ []) → AsksInOrder c tells blocks name first now
-asked_for_graph c tells blocks name first now asks = ⊎_elim (λ (none : Asks first now []). inl none) (λ (one : Asks first now (name ∷ [])). inr (inl one)) asks
-
--- where nothing was asked for
-pub asked_nothing : (order : Option (Command × List ℕ)) (tells : Contents) (blocks : List Named) (r : Reading) → Asks r.asked_before r.asked_now [] → AsksBy order tells blocks r
-asked_nothing None tells blocks r h = h
-asked_nothing (Some order) tells blocks r h = inl h
-
--- and memory ran out
+-- memory ran out
 pub ends_memory : (order : Option (Command × List ℕ)) (left : Leaves) (tells : Contents) (blocks : List Named) (r : Reading) (w : Writing) → HasNothing left → w.written_now ≡ w.written_before → EndsBy (Some fault.Memory) left order tells blocks r w
 ends_memory order left tells blocks r w none still = (none, still)
 

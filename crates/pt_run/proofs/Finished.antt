@@ -7,7 +7,7 @@ use Rattle.pt_semantics.specs.Rows.{FitRows}
 use Rattle.pt_semantics.specs.Tables.{tables_text}
 use Rattle.pt_causality.specs.Ranked.{level_of, rank_of}
 use Rattle.pt_turn.specs.Platforms.{PlatformView}
-use Rattle.pt_turn.specs.All.{AreAll}
+use Rattle.pt_turn.specs.All.{AreAll, AreReady}
 use Rattle.pt_tables.specs.Log.{log_text}
 use Rattle.pt_tables.specs.Platforms.{AreInOrder, histories}
 use Rattle.pt_monitors.specs.Platforms.{missed_by}
@@ -15,16 +15,14 @@ use Rattle.pt_confluence.specs.Gathered.{AreTables, HaveFinished}
 use Rattle.pt_rounds.specs.HaveRun.{HaveRun}
 use Rattle.pt_sensors.specs.Asked.{Contents, Reading}
 use Rattle.pt_sensors.specs.Places.{of_run}
-use Rattle.pt_offsets.specs.Plans.{IsAdmitted, Parts}
-use Rattle.pt_sensors.specs.declared.recorded_fault.LateRows.TheVariants.{Refused}
-use Rattle.pt_sensors.specs.Recorded.{AllPass, AreRows}
+use Rattle.pt_offsets.specs.Plans.{Parts}
 use Rattle.pt_turn.specs.declared.fault.TurnFault.{TurnFault}
 use Rattle.pt_turn.specs.declared.fault.TurnFault.TheVariants as turn
 use Rattle.pt_run.specs.declared.finished_run.Ran.{Ran}
 use Rattle.pt_run.specs.declared.plan_run.RunFault.{RunFault}
 use Rattle.pt_run.specs.declared.plan_run.RunFault.TheVariants as stop
 use Rattle.pt_run.specs.Readings.{Clocking}
-use Rattle.pt_run.specs.Runs.{CauseOfRun, HasRun, IsKept, IsOutput, IsRun, IsStop, IsText, IsTold, WentBy, log_if}
+use Rattle.pt_run.specs.Runs.{CauseOfStop, HasOpened, HasRun, IsKept, IsOutput, HasOutputs, IsStop, IsText, IsTold, WentBy, log_if}
 use Rattle.pt_run.proofs.Missed.{missed_in}
 
 pub in_order : (plan : Parts) (rows : ℕ → List Row) (platforms : List PlatformView) → AreAll plan rows platforms → AreInOrder plan.graph platforms
@@ -48,8 +46,8 @@ kept_finished : (plan : Parts) (rows : ℕ → List Row) (platforms : List Platf
 kept_finished plan rows platforms fit kept = record { all = kept.all; fit = fit; finished = λ i v at. (kept.ends i v at).1; linked = kept.linked refl }
 
 -- a run that finished, with its outputs
-is_run : (tells : Contents) (c : Clocking) (plan : Parts) (log : Bool) (platforms : List PlatformView) (ran : Ran) (run : HasRun tells c plan platforms None) → FitRows plan.graph (of_run plan.graph run.rows) → IsTold plan log platforms ran → IsRun tells c plan log ran
-is_run tells c plan log platforms ran run fit told =
+has_outputs : (tells : Contents) (c : Clocking) (plan : Parts) (log : Bool) (platforms : List PlatformView) (ran : Ran) (run : HasRun tells c plan platforms None) → FitRows plan.graph (of_run plan.graph run.rows) → IsTold plan log platforms ran → HasOutputs tells c plan log ran
+has_outputs tells c plan log platforms ran run fit told =
     let rows : ℕ → List Row = of_run plan.graph run.rows in
     let text = told.text rows (kept_finished plan rows platforms fit run.went.kept) in (
       record {
@@ -67,26 +65,28 @@ is_run tells c plan log platforms ran run fit told =
       told.lines,
     )
 
--- a run over the rows of the sensors' files, by how its platforms went
-pub run_of_went : (tells : Contents) (c : Clocking) (plan : Parts) (log : Bool) (rows : ℕ → List Row) (platforms : List PlatformView) (fault : Option (ℕ × TurnFault)) (result : Result Ran RunFault) (r : Reading) →
-    IsAdmitted plan → AreRows tells plan.graph rows → AllPass Refused plan.graph rows → FitRows plan.graph (of_run plan.graph rows) → WentBy c plan (of_run plan.graph rows) platforms fault →
-    IfOk result (IsOutput fault plan log platforms) → IfErr result (IsStop fault platforms) → IfOk result (IsRun tells c plan log) × IfErr result (λ f. CauseOfRun f tells c plan r)
-run_of_went tells c plan log rows platforms fault result r admitted sensors in_time fit went output stopped = (by_output result output, by_stop result stopped)
+-- a run over the rows of the sensors' files, by how the platforms that were opened with them went
+pub run_of_went : (tells : Contents) (c : Clocking) (plan : Parts) (log : Bool) (fresh platforms : List PlatformView) (fault : Option (ℕ × TurnFault)) (result : Result Ran RunFault) (r : Reading) →
+    HasOpened tells plan fresh → ((other : Parts) (rows : ℕ → List Row) → AreReady other rows fresh → WentBy c other rows platforms fault) →
+    IfOk result (IsOutput fault plan log platforms) → IfErr result (IsStop fault platforms) → IfOk result (HasOutputs tells c plan log) × IfErr result (λ f. CauseOfStop f tells c plan r)
+run_of_went tells c plan log fresh platforms fault result r opened goes output stopped = (by_output result output, by_stop result stopped)
   where
     run : (ps : List PlatformView) (f : Option (ℕ × TurnFault)) → ps ≡ platforms → fault ≡ f → HasRun tells c plan ps f
     run ps f same is = record {
-      admitted = admitted;
-      rows = rows;
-      sensors = sensors;
-      in_time = in_time;
-      went = subst (λ z. WentBy c plan (of_run plan.graph rows) z f) (sym same) (subst (λ z. WentBy c plan (of_run plan.graph rows) platforms z) is went);
+      admitted = opened.admitted;
+      rows = opened.rows;
+      sensors = opened.sensors;
+      in_time = opened.in_time;
+      went =
+          subst (λ z. WentBy c plan (of_run plan.graph opened.rows) z f) (sym same)
+          (subst (λ z. WentBy c plan (of_run plan.graph opened.rows) platforms z) is (goes plan (of_run plan.graph opened.rows) opened.went));
     }
 
-    by_output : (result : Result Ran RunFault) → IfOk result (IsOutput fault plan log platforms) → IfOk result (IsRun tells c plan log)
-    by_output (Ok ran) (none, told) = is_run tells c plan log platforms ran (run platforms None refl none) fit told
+    by_output : (result : Result Ran RunFault) → IfOk result (IsOutput fault plan log platforms) → IfOk result (HasOutputs tells c plan log)
+    by_output (Ok ran) (none, told) = has_outputs tells c plan log platforms ran (run platforms None refl none) opened.went.fit told
     by_output (Err f) h = tt
 
-    by_stop : (result : Result Ran RunFault) → IfErr result (IsStop fault platforms) → IfErr result (λ f. CauseOfRun f tells c plan r)
+    by_stop : (result : Result Ran RunFault) → IfErr result (IsStop fault platforms) → IfErr result (λ f. CauseOfStop f tells c plan r)
     by_stop (Ok ran) h = tt
     by_stop (Err (stop.Rows f)) h = absurd h
     by_stop (Err (stop.Long platform left)) h = run left.items (Some (platform, turn.Long)) h.1 h.0

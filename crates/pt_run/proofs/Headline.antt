@@ -39,11 +39,13 @@ module _ (left : Leaves) (workers : ℕ) (clock : ClockChoice) (log : Bool) (tel
   over_plan o g file plan same run written misses part unwritten none = record {
     plan = plan;
     file = subst (λ h. IfSome (tells name) (λ bytes. graph_of blocks bytes ≡ Ok h)) (sym same) file;
-    admitted = run.admitted;
-    rows = run.rows;
-    sensors = run.sensors;
-    in_time = run.in_time;
-    fact = record { kept = run.went.kept; readings = run.went.readings; written = written; misses = misses; part = part; unwritten = unwritten; no_misses = none };
+    over = record {
+      admitted = run.admitted;
+      rows = run.rows;
+      sensors = run.sensors;
+      in_time = run.in_time;
+      went = record { kept = run.went.kept; readings = run.went.readings; written = written; misses = misses; part = part; unwritten = unwritten; no_misses = none };
+    };
   }
 
   -- a call without a run

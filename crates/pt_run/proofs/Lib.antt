@@ -2,6 +2,8 @@ pub mod Puts
 pub mod Telling
 pub mod Ending
 pub mod Planned
+pub mod Asks
+pub mod Told
 pub mod Complete
 pub mod Agreeing
 pub mod Made

@@ -189,10 +189,10 @@ order_is : (words : List (String Global)) (order : Option Asked) (n k : ℕ) →
 order_is words order n k says is = sym (ap (option_map in_words) is) ∙ says
 
 -- it asks for no file
-pub asks_for_none : (words : List (String Global)) (order : Option Asked) (n k : ℕ) (tells : Contents) (blocks : List Named) (asked : Option (List (List ℕ))) (faults : ℕ) → option_map in_words order ≡ order_of words → order ≡ Some (Make n k)
-    → AsksOf (order_of words) tells blocks (record { asked_before = asked; asked_now = asked; before = faults; now = faults })
-asks_for_none words order n k tells blocks asked faults says is =
-    subst (λ o. AsksOf o tells blocks (record { asked_before = asked; asked_now = asked; before = faults; now = faults })) (order_is words order n k says is) (asks_none asked asked refl)
+pub asks_for_none : (words : List (String Global)) (order : Option Asked) (n k : ℕ) (outcome : Option Fault) (tells : Contents) (blocks : List Named) (asked : Option (List (List ℕ))) (faults : ℕ) → option_map in_words order ≡ order_of words → order ≡ Some (Make n k)
+    → AsksOf outcome (order_of words) tells blocks (record { asked_before = asked; asked_now = asked; before = faults; now = faults })
+asks_for_none words order n k outcome tells blocks asked faults says is =
+    subst (λ o. AsksOf outcome o tells blocks (record { asked_before = asked; asked_now = asked; before = faults; now = faults })) (order_is words order n k says is) (asks_none asked asked refl)
 
 -- what is gathered of the platforms of a plan
 pub gathered_as : (plan other : Parts) (platforms views : List PlatformView) (firings : List ActorFiring) → other ≡ plan → views ≡ platforms → ((rows : ℕ → List Row) → HaveFinished other rows views → IsMeaning other.graph (rank_of other.ranks) rows firings)

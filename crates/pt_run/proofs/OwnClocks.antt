@@ -1,15 +1,17 @@
 -- Platforms after a run by clocks of their own.
-use Rattle.std.proofs.Common.{◌≡◌, ℕ, zero, suc, ◌+◌, ◌<◌, ◌≤◌, ◌^◌, List, [], ◌∷◌, ◌++◌, Option, None, Some, length, replicate, take, drop, slice_get, refl, sym, ap, ap₂, subst, ◌∙◌, arith}
-use Rattle.std.proofs.lemmas.List.{length-append, length-map, length-replicate, map-append, take-append-drop}
+use Rattle.std.proofs.Common.{◌≡◌, ℕ, zero, suc, ◌+◌, ◌<◌, ◌≤◌, ◌^◌, List, [], ◌∷◌, ◌++◌, Option, None, Some, Result, Ok, Err, IfOk, length, replicate, take, drop, slice_get, refl, sym, ap, ap₂, subst, ◌∙◌, arith}
+use Rattle.std.proofs.lemmas.List.{length-append, length-map, length-replicate, length-take-le, map-append, take-append-drop}
 use Rattle.pt_io.specs.Told.{AreAsAhead, ClockView, HandedOut, first_readings, step_reading, tell}
 use Rattle.pt_types.specs.declared.rows.Row.{Row}
 use Rattle.pt_offsets.specs.Plans.{Parts}
 use Rattle.pt_turn.specs.declared.fault.TurnFault.{TurnFault}
-use Rattle.pt_turn.specs.All.{AreReady}
+use Rattle.pt_turn.specs.All.{AreReady, IsReady}
 use Rattle.pt_turn.specs.Platforms.{PlatformView}
-use Rattle.pt_alone.specs.HasGone.{HasGone}
+use Rattle.pt_alone.specs.declared.engine.Ended.{Ended}
+use Rattle.pt_alone.specs.HasGone.{HasGone, HaveGone}
 use Rattle.pt_run.specs.Readings.{HandsOut, step_clock}
 use Rattle.pt_run.specs.Runs.{IsKept, WentBy, clocks_by, steps_by}
+use Rattle.pt_run.specs.Went.{GoneBy}
 
 -- places in lists
 in_replicate : {X : Type 0} (n : ℕ) (x : X) (i : ℕ) → i < n → slice_get (replicate n x) i ≡ Some x
@@ -39,9 +41,9 @@ past_front (x ∷ xs) [] zs i same le = absurd (omega (arith, same))
 past_front (x ∷ xs) (y ∷ ys) zs zero same le = absurd (omega (arith, le))
 past_front (x ∷ xs) (y ∷ ys) zs (suc i) same le = past_front xs ys zs i (omega (arith, same)) (omega (arith, le))
 
-module _ (plan : Parts) (rows : ℕ → List Row) (began now : List ClockView) (platforms : List PlatformView) (fault : Option (ℕ × TurnFault)) (gone : HasGone plan rows 8 began now platforms fault) where
-  kept : IsKept plan rows platforms fault
-  kept = record { all = gone.all; legal = gone.legal; matched = gone.matched; linked = gone.linked; ends = gone.ends }
+-- what all clocks share
+kept : (plan : Parts) (rows : ℕ → List Row) (began now : List ClockView) (platforms : List PlatformView) (fault : Option (ℕ × TurnFault)) → HaveGone plan rows began now platforms fault → IsKept plan rows platforms fault
+kept plan rows began now platforms fault gone = record { all = gone.all; legal = gone.legal; matched = gone.matched; linked = gone.linked; ends = gone.ends }
 
 -- readings of a clock of steps
 as_steps : (start step : ℕ) (told : Option (List ℕ)) (readings : List ℕ) → HandedOut (Some []) told readings → AreAsAhead (Some (step_reading start step)) (Some []) told readings → length readings < 2 ^ 64 →
@@ -56,73 +58,86 @@ as_steps start step (Some all) readings handed ahead few = ahead refl
 pub went_by_steps : (workers start step : ℕ) (plan : Parts) (rows : ℕ → List Row) (began now : List ClockView) (platforms : List PlatformView) (fault : Option (ℕ × TurnFault)) → began ≡ replicate (length platforms) (step_clock start step) →
     HasGone plan rows 8 began now platforms fault → WentBy (steps_by workers start step) plan rows platforms fault
 went_by_steps workers start step plan rows began now platforms fault are gone = record {
-  kept = kept plan rows began now platforms fault gone;
+  kept = kept plan rows began now platforms fault gone.gone;
   readings = record {
-    readings = gone.readings;
+    readings = gone.gone.readings;
     steps = λ i v at few.
         let lt : i < length platforms = within platforms i v at in
-        let (n, there) = some_at now i (subst (λ k. i < k) (sym gone.count) lt) in
-        let both = gone.handed i (step_clock start step) n (ap (λ xs. slice_get xs i) are ∙ in_replicate (length platforms) (step_clock start step) i lt) there in
-        as_steps start step n.told (gone.readings i) both.0 both.1 few;
-    read = gone.read;
+        let (n, there) = some_at now i (subst (λ k. i < k) (sym gone.gone.count) lt) in
+        let both = gone.gone.handed i (step_clock start step) n (ap (λ xs. slice_get xs i) are ∙ in_replicate (length platforms) (step_clock start step) i lt) there in
+        as_steps start step n.told (gone.gone.readings i) both.0 both.1 few;
+    read = gone.gone.read;
     in_turn = gone.in_turn;
   };
   paced = λ e. absurd cc;
 }
 
 -- the first of the clocks handed in, one for each platform, with others after them
-pub went_by_clocks : (workers : ℕ) (plan : Parts) (rows : ℕ → List Row) (own read others before after : List ClockView) (platforms : List PlatformView) (fault : Option (ℕ × TurnFault)) → length own ≡ length platforms → before ≡ own ++ others → after ≡ read ++ others →
-    HasGone plan rows 8 own read platforms fault → WentBy (clocks_by workers before after) plan rows platforms fault
-went_by_clocks workers plan rows own read others before after platforms fault own_count before_is after_is gone = record {
-  kept = kept plan rows own read platforms fault gone;
+went_by_clocks : (workers : ℕ) (plan : Parts) (rows : ℕ → List Row) (own read others before after : List ClockView) (platforms : List PlatformView) (fault : Option (ℕ × TurnFault)) → length own ≡ length platforms → before ≡ own ++ others → after ≡ read ++ others →
+    GoneBy workers plan rows own read platforms fault → WentBy (clocks_by workers before after) plan rows platforms fault
+went_by_clocks workers plan rows own read others before after platforms fault own_count before_is after_is h = record {
+  kept = kept plan rows own read platforms fault h.gone;
   readings = record {
-    readings = gone.readings;
+    readings = h.gone.readings;
     handed = λ i v at.
         let lt : i < length platforms = within platforms i v at in
         let lt_own : i < length own = subst (λ k. i < k) (sym own_count) lt in
-        let lt_read : i < length read = subst (λ k. i < k) (sym gone.count) lt in
+        let lt_read : i < length read = subst (λ k. i < k) (sym h.gone.count) lt in
         let (b, first) = some_at own i lt_own in
         let (n, last) = some_at read i lt_read in
         let began : slice_get before i ≡ Some b = ap (λ xs. slice_get xs i) before_is ∙ in_front own others i lt_own ∙ first in
         let ended : slice_get after i ≡ Some n = ap (λ xs. slice_get xs i) after_is ∙ in_front read others i lt_read ∙ last in
-        subst (λ o. HandsOut o (slice_get after i) (gone.readings i)) (sym began) (subst (λ o. HandsOut (Some b) o (gone.readings i)) (sym ended) (gone.handed i b n first last));
-    read = gone.read;
-    in_turn = λ one. gone.in_turn;
+        subst (λ o. HandsOut o (slice_get after i) (h.gone.readings i)) (sym began) (subst (λ o. HandsOut (Some b) o (h.gone.readings i)) (sym ended) (h.gone.handed i b n first last));
+    read = h.gone.read;
+    in_turn = h.in_turn;
     others = λ i le.
-        ap (λ xs. slice_get xs i) after_is ∙ past_front read own others i (gone.count ∙ sym own_count) (subst (λ k. k ≤ i) (sym gone.count) le) ∙ ap (λ xs. slice_get xs i) (sym before_is);
+        ap (λ xs. slice_get xs i) after_is ∙ past_front read own others i (h.gone.count ∙ sym own_count) (subst (λ k. k ≤ i) (sym h.gone.count) le) ∙ ap (λ xs. slice_get xs i) (sym before_is);
   };
   paced = λ e. absurd cc;
 }
 
-module _ {C : Type 0} (told : C → Option (List ℕ)) (ahead : C → Option (ℕ → ℕ)) where
-  -- as many clocks as views
-  pub count_of : (clocks : List C) (n : ℕ) (v : ClockView) → tell told ahead clocks ≡ replicate n v → length clocks ≡ n
-  count_of clocks n v are = sym (length-map clocks (λ (c : C). record { told = told c; ahead = ahead c })) ∙ ap length are ∙ length-replicate n v
+-- one worker visits the platforms in turn
+pub one_worker : {C F : Type 0} (told : C → Option (List ℕ)) (ahead : C → Option (ℕ → ℕ)) (workers : ℕ) (result : Result (Ended C) F) (opened : List PlatformView) (clocks : List C) →
+    IfOk result (λ e. (plan : Parts) (rows : ℕ → List Row) → AreReady plan rows opened → HasGone plan rows 8 (tell told ahead clocks) (tell told ahead e.clocks.items) e.platforms.items e.fault) →
+    IfOk result (λ e. (plan : Parts) (rows : ℕ → List Row) → AreReady plan rows opened → GoneBy workers plan rows (tell told ahead clocks) (tell told ahead e.clocks.items) e.platforms.items e.fault)
+one_worker told ahead workers (Ok e) opened clocks h = λ plan rows ready. record { gone = (h plan rows ready).gone; in_turn = λ one. (h plan rows ready).in_turn }
+one_worker told ahead workers (Err f) opened clocks h = tt
 
+-- as many clocks as views
+pub count_of : {C : Type 0} (told : C → Option (List ℕ)) (ahead : C → Option (ℕ → ℕ)) (clocks : List C) (n : ℕ) (v : ClockView) → tell told ahead clocks ≡ replicate n v → length clocks ≡ n
+count_of told ahead clocks n v are = sym (length-map clocks (λ c. record { told = told c; ahead = ahead c })) ∙ ap length are ∙ length-replicate n v
+
+-- as many platforms as were opened
+pub as_many : (plan : Parts) (rows : ℕ → List Row) (began now : List ClockView) (opened platforms : List PlatformView) (fault : Option (ℕ × TurnFault)) → AreReady plan rows opened → HaveGone plan rows began now platforms fault → length opened ≡ length platforms
+as_many plan rows began now opened platforms fault ready gone = ready.all.count ∙ sym gone.all.count
+
+-- `before` are the clocks handed in, and the first of them go with the platforms
+module _ {C : Type 0} (told : C → Option (List ℕ)) (ahead : C → Option (ℕ → ℕ)) (n : ℕ) (before handed own others : List C) (opened : List PlatformView) (same : handed ≡ before) (count : n ≡ length opened) (fits : length opened ≤ length before)
+    (parts : (own ≡ take n handed) × (others ≡ drop n handed)) where
   seen : (first rest : List C) → tell told ahead (first ++ rest) ≡ tell told ahead first ++ tell told ahead rest
   seen first rest = map-append (λ (c : C). record { told = told c; ahead = ahead c }) first rest
 
-  -- the platforms after a run by the first of some clocks
-  pub went_by_first : (workers count : ℕ) (plan : Parts) (rows : ℕ → List Row) (handed own read others now : List C) (platforms : List PlatformView) (fault : Option (ℕ × TurnFault)) → length own ≡ count → count ≡ length platforms →
-      own ≡ take count handed → others ≡ drop count handed → now ≡ read ++ others → HasGone plan rows 8 (tell told ahead own) (tell told ahead read) platforms fault →
-      WentBy (clocks_by workers (tell told ahead handed) (tell told ahead now)) plan rows platforms fault
-  went_by_first workers count plan rows handed own read others now platforms fault many all first last joined gone =
-      went_by_clocks workers plan rows (tell told ahead own) (tell told ahead read) (tell told ahead others) (tell told ahead handed) (tell told ahead now) platforms fault
-      (length-map own (λ (c : C). record { told = told c; ahead = ahead c }) ∙ many ∙ all)
-      (ap (tell told ahead) (sym (take-append-drop count handed)) ∙ ap₂ (λ xs ys. tell told ahead (xs ++ ys)) (sym first) (sym last) ∙ seen own others)
-      (ap (tell told ahead) joined ∙ seen read others) gone
+  many : (xs : List C) → length (tell told ahead xs) ≡ length xs
+  many xs = length-map xs (λ (c : C). record { told = told c; ahead = ahead c })
 
--- as many platforms as were opened
-pub as_many : (plan : Parts) (rows : ℕ → List Row) (most : ℕ) (began now : List ClockView) (opened platforms : List PlatformView) (fault : Option (ℕ × TurnFault)) → AreReady plan rows opened → HasGone plan rows most began now platforms fault → length opened ≡ length platforms
-as_many plan rows most began now opened platforms fault ready gone = ready.all.count ∙ sym gone.all.count
+  pub one_each : length own ≡ length opened
+  one_each = ap length parts.0 ∙ length-take-le n handed (subst (λ k. k ≤ length handed) (sym count) (subst (λ xs. length opened ≤ length xs) (sym same) fits)) ∙ count
 
--- as many clocks as before, where each that was read comes back
-pub same_length : {C : Type 0} (count : ℕ) (handed own read others now : List C) → own ≡ take count handed → others ≡ drop count handed → now ≡ read ++ others → length read ≡ length own → length now ≡ length handed
-same_length count handed own read others now first last joined same =
-    ap length joined ∙ length-append read others ∙ ap (λ n. n + length others) same ∙ sym (length-append own others)
-    ∙ ap length (ap₂ (λ xs ys. xs ++ ys) first last ∙ take-append-drop count handed)
+  are_before : before ≡ own ++ others
+  are_before = sym same ∙ sym (take-append-drop n handed) ∙ ap₂ (λ xs ys. xs ++ ys) (sym parts.0) (sym parts.1)
 
--- a clock comes back for each platform
-pub read_many : {C : Type 0} (told : C → Option (List ℕ)) (ahead : C → Option (ℕ → ℕ)) (plan : Parts) (rows : ℕ → List Row) (most : ℕ) (began : List ClockView) (read : List C) (platforms : List PlatformView) (fault : Option (ℕ × TurnFault)) →
-    HasGone plan rows most began (tell told ahead read) platforms fault → length read ≡ length platforms
-read_many told ahead plan rows most began read platforms fault gone = sym (length-map read (λ c. record { told = told c; ahead = ahead c })) ∙ gone.count
+  module _ (workers : ℕ) (read now : List C) (platforms : List PlatformView) (fault : Option (ℕ × TurnFault)) (joined : now ≡ read ++ others)
+      (ran : (plan : Parts) (rows : ℕ → List Row) → AreReady plan rows opened → GoneBy workers plan rows (tell told ahead own) (tell told ahead read) platforms fault) where
+    -- the platforms after the run, and as many clocks
+    pub went_by_first : (plan : Parts) (rows : ℕ → List Row) → AreReady plan rows opened → WentBy (clocks_by workers (tell told ahead before) (tell told ahead now)) plan rows platforms fault
+    went_by_first plan rows ready =
+        let h = ran plan rows ready in
+        went_by_clocks workers plan rows (tell told ahead own) (tell told ahead read) (tell told ahead others) (tell told ahead before) (tell told ahead now) platforms fault
+        (many own ∙ one_each ∙ as_many plan rows (tell told ahead own) (tell told ahead read) opened platforms fault ready h.gone)
+        (ap (tell told ahead) are_before ∙ seen own others) (ap (tell told ahead) joined ∙ seen read others) h
+
+    pub all_back : IsReady opened → length now ≡ length before
+    all_back (plan, rows, ready) =
+        let h = ran plan rows ready in
+        let counted : length read ≡ length own = sym (many read) ∙ h.gone.count ∙ sym (as_many plan rows (tell told ahead own) (tell told ahead read) opened platforms fault ready h.gone) ∙ sym one_each in
+        ap length joined ∙ length-append read others ∙ ap (λ k. k + length others) counted ∙ sym (length-append own others) ∙ ap length (sym are_before)

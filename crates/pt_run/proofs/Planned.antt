@@ -1,5 +1,5 @@
 -- How a run over a graph ends, by how it ends over its plan.
-use Rattle.std.proofs.Common.{◌≡◌, ℕ, Bool, List, [], Option, Some, None, Result, Ok, Err, IfOk, IfErr, refl, sym, subst, ⊎_elim}
+use Rattle.std.proofs.Common.{◌≡◌, ◌≢◌, ℕ, Bool, true, false, List, [], length, Option, Some, None, Result, Ok, Err, IfOk, IfErr, refl, sym, ap, subst, ◌∙◌, ⊎_elim}
 use Rattle.std.specs.Prelude.{IfSome, String, string_bytes}
 use Rattle.std.specs.declared.alloc.Global.{Global}
 use Rattle.pt_types.specs.declared.graph.Graph.{Graph}
@@ -22,19 +22,21 @@ use Rattle.pt_sensors.specs.Recorded.{CauseOfRows, SensorFails, SensorLate, Sens
 use Rattle.pt_run.specs.declared.plan_run.RunFault.{RunFault}
 use Rattle.pt_run.specs.declared.plan_run.RunFault.TheVariants as stop
 use Rattle.pt_run.specs.declared.finished_run.Ran.{Ran}
-use Rattle.pt_run.specs.Runs.{CauseOfRun as CauseOfStop, IsRun}
+use Rattle.pt_run.specs.Runs.{CauseOfStop, HasOutputs}
 use Rattle.pt_run.specs.declared.fault.Fault.{Fault}
 use Rattle.pt_run.specs.declared.fault.Fault.TheVariants as fault
 use Rattle.pt_io.specs.Told.{ClockView}
 use Rattle.pt_words.specs.declared.orders.ClockChoice.{ClockChoice}
+use Rattle.pt_words.specs.declared.orders.ClockChoice.TheVariants.{Machine, Paced, Step}
+use Rattle.pt_run.specs.Clocks.{AreBackBy, AreKept}
 use Rattle.pt_run.specs.declared.outcome.Ending.{Ending}
 use Rattle.pt_run.specs.declared.words.Command.{Command}
 use Rattle.pt_run.specs.Telling.{Tells, TellsBy}
 use Rattle.pt_run.specs.declared.words.Command.TheVariants.{Check, Meaning, Run}
 use Rattle.pt_run.specs.Faults.{fault_of_plan, fault_of_rows}
-use Rattle.pt_run.specs.Written.{IsChecked, IsMeant, Leaves, Writes, nothing}
+use Rattle.pt_run.specs.Written.{IsChecked, IsMeant, Leaves, Writes, has_run, nothing}
 use Rattle.pt_run.specs.Causes.{CauseOf, Writing}
-use Rattle.pt_run.specs.Texts.{CheckFails, EndsOver, EndsPlan, IsStopped, MeaningFails, OrMemory, WroteRun, left_by, left_with, of_run}
+use Rattle.pt_run.specs.Texts.{CheckFails, EndsOver, EndsPlan, HasEnded, IsStopped, IsUnplanned, MeaningFails, WroteRun, left_by, left_with, of_run}
 
 -- what a call leaves, with what the clocks showed before its run and after it
 abbrev over : Leaves → List ClockView → List ClockView → Leaves
@@ -42,7 +44,7 @@ over left before now = record { misses = left.misses; platforms = left.platforms
 
 -- a run that finished was written
 pub wrote_plan : (ran : Ran) (o : Ending) (before now : List ClockView) (workers : ℕ) (clock : ClockChoice) (log : Bool) (tells : Contents) (plan : Parts) (r : Reading) (w : Writing) →
-    IsRun tells (record { choice = clock; workers = workers; before = before; now = now }) plan log ran → WroteRun ran o w → EndsPlan o.fault (left_with o before now) workers clock log tells plan r w
+    HasOutputs tells (record { choice = clock; workers = workers; before = before; now = now }) plan log ran → WroteRun ran o w → EndsPlan o.fault (left_with o before now) workers clock log tells plan r w
 wrote_plan ran o before now workers clock log tells plan r w run h =
     ⊎_elim
     (λ all. subst (λ left. EndsPlan o.fault (over left before now) workers clock log tells plan r w) (sym all.1) (subst (λ f. EndsPlan f (over (of_run ran.misses.items ran.platforms.items) before now) workers clock log tells plan r w) (sym all.0) (string_bytes ran.text, run.0, all.2)))
@@ -103,10 +105,52 @@ ends_plan o left workers clock log tells g plan r w admitted is ends = by_outcom
     by_outcome (Some (fault.Cycle actors)) h = absurd h
     by_outcome (Some (fault.Infeasible send offset slack)) h = absurd h
 
+-- a run that ended
+pub ended_plan : (ran : Result Ran RunFault) (o : Ending) (before now : List ClockView) (workers : ℕ) (clock : ClockChoice) (log : Bool) (tells : Contents) (plan : Parts) (r : Reading) (w : Writing) →
+    IfOk ran (HasOutputs tells (record { choice = clock; workers = workers; before = before; now = now }) plan log) → IfErr ran (λ f. CauseOfStop f tells (record { choice = clock; workers = workers; before = before; now = now }) plan r) → HasEnded ran o w →
+    EndsPlan o.fault (left_with o before now) workers clock log tells plan r w
+ended_plan (Ok ran) o before now workers clock log tells plan r w run cause h = wrote_plan ran o before now workers clock log tells plan r w run h
+ended_plan (Err f) o before now workers clock log tells plan r w run cause h = stopped_plan f o before now workers clock log tells plan r w cause h.0 h.1
+
+-- unless memory ran out, the clocks come back
+pub back : {C : Type 0} (ran : Result Ran RunFault) (o : Ending) (w : Writing) (clock : ClockChoice) (before now : List C) → HasEnded ran o w → AreKept ran clock before now → o.fault ≢ Some fault.Memory → AreBackBy clock o.fault before now
+back (Ok ran) o w Paced before now h kept never = kept
+back (Ok ran) o w (Step start step) before now h kept never = kept
+back (Ok ran) o w Machine before now h kept never = (kept, λ e. absurd (ended e))
+  where
+    ended : has_run o.fault ≡ false → ⊥
+    ended e = ⊎_elim (λ all. absurd (done (sym (ap has_run all.0) ∙ e))) (λ part. absurd (done (sym (ap has_run part.0) ∙ e))) h
+      where
+        done : true ≡ false → ⊥
+        done e = cc
+back (Err (stop.Rows f)) o w Paced before now h kept never = kept
+back (Err (stop.Rows f)) o w (Step start step) before now h kept never = kept
+back (Err (stop.Rows f)) o w Machine before now h kept never = (ap length kept, λ e. kept)
+back (Err (stop.Long platform platforms)) o w Paced before now h kept never = kept
+back (Err (stop.Long platform platforms)) o w (Step start step) before now h kept never = kept
+back (Err (stop.Long platform platforms)) o w Machine before now h kept never = (kept, λ e. absurd (stopped e))
+  where
+    stopped : has_run o.fault ≡ false → ⊥
+    stopped e = ⊎_elim (λ long. absurd (done (sym (ap has_run long.0) ∙ e))) (λ memory. absurd (never memory.0)) h.0
+      where
+        done : true ≡ false → ⊥
+        done e = cc
+back (Err (stop.Late platform actor tag reading limit platforms)) o w Paced before now h kept never = kept
+back (Err (stop.Late platform actor tag reading limit platforms)) o w (Step start step) before now h kept never = kept
+back (Err (stop.Late platform actor tag reading limit platforms)) o w Machine before now h kept never = (kept, λ e. absurd (stopped e))
+  where
+    stopped : has_run o.fault ≡ false → ⊥
+    stopped e = ⊎_elim (λ late. absurd (done (sym (ap has_run late.0) ∙ e))) (λ memory. absurd (never memory.0)) h.0
+      where
+        done : true ≡ false → ⊥
+        done e = cc
+back (Err stop.Memory) o w clock before now h kept never = absurd (never h.0.0)
+
 -- a graph without a plan was reported
-pub unplanned : (f : PlanFault) (o : Ending) (before now : List ClockView) (workers : ℕ) (clock : ClockChoice) (log : Bool) (tells : Contents) (g : Graph) (r : Reading) (w : Writing) →
-    CauseOfPlan f g → OrMemory o.fault (fault_of_plan f) → left_by o ≡ nothing → w.written_now ≡ w.written_before → EndsOver o.fault (left_with o before now) (Run workers clock log) tells g r w
-unplanned f o before now workers clock log tells g r w cause is none still = subst (λ left. EndsOver o.fault (over left before now) (Run workers clock log) tells g r w) (sym none) (⊎_elim
+pub unplanned : (o : Ending) (before now : List ClockView) (workers : ℕ) (clock : ClockChoice) (log : Bool) (tells : Contents) (g : Graph) (r : Reading) (w : Writing) →
+    IsUnplanned g o → w.written_now ≡ w.written_before → EndsOver o.fault (left_with o before now) (Run workers clock log) tells g r w
+unplanned o before now workers clock log tells g r w (none, f, cause, is) still =
+    subst (λ left. EndsOver o.fault (over left before now) (Run workers clock log) tells g r w) (sym none) (⊎_elim
     (λ (it : o.fault ≡ Some (fault_of_plan f)). subst (λ e. EndsOver e (over nothing before now) (Run workers clock log) tells g r w) (sym it) (by_fault f cause))
     (λ (it : o.fault ≡ Some fault.Memory). subst (λ e. EndsOver e (over nothing before now) (Run workers clock log) tells g r w) (sym it) ((refl, refl), still))
     is)
@@ -165,19 +209,3 @@ meaning_fails tells g r level (Err f) levels h = by_fault f h
     by_fault (fault.Long platform) k = (free, (k, (refl, refl)))
     by_fault (fault.Read sensor) k = (free, (k, (refl, refl)))
     by_fault fault.Write k = (free, (k, (refl, refl)))
-
--- what is told over a graph that was read from the file of that name
-pub told_file : (c : Command) (outcome : Option Fault) (misses : List Miss) (tells : Contents) (blocks : List Named) (name : List ℕ) (g : Graph) (w : Writing) → IfSome (tells name) (λ bytes. graph_of blocks bytes ≡ Ok g) → Tells outcome misses (Some g) w → TellsBy outcome misses (Some (c, name)) tells blocks w
-told_file c None misses tells blocks name g w read h = (g, read, h)
-told_file c (Some fault.Memory) misses tells blocks name g w read h = tt
-told_file c (Some fault.Usage) misses tells blocks name g w read h = h
-told_file c (Some (fault.Graph f)) misses tells blocks name g w read h = h
-told_file c (Some (fault.Read None)) misses tells blocks name g w read h = h
-told_file c (Some (fault.Read (Some actor))) misses tells blocks name g w read h = (g, read, h)
-told_file c (Some (fault.Cycle actors)) misses tells blocks name g w read h = (g, read, h)
-told_file c (Some (fault.Infeasible send offset slack)) misses tells blocks name g w read h = (g, read, h)
-told_file c (Some (fault.Sensor actor f)) misses tells blocks name g w read h = (g, read, h)
-told_file c (Some (fault.LateRow actor row seen limit)) misses tells blocks name g w read h = (g, read, h)
-told_file c (Some (fault.LateMessage platform actor tag reading limit)) misses tells blocks name g w read h = (g, read, h)
-told_file c (Some (fault.Long platform)) misses tells blocks name g w read h = (g, read, h)
-told_file c (Some fault.Write) misses tells blocks name g w read h = (g, read, h)

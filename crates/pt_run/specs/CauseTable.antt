@@ -54,9 +54,9 @@ abbrev pub IsNotPaced : Command → Type 0
 IsNotPaced (Run workers clock log) = clock ≢ Paced
 IsNotPaced _ = ⊥
 
--- a fact holds of this platform of those that are left
-abbrev pub OnPlatform : Leaves → ℕ → (PlatformView → Type 0) → Type 0
-OnPlatform left platform Fact = (v : PlatformView) × (slice_get left.platforms platform ≡ Some v) × Fact v
+-- a fact holds of this platform of those that are left, which is one of this graph
+abbrev pub OnPlatform : Leaves → Graph → ℕ → (PlatformView → Type 0) → Type 0
+OnPlatform left g platform Fact = (v : PlatformView) × (slice_get left.platforms platform ≡ Some v) × (v.plan.graph ≡ g) × Fact v
 
 -- a command that reads the sensors' files: `run`, which refuses late rows, or `meaning`, which accepts them
 abbrev pub OfRows : Command → (LateRows → Type 0) → Type 0
@@ -81,8 +81,8 @@ pub record CauseTable (status : ℕ) (outcome : Option Fault) (left : Leaves) (o
   -- the recorded turns of that platform end with that late message, which no paced run meets; or they made all claims that a
   -- platform may make, and a unit is still safe; or the meaning is too long
   pub late_message : (platform actor : ℕ) (tag : Tag) (reading limit : ℕ) → outcome ≡ Some (fault.LateMessage platform actor tag reading limit) →
-      OverGraph order tells blocks (λ command name g. IsNotPaced command × IsAccepted command g × OnPlatform left platform (λ v. ShowsLate g v.turns actor tag reading limit))
-  pub long : (platform : ℕ) → outcome ≡ Some (fault.Long (Some platform)) → OverGraph order tells blocks (λ command name g. IsRunCommand command × IsAccepted command g × OnPlatform left platform (λ v. ShowsLong g (state_at v)))
+      OverGraph order tells blocks (λ command name g. IsNotPaced command × IsAccepted command g × OnPlatform left g platform (λ v. ShowsLate g v.turns actor tag reading limit))
+  pub long : (platform : ℕ) → outcome ≡ Some (fault.Long (Some platform)) → OverGraph order tells blocks (λ command name g. IsRunCommand command × IsAccepted command g × OnPlatform left g platform (λ v. ShowsLong g (state_at v)))
   pub long_meaning : outcome ≡ Some (fault.Long None) → OverGraph order tells blocks (λ command name g. (command ≡ Meaning) × NoFreeCycle g × MeansLong tells g)
   -- the sink's count of faults rose; with any other fault nothing is written
   pub write : outcome ≡ Some fault.Write → Rose w.before w.now

@@ -30,9 +30,9 @@ use Rattle.pt_run.specs.Written.{Leaves, Means}
 use Rattle.pt_run.specs.Words.{Order, over}
 use Rattle.pt_types.specs.Limits.{most_claims}
 
--- the files are known and their program can run: the graph file defines this graph, which is admitted, each sensor's file has
--- rows, none of which is late, and these firings are the meaning
-pub record CanRun (tells : Contents) (blocks : List Named) (name : List ℕ) (g : Graph) (firings : List ActorFiring) : Type 0 where
+-- the files are known and a run can begin: the graph file defines this graph, which is admitted, and each sensor's file has
+-- rows, none of which is late
+pub record CanBegin (tells : Contents) (blocks : List Named) (name : List ℕ) (g : Graph) : Type 0 where
   pub bytes : List ℕ
   pub told : tells name ≡ Some bytes
   pub graph : graph_of blocks bytes ≡ Ok g
@@ -42,7 +42,11 @@ pub record CanRun (tells : Contents) (blocks : List Named) (name : List ℕ) (g 
   pub rows : ℕ → List Row
   pub sensors : AreRows tells g rows
   pub in_time : AllPass Refused g rows
-  pub means : Means g rows firings
+
+-- and their program can run: these firings are the meaning
+pub record CanRun (tells : Contents) (blocks : List Named) (name : List ℕ) (g : Graph) (firings : List ActorFiring) : Type 0 where
+  pub begins : CanBegin tells blocks name g
+  pub means : Means g begins.rows firings
 
 -- on no platform does the meaning have more firings of units than the platform may claim
 abbrev pub FitsClaims : Graph → List ActorFiring → Type 0
@@ -70,12 +74,12 @@ IsComplete status order tells blocks r w = (workers : ℕ) (log : Bool) (name : 
 -- claims than it may make, as its recorded turns show; or memory ran out
 abbrev pub EndsAsShown : Option Fault → Leaves → Graph → Type 0
 EndsAsShown None left g = left.misses ≡ flat_map missed_by left.platforms
-EndsAsShown (Some (LateMessage platform actor tag reading limit)) left g = OnPlatform left platform (λ v. ShowsLate g v.turns actor tag reading limit)
-EndsAsShown (Some (Long (Some platform))) left g = OnPlatform left platform (λ v. ShowsLong g (state_at v))
+EndsAsShown (Some (LateMessage platform actor tag reading limit)) left g = OnPlatform left g platform (λ v. ShowsLate g v.turns actor tag reading limit)
+EndsAsShown (Some (Long (Some platform))) left g = OnPlatform left g platform (λ v. ShowsLong g (state_at v))
 EndsAsShown (Some Memory) left g = Unit {0}
 EndsAsShown (Some f) left g = ⊥
 
--- so ends a run of such a program, by whatever clock, if neither count rose
+-- so ends a run that can begin, by whatever clock, if neither count rose
 abbrev pub IsCompleteByAnyClock : Option Fault → Leaves → Option Order → Contents → List Named → Reading → Writing → Type 0
-IsCompleteByAnyClock outcome left order tells blocks r w = (workers : ℕ) (clock : ClockChoice) (log : Bool) (name : List ℕ) (g : Graph) (firings : List ActorFiring) →
-    order ≡ Some (over (Run workers clock log) name) → CanRun tells blocks name g firings → (Rose r.before r.now → ⊥) → (Rose w.before w.now → ⊥) → EndsAsShown outcome left g
+IsCompleteByAnyClock outcome left order tells blocks r w = (workers : ℕ) (clock : ClockChoice) (log : Bool) (name : List ℕ) (g : Graph) →
+    order ≡ Some (over (Run workers clock log) name) → CanBegin tells blocks name g → (Rose r.before r.now → ⊥) → (Rose w.before w.now → ⊥) → EndsAsShown outcome left g

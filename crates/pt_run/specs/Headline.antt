@@ -9,19 +9,17 @@ use Rattle.pt_graph.specs.GraphOf.{graph_of}
 use Rattle.pt_semantics.specs.Meaning.{IsMeaning}
 use Rattle.pt_semantics.specs.Tables.{tables_text}
 use Rattle.pt_causality.specs.Ranked.{rank_of}
-use Rattle.pt_offsets.specs.Plans.{IsAdmitted, Parts}
+use Rattle.pt_offsets.specs.Plans.{Parts}
 use Rattle.pt_turn.specs.declared.fault.TurnFault.{TurnFault}
 use Rattle.pt_turn.specs.declared.fault.TurnFault.TheVariants as turn
 use Rattle.pt_turn.specs.Platforms.{PlatformView}
 use Rattle.pt_monitors.specs.Platforms.{missed_by}
-use Rattle.pt_sensors.specs.declared.recorded_fault.LateRows.TheVariants.{Refused}
 use Rattle.pt_sensors.specs.Asked.{Contents}
-use Rattle.pt_sensors.specs.Places.{of_run}
-use Rattle.pt_sensors.specs.Recorded.{AllPass, AreRows, SensorLate}
+use Rattle.pt_sensors.specs.Recorded.{SensorLate}
 use Rattle.pt_words.specs.declared.orders.ClockChoice.{ClockChoice}
 use Rattle.pt_words.specs.declared.orders.ClockChoice.TheVariants.{Paced}
 use Rattle.pt_run.specs.Readings.{Clocking, ReadBy}
-use Rattle.pt_run.specs.Runs.{IsKept, log_if}
+use Rattle.pt_run.specs.Runs.{IsKept, RunOver, log_if}
 use Rattle.pt_run.specs.declared.fault.Fault.{Fault}
 use Rattle.pt_run.specs.declared.fault.Fault.TheVariants as fault
 use Rattle.pt_run.specs.declared.words.Command.TheVariants.{Run}
@@ -34,11 +32,7 @@ use Rattle.pt_run.specs.Written.{GraphWith, HasNothing, Leaves, clocking, has_ru
 pub record RunWith (tells : Contents) (blocks : List Named) (name : List ℕ) (Fact : Parts → (ℕ → List Row) → Type 0) : Type 0 where
   pub plan : Parts
   pub file : IfSome (tells name) (λ bytes. graph_of blocks bytes ≡ Ok plan.graph)
-  pub admitted : IsAdmitted plan
-  pub rows : ℕ → List Row
-  pub sensors : AreRows tells plan.graph rows
-  pub in_time : AllPass Refused plan.graph rows
-  pub fact : Fact plan (of_run plan.graph rows)
+  pub over : RunOver tells plan (Fact plan)
 
 -- what was put is the tables of the meaning and, if asked for, the log of the platforms
 pub record PutsMeaning (plan : Parts) (rows : ℕ → List Row) (log : Bool) (platforms : List PlatformView) (Put : List ℕ → Type 0) : Type 0 where

@@ -47,13 +47,13 @@ Ends outcome left (Some (over command graph)) tells blocks r w = EndsBy outcome 
 Ends outcome left (Some (make number workers)) tells blocks r w = EndsMade outcome left number w
 
 -- which files are asked for: none for a made input
-abbrev pub AsksOf : Option Order → Contents → List Named → Reading → Type 0
-AsksOf None tells blocks r = AsksBy None tells blocks r
-AsksOf (Some (over command graph)) tells blocks r = AsksBy (Some (command, graph)) tells blocks r
-AsksOf (Some (make number workers)) tells blocks r = Asks r.asked_before r.asked_now []
+abbrev pub AsksOf : Option Fault → Option Order → Contents → List Named → Reading → Type 0
+AsksOf outcome None tells blocks r = AsksBy outcome None tells blocks r
+AsksOf outcome (Some (over command graph)) tells blocks r = AsksBy outcome (Some (command, graph)) tells blocks r
+AsksOf outcome (Some (make number workers)) tells blocks r = Asks r.asked_before r.asked_now []
 
 -- what is put on notes: the lines of a run of a made input have no names
-abbrev pub TellsOf : Option Fault → List Miss → Option Order → Contents → List Named → Writing → Type 0
-TellsOf outcome misses None tells blocks w = TellsBy outcome misses None tells blocks w
-TellsOf outcome misses (Some (over command graph)) tells blocks w = TellsBy outcome misses (Some (command, graph)) tells blocks w
-TellsOf outcome misses (Some (make number workers)) tells blocks w = Tells outcome misses None w
+abbrev pub TellsOf : Option Fault → List Miss → List PlatformView → Option Order → Contents → List Named → Writing → Type 0
+TellsOf outcome misses platforms None tells blocks w = TellsBy outcome misses platforms None tells blocks w
+TellsOf outcome misses platforms (Some (over command graph)) tells blocks w = TellsBy outcome misses platforms (Some (command, graph)) tells blocks w
+TellsOf outcome misses platforms (Some (make number workers)) tells blocks w = Tells outcome misses None w

@@ -1,11 +1,11 @@
 -- A run over the files of a plan's sensors, and why a run did not finish.
-use Rattle.std.specs.Prelude.{◌≡◌, ◌<◌, ◌↔◌, ◌++◌, [], ℕ, Bool, List, Option, None, Some, flat_map, if◌then◌else◌, slice_get, string_bytes}
+use Rattle.std.specs.Prelude.{◌≡◌, ◌↔◌, ◌++◌, [], ℕ, Bool, List, Option, None, Some, flat_map, if◌then◌else◌, string_bytes}
 use Rattle.pt_types.specs.declared.firing.ActorFiring.{ActorFiring}
 use Rattle.pt_types.specs.declared.rows.Row.{Row}
 use Rattle.pt_types.specs.declared.graph.Graph.{Graph}
 use Rattle.pt_history.specs.declared.miss.Miss.{Miss}
 use Rattle.pt_semantics.specs.History.{IsLegal}
-use Rattle.pt_semantics.specs.Linked.{AreLinked, AreMatched, IsFinished}
+use Rattle.pt_semantics.specs.Linked.{AreLinked, AreMatched}
 use Rattle.pt_semantics.specs.Lists.{IsIn}
 use Rattle.pt_semantics.specs.Meaning.{IsMeaning}
 use Rattle.pt_semantics.specs.Tables.{tables_text}
@@ -14,9 +14,9 @@ use Rattle.pt_causality.specs.Ranked.{level_of, rank_of}
 use Rattle.pt_offsets.specs.Plans.{IsAdmitted, Parts}
 use Rattle.pt_turn.specs.declared.fault.TurnFault.{TurnFault}
 use Rattle.pt_turn.specs.declared.fault.TurnFault.TheVariants as turn
-use Rattle.pt_turn.specs.All.{AreAll, histories_of}
+use Rattle.pt_turn.specs.All.{AreAll, AreReady, histories_of}
 use Rattle.pt_turn.specs.Platforms.{PlatformView, state_at}
-use Rattle.pt_turn.specs.Running.{Shows}
+use Rattle.pt_alone.specs.HasGone.{EndsAt}
 use Rattle.pt_monitors.specs.Platforms.{missed_by}
 use Rattle.pt_tables.specs.Log.{log_text}
 use Rattle.pt_tables.specs.Misses.{miss_line}
@@ -34,13 +34,6 @@ use Rattle.pt_run.specs.declared.plan_run.RunFault.TheVariants as fault
 use Rattle.pt_run.specs.declared.finished_run.Ran.{Ran}
 use Rattle.pt_io.specs.Told.{ClockView}
 use Rattle.pt_run.specs.Readings.{Clocking, EachOf, ReadBy, read_by}
-
--- without a fault no platform has one, and all are finished; else this platform has this fault, which its recorded turns
--- show, and none before it has one
-abbrev pub EndsAt : Graph → List PlatformView → Option (ℕ × TurnFault) → Type 0
-EndsAt g platforms None = (i : ℕ) (v : PlatformView) → slice_get platforms i ≡ Some v → (v.fault ≡ None) × IsFinished g i (state_at v)
-EndsAt g platforms (Some f) =
-    (v : PlatformView) × (slice_get platforms f.0 ≡ Some v) × (v.fault ≡ Some f.1) × Shows g v.turns (state_at v) f.1 × ((j : ℕ) (w : PlatformView) → j < f.0 → slice_get platforms j ≡ Some w → w.fault ≡ None)
 
 -- the platforms are those of the graph, opened with these rows; each has a legal history that leads to its state; everything
 -- taken was sent, and unless a platform has a fault, everything sent was taken and all are finished
@@ -78,14 +71,21 @@ pub record WentBy (c : Clocking) (plan : Parts) (rows : ℕ → List Row) (platf
   pub readings : ReadBy c plan rows platforms
   pub paced : c.choice ≡ Paced → RunsPaced plan rows platforms fault
 
--- what a run leaves: its platforms went on over the rows of their sensors' files, none of which is late, until all were
--- finished, or until one had a fault
-pub record HasRun (tells : Contents) (c : Clocking) (plan : Parts) (platforms : List PlatformView) (fault : Option (ℕ × TurnFault)) : Type 0 where
+-- a fact of an admitted plan and of the rows of its sensors' files up to its horizon, none of which is late
+pub record RunOver (tells : Contents) (plan : Parts) (Went : (ℕ → List Row) → Type 0) : Type 0 where
   pub admitted : IsAdmitted plan
   pub rows : ℕ → List Row
   pub sensors : AreRows tells plan.graph rows
   pub in_time : AllPass Refused plan.graph rows
-  pub went : WentBy c plan (of_run plan.graph rows) platforms fault
+  pub went : Went (of_run plan.graph rows)
+
+-- the platforms of a plan, just opened with these rows
+abbrev pub HasOpened : Contents → Parts → List PlatformView → Type 0
+HasOpened tells plan platforms = RunOver tells plan (λ rows. AreReady plan rows platforms)
+
+-- what a run leaves: its platforms went on over these rows until all were finished, or until one had a fault
+abbrev pub HasRun : Contents → Clocking → Parts → List PlatformView → Option (ℕ × TurnFault) → Type 0
+HasRun tells c plan platforms fault = RunOver tells plan (λ rows. WentBy c plan rows platforms fault)
 
 -- the log of platforms, if it is asked for
 abbrev pub log_if : Bool → Graph → List PlatformView → List ℕ
@@ -114,8 +114,8 @@ pub record IsTold (plan : Parts) (log : Bool) (platforms : List PlatformView) (r
   pub lines : string_bytes ran.lines ≡ flat_map (miss_line plan.graph) ran.misses.items
 
 -- what a finished run returns: its platforms, its text, its misses and their lines
-abbrev pub IsRun : Contents → Clocking → Parts → Bool → Ran → Type 0
-IsRun tells c plan log ran = IsFinishedRun tells c plan log ran.platforms.items ran.misses.items (string_bytes ran.text) × (string_bytes ran.lines ≡ flat_map (miss_line plan.graph) ran.misses.items)
+abbrev pub HasOutputs : Contents → Clocking → Parts → Bool → Ran → Type 0
+HasOutputs tells c plan log ran = IsFinishedRun tells c plan log ran.platforms.items ran.misses.items (string_bytes ran.text) × (string_bytes ran.lines ≡ flat_map (miss_line plan.graph) ran.misses.items)
 
 -- the outputs of platforms after a run without a fault
 abbrev pub IsOutput : Option (ℕ × TurnFault) → Parts → Bool → List PlatformView → Ran → Type 0
@@ -129,8 +129,8 @@ IsStop stop platforms (fault.Late platform actor tag reading limit left) = (stop
 IsStop stop platforms fault.Memory = Unit {0}
 
 -- why a run did not finish
-abbrev pub CauseOfRun : RunFault → Contents → Clocking → Parts → Reading → Type 0
-CauseOfRun (fault.Rows f) tells c plan r = CauseOfRows Refused f tells plan.graph [] r
-CauseOfRun (fault.Long platform platforms) tells c plan r = HasRun tells c plan platforms.items (Some (platform, turn.Long))
-CauseOfRun (fault.Late platform actor tag reading limit platforms) tells c plan r = HasRun tells c plan platforms.items (Some (platform, turn.Late actor tag reading limit))
-CauseOfRun fault.Memory tells c plan r = Unit {0}
+abbrev pub CauseOfStop : RunFault → Contents → Clocking → Parts → Reading → Type 0
+CauseOfStop (fault.Rows f) tells c plan r = CauseOfRows Refused f tells plan.graph [] r
+CauseOfStop (fault.Long platform platforms) tells c plan r = HasRun tells c plan platforms.items (Some (platform, turn.Long))
+CauseOfStop (fault.Late platform actor tag reading limit platforms) tells c plan r = HasRun tells c plan platforms.items (Some (platform, turn.Late actor tag reading limit))
+CauseOfStop fault.Memory tells c plan r = Unit {0}

@@ -1,10 +1,11 @@
 -- What is put on notes.
-use Rattle.std.specs.Prelude.{◌⊎◌, [], ℕ, List, Option, None, Some, flat_map}
+use Rattle.std.specs.Prelude.{◌≡◌, ◌⊎◌, [], ℕ, List, Option, None, Some, flat_map, slice_get}
 use Rattle.pt_io.specs.Causes.{Appends, AppendsPart, Rose}
 use Rattle.pt_types.specs.declared.graph.Graph.{Graph}
 use Rattle.pt_blocks.specs.declared.blocks.Named.{Named}
 use Rattle.pt_history.specs.declared.miss.Miss.{Miss}
 use Rattle.pt_tables.specs.Misses.{miss_line}
+use Rattle.pt_turn.specs.Platforms.{PlatformView}
 use Rattle.pt_sensors.specs.Asked.{Contents}
 use Rattle.pt_run.specs.declared.fault.Fault.{Fault}
 use Rattle.pt_run.specs.declared.fault.Fault.TheVariants as fault
@@ -28,11 +29,16 @@ abbrev pub Tells : Option Fault → List Miss → Option Graph → Writing → T
 Tells (Some fault.Memory) misses g w = Unit {0}
 Tells outcome misses g w = IsPut (notes_of outcome misses g) w
 
--- the notes of a call for some words: names in them are those of the graph in the file that the words name
-abbrev pub TellsBy : Option Fault → List Miss → Option (Command × List ℕ) → Contents → List Named → Writing → Type 0
-TellsBy (Some fault.Memory) misses order tells blocks w = Unit {0}
-TellsBy (Some fault.Usage) misses order tells blocks w = Tells (Some fault.Usage) misses None w
-TellsBy (Some (fault.Graph f)) misses order tells blocks w = Tells (Some (fault.Graph f)) misses None w
-TellsBy (Some (fault.Read None)) misses order tells blocks w = Tells (Some (fault.Read None)) misses None w
-TellsBy outcome misses None tells blocks w = Tells outcome misses None w
-TellsBy outcome misses (Some order) tells blocks w = GraphWith tells blocks order.1 (λ g. Tells outcome misses (Some g) w)
+-- these platforms are of this graph
+abbrev pub AreOfGraph : List PlatformView → Graph → Type 0
+AreOfGraph platforms g = (i : ℕ) (v : PlatformView) → slice_get platforms i ≡ Some v → v.plan.graph ≡ g
+
+-- the notes of a call for some words that left these platforms: names in them are those of the graph in the file that the words
+-- name, of which the platforms are
+abbrev pub TellsBy : Option Fault → List Miss → List PlatformView → Option (Command × List ℕ) → Contents → List Named → Writing → Type 0
+TellsBy (Some fault.Memory) misses platforms order tells blocks w = Unit {0}
+TellsBy (Some fault.Usage) misses platforms order tells blocks w = Tells (Some fault.Usage) misses None w
+TellsBy (Some (fault.Graph f)) misses platforms order tells blocks w = Tells (Some (fault.Graph f)) misses None w
+TellsBy (Some (fault.Read None)) misses platforms order tells blocks w = Tells (Some (fault.Read None)) misses None w
+TellsBy outcome misses platforms None tells blocks w = Tells outcome misses None w
+TellsBy outcome misses platforms (Some order) tells blocks w = GraphWith tells blocks order.1 (λ g. AreOfGraph platforms g × Tells outcome misses (Some g) w)

@@ -115,14 +115,14 @@ abbrev pub Writes : Command → Contents → Graph → Leaves → List ℕ → T
 Writes command tells g left text = NoFreeCycle g × WritesText command tells g left text
 
 -- what a command must write for the graph file with this name, and what it leaves
-abbrev pub Ran : Command → Contents → List Named → List ℕ → Leaves → List ℕ → Type 0
-Ran command tells blocks name left text = GraphWith tells blocks name (λ g. Writes command tells g left text)
+abbrev pub WritesOver : Command → Contents → List Named → List ℕ → Leaves → List ℕ → Type 0
+WritesOver command tells blocks name left text = GraphWith tells blocks name (λ g. Writes command tells g left text)
 
 -- the bytes written, if known, grew by such a text
 abbrev pub Wrote : Command → Contents → List Named → List ℕ → Leaves → Option (List ℕ) → Option (List ℕ) → Type 0
-Wrote command tells blocks name left before now = (text : List ℕ) × Ran command tells blocks name left text × Appends before now text
+Wrote command tells blocks name left before now = (text : List ℕ) × WritesOver command tells blocks name left text × Appends before now text
 
 -- the bytes written, if known, grew by a prefix of such a text, and no misses are given
 abbrev pub WrotePart : Command → Contents → List Named → List ℕ → Leaves → Option (List ℕ) → Option (List ℕ) → Type 0
 WrotePart command tells blocks name left before now =
-    (left.misses ≡ []) × (misses : List Miss) × (text : List ℕ) × Ran command tells blocks name (record left { misses = misses }) text × AppendsPart before now text
+    (left.misses ≡ []) × (misses : List Miss) × (text : List ℕ) × WritesOver command tells blocks name (record left { misses = misses }) text × AppendsPart before now text

@@ -1,10 +1,11 @@
 //! Reading the graph file.
 
-ghost use Rattle.std.specs.Prelude.{◌≡◌, ◌≤◌, IfOk, IfErr, IfSome, Ok, [], ◌∷◌};
+ghost use Rattle.std.specs.Prelude.{◌≡◌, ◌≢◌, ◌≤◌, IfOk, IfErr, IfSome, Ok, [], ◌∷◌};
 ghost use Rattle.pt_types.specs.Lawful.{IsLawful};
 ghost use Rattle.pt_graph.specs.GraphOf.{graph_of};
 ghost use Rattle.pt_sensors.specs.Asked.{Asks, AsksOrNot};
 ghost use Rattle.pt_run.specs.Causes.{CauseOfGraph};
+ghost use Rattle.pt_run.specs.declared.fault.Fault.TheVariants.{Memory as NoMemory};
 
 use crate::fault::{Fault, fault_of_graph};
 use pt_blocks::Blocks;
@@ -27,6 +28,7 @@ pub fn graph_at<S: Source>(
     ensures keeps { S.tells source.new ≡ S.tells source.old }
     ensures grows { S.faults source.old ≤ S.faults source.new }
     ensures asks { IfOk result (λ g. Asks (S.asked source.old) (S.asked source.new) (name.now ∷ [])) }
+    ensures asks_unless_memory { IfErr result (λ f. f ≢ NoMemory → Asks (S.asked source.old) (S.asked source.new) (name.now ∷ [])) }
     ensures asks_at_most { IfErr result (λ f. AsksOrNot (S.asked source.old) (S.asked source.new) (name.now ∷ [])) }
 {
     let bytes = match source.fetch(alloc, name, MOST_GRAPH_BYTES) {

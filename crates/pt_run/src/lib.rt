@@ -6,11 +6,12 @@
 //! must write in `specs/Written.antt`, `specs/Runs.antt` and `specs/Making.antt`.
 //!
 //! Read first: `ptides`, then `specs/Headline.antt`; `run_of` is a paced run of a plan. Only the functions between `ptides` and
-//! `own_clocks` may wait; paced runs, `check`, `meaning` and `make` return, as the absence of that bound in them says.
+//! `engines` may wait and start threads; paced runs, `check`, `meaning` and `make` return, as the absence of that bound in them says.
 #![tactic(auto)]
 
 mod admission;
 mod check;
+mod engines;
 mod fault;
 mod finished_run;
 mod laws;

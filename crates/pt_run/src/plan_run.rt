@@ -1,9 +1,10 @@
 //! A run of a plan.
 
-ghost use Rattle.std.specs.Prelude.{◌≡◌, ◌≤◌, IfErr, IfOk};
+ghost use Rattle.std.specs.Prelude.{◌≡◌, ◌≤◌, ◌<◌, IfErr, IfOk, length};
 ghost use Rattle.std.specs.Arc.{arc_value};
 ghost use Rattle.pt_sensors.specs.Asked.{AsksFiles};
-ghost use Rattle.pt_run.specs.Runs.{CauseOfRun, IsRun, paced_by};
+ghost use Rattle.pt_run.specs.Readings.{Clocking};
+ghost use Rattle.pt_run.specs.Runs.{CauseOfStop, HasOpened, HasOutputs, paced_by};
 
 use crate::finished_run::Ran;
 use crate::went::{go_paced, outputs_of};
@@ -51,8 +52,30 @@ pub fn run_of<S: Source>(
     source: &mut S,
     blocks: &Blocks,
 ) -> Result<Ran, RunFault>
-    ensures ran { IfOk result (IsRun (S.tells source.old) (paced_by workers) (arc_value plan.now) log) }
-    ensures fault { IfErr result (λ f. CauseOfRun f (S.tells source.old) (paced_by workers) (arc_value plan.now)
+    ensures ran { IfOk result (HasOutputs (S.tells source.old) (paced_by workers) (arc_value plan.now) log) }
+    ensures fault { IfErr result (λ f. CauseOfStop f (S.tells source.old) (paced_by workers) (arc_value plan.now)
+        (record { asked_before = S.asked source.old; asked_now = S.asked source.new; before = S.faults source.old; now = S.faults source.new })) }
+    ensures asks { AsksFiles (arc_value plan.now).graph (S.asked source.old) (S.asked source.new) }
+    ensures keeps { S.tells source.new ≡ S.tells source.old }
+    ensures grows { S.faults source.old ≤ S.faults source.new }
+{
+    let platforms = opened_of(alloc, plan, source)?;
+    let Ok(went) = go_paced(alloc, platforms, blocks, workers) else {
+        return Err(RunFault::Memory);
+    };
+    outputs_of(alloc, plan, went, log)
+}
+
+/// The platforms of a plan, opened with the rows of its sensors' files, none of which is late.
+pub fn opened_of<S: Source>(
+    alloc: Global,
+    plan: &Arc<Plan>,
+    source: &mut S,
+) -> Result<Vec<Platform>, RunFault>
+    ensures some { IfOk result (λ platforms. 0 < length platforms.items) }
+    ensures few { IfOk result (λ platforms. length platforms.items ≤ 16) }
+    ensures opened { IfOk result (λ platforms. HasOpened (S.tells source.old) (arc_value plan.now) platforms.items) }
+    ensures fault { IfErr result (λ f. (c : Clocking) → CauseOfStop f (S.tells source.old) c (arc_value plan.now)
         (record { asked_before = S.asked source.old; asked_now = S.asked source.new; before = S.faults source.old; now = S.faults source.new })) }
     ensures asks { AsksFiles (arc_value plan.now).graph (S.asked source.old) (S.asked source.new) }
     ensures keeps { S.tells source.new ≡ S.tells source.old }
@@ -62,11 +85,8 @@ pub fn run_of<S: Source>(
         Ok(entries) => entries,
         Err(fault) => return Err(RunFault::Rows(fault)),
     };
-    let Ok(platforms) = open_all(alloc, plan, entries) else {
-        return Err(RunFault::Memory);
-    };
-    let Ok(went) = go_paced(alloc, platforms, blocks, workers) else {
-        return Err(RunFault::Memory);
-    };
-    outputs_of(alloc, plan, went, log)
+    match open_all(alloc, plan, entries) {
+        Ok(platforms) => Ok(platforms),
+        Err(_) => Err(RunFault::Memory),
+    }
 }

@@ -1,16 +1,15 @@
 //! The command `run`.
 
-ghost use Rattle.std.specs.Prelude.{◌≡◌, ◌≢◌, None, Some, flat_map, string_bytes};
+ghost use Rattle.std.specs.Prelude.{◌≡◌, ◌≢◌, IfErr, IfOk, None, Some, flat_map, string_bytes};
 ghost use Rattle.std.specs.Arc.{arc_value};
 ghost use Rattle.pt_types.specs.Lawful.{IsLawful};
 ghost use Rattle.pt_offsets.specs.Plans.{IsAdmitted};
-ghost use Rattle.pt_sensors.specs.Asked.{AsksFiles};
 ghost use Rattle.pt_words.specs.declared.orders.ClockChoice.TheVariants.{Paced};
 ghost use Rattle.pt_run.specs.declared.words.Command.TheVariants.{Run};
 ghost use Rattle.pt_run.specs.Statuses.{status_of};
 ghost use Rattle.pt_tables.specs.Misses.{miss_line};
 ghost use Rattle.pt_run.specs.Telling.{Tells};
-ghost use Rattle.pt_run.specs.Texts.{EndsOver, EndsPlan, IsOfRun, IsStopped, WroteRun, left_by};
+ghost use Rattle.pt_run.specs.Texts.{AsksFor, EndsOver, HasEnded, IsOfRun, IsStopped, IsUnplanned, WroteRun, left_by};
 
 use crate::fault::{Fault, fault_of_plan, fault_of_rows};
 use crate::notes::{tell, tell_write};
@@ -38,7 +37,7 @@ pub fn run_graph<S: Source, K: Sink, E: Sink>(
 ) -> Ending
     requires { IsLawful graph }
     ensures status { result.status ≡ status_of result.fault result.misses }
-    ensures asks { AsksFiles graph (S.asked source.old) (S.asked source.new) }
+    ensures asks { AsksFor (Run workers Paced log) result.fault graph (S.asked source.old) (S.asked source.new) }
     ensures ends { EndsOver result.fault (left_by result) (Run workers Paced log) (S.tells source.old) graph
         (record { asked_before = S.asked source.old; asked_now = S.asked source.new; before = S.faults source.old; now = S.faults source.new })
         (record { before = K.faults out.old; now = K.faults out.new; written_before = K.written out.old; written_now = K.written out.new }) }
@@ -46,49 +45,63 @@ pub fn run_graph<S: Source, K: Sink, E: Sink>(
     ensures notes { Tells result.fault result.misses (Some graph)
         (record { before = E.faults notes.old; now = E.faults notes.new; written_before = E.written notes.old; written_now = E.written notes.new }) }
 {
+    let plan = match planned(alloc, graph, notes) {
+        Ok(plan) => plan,
+        Err(ending) => return ending,
+    };
+    let ran = run_of(alloc, &plan, log, workers, source, blocks);
+    end_run(alloc, plan.graph(), ran, out, notes)
+}
+
+/// The plan of a graph; or how a run ends that has none, with its fault reported.
+pub fn planned<E: Sink>(alloc: Global, graph: Graph, notes: &mut E) -> Result<Arc<Plan>, Ending>
+    requires { IsLawful graph }
+    ensures plan { IfOk result (λ plan. (arc_value plan).graph ≡ graph) }
+    ensures admitted { IfOk result (λ plan. IsAdmitted (arc_value plan)) }
+    ensures quiet { IfOk result (λ plan. (E.faults notes.new ≡ E.faults notes.old) × (E.written notes.new ≡ E.written notes.old)) }
+    ensures status { IfErr result (λ o. o.status ≡ status_of o.fault o.misses) }
+    ensures refused { IfErr result (IsUnplanned graph) }
+    ensures notes { IfErr result (λ o. Tells o.fault o.misses (Some graph)
+        (record { before = E.faults notes.old; now = E.faults notes.new; written_before = E.written notes.old; written_now = E.written notes.new })) }
+{
     let plan = match plan_of(alloc, graph) {
         Ok(plan) => plan,
         Err(Unplanned { graph, fault }) => {
             let fault = tell(alloc, notes, fault_of_plan(fault), Some(&graph));
-            return Ending::refused(alloc, fault);
+            return Err(Ending::refused(alloc, fault));
         }
     };
-    let Ok(plan) = Arc::new(alloc, plan) else {
-        let fault = tell(alloc, notes, Fault::Memory, None);
-        return Ending::refused(alloc, fault);
-    };
-    run_plan(alloc, workers, log, &plan, source, out, notes, blocks)
+    match Arc::new(alloc, plan) {
+        Ok(plan) => Ok(plan),
+        Err(_) => {
+            let fault = tell(alloc, notes, Fault::Memory, None);
+            Err(Ending::refused(alloc, fault))
+        }
+    }
 }
 
-/// Runs a plan over the files of its sensors.
-fn run_plan<S: Source, K: Sink, E: Sink>(
+/// Writes the outputs of a run, or reports why it did not finish.
+pub fn end_run<K: Sink, E: Sink>(
     alloc: Global,
-    workers: u32,
-    log: bool,
-    plan: &Arc<Plan>,
-    source: &mut S,
+    graph: &Graph,
+    ran: Result<Ran, RunFault>,
     out: &mut K,
     notes: &mut E,
-    blocks: &Blocks,
 ) -> Ending
     ensures status { result.status ≡ status_of result.fault result.misses }
-    ensures admitted { IsAdmitted (arc_value plan.now) }
-    ensures asks { AsksFiles (arc_value plan.now).graph (S.asked source.old) (S.asked source.new) }
-    ensures ends { EndsPlan result.fault (left_by result) workers Paced log (S.tells source.old) (arc_value plan.now)
-        (record { asked_before = S.asked source.old; asked_now = S.asked source.new; before = S.faults source.old; now = S.faults source.new })
-        (record { before = K.faults out.old; now = K.faults out.new; written_before = K.written out.old; written_now = K.written out.new }) }
+    ensures ended { HasEnded ran result (record { before = K.faults out.old; now = K.faults out.new; written_before = K.written out.old; written_now = K.written out.new }) }
     ensures flushed { result.fault ≡ None → K.flushed out.new }
-    ensures notes { Tells result.fault result.misses (Some (arc_value plan.now).graph)
+    ensures notes { IfOk ran (λ ran. string_bytes ran.lines ≡ flat_map (miss_line graph.now) ran.misses.items) → Tells result.fault result.misses (Some graph.now)
         (record { before = E.faults notes.old; now = E.faults notes.new; written_before = E.written notes.old; written_now = E.written notes.new }) }
 {
-    match run_of(alloc, plan, log, workers, source, blocks) {
-        Ok(ran) => write_run(alloc, plan.graph(), ran, out, notes),
-        Err(fault) => stop_run(alloc, plan.graph(), fault, notes),
+    match ran {
+        Ok(ran) => write_run(alloc, graph, ran, out, notes),
+        Err(fault) => stop_run(alloc, graph, fault, notes),
     }
 }
 
 /// Puts the text of a run on `out`, and the lines of its misses on `notes`.
-pub fn write_run<K: Sink, E: Sink>(
+fn write_run<K: Sink, E: Sink>(
     alloc: Global,
     graph: &Graph,
     ran: Ran,
@@ -116,7 +129,7 @@ pub fn write_run<K: Sink, E: Sink>(
 }
 
 /// Reports why a run did not finish.
-pub fn stop_run<E: Sink>(alloc: Global, graph: &Graph, fault: RunFault, notes: &mut E) -> Ending
+fn stop_run<E: Sink>(alloc: Global, graph: &Graph, fault: RunFault, notes: &mut E) -> Ending
     ensures status { result.status ≡ status_of result.fault result.misses }
     ensures stopped { IsStopped fault result }
     ensures fault { result.fault ≢ None }

@@ -32,6 +32,7 @@ use pt_types::Graph;
 use pt_words::ClockChoice;
 use std::alloc::Global;
 use std::sync::Wait;
+use std::thread::Threads;
 
 /// Runs the command of these words, those after the program's name: `run GRAPH`, `check GRAPH`, `meaning GRAPH` or
 /// `make NUMBER`.
@@ -42,7 +43,7 @@ use std::sync::Wait;
 ///
 /// This call may wait. No clause says which commands end: the parts of `check`, `meaning`, `make` and a paced run that don't take
 /// `rt` do, and a run by a clock of its own, `--clock step:..` or `--clock machine`, may go on forever if its clock stops.
-pub fn ptides<S: Source, K: Sink, E: Sink, C: Clock, R: Wait>(
+pub fn ptides<S: Source, K: Sink, E: Sink, C: Clock + Send, R: Threads + Wait + Sync>(
     rt: &R,
     alloc: Global,
     words: &[String],
@@ -54,8 +55,8 @@ pub fn ptides<S: Source, K: Sink, E: Sink, C: Clock, R: Wait>(
 ) -> Outcome<C>
     requires clocks { length clocks.items ≡ 16 }
     ensures status { result.status ≡ status_of result.fault result.misses }
-    // The source is asked at most for the graph file and then for the files of its sensors, in order.
-    ensures asks { AsksOf (order_of words.now) (S.tells source.old) blocks.now.listed.items
+    // The source is asked for the graph file and, if the graph is not refused, for the files of its sensors, in order.
+    ensures asks { AsksOf result.fault (order_of words.now) (S.tells source.old) blocks.now.listed.items
         (record { asked_before = S.asked source.old; asked_now = S.asked source.new; before = S.faults source.old; now = S.faults source.new }) }
     // The headline: what a run has written, what it leaves, by which readings, and why it stopped.
     ensures headline { IsHeadline result.fault (left_of result (order_of words.now) (tell C.told C.ahead clocks.items) (tell C.told C.ahead result.clocks.items)) (order_of words.now) (S.tells source.old) blocks.now.listed.items
@@ -85,7 +86,7 @@ pub fn ptides<S: Source, K: Sink, E: Sink, C: Clock, R: Wait>(
     // Without a fault, all output is flushed.
     ensures flushed { result.fault ≡ None → K.flushed out.new }
     // What was put on `notes`.
-    ensures notes { TellsOf result.fault result.misses (order_of words.now) (S.tells source.old) blocks.now.listed.items
+    ensures notes { TellsOf result.fault result.misses result.platforms.items (order_of words.now) (S.tells source.old) blocks.now.listed.items
         (record { before = E.faults notes.old; now = E.faults notes.new; written_before = E.written notes.old; written_now = E.written notes.new }) }
 {
     let mut handed = clocks;
@@ -100,7 +101,7 @@ pub fn ptides<S: Source, K: Sink, E: Sink, C: Clock, R: Wait>(
 }
 
 /// Runs the command of these words. The other clauses of `ptides` follow from these.
-fn run_words<S: Source, K: Sink, E: Sink, C: Clock, R: Wait>(
+fn run_words<S: Source, K: Sink, E: Sink, C: Clock + Send, R: Threads + Wait + Sync>(
     rt: &R,
     alloc: Global,
     words: &[String],
@@ -112,14 +113,14 @@ fn run_words<S: Source, K: Sink, E: Sink, C: Clock, R: Wait>(
 ) -> Ending
     requires clocks { length clocks.old.items ≡ 16 }
     ensures status { result.status ≡ status_of result.fault result.misses }
-    ensures asks { AsksOf (order_of words.now) (S.tells source.old) blocks.now.listed.items
+    ensures asks { AsksOf result.fault (order_of words.now) (S.tells source.old) blocks.now.listed.items
         (record { asked_before = S.asked source.old; asked_now = S.asked source.new; before = S.faults source.old; now = S.faults source.new }) }
     ensures ends { Ends result.fault (left_at result (order_of words.now) (tell C.told C.ahead clocks.old.items) (tell C.told C.ahead clocks.new.items)) (order_of words.now) (S.tells source.old) blocks.now.listed.items
         (record { asked_before = S.asked source.old; asked_now = S.asked source.new; before = S.faults source.old; now = S.faults source.new })
         (record { before = K.faults out.old; now = K.faults out.new; written_before = K.written out.old; written_now = K.written out.new }) }
     ensures clocks { result.fault ≢ Some Memory → AreBack (order_of words.now) result.fault clocks.old.items clocks.new.items }
     ensures flushed { result.fault ≡ None → K.flushed out.new }
-    ensures notes { TellsOf result.fault result.misses (order_of words.now) (S.tells source.old) blocks.now.listed.items
+    ensures notes { TellsOf result.fault result.misses result.platforms.items (order_of words.now) (S.tells source.old) blocks.now.listed.items
         (record { before = E.faults notes.old; now = E.faults notes.new; written_before = E.written notes.old; written_now = E.written notes.new }) }
 {
     let fault = match order_of(alloc, words) {
@@ -139,7 +140,7 @@ fn run_words<S: Source, K: Sink, E: Sink, C: Clock, R: Wait>(
 }
 
 /// Runs a command on the graph in the file with this name.
-fn run_file<S: Source, K: Sink, E: Sink, C: Clock, R: Wait>(
+fn run_file<S: Source, K: Sink, E: Sink, C: Clock + Send, R: Threads + Wait + Sync>(
     rt: &R,
     alloc: Global,
     command: Command,
@@ -152,14 +153,14 @@ fn run_file<S: Source, K: Sink, E: Sink, C: Clock, R: Wait>(
 ) -> Ending
     requires clocks { length clocks.old.items ≡ 16 }
     ensures status { result.status ≡ status_of result.fault result.misses }
-    ensures asks { AsksBy (Some (command, name.now)) (S.tells source.old) blocks.now.listed.items
+    ensures asks { AsksBy result.fault (Some (command, name.now)) (S.tells source.old) blocks.now.listed.items
         (record { asked_before = S.asked source.old; asked_now = S.asked source.new; before = S.faults source.old; now = S.faults source.new }) }
     ensures ends { EndsBy result.fault (left_over result command (tell C.told C.ahead clocks.old.items) (tell C.told C.ahead clocks.new.items)) (Some (command, name.now)) (S.tells source.old) blocks.now.listed.items
         (record { asked_before = S.asked source.old; asked_now = S.asked source.new; before = S.faults source.old; now = S.faults source.new })
         (record { before = K.faults out.old; now = K.faults out.new; written_before = K.written out.old; written_now = K.written out.new }) }
     ensures clocks { result.fault ≢ Some Memory → AreBackFor command result.fault clocks.old.items clocks.new.items }
     ensures flushed { result.fault ≡ None → K.flushed out.new }
-    ensures notes { TellsBy result.fault result.misses (Some (command, name.now)) (S.tells source.old) blocks.now.listed.items
+    ensures notes { TellsBy result.fault result.misses result.platforms.items (Some (command, name.now)) (S.tells source.old) blocks.now.listed.items
         (record { before = E.faults notes.old; now = E.faults notes.new; written_before = E.written notes.old; written_now = E.written notes.new }) }
 {
     match graph_at(alloc, source, name, blocks) {
@@ -176,7 +177,7 @@ fn run_file<S: Source, K: Sink, E: Sink, C: Clock, R: Wait>(
 }
 
 /// Runs a command on a graph.
-fn run_command<S: Source, K: Sink, E: Sink, C: Clock, R: Wait>(
+fn run_command<S: Source, K: Sink, E: Sink, C: Clock + Send, R: Threads + Wait + Sync>(
     rt: &R,
     alloc: Global,
     command: Command,
@@ -190,7 +191,7 @@ fn run_command<S: Source, K: Sink, E: Sink, C: Clock, R: Wait>(
     requires lawful { IsLawful graph }
     requires clocks { length clocks.old.items ≡ 16 }
     ensures status { result.status ≡ status_of result.fault result.misses }
-    ensures asks { AsksFor command graph (S.asked source.old) (S.asked source.new) }
+    ensures asks { AsksFor command result.fault graph (S.asked source.old) (S.asked source.new) }
     ensures ends { EndsOver result.fault (left_over result command (tell C.told C.ahead clocks.old.items) (tell C.told C.ahead clocks.new.items)) command (S.tells source.old) graph
         (record { asked_before = S.asked source.old; asked_now = S.asked source.new; before = S.faults source.old; now = S.faults source.new })
         (record { before = K.faults out.old; now = K.faults out.new; written_before = K.written out.old; written_now = K.written out.new }) }

@@ -17,6 +17,7 @@ use std::alloc::Global;
 use std::io::ErrorKind;
 use std::process::ExitCode;
 use std::sync::Wait;
+use std::thread::Threads;
 use std::{env, io};
 
 /// The status if there is not enough memory to begin.
@@ -57,7 +58,7 @@ fn machine_clocks<'r>(rt: &'r HostRuntime) -> Result<Vec<MachineClock<&'r HostRu
 }
 
 /// The status of the command of these words. The clocks are let go, and so is all that a run leaves.
-fn status<S: Source, K: Sink, E: Sink, C: Clock, R: Wait>(
+fn status<S: Source, K: Sink, E: Sink, C: Clock + Send, R: Threads + Wait + Sync>(
     rt: &R,
     alloc: Global,
     words: &[String],

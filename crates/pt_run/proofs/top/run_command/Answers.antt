@@ -4,6 +4,8 @@ use Rattle.pt_run.specs.declared.words.Command.TheVariants.{Check, Meaning}
 use Rattle.pt_run.specs.Causes.{CauseOf, Writing}
 use Rattle.pt_run.specs.Written.{Writes, nothing}
 use Rattle.std.proofs.Common.{[]}
+use Rattle.pt_words.specs.declared.orders.ClockChoice.TheVariants.{Paced}
+use Rattle.pt_run.proofs.Asks.{answer_asks, whatever_clock}
 use Rattle.pt_run.proofs.Ending.{ends_answer, err_at, ok_at}
 use Rattle.pt_run.proofs.top.run_command.Goals as goal
 
@@ -25,4 +27,10 @@ returns-in-Meaning-clause-ends g c =
     rw c.in-Meaning.is (ends_answer Meaning c.meaning_answer-answer.result c.give-in-Meaning.result tells c.args.graph r w c.meaning_answer-answer.ensures.text c.meaning_answer-answer.ensures.fault c.give-in-Meaning.ensures.gives)
 
 pub returns-in-Meaning-clause-asks : goal.returns-in-Meaning-clause-asks
-returns-in-Meaning-clause-asks g c = rw c.in-Meaning.is c.meaning_answer-answer.ensures.asks
+returns-in-Meaning-clause-asks g c =
+    let w : Writing = record { before = g.K.Sink.faults c.args.out.now; now = g.K.Sink.faults c.give-in-Meaning.new.out; written_before = g.K.Sink.written c.args.out.now; written_now = g.K.Sink.written c.give-in-Meaning.new.out } in
+    rw c.in-Meaning.is (answer_asks Meaning c.meaning_answer-answer.result c.give-in-Meaning.result w c.args.graph (g.S.Source.asked c.args.source.now) (g.S.Source.asked c.meaning_answer-answer.new.source) c.give-in-Meaning.ensures.gives c.meaning_answer-answer.ensures.asks)
+
+pub returns-in-Paced-clause-asks : goal.returns-in-Paced-clause-asks
+returns-in-Paced-clause-asks g c =
+    whatever_clock c.args.command c.in-Run.workers c.in-Run.clock Paced c.in-Run.log c.run_graph.result.fault c.args.graph (g.S.Source.asked c.args.source.now) (g.S.Source.asked c.run_graph.new.source) c.in-Run.is c.run_graph.ensures.asks

@@ -7,5 +7,5 @@ make-requires g c = made_number_in c.args.words.now c.in-Ok-Some-Make.field-0 c.
 
 pub returns-in-Ok-Some-Make-clause-asks : goal.returns-in-Ok-Some-Make-clause-asks
 returns-in-Ok-Some-Make-clause-asks g c =
-    asks_for_none c.args.words.now c.in-Ok-Some-Make.field-0 c.in-Ok-Some-Make.number c.in-Ok-Some-Make.workers (g.S.Source.tells c.args.source.now) c.args.blocks.now.listed.items (g.S.Source.asked c.args.source.now) (g.S.Source.faults c.args.source.now)
+    asks_for_none c.args.words.now c.in-Ok-Some-Make.field-0 c.in-Ok-Some-Make.number c.in-Ok-Some-Make.workers c.make.result.fault (g.S.Source.tells c.args.source.now) c.args.blocks.now.listed.items (g.S.Source.asked c.args.source.now) (g.S.Source.faults c.args.source.now)
     c.in-Ok-Some-Make.ensures (c.in-Ok-Some-Make.field-0-is ∙ ap Some c.in-Ok-Some-Make.field-0-0-is)

@@ -1,0 +1,21 @@
+use Rattle.std.proofs.Common.{◌≡◌, ◌∙◌, ap, subst}
+use Rattle.std.specs.Arc.{arc_value}
+use Rattle.pt_types.specs.declared.graph.Graph.{Graph}
+use Rattle.pt_offsets.specs.Plans.{IsAdmitted, Parts}
+use Rattle.pt_sensors.specs.Listed.{rows_for}
+use Rattle.pt_sensors.specs.declared.recorded_fault.LateRows.TheVariants.{Refused}
+use Rattle.pt_sensors.specs.Recorded.{AllPass, AreRows}
+use Rattle.pt_run.proofs.plan_run.opened_of.Goals as goal
+
+pub returns-in-Ok-open_all-clause-opened : goal.returns-in-Ok-open_all-clause-opened
+returns-in-Ok-open_all-clause-opened g c =
+    let plan : Parts = arc_value c.args.plan.now in
+    let graph : c.graph.result.now ≡ plan.graph = c.graph.ensures.value ∙ ap (λ (p : Parts). p.graph) c.deref.ensures in
+    let rows = rows_for c.in-Ok.entries.items in
+    record {
+      admitted = subst IsAdmitted c.deref.ensures c.graph.ensures.admitted;
+      rows = rows;
+      sensors = subst (λ (h : Graph). AreRows (g.S.Source.tells c.args.source.now) h rows) graph c.in-Ok.ensures.rows;
+      in_time = subst (λ (h : Graph). AllPass Refused h rows) graph c.in-Ok.ensures.passes;
+      went = c.in-Ok-open_all.ensures;
+    }
