@@ -41,7 +41,7 @@ past_front (x ∷ xs) (y ∷ ys) zs (suc i) same le = past_front xs ys zs i (ome
 
 module _ (plan : Parts) (rows : ℕ → List Row) (began now : List ClockView) (platforms : List PlatformView) (fault : Option (ℕ × TurnFault)) (gone : HasGone plan rows 8 began now platforms fault) where
   kept : IsKept plan rows platforms fault
-  kept = record { all = gone.all; legal = gone.legal; matched = gone.matched; linked = gone.linked; ends = gone.ends }
+  kept = record { all = gone.gone.all; legal = gone.gone.legal; matched = gone.gone.matched; linked = gone.gone.linked; ends = gone.gone.ends }
 
 -- readings of a clock of steps
 as_steps : (start step : ℕ) (told : Option (List ℕ)) (readings : List ℕ) → HandedOut (Some []) told readings → AreAsAhead (Some (step_reading start step)) (Some []) told readings → length readings < 2 ^ 64 →
@@ -58,13 +58,13 @@ pub went_by_steps : (workers start step : ℕ) (plan : Parts) (rows : ℕ → Li
 went_by_steps workers start step plan rows began now platforms fault are gone = record {
   kept = kept plan rows began now platforms fault gone;
   readings = record {
-    readings = gone.readings;
+    readings = gone.gone.readings;
     steps = λ i v at few.
         let lt : i < length platforms = within platforms i v at in
-        let (n, there) = some_at now i (subst (λ k. i < k) (sym gone.count) lt) in
-        let both = gone.handed i (step_clock start step) n (ap (λ xs. slice_get xs i) are ∙ in_replicate (length platforms) (step_clock start step) i lt) there in
-        as_steps start step n.told (gone.readings i) both.0 both.1 few;
-    read = gone.read;
+        let (n, there) = some_at now i (subst (λ k. i < k) (sym gone.gone.count) lt) in
+        let both = gone.gone.handed i (step_clock start step) n (ap (λ xs. slice_get xs i) are ∙ in_replicate (length platforms) (step_clock start step) i lt) there in
+        as_steps start step n.told (gone.gone.readings i) both.0 both.1 few;
+    read = gone.gone.read;
     in_turn = gone.in_turn;
   };
   paced = λ e. absurd cc;
@@ -76,20 +76,20 @@ pub went_by_clocks : (workers : ℕ) (plan : Parts) (rows : ℕ → List Row) (o
 went_by_clocks workers plan rows own read others before after platforms fault own_count before_is after_is gone = record {
   kept = kept plan rows own read platforms fault gone;
   readings = record {
-    readings = gone.readings;
+    readings = gone.gone.readings;
     handed = λ i v at.
         let lt : i < length platforms = within platforms i v at in
         let lt_own : i < length own = subst (λ k. i < k) (sym own_count) lt in
-        let lt_read : i < length read = subst (λ k. i < k) (sym gone.count) lt in
+        let lt_read : i < length read = subst (λ k. i < k) (sym gone.gone.count) lt in
         let (b, first) = some_at own i lt_own in
         let (n, last) = some_at read i lt_read in
         let began : slice_get before i ≡ Some b = ap (λ xs. slice_get xs i) before_is ∙ in_front own others i lt_own ∙ first in
         let ended : slice_get after i ≡ Some n = ap (λ xs. slice_get xs i) after_is ∙ in_front read others i lt_read ∙ last in
-        subst (λ o. HandsOut o (slice_get after i) (gone.readings i)) (sym began) (subst (λ o. HandsOut (Some b) o (gone.readings i)) (sym ended) (gone.handed i b n first last));
-    read = gone.read;
+        subst (λ o. HandsOut o (slice_get after i) (gone.gone.readings i)) (sym began) (subst (λ o. HandsOut (Some b) o (gone.gone.readings i)) (sym ended) (gone.gone.handed i b n first last));
+    read = gone.gone.read;
     in_turn = λ one. gone.in_turn;
     others = λ i le.
-        ap (λ xs. slice_get xs i) after_is ∙ past_front read own others i (gone.count ∙ sym own_count) (subst (λ k. k ≤ i) (sym gone.count) le) ∙ ap (λ xs. slice_get xs i) (sym before_is);
+        ap (λ xs. slice_get xs i) after_is ∙ past_front read own others i (gone.gone.count ∙ sym own_count) (subst (λ k. k ≤ i) (sym gone.gone.count) le) ∙ ap (λ xs. slice_get xs i) (sym before_is);
   };
   paced = λ e. absurd cc;
 }
@@ -114,7 +114,7 @@ module _ {C : Type 0} (told : C → Option (List ℕ)) (ahead : C → Option (�
 
 -- as many platforms as were opened
 pub as_many : (plan : Parts) (rows : ℕ → List Row) (most : ℕ) (began now : List ClockView) (opened platforms : List PlatformView) (fault : Option (ℕ × TurnFault)) → AreReady plan rows opened → HasGone plan rows most began now platforms fault → length opened ≡ length platforms
-as_many plan rows most began now opened platforms fault ready gone = ready.all.count ∙ sym gone.all.count
+as_many plan rows most began now opened platforms fault ready gone = ready.all.count ∙ sym gone.gone.all.count
 
 -- as many clocks as before, where each that was read comes back
 pub same_length : {C : Type 0} (count : ℕ) (handed own read others now : List C) → own ≡ take count handed → others ≡ drop count handed → now ≡ read ++ others → length read ≡ length own → length now ≡ length handed
@@ -125,4 +125,4 @@ same_length count handed own read others now first last joined same =
 -- a clock comes back for each platform
 pub read_many : {C : Type 0} (told : C → Option (List ℕ)) (ahead : C → Option (ℕ → ℕ)) (plan : Parts) (rows : ℕ → List Row) (most : ℕ) (began : List ClockView) (read : List C) (platforms : List PlatformView) (fault : Option (ℕ × TurnFault)) →
     HasGone plan rows most began (tell told ahead read) platforms fault → length read ≡ length platforms
-read_many told ahead plan rows most began read platforms fault gone = sym (length-map read (λ c. record { told = told c; ahead = ahead c })) ∙ gone.count
+read_many told ahead plan rows most began read platforms fault gone = sym (length-map read (λ c. record { told = told c; ahead = ahead c })) ∙ gone.gone.count
