@@ -65,7 +65,7 @@ went_by_steps workers start step plan rows began now platforms fault are gone = 
         let both = gone.gone.handed i (step_clock start step) n (ap (λ xs. slice_get xs i) are ∙ in_replicate (length platforms) (step_clock start step) i lt) there in
         as_steps start step n.told (gone.gone.readings i) both.0 both.1 few;
     read = gone.gone.read;
-    in_turn = gone.in_turn;
+    in_turn = record { visits = gone.in_turn; last = gone.last };
   };
   paced = λ e. absurd cc;
 }
@@ -87,7 +87,7 @@ went_by_clocks workers plan rows own read others before after platforms fault ow
         let ended : slice_get after i ≡ Some n = ap (λ xs. slice_get xs i) after_is ∙ in_front read others i lt_read ∙ last in
         subst (λ o. HandsOut o (slice_get after i) (gone.gone.readings i)) (sym began) (subst (λ o. HandsOut (Some b) o (gone.gone.readings i)) (sym ended) (gone.gone.handed i b n first last));
     read = gone.gone.read;
-    in_turn = λ one. gone.in_turn;
+    in_turn = λ one. record { visits = gone.in_turn; last = gone.last };
     others = λ i le.
         ap (λ xs. slice_get xs i) after_is ∙ past_front read own others i (gone.gone.count ∙ sym own_count) (subst (λ k. k ≤ i) (sym gone.gone.count) le) ∙ ap (λ xs. slice_get xs i) (sym before_is);
   };
