@@ -17,7 +17,7 @@ use Rattle.pt_semantics.specs.Linked.{AreLinked, AreMatched, all_sent, all_taken
 use Rattle.pt_semantics.specs.Readings.{IsReadBy, greatest_of, later_of}
 use Rattle.pt_semantics.specs.Turn.{Turn}
 use Rattle.pt_semantics.specs.Platform.{opened}
-use Rattle.pt_semantics.specs.Visits.{AreFinished, IsVisit, Together}
+use Rattle.pt_semantics.specs.Visits.{AreFinished, IsVisit, Made, Together}
 use Rattle.pt_semantics.specs.Wired.{IsWired}
 use Rattle.pt_semantics.proofs.Lookups.{same_some}
 use Rattle.pt_laws.proofs.Onward.{cases_same}
@@ -42,7 +42,7 @@ use Rattle.pt_together.specs.Showing.{OnTimeSoFar, ShowsVisit}
 use Rattle.pt_together.proofs.Showing.{visit_shows}
 use Rattle.pt_together.proofs.Views.{all_finished, below, each_finished, finished_here, history}
 use Rattle.pt_together.specs.Asked.{AreAllFinished}
-use Rattle.pt_alone.specs.HasGone.{EndsAt, HasGone}
+use Rattle.pt_alone.specs.HasGone.{EndsAt, HasGone, LastVisitEnds}
 use Rattle.pt_alone.specs.Between.{AreRead, IsLastOf, BeforeVisit, AfterVisit}
 use Rattle.pt_alone.proofs.Counting.{last_more, raised_is, raised_small, with_here, with_there}
 
@@ -154,9 +154,17 @@ module _ (plan : Parts) (rows : ℕ → List Row) (most j : ℕ) (began now : Li
     shown = λ on_time. showing.shown (sym showing.late ∙ on_time);
     none_past = λ i le. s.clocks.none_past i (subst (λ n. n ≤ i) (sym s.shown.all.count) le);
     clocks = clocks_after;
-    fault = λ u at. showing.fault ∙ ap (λ (z : PlatformView). is_fault z.fault) (sym (same_some u w (sym at ∙ set_here platforms j w v there)));
+    fault = λ u at.
+        let same : w ≡ u = sym (same_some u w (sym at ∙ set_here platforms j w v there)) in
+        (showing.fault ∙ ap (λ (z : PlatformView). is_fault z.fault) same, showing.late ∙ ap (λ (z : PlatformView). is_late z.fault) same);
     others = λ i u ne at. s.no_fault i u (sym (set_elsewhere platforms j i w ne) ∙ at);
   }
+
+-- the last of some visits
+last_visit : (ms : List Made) (m : Made) (fault : Option (ℕ × TurnFault)) → LastVisitEnds (m ∷ []) fault → LastVisitEnds (ms ++ m ∷ []) fault
+last_visit [] m fault h = h
+last_visit (n ∷ []) m fault h = h
+last_visit (n ∷ p ∷ ms) m fault h = last_visit (p ∷ ms) m fault h
 
 -- after a visit
 module _ (plan : Parts) (rows : ℕ → List Row) (most j : ℕ) (began now : List ClockView) (platforms : List PlatformView) (pipes : List (List Message)) (results : List (List Done)) (a : AfterVisit plan rows most j began now platforms pipes results) where
@@ -164,45 +172,49 @@ module _ (plan : Parts) (rows : ℕ → List Row) (most j : ℕ) (began now : Li
   is_wired = wired plan.graph a.admitted.lawful
 
   -- the end of a run
-  ended : IsOver plan.graph a.made a.together → (fault : Option (ℕ × TurnFault)) → EndsAt plan.graph platforms fault → (fault ≡ None → AreFinished plan.graph a.together) → HasGone plan rows most began now platforms fault
-  ended over fault ends done = record {
-    admitted = a.admitted;
-    fit = a.fit;
-    all = a.there.all;
-    count = a.clocks.count;
-    readings = with_reading a.readings j a.reading;
-    handed = a.clocks.handed;
-    read = a.clocks.read;
-    in_turn = record { made = went.made; end = a.together; visits = went.visits; kept_are = history plan rows a.together platforms a.there };
-    legal = λ i v at.
-        subst (λ ts. IsLegal plan.graph (level_of plan.ranks) i rows ts (state_at v)) (sym (a.there.kept_turns i v at))
-        (subst (IsLegal plan.graph (level_of plan.ranks) i rows (kept (a.together.did i))) (a.there.states i v at) (laws.0 i (below plan rows a.together platforms a.there i v at)));
-    matched = λ l link at.
-        let m = laws.1 l link at in (
-          m.0,
-          ap (all_sent l) (history plan rows a.together platforms a.there (platform_of plan.graph link.from) (is_wired.homes link.from)) ∙ m.1
-              ∙ ap (λ (turns : List Turn). all_taken l turns ++ m.0) (sym (history plan rows a.together platforms a.there (platform_of plan.graph link.to) (is_wired.homes link.to))),
-        );
-    linked = λ none l link at.
-        ap (all_sent l) (history plan rows a.together platforms a.there (platform_of plan.graph link.from) (is_wired.homes link.from)) ∙ laws.2 (done none) l link at
-        ∙ ap (all_taken l) (sym (history plan rows a.together platforms a.there (platform_of plan.graph link.to) (is_wired.homes link.to)));
-    ends = ends;
+  ended : IsOver plan.graph a.made a.together → (fault : Option (ℕ × TurnFault)) → EndsAt plan.graph platforms fault → LastVisitEnds (a.made ∷ []) fault → (fault ≡ None → AreFinished plan.graph a.together) → HasGone plan rows most began now platforms fault
+  ended over fault ends last done = record {
+    gone = record {
+      admitted = a.admitted;
+      fit = a.fit;
+      all = a.there.all;
+      count = a.clocks.count;
+      readings = with_reading a.readings j a.reading;
+      handed = a.clocks.handed;
+      read = a.clocks.read;
+      legal = λ i v at.
+          subst (λ ts. IsLegal plan.graph (level_of plan.ranks) i rows ts (state_at v)) (sym (a.there.kept_turns i v at))
+          (subst (IsLegal plan.graph (level_of plan.ranks) i rows (kept (a.together.did i))) (a.there.states i v at) (laws.0 i (below plan rows a.together platforms a.there i v at)));
+      matched = λ l link at.
+          let m = laws.1 l link at in (
+            m.0,
+            ap (all_sent l) (history plan rows a.together platforms a.there (platform_of plan.graph link.from) (is_wired.homes link.from)) ∙ m.1
+                ∙ ap (λ (turns : List Turn). all_taken l turns ++ m.0) (sym (history plan rows a.together platforms a.there (platform_of plan.graph link.to) (is_wired.homes link.to))),
+          );
+      linked = λ none l link at.
+          ap (all_sent l) (history plan rows a.together platforms a.there (platform_of plan.graph link.from) (is_wired.homes link.from)) ∙ laws.2 (done none) l link at
+          ∙ ap (all_taken l) (sym (history plan rows a.together platforms a.there (platform_of plan.graph link.to) (is_wired.homes link.to)));
+      ends = ends;
+    };
+    in_turn = record { made = went.0.made; end = a.together; visits = went.0.visits; kept_are = history plan rows a.together platforms a.there };
+    last = subst (λ (ms : List Made). LastVisitEnds ms fault) (sym went.1) (last_visit a.goes.made a.made fault last);
   }
     where
-      went : Went plan.graph (level_of plan.ranks) rows most (with_reading a.readings j a.reading) a.together
+      went : (whole : Went plan.graph (level_of plan.ranks) rows most (with_reading a.readings j a.reading) a.together) × (whole.made ≡ a.goes.made ++ a.made ∷ [])
       went = visits_end plan.graph (level_of plan.ranks) rows most a.readings j a.reading a.before a.together a.made a.goes a.platform a.visit over a.none_past a.next
 
       laws : ((i : ℕ) → i < length plan.graph.platforms → IsLegal plan.graph (level_of plan.ranks) i rows (kept (a.together.did i)) (a.together.at i))
           × AreMatched plan.graph (λ i. kept (a.together.did i)) × (AreFinished plan.graph a.together → AreLinked plan.graph (λ i. kept (a.together.did i)))
-      laws = fixed_order_is_legal plan.graph (level_of plan.ranks) rows most (with_reading a.readings j a.reading) a.together is_wired a.admitted.levels a.fit went
+      laws = fixed_order_is_legal plan.graph (level_of plan.ranks) rows most (with_reading a.readings j a.reading) a.together is_wired a.admitted.levels a.fit went.0
 
   none_some_fault : {X : Type 0} (x : X) → Some x ≡ None → ⊥
   none_some_fault x e = cc
 
   module _ (v : PlatformView) (at : slice_get platforms j ≡ Some v) where
     pub ended_fault : (fault : TurnFault) → v.fault ≡ Some fault → Shows v.plan.graph v.turns (state_at v) fault → HasGone plan rows most began now platforms (Some (j, fault))
-    ended_fault fault is shows = ended (inr (a.fault v at ∙ ap is_fault is)) (Some (j, fault))
+    ended_fault fault is shows = ended (inr ((a.fault v at).0 ∙ ap is_fault is)) (Some (j, fault))
         (v, at, is, subst (λ (p : Parts). Shows p.graph v.turns (state_at v) fault) (a.there.all.plans j v at) shows, λ i w lt there. a.others i w (λ e. less i e lt) there)
+        (a.platform, (a.fault v at).0 ∙ ap is_fault is, (a.fault v at).1 ∙ ap is_late is)
         (λ e. absurd (none_some_fault (j, fault) e))
       where
         less : (i : ℕ) → i ≡ j → i < j → ⊥
@@ -214,12 +226,12 @@ module _ (plan : Parts) (rows : ℕ → List Row) (most j : ℕ) (began now : Li
         (λ (other : i ≢ j). a.others i w other there)
         (cases_same i j)
 
+    fine : v.fault ≡ None → a.made.fault ≡ false
+    fine none = (a.fault v at).0 ∙ ap is_fault none
+
     pub ended_finished : v.fault ≡ None → AreAllFinished platforms → HasGone plan rows most began now platforms None
     ended_finished none done =
-        ended (inl (all_finished plan rows a.together platforms a.there done)) None (λ i w there. (none_has none i w there, finished_here plan rows a.together platforms a.there done i w there)) (λ e. all_finished plan rows a.together platforms a.there done)
-
-    fine : v.fault ≡ None → a.made.fault ≡ false
-    fine none = a.fault v at ∙ ap is_fault none
+        ended (inl (all_finished plan rows a.together platforms a.there done)) None (λ i w there. (none_has none i w there, finished_here plan rows a.together platforms a.there done i w there)) (fine none) (λ e. all_finished plan rows a.together platforms a.there done)
 
     on_time : v.fault ≡ None → a.made.late ≡ false
     on_time none = ⊎_elim (λ (e : a.made.late ≡ true). absurd (false≢true (sym (fine none) ∙ a.visit.faults.0 (inl e)))) (λ (e : a.made.late ≡ false). e) (cases_Bool a.made.late)

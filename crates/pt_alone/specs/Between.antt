@@ -10,6 +10,7 @@ use Rattle.pt_semantics.specs.Visits.{IsVisit, Made, Together}
 use Rattle.pt_causality.specs.Ranked.{level_of}
 use Rattle.pt_offsets.specs.Plans.{IsAdmitted, Parts}
 use Rattle.pt_turn.specs.Platforms.{PlatformView}
+use Rattle.pt_turn.specs.Turned.{is_late}
 use Rattle.pt_fixed_order.specs.Going.{AreTaken, Goes, with_reading}
 use Rattle.pt_fixed_order.specs.Sound.{Sound}
 use Rattle.pt_together.specs.Shown.{AreShown, AreThere, is_fault}
@@ -61,5 +62,5 @@ pub record AfterVisit (plan : Parts) (rows : ℕ → List Row) (most j : ℕ) (b
   pub shown : made.late ≡ false → AreShown plan rows together platforms pipes results
   pub none_past : (i : ℕ) → length plan.graph.platforms ≤ i → readings i ≡ []
   pub clocks : AreRead began now platforms (with_reading readings j reading)
-  pub fault : (v : PlatformView) → slice_get platforms j ≡ Some v → made.fault ≡ is_fault v.fault
+  pub fault : (v : PlatformView) → slice_get platforms j ≡ Some v → (made.fault ≡ is_fault v.fault) × (made.late ≡ is_late v.fault)
   pub others : (i : ℕ) (v : PlatformView) → i ≢ j → slice_get platforms i ≡ Some v → v.fault ≡ None

@@ -1,5 +1,5 @@
 -- Platforms after a run in fixed order.
-use Rattle.std.specs.Prelude.{◌≡◌, ◌<◌, ℕ, List, Option, None, Some, length, slice_get}
+use Rattle.std.specs.Prelude.{◌≡◌, ◌<◌, ◌∷◌, [], ℕ, List, Option, None, Some, false, true, length, slice_get}
 use Rattle.pt_io.specs.Told.{AreAsAhead, ClockView, HandedOut}
 use Rattle.pt_types.specs.declared.graph.Graph.{Graph}
 use Rattle.pt_types.specs.declared.rows.Row.{Row}
@@ -8,11 +8,13 @@ use Rattle.pt_semantics.specs.History.{IsLegal}
 use Rattle.pt_semantics.specs.Linked.{AreLinked, AreMatched, IsFinished}
 use Rattle.pt_semantics.specs.Readings.{IsReadBy}
 use Rattle.pt_semantics.specs.Rows.{FitRows}
+use Rattle.pt_semantics.specs.Visits.{Made}
 use Rattle.pt_causality.specs.Ranked.{level_of}
 use Rattle.pt_offsets.specs.Plans.{IsAdmitted, Parts}
 use Rattle.pt_turn.specs.declared.fault.TurnFault.{TurnFault}
 use Rattle.pt_turn.specs.Platforms.{PlatformView, state_at}
 use Rattle.pt_turn.specs.Running.{Shows}
+use Rattle.pt_turn.specs.Turned.{is_late}
 use Rattle.pt_turn.specs.All.{AreAll, histories_of}
 
 -- with no fault, no platform has one and all are finished; otherwise this platform has this fault, its turns show it, and no
@@ -21,9 +23,9 @@ abbrev pub EndsAt : Graph → List PlatformView → Option (ℕ × TurnFault) �
 EndsAt g platforms None = (i : ℕ) (v : PlatformView) → slice_get platforms i ≡ Some v → (v.fault ≡ None) × IsFinished g i (state_at v)
 EndsAt g platforms (Some f) = (v : PlatformView) × (slice_get platforms f.0 ≡ Some v) × (v.fault ≡ Some f.1) × Shows g v.turns (state_at v) f.1 × ((j : ℕ) (w : PlatformView) → j < f.0 → slice_get platforms j ≡ Some w → w.fault ≡ None)
 
--- all platforms of a plan after a run over these rows, in fixed order: each is visited in its turn, at the next reading of its
--- own clock, and claims at most `most` units a visit. The clocks were `began` before the run and are `now` after it
-pub record HasGone (plan : Parts) (rows : ℕ → List Row) (most : ℕ) (began now : List ClockView) (platforms : List PlatformView) (fault : Option (ℕ × TurnFault)) : Type 0 where
+-- all platforms of a plan after a run over these rows, each by its own clock, whatever the order of the visits. The clocks were
+-- `began` before the run and are `now` after it
+pub record HaveGone (plan : Parts) (rows : ℕ → List Row) (began now : List ClockView) (platforms : List PlatformView) (fault : Option (ℕ × TurnFault)) : Type 0 where
   pub admitted : IsAdmitted plan
   pub fit : FitRows plan.graph rows
   pub all : AreAll plan rows platforms
@@ -33,8 +35,22 @@ pub record HasGone (plan : Parts) (rows : ℕ → List Row) (most : ℕ) (began 
   pub readings : ℕ → List ℕ
   pub handed : (i : ℕ) (b n : ClockView) → slice_get began i ≡ Some b → slice_get now i ≡ Some n → HandedOut b.told n.told (readings i) × AreAsAhead b.ahead b.told n.told (readings i)
   pub read : (i : ℕ) (v : PlatformView) → slice_get platforms i ≡ Some v → IsReadBy v.turns (readings i)
-  pub in_turn : AreInTurn plan.graph (level_of plan.ranks) rows readings most (histories_of platforms)
   pub legal : (i : ℕ) (v : PlatformView) → slice_get platforms i ≡ Some v → IsLegal plan.graph (level_of plan.ranks) i rows v.turns (state_at v)
   pub matched : AreMatched plan.graph (histories_of platforms)
   pub linked : fault ≡ None → AreLinked plan.graph (histories_of platforms)
   pub ends : EndsAt plan.graph platforms fault
+
+-- after the last of these visits there is no fault; or the visited platform has this one, and if it is that of a late message,
+-- the visit took the message
+abbrev pub LastVisitEnds : List Made → Option (ℕ × TurnFault) → Type 0
+LastVisitEnds [] fault = ⊥
+LastVisitEnds (m ∷ []) None = m.fault ≡ false
+LastVisitEnds (m ∷ []) (Some f) = (m.platform ≡ f.0) × (m.fault ≡ true) × (m.late ≡ is_late (Some f.1))
+LastVisitEnds (m ∷ n ∷ ms) fault = LastVisitEnds (n ∷ ms) fault
+
+-- the same after a run in fixed order: each platform is visited in its turn, at the next reading of its clock, and claims at
+-- most `most` units a visit. The platform with the fault is the one visited last
+pub record HasGone (plan : Parts) (rows : ℕ → List Row) (most : ℕ) (began now : List ClockView) (platforms : List PlatformView) (fault : Option (ℕ × TurnFault)) : Type 0 where
+  pub gone : HaveGone plan rows began now platforms fault
+  pub in_turn : AreInTurn plan.graph (level_of plan.ranks) rows gone.readings most (histories_of platforms)
+  pub last : LastVisitEnds in_turn.made fault

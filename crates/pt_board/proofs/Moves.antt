@@ -342,56 +342,42 @@ module _ (g : Graph) where
   hand_fits o keeper number task phase owner busy id k =
       alone keeper number task phase owner busy id false (part k (hand_first o)) (λ q. true≢false (sym q)) (λ m u e. absurd (some_none (m, u) (sym (ap (λ (p : Part). p.mine) (hand_part o k)) ∙ e)))
 
+  -- the rule with other views, each that of a seat as before or of a new hand
+  with_hand : (s : State Item View) (views : List View) (o : Option Graph) → BoardRule g s → ((h : Graph) → o ≡ Some h → h ≡ g) → ((i : ℕ) (u : View) → get_elem? views i ≡ some u → (get_elem? s.views i ≡ some u) ⊎ (hand_first o ≡ u)) → BoardRule g (record s { views = views })
+  with_hand s views o K graph pick = record {
+    keeper = K.keeper;
+    words = K.words;
+    homes = K.homes;
+    wide = λ i u e. ⊎_elim (λ (x : get_elem? s.views i ≡ some u). K.wide i u x) (λ (x : hand_first o ≡ u). ap (λ (y : View). length y.parts) (sym x)) (pick i u e);
+    graphs = λ i u h e is. ⊎_elim (λ (x : get_elem? s.views i ≡ some u). K.graphs i u h x is) (λ (x : hand_first o ≡ u). graph h (ap (λ (y : View). y.graph) x ∙ is)) (pick i u e);
+    slots = λ k low. let S = K.slots k low in record {
+      number = S.number;
+      task = S.task;
+      phase = S.phase;
+      owner = S.owner;
+      busy = S.busy;
+      word_is = S.word_is;
+      small = S.small;
+      ready = S.ready;
+      content = S.content;
+      fits = λ i u e. ⊎_elim (λ (x : get_elem? s.views i ≡ some u). S.fits i u x)
+          (λ (x : hand_first o ≡ u). subst (λ (y : View). Fits K.keeper S.number S.task S.phase S.owner S.busy i y.is_keeper (part k y)) x (hand_fits o K.keeper S.number S.task S.phase S.owner S.busy i k)) (pick i u e);
+    };
+  }
+
+  -- a view that is put back
+  put_back : (views : List View) (id : ℕ) (v : View) → get_elem? views id ≡ some v → (i : ℕ) (u : View) → get_elem? (set views id v) i ≡ some u → get_elem? views i ≡ some u
+  put_back views id v at i u x = ⊎_elim (λ (y : (i ≡ id) × (v ≡ u)). ap (λ (j : ℕ). get_elem? views j) y.0 ∙ at ∙ ap some y.1) (λ (y : (i ≢ id) × (get_elem? views i ≡ some u)). y.1) (at_set views id i v u x)
+
   pub forks : (id : ℕ) (v : View) → Splits (BoardRule g) id v v (hand_first v.graph)
   forks id v s K at =
-      let pick : (i : ℕ) (u : View) → get_elem? (set s.views id v ++ (hand_first v.graph) ∷ []) i ≡ some u → (get_elem? s.views i ≡ some u) ⊎ ((hand_first v.graph) ≡ u) =
-      λ i u e. ⊎_elim (λ (x : get_elem? (set s.views id v) i ≡ some u). ⊎_elim (λ (y : (i ≡ id) × (v ≡ u)). inl (ap (λ (j : ℕ). get_elem? s.views j) y.0 ∙ at ∙ ap some y.1)) (λ (y : (i ≢ id) × (get_elem? s.views i ≡ some u)). inl y.1) (at_set s.views id i v u x))
-      (λ (x : (hand_first v.graph) ≡ u). inr x) (at_snoc (set s.views id v) (hand_first v.graph) u i e) in record {
-        keeper = K.keeper;
-        words = K.words;
-        homes = K.homes;
-        wide = λ i u e. ⊎_elim (λ (x : get_elem? s.views i ≡ some u). K.wide i u x) (λ (x : (hand_first v.graph) ≡ u). ap (λ (y : View). length y.parts) (sym x)) (pick i u e);
-        graphs = λ i u h e o. ⊎_elim (λ (x : get_elem? s.views i ≡ some u). K.graphs i u h x o) (λ (x : (hand_first v.graph) ≡ u). K.graphs id v h at (ap (λ (y : View). y.graph) x ∙ o)) (pick i u e);
-        slots = λ k low. let S = K.slots k low in record {
-          number = S.number;
-          task = S.task;
-          phase = S.phase;
-          owner = S.owner;
-          busy = S.busy;
-          word_is = S.word_is;
-          small = S.small;
-          ready = S.ready;
-          content = S.content;
-          fits = λ i u e. ⊎_elim (λ (x : get_elem? s.views i ≡ some u). S.fits i u x)
-              (λ (x : (hand_first v.graph) ≡ u). subst (λ (y : View). Fits K.keeper S.number S.task S.phase S.owner S.busy i y.is_keeper (part k y)) x (hand_fits v.graph K.keeper S.number S.task S.phase S.owner S.busy i k)) (pick i u e);
-        };
-      }
+      with_hand s (set s.views id v ++ hand_first v.graph ∷ []) v.graph K (λ h e. K.graphs id v h at e)
+      (λ i u e. ⊎_elim (λ (x : get_elem? (set s.views id v) i ≡ some u). inl (put_back s.views id v at i u x)) (λ (x : hand_first v.graph ≡ u). inr x) (at_snoc (set s.views id v) (hand_first v.graph) u i e))
 
   pub merges : (id : ℕ) (v : View) (other : ℕ) (w : View) → Joins (BoardRule g) id v other w v (hand_first None)
   merges id v other w s K at ne at' =
-      let pick : (i : ℕ) (u : View) → get_elem? (set (set s.views id v) other (hand_first None)) i ≡ some u → (get_elem? s.views i ≡ some u) ⊎ ((hand_first None) ≡ u) =
-      λ i u e. ⊎_elim (λ (y : (i ≡ other) × ((hand_first None) ≡ u)). inr y.1)
-      (λ (x : (i ≢ other) × (get_elem? (set s.views id v) i ≡ some u)). ⊎_elim (λ (y : (i ≡ id) × (v ≡ u)). inl (ap (λ (j : ℕ). get_elem? s.views j) y.0 ∙ at ∙ ap some y.1)) (λ (y : (i ≢ id) × (get_elem? s.views i ≡ some u)). inl y.1) (at_set s.views id i v u x.1))
-      (at_set (set s.views id v) other i (hand_first None) u e) in record {
-        keeper = K.keeper;
-        words = K.words;
-        homes = K.homes;
-        wide = λ i u e. ⊎_elim (λ (x : get_elem? s.views i ≡ some u). K.wide i u x) (λ (x : (hand_first None) ≡ u). ap (λ (y : View). length y.parts) (sym x)) (pick i u e);
-        graphs = λ i u h e o. ⊎_elim (λ (x : get_elem? s.views i ≡ some u). K.graphs i u h x o) (λ (x : (hand_first None) ≡ u). absurd (some_none h (ap (λ (y : View). y.graph) x ∙ o))) (pick i u e);
-        slots = λ k low. let S = K.slots k low in record {
-          number = S.number;
-          task = S.task;
-          phase = S.phase;
-          owner = S.owner;
-          busy = S.busy;
-          word_is = S.word_is;
-          small = S.small;
-          ready = S.ready;
-          content = S.content;
-          fits = λ i u e. ⊎_elim (λ (x : get_elem? s.views i ≡ some u). S.fits i u x)
-              (λ (x : (hand_first None) ≡ u). subst (λ (y : View). Fits K.keeper S.number S.task S.phase S.owner S.busy i y.is_keeper (part k y)) x (hand_fits None K.keeper S.number S.task S.phase S.owner S.busy i k)) (pick i u e);
-        };
-      }
+      with_hand s (set (set s.views id v) other (hand_first None)) None K (λ h e. absurd (some_none h e))
+      (λ i u e. ⊎_elim (λ (y : (i ≡ other) × (hand_first None ≡ u)). inr y.1) (λ (x : (i ≢ other) × (get_elem? (set s.views id v) i ≡ some u)). inl (put_back s.views id v at i u x.1)) (at_set (set s.views id v) other i (hand_first None) u e))
 
   home_there : (n k : ℕ) → k < n → get_elem? (map some (replicate n Nothing)) k ≡ some (some Nothing)
   home_there zero k low = absurd (omega arith)

@@ -56,23 +56,19 @@ reads clocks i r later j s at = ⊎_elim
     })
     (cases_same j i)
 
+-- the same, if that reading is the only one
+reads_one : (clocks : ℕ → List ℕ) (i j r : ℕ) → j ≡ i → ((k : ℕ) → clocks k ≡ []) → (with_reading clocks j r i ≡ r ∷ []) × ((k : ℕ) → put_clock (with_reading clocks j r) i [] k ≡ [])
+reads_one clocks i j r here none = (
+  subst (λ n. with_reading clocks n r i ≡ r ∷ []) (sym here) (put_same clocks i (clocks i ++ r ∷ []) ∙ ap (λ l. l ++ r ∷ []) (none i)),
+  λ k. subst (λ n. put_clock (with_reading clocks n r) i [] k ≡ []) (sym here)
+      (ap (λ f. f k) (put_twice clocks i (clocks i ++ r ∷ []) []) ∙ ⊎_elim (λ (e : k ≡ i). ap (put_clock clocks i []) e ∙ put_same clocks i []) (λ (ne : k ≢ i). put_other clocks i k [] ne ∙ none k) (cases_same k i)),
+)
+
 module _ (g : Graph) (level : ℕ → ℕ) (most : ℕ) where
   go_on : (i j r : ℕ) (clocks : ℕ → List ℕ) (x y z : Together) (ms : List Made) (m : Made) → Going g level most i clocks x ms j y → m.platform ≡ j → IsVisit g level most (λ l. 64) r y m z → (IsOver g m z → ⊥) → Going g level most i (with_reading clocks j r) x (ms ++ m ∷ []) (platform_after g j) z
-  go_on i j r clocks x y z [] m (here, same, none) at is going = (
-    r,
-    [],
-    z,
-    at ∙ here,
-    subst (λ n. with_reading clocks n r i ≡ r ∷ []) (sym here) (put_same clocks i (clocks i ++ r ∷ []) ∙ ap (λ l. l ++ r ∷ []) (none i)),
-    subst (λ s. IsVisit g level most (λ l. 64) r s m z) same is,
-    going,
-    (
-      ap (platform_after g) here,
-      refl,
-      λ k. subst (λ n. put_clock (with_reading clocks n r) i [] k ≡ []) (sym here)
-          (ap (λ f. f k) (put_twice clocks i (clocks i ++ r ∷ []) []) ∙ ⊎_elim (λ (e : k ≡ i). ap (put_clock clocks i []) e ∙ put_same clocks i []) (λ (ne : k ≢ i). put_other clocks i k [] ne ∙ none k) (cases_same k i)),
-    ),
-  )
+  go_on i j r clocks x y z [] m (here, same, none) at is going =
+      let one = reads_one clocks i j r here none in
+      (r, [], z, at ∙ here, one.0, subst (λ s. IsVisit g level most (λ l. 64) r s m z) same is, going, (ap (platform_after g) here, refl, one.1))
   go_on i j r clocks x y z (p ∷ ms) m (s, later, mid, first, given, visit, on, rest) at is going =
       let w = reads clocks i s later j r given in (
         s,
@@ -85,18 +81,20 @@ module _ (g : Graph) (level : ℕ → ℕ) (most : ℕ) where
         subst (λ f. Going g level most (platform_after g i) f mid (ms ++ m ∷ []) (platform_after g j) z) (sym w.same) (go_on (platform_after g i) j r (put_clock clocks i later) mid y z ms m rest at is going),
       )
 
+  -- a visit before others
+  begins : (i : ℕ) (clocks : ℕ → List ℕ) (x z : Together) (p m : Made) (ms : List Made) →
+      (r : ℕ) × (later : List ℕ) × (mid : Together) × (p.platform ≡ i) × (clocks i ≡ r ∷ later) × IsVisit g level most (λ l. 64) r x p mid × (IsOver g p mid → ⊥) × Visits g level most (platform_after g i) (put_clock clocks i later) mid (ms ++ m ∷ []) z →
+      Visits g level most i clocks x (p ∷ ms ++ m ∷ []) z
+  begins i clocks x z p m [] h = h
+  begins i clocks x z p m (q ∷ ms) h = h
+
   ends : (i j r : ℕ) (clocks : ℕ → List ℕ) (x y z : Together) (ms : List Made) (m : Made) → Going g level most i clocks x ms j y → m.platform ≡ j → IsVisit g level most (λ l. 64) r y m z → IsOver g m z → Visits g level most i (with_reading clocks j r) x (ms ++ m ∷ []) z
-  ends i j r clocks x y z [] m (here, same, none) at is over = (
-    r,
-    at ∙ here,
-    subst (λ n. with_reading clocks n r i ≡ r ∷ []) (sym here) (put_same clocks i (clocks i ++ r ∷ []) ∙ ap (λ l. l ++ r ∷ []) (none i)),
-    subst (λ s. IsVisit g level most (λ l. 64) r s m z) same is,
-    over,
-    λ k lt. subst (λ n. put_clock (with_reading clocks n r) i [] k ≡ []) (sym here)
-        (ap (λ f. f k) (put_twice clocks i (clocks i ++ r ∷ []) []) ∙ ⊎_elim (λ (e : k ≡ i). ap (put_clock clocks i []) e ∙ put_same clocks i []) (λ (ne : k ≢ i). put_other clocks i k [] ne ∙ none k) (cases_same k i)),
-  )
-  ends i j r clocks x y z (p ∷ []) m (s, later, mid, first, given, visit, on, rest) at is over =
-      let w = reads clocks i s later j r given in (
+  ends i j r clocks x y z [] m (here, same, none) at is over =
+      let one = reads_one clocks i j r here none in
+      (r, at ∙ here, one.0, subst (λ s. IsVisit g level most (λ l. 64) r s m z) same is, over, λ k lt. one.1 k)
+  ends i j r clocks x y z (p ∷ ms) m (s, later, mid, first, given, visit, on, rest) at is over =
+      let w = reads clocks i s later j r given in
+      begins i (with_reading clocks j r) x z p m ms (
         s,
         w.rest,
         mid,
@@ -104,18 +102,7 @@ module _ (g : Graph) (level : ℕ → ℕ) (most : ℕ) where
         w.first,
         visit,
         on,
-        subst (λ f. Visits g level most (platform_after g i) f mid (m ∷ []) z) (sym w.same) (ends (platform_after g i) j r (put_clock clocks i later) mid y z [] m rest at is over),
-      )
-  ends i j r clocks x y z (p ∷ q ∷ ms) m (s, later, mid, first, given, visit, on, rest) at is over =
-      let w = reads clocks i s later j r given in (
-        s,
-        w.rest,
-        mid,
-        first,
-        w.first,
-        visit,
-        on,
-        subst (λ f. Visits g level most (platform_after g i) f mid (q ∷ ms ++ m ∷ []) z) (sym w.same) (ends (platform_after g i) j r (put_clock clocks i later) mid y z (q ∷ ms) m rest at is over),
+        subst (λ f. Visits g level most (platform_after g i) f mid (ms ++ m ∷ []) z) (sym w.same) (ends (platform_after g i) j r (put_clock clocks i later) mid y z ms m rest at is over),
       )
 
 -- one more reading adds one to the raised list
@@ -137,10 +124,13 @@ visits_go_on g level rows most readings j r y z m h at is going = record {
 }
 
 pub visits_end : VisitsEnd
-visits_end g level rows most readings j r y z m h at is over none lt = record {
-  made = h.made ++ m ∷ [];
-  visits = subst (λ f. Visits g level most 0 f (together_at_start g rows) (h.made ++ m ∷ []) z) (raised_with readings j r) (ends g level most 0 j (later_of (greatest_of 0 (readings j)) r) (λ i. raised_list (readings i)) (together_at_start g rows) y z h.made m h.visits at is over);
-}
+visits_end g level rows most readings j r y z m h at is over none lt = (
+  record {
+    made = h.made ++ m ∷ [];
+    visits = subst (λ f. Visits g level most 0 f (together_at_start g rows) (h.made ++ m ∷ []) z) (raised_with readings j r) (ends g level most 0 j (later_of (greatest_of 0 (readings j)) r) (λ i. raised_list (readings i)) (together_at_start g rows) y z h.made m h.visits at is over);
+  },
+  refl,
+)
 
 pub links_are_free : LinksAreFree
 links_are_free g j x homes taken l link at from =

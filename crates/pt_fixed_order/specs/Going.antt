@@ -44,11 +44,11 @@ pub record Went (g : Graph) (level : ℕ → ℕ) (rows : ℕ → List Row) (mos
   pub made : List Made
   pub visits : Visits g level most 0 (λ i. raised_list (readings i)) (together_at_start g rows) made z
 
--- one more visit, which ends the run
+-- one more visit, which ends the run: the visits are those so far and this one
 abbrev pub VisitsEnd : Type 0
 VisitsEnd = (g : Graph) (level : ℕ → ℕ) (rows : ℕ → List Row) (most : ℕ) (readings : ℕ → List ℕ) (j r : ℕ) (y z : Together) (m : Made) →
-    Goes g level rows most readings j y → m.platform ≡ j → IsVisit g level most (λ l. 64) (later_of (greatest_of 0 (readings j)) r) y m z → IsOver g m z →
-    ((k : ℕ) → length g.platforms ≤ k → readings k ≡ []) → j < length g.platforms → Went g level rows most (with_reading readings j r) z
+    (so_far : Goes g level rows most readings j y) → m.platform ≡ j → IsVisit g level most (λ l. 64) (later_of (greatest_of 0 (readings j)) r) y m z → IsOver g m z →
+    ((k : ℕ) → length g.platforms ≤ k → readings k ≡ []) → j < length g.platforms → (went : Went g level rows most (with_reading readings j r) z) × (went.made ≡ so_far.made ++ m ∷ [])
 
 -- before the visit of platform j nothing that it sent is on the way
 abbrev pub LinksAreFree : Type 0

@@ -15,4 +15,6 @@ pub mod Finished
 pub mod Missed
 pub mod WentPaced
 pub mod OwnClocks
+pub mod OneStop
 pub mod StepsAgreeing
+pub mod CallsAgreeing

@@ -67,7 +67,7 @@ went_by_steps workers start step plan rows began now platforms fault are gone = 
         let both = gone.gone.handed i (step_clock start step) n (ap (λ xs. slice_get xs i) are ∙ in_replicate (length platforms) (step_clock start step) i lt) there in
         as_steps start step n.told (gone.gone.readings i) both.0 both.1 few;
     read = gone.gone.read;
-    in_turn = gone.in_turn;
+    in_turn = record { visits = gone.in_turn; last = gone.last };
   };
   paced = λ e. absurd cc;
 }
@@ -100,7 +100,7 @@ went_by_clocks workers plan rows own read others before after platforms fault ow
 pub one_worker : {C F : Type 0} (told : C → Option (List ℕ)) (ahead : C → Option (ℕ → ℕ)) (workers : ℕ) (result : Result (Ended C) F) (opened : List PlatformView) (clocks : List C) →
     IfOk result (λ e. (plan : Parts) (rows : ℕ → List Row) → AreReady plan rows opened → HasGone plan rows 8 (tell told ahead clocks) (tell told ahead e.clocks.items) e.platforms.items e.fault) →
     IfOk result (λ e. (plan : Parts) (rows : ℕ → List Row) → AreReady plan rows opened → GoneBy workers plan rows (tell told ahead clocks) (tell told ahead e.clocks.items) e.platforms.items e.fault)
-one_worker told ahead workers (Ok e) opened clocks h = λ plan rows ready. record { gone = (h plan rows ready).gone; in_turn = λ one. (h plan rows ready).in_turn }
+one_worker told ahead workers (Ok e) opened clocks h = λ plan rows ready. record { gone = (h plan rows ready).gone; in_turn = λ one. record { visits = (h plan rows ready).in_turn; last = (h plan rows ready).last } }
 one_worker told ahead workers (Err f) opened clocks h = tt
 
 -- as many clocks as views

@@ -51,7 +51,7 @@ stop_of _ = None
 -- shows (`IsKept`); they went by the readings of the run's clock (`ReadBy`)
 pub record LeavesRun (c : Clocking) (log : Bool) (outcome : Option Fault) (left : Leaves) (w : Writing) (plan : Parts) (rows : ℕ → List Row) : Type 0 where
   pub kept : IsKept plan rows left.platforms (stop_of outcome)
-  pub readings : ReadBy c plan rows left.platforms
+  pub readings : ReadBy c plan rows left.platforms (stop_of outcome)
   -- all was written, and the misses are those of the recorded turns; or a write failed after a prefix
   pub written : outcome ≡ None → PutsMeaning plan rows log left.platforms (Appends w.written_before w.written_now)
   pub misses : outcome ≡ None → left.misses ≡ flat_map missed_by left.platforms

@@ -14,6 +14,7 @@ pub mod Headline
 pub mod CauseTable
 pub mod Exact
 pub mod RunsAgreeing
+pub mod CallsAgreeing
 pub mod Runs
 pub mod Readings
 pub mod Went

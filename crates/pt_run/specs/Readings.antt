@@ -10,8 +10,10 @@ use Rattle.pt_semantics.specs.Readings.{IsReadBy}
 use Rattle.pt_schedule.specs.Schedule.{IsOnSchedule}
 use Rattle.pt_causality.specs.Ranked.{level_of}
 use Rattle.pt_offsets.specs.Plans.{Parts}
+use Rattle.pt_turn.specs.declared.fault.TurnFault.{TurnFault}
 use Rattle.pt_turn.specs.Platforms.{PlatformView, state_at}
 use Rattle.pt_turn.specs.All.{histories_of}
+use Rattle.pt_alone.specs.HasGone.{LastVisitEnds}
 use Rattle.pt_rounds.specs.HaveRun.{IsAfter}
 use Rattle.pt_words.specs.declared.orders.ClockChoice.{ClockChoice}
 use Rattle.pt_words.specs.declared.orders.ClockChoice.TheVariants.{Machine, Paced, Step}
@@ -44,17 +46,18 @@ pub record ReadPaced (plan : Parts) (rows : ℕ → List Row) (platforms : List 
   pub none_late : EachOf platforms (λ i v. LegalOnTime plan.graph (level_of plan.ranks) i (opened plan.graph i rows) v.turns (state_at v))
 
 -- the platforms are visited in turn, again and again, each at the next of its readings, and at each visit a platform claims 8
--- units at most
-abbrev pub AreVisitedInTurn : Parts → (ℕ → List Row) → List PlatformView → (ℕ → List ℕ) → Type 0
-AreVisitedInTurn plan rows platforms readings = AreInTurn plan.graph (level_of plan.ranks) rows readings 8 (histories_of platforms)
+-- units at most. The platform that stopped the run is the one visited last
+pub record AreVisitedInTurn (plan : Parts) (rows : ℕ → List Row) (platforms : List PlatformView) (fault : Option (ℕ × TurnFault)) (readings : ℕ → List ℕ) : Type 0 where
+  pub visits : AreInTurn plan.graph (level_of plan.ranks) rows readings 8 (histories_of platforms)
+  pub last : LastVisitEnds visits.made fault
 
 -- a clock of steps: each history is read by START, START + STEP and so on (up to 2 ^ 64 - 1), as long as these are fewer than
 -- 2 ^ 64 readings
-pub record ReadBySteps (start step : ℕ) (plan : Parts) (rows : ℕ → List Row) (platforms : List PlatformView) : Type 0 where
+pub record ReadBySteps (start step : ℕ) (plan : Parts) (rows : ℕ → List Row) (platforms : List PlatformView) (fault : Option (ℕ × TurnFault)) : Type 0 where
   pub readings : ℕ → List ℕ
   pub steps : EachOf platforms (λ i v. length (readings i) < 2 ^ 64 → readings i ≡ first_readings (step_reading start step) (length (readings i)))
   pub read : EachOf platforms (λ i v. IsReadBy v.turns (readings i))
-  pub in_turn : AreVisitedInTurn plan rows platforms readings
+  pub in_turn : AreVisitedInTurn plan rows platforms fault readings
 
 -- a clock handed out these readings, as far as it shows what it handed out, and they are those fixed ahead, if any are
 abbrev pub HandsOut : Option ClockView → Option ClockView → List ℕ → Type 0
@@ -63,19 +66,19 @@ HandsOut _ _ readings = ⊥
 
 -- clocks handed in: each history is read by what the clock of its platform handed out, if there is one worker, the platforms are
 -- visited in turn, and the clocks left over are as before
-pub record ReadByClocks (workers : ℕ) (before now : List ClockView) (plan : Parts) (rows : ℕ → List Row) (platforms : List PlatformView) : Type 0 where
+pub record ReadByClocks (workers : ℕ) (before now : List ClockView) (plan : Parts) (rows : ℕ → List Row) (platforms : List PlatformView) (fault : Option (ℕ × TurnFault)) : Type 0 where
   pub readings : ℕ → List ℕ
   pub handed : EachOf platforms (λ i v. HandsOut (slice_get before i) (slice_get now i) (readings i))
   pub read : EachOf platforms (λ i v. IsReadBy v.turns (readings i))
-  pub in_turn : workers ≡ 1 → AreVisitedInTurn plan rows platforms readings
+  pub in_turn : workers ≡ 1 → AreVisitedInTurn plan rows platforms fault readings
   pub others : (i : ℕ) → length platforms ≤ i → slice_get now i ≡ slice_get before i
 
--- the readings that the platforms of a run went by, for each choice of a clock
-abbrev pub ReadAs : ClockChoice → Clocking → Parts → (ℕ → List Row) → List PlatformView → Type 0
-ReadAs Paced c plan rows platforms = ReadPaced plan rows platforms
-ReadAs (Step start step) c plan rows platforms = ReadBySteps start step plan rows platforms
-ReadAs Machine c plan rows platforms = ReadByClocks c.workers c.before c.now plan rows platforms
+-- the readings that the platforms of a run went by until it ended or this platform stopped it, for each choice of a clock
+abbrev pub ReadAs : ClockChoice → Clocking → Parts → (ℕ → List Row) → List PlatformView → Option (ℕ × TurnFault) → Type 0
+ReadAs Paced c plan rows platforms fault = ReadPaced plan rows platforms
+ReadAs (Step start step) c plan rows platforms fault = ReadBySteps start step plan rows platforms fault
+ReadAs Machine c plan rows platforms fault = ReadByClocks c.workers c.before c.now plan rows platforms fault
 
 -- and for the clock that was chosen
-abbrev pub ReadBy : Clocking → Parts → (ℕ → List Row) → List PlatformView → Type 0
-ReadBy c plan rows platforms = ReadAs c.choice c plan rows platforms
+abbrev pub ReadBy : Clocking → Parts → (ℕ → List Row) → List PlatformView → Option (ℕ × TurnFault) → Type 0
+ReadBy c plan rows platforms fault = ReadAs c.choice c plan rows platforms fault

@@ -68,7 +68,7 @@ read_with workers clock before now = record { choice = clock; workers = workers;
 -- the platforms of a plan after a run over these rows by its clock
 pub record WentBy (c : Clocking) (plan : Parts) (rows : ℕ → List Row) (platforms : List PlatformView) (fault : Option (ℕ × TurnFault)) : Type 0 where
   pub kept : IsKept plan rows platforms fault
-  pub readings : ReadBy c plan rows platforms
+  pub readings : ReadBy c plan rows platforms fault
   pub paced : c.choice ≡ Paced → RunsPaced plan rows platforms fault
 
 -- a fact of an admitted plan and of the rows of its sensors' files up to its horizon, none of which is late

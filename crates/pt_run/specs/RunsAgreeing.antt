@@ -33,10 +33,10 @@ abbrev pub AreFewReadings : List PlatformView → Type 0
 AreFewReadings platforms = EachOf platforms (λ i v. count_readings v.turns < 2 ^ 64)
 
 -- runs by clocks of the same steps, if no platform goes by 2 ^ 64 readings or more, leave the same histories, a late message
--- included; and if both finish, they write the same
+-- included, and both finish or both stop at the same platform with the same fault; and if both finish, they write the same
 -- text, the log included, and have the same misses
 abbrev pub StepRunsAgree : Type 0
 StepRunsAgree = (tells : Contents) (start step : ℕ) (c d : Clocking) (plan other : Parts) (platforms others : List PlatformView) → c.choice ≡ Step start step → d.choice ≡ Step start step → plan.graph ≡ other.graph → TellsSensors tells plan.graph →
     AreFewReadings platforms → AreFewReadings others →
-    ((fault stop : Option (ℕ × TurnFault)) → HasRun tells c plan platforms fault → HasRun tells d other others stop → (i : ℕ) → histories_of platforms i ≡ histories_of others i)
+    ((fault stop : Option (ℕ × TurnFault)) → HasRun tells c plan platforms fault → HasRun tells d other others stop → ((i : ℕ) → histories_of platforms i ≡ histories_of others i) × (fault ≡ stop))
     × ((log : Bool) (misses missed : List Miss) (text written : List ℕ) → IsFinishedRun tells c plan log platforms misses text → IsFinishedRun tells d other log others missed written → (text ≡ written) × (misses ≡ missed))

@@ -18,4 +18,4 @@ IsFaultAt platforms (Some number) fault =
 -- the platforms after a run by clocks, one for each platform: if there is one worker, they were visited in turn
 pub record GoneBy (workers : ℕ) (plan : Parts) (rows : ℕ → List Row) (began now : List ClockView) (platforms : List PlatformView) (fault : Option (ℕ × TurnFault)) : Type 0 where
   pub gone : HaveGone plan rows began now platforms fault
-  pub in_turn : workers ≡ 1 → AreVisitedInTurn plan rows platforms gone.readings
+  pub in_turn : workers ≡ 1 → AreVisitedInTurn plan rows platforms fault gone.readings

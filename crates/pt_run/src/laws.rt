@@ -1,8 +1,16 @@
-//! A theorem about runs.
+//! Theorems about calls of `run`.
 
 ghost use Rattle.pt_run.specs.Agreeing.{RunsAgree};
+ghost use Rattle.pt_run.specs.CallsAgreeing.{CallsAgree};
 
 /// What a paced run must write and what it leaves is a function of the graph file and the files of its sensors.
 pub fn runs_agree()
     ensures { RunsAgree }
+{}
+
+/// The status of a call of `run` by the paced clock or by a clock of steps, what it writes and what it leaves are a function of
+/// the graph file and the files of its sensors, unless memory runs out, a read or write fails, or a platform goes by 2^64
+/// readings or more from a clock of steps.
+pub fn calls_agree()
+    ensures { CallsAgree }
 {}

@@ -12,8 +12,8 @@ pub fn finished_runs_agree()
     ensures { FinishedRunsAgree }
 {}
 
-/// The histories of a run by clocks of steps, and its text and misses if it finishes, are a function of the graph, the files
-/// of its sensors and the steps, if no platform goes by 2^64 readings or more.
+/// The histories of a run by clocks of steps, the fault that stops it, and its text and misses if it finishes, are a function of
+/// the graph, the files of its sensors and the steps, if no platform goes by 2^64 readings or more.
 pub fn step_runs_agree()
     ensures { StepRunsAgree }
 {}

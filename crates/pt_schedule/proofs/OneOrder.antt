@@ -74,12 +74,13 @@ module _ (g : Graph) (level : ℕ → ℕ) (most : ℕ) where
   next_of : (i r q : ℕ) (later after : List ℕ) (clocks others : ℕ → List ℕ) → clocks i ≡ r ∷ later → others i ≡ q ∷ after → i < length g.platforms → AreAlike g clocks others → AreOfOneClock (r ∷ later) (q ∷ after)
   next_of i r q later after clocks others a b lt are = both (clocks i) (others i) (r ∷ later) (q ∷ after) a b (are i lt)
 
-  visits_one : (ms ns : List Made) (i : ℕ) (clocks others : ℕ → List ℕ) (x y z : Together) → i < length g.platforms → AreAlike g clocks others → Visits g level most i clocks x ms y → Visits g level most i others x ns z → y ≡ z
+  visits_one : (ms ns : List Made) (i : ℕ) (clocks others : ℕ → List ℕ) (x y z : Together) → i < length g.platforms → AreAlike g clocks others → Visits g level most i clocks x ms y → Visits g level most i others x ns z → (ms ≡ ns) × (y ≡ z)
   visits_one [] ns i clocks others x y z lt are h k = absurd h
   visits_one (m ∷ []) [] i clocks others x y z lt are h k = absurd k
   visits_one (m ∷ mm ∷ ms) [] i clocks others x y z lt are h k = absurd k
   visits_one (m ∷ []) (n ∷ []) i clocks others x y z lt are (r, pm, a, visit, over, left) (q, pn, b, visit2, over2, left2) =
-      (visit_one i r q x y z m n (heads r q [] [] (next_of i r q [] [] clocks others a b lt are)) pm pn visit visit2).1
+      let same = visit_one i r q x y z m n (heads r q [] [] (next_of i r q [] [] clocks others a b lt are)) pm pn visit visit2 in
+      (ap (λ w. w ∷ []) same.0, same.1)
   visits_one (m ∷ []) (n ∷ nn ∷ ns) i clocks others x y z lt are (r, pm, a, visit, over, left) (q, after, mid, pn, b, visit2, going, rest) =
       let same = visit_one i r q x y mid m n (heads r q [] after (next_of i r q [] after clocks others a b lt are)) pm pn visit visit2 in
       absurd (going (subst (λ w. IsOver g n w) same.1 (subst (λ w. IsOver g w y) same.0 over)))
@@ -89,11 +90,13 @@ module _ (g : Graph) (level : ℕ → ℕ) (most : ℕ) where
   visits_one (m ∷ mm ∷ ms) (n ∷ nn ∷ ns) i clocks others x y z lt are (r, later, mid, pm, a, visit, going, rest) (q, after, mid2, pn, b, visit2, going2, rest2) =
       let one = next_of i r q later after clocks others a b lt are in
       let same = visit_one i r q x mid mid2 m n (heads r q later after one) pm pn visit visit2 in
+      let more =
       visits_one (mm ∷ ms) (nn ∷ ns) (platform_after g i) (put_clock clocks i later) (put_clock others i after) mid y z (after_within g i lt) (put_of_one g i clocks others later after are (tails r q later after one)) rest
-      (subst (λ w. Visits g level most (platform_after g i) (put_clock others i after) w (nn ∷ ns) z) (sym same.1) rest2)
+      (subst (λ w. Visits g level most (platform_after g i) (put_clock others i after) w (nn ∷ ns) z) (sym same.1) rest2) in
+      (ap₂ (λ w ws. w ∷ ws) same.0 more.0, more.1)
 
 pub fixed_order_is_one : FixedOrderIsOne
 fixed_order_is_one g level rows clocks others most histories recorded are h k i lt =
-    h.kept_are i lt
-    ∙ ap (λ (y : Together). kept (y.did i)) (visits_one g level most h.made k.made 0 (λ j. raised_list (clocks j)) (λ j. raised_list (others j)) (together_at_start g rows) h.end k.end (omega (arith, lt)) (λ j inside. raised_of_one (clocks j) (others j) (are j inside)) h.visits k.visits)
-    ∙ sym (k.kept_are i lt)
+    let one =
+    visits_one g level most h.made k.made 0 (λ j. raised_list (clocks j)) (λ j. raised_list (others j)) (together_at_start g rows) h.end k.end (omega (arith, lt)) (λ j inside. raised_of_one (clocks j) (others j) (are j inside)) h.visits k.visits in
+    (one.0, h.kept_are i lt ∙ ap (λ (y : Together). kept (y.did i)) one.1 ∙ sym (k.kept_are i lt))

@@ -10,10 +10,11 @@ abbrev pub AreOfOneClock : List ℕ → List ℕ → Type 0
 AreOfOneClock readings others = (more : List ℕ) × ((others ≡ readings ++ more) ⊎ (readings ≡ others ++ more))
 
 -- runs in fixed order are one function of the graph, its rows and the readings of the clocks: how far a run goes is part of
--- what it returns, so where two runs go by the same clocks, they record the same histories, a late message included
+-- what it returns, so where two runs go by the same clocks, they make the same visits and record the same histories, a late
+-- message included
 abbrev pub FixedOrderIsOne : Type 0
 FixedOrderIsOne = (g : Graph) (level : ℕ → ℕ) (rows : ℕ → List Row) (clocks others : ℕ → List ℕ) (most : ℕ) (histories recorded : ℕ → List Turn) → ((i : ℕ) → i < length g.platforms → AreOfOneClock (clocks i) (others i)) →
-    AreInTurn g level rows clocks most histories → AreInTurn g level rows others most recorded → (i : ℕ) → i < length g.platforms → histories i ≡ recorded i
+    (run : AreInTurn g level rows clocks most histories) → (other : AreInTurn g level rows others most recorded) → (i : ℕ) → i < length g.platforms → (run.made ≡ other.made) × (histories i ≡ recorded i)
 
 -- the number of readings that a history records
 abbrev pub count_readings : List Turn → ℕ

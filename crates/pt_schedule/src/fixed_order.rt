@@ -2,7 +2,7 @@
 
 ghost use Rattle.pt_schedule.specs.FixedOrderTheorems.{FixedOrderIsOne};
 
-/// The histories of a run in fixed order depend on the graph, its rows and the readings of its clocks alone.
+/// The visits and histories of a run in fixed order depend on the graph, its rows and the readings of its clocks alone.
 pub fn fixed_order_is_one()
     ensures { FixedOrderIsOne }
 {}
