@@ -1,7 +1,7 @@
-mod Lists
+pub mod Lists
 mod Laying
 mod Matching
-mod Returning
+pub mod Returning
 mod Apart
 mod Whole
-mod Numbered
+pub mod Numbered

@@ -28,7 +28,11 @@ HasAt slots w = (s : StationView) × ((d : Option StationView) → slice_index_o
 
 -- each station is finished, without a fault
 abbrev pub AllDone : List StationView → Type 0
-AllDone xs = (i : ℕ) (d : StationView) → i < length xs → IsFinished (slice_index_or xs i d).platform.plan.graph (slice_index_or xs i d).platform.number (state_at (slice_index_or xs i d).platform) × ((slice_index_or xs i d).platform.fault ≡ None) × ((slice_index_or xs i d).marked ≡ false)
+AllDone xs = (i : ℕ) (d : StationView) → i < length xs → IsFinished (slice_index_or xs i d).platform.plan.graph (slice_index_or xs i d).platform.number (state_at (slice_index_or xs i d).platform) × ((slice_index_or xs i d).platform.fault ≡ None)
+
+-- no visit of a station gave up for want of memory
+abbrev pub AreUnmarked : List StationView → Type 0
+AreUnmarked xs = (i : ℕ) (d : StationView) → i < length xs → (slice_index_or xs i d).marked ≡ false
 
 -- the n-th station has a fault, and none before it
 abbrev pub HasFailed : List StationView → ℕ → Type 0

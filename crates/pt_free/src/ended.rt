@@ -1,14 +1,14 @@
 //! A threaded run: the workers visit the stations, and then the caller visits them to the end.
 ghost use Rattle.pt_pool.specs.Station.{graph_of};
-ghost use Rattle.std.specs.Prelude.{◌≡◌, ◌≤◌, Ok, None, length, vec_len, IfOk, IfSome};
-ghost use Rattle.pt_free.specs.Orders.{numbers, count_up, AllDone, HasFailed};
+ghost use Rattle.std.specs.Prelude.{◌≡◌, ◌≤◌, Ok, None, length, vec_len, IfOk, IfSome, OnOk, false};
+ghost use Rattle.pt_free.specs.Orders.{numbers, count_up, AllDone, AreUnmarked, HasFailed};
 ghost use Rattle.pt_free.specs.Surveys.{Surveyed};
 
 use crate::hand::Hand;
 use crate::order::in_order;
 use crate::results::Results;
 use crate::threads::{Gate, run_workers};
-use crate::workers::{MOST, Shared, lock_all, unlock_all};
+use crate::workers::{Shared, lock_all, unlock_all};
 use pt_actors::Tasks;
 use pt_blocks::Blocks;
 use pt_io::Clock;
@@ -36,15 +36,29 @@ pub enum Survey {
     Marked,
 }
 
-fn look_over<J: Run, C: Clock>(stations: &Vec<Station<J, C>>) -> Survey
-    ensures { Surveyed result stations.now.items }
+/// Whether a visit of one of them gave up for want of memory.
+fn any_marked<J: Run, C: Clock>(stations: &Vec<Station<J, C>>) -> bool
+    ensures { result ≡ false → AreUnmarked stations.now.items }
 {
-    let mut over = true;
     for k in 0..stations.len() {
         let station = &stations[k];
         if station.marked() {
-            return Survey::Marked;
+            return true;
         }
+    }
+    false
+}
+
+/// Looks for marks in all stations first, so that a fault is named only where the turns of every platform are known.
+fn look_over<J: Run, C: Clock>(stations: &Vec<Station<J, C>>) -> Survey
+    ensures { Surveyed result stations.now.items }
+{
+    if any_marked(stations) {
+        return Survey::Marked;
+    }
+    let mut over = true;
+    for k in 0..stations.len() {
+        let station = &stations[k];
         let platform = station.platform();
         if platform.fault().is_some() {
             return Survey::Failed(k);
@@ -61,13 +75,15 @@ fn visit_each<J: Run, C: Clock, R: Wait>(
     alloc: Global,
     hand: &Hand<J>,
     blocks: &Blocks,
+    most: usize,
     stations: &mut Vec<Station<J, C>>,
 ) -> Result<(), Memory>
+    requires most { (1 ≤ most) × (most ≤ 32) }
     ensures { (numbers stations.new.items ≡ numbers stations.old.items) × (vec_len stations.new ≡ vec_len stations.old) }
 {
     for k in 0..stations.len() {
         let station = &mut stations[k];
-        visit_one(rt, alloc, hand, blocks, station)?;
+        visit_one(rt, alloc, hand, blocks, most, station)?;
     }
     Ok(())
 }
@@ -97,8 +113,10 @@ fn visit_one<J: Run, C: Clock, R: Wait>(
     alloc: Global,
     hand: &Hand<J>,
     blocks: &Blocks,
+    most: usize,
     station: &mut Station<J, C>,
 ) -> Result<(), Memory>
+    requires most { (1 ≤ most) × (most ≤ 32) }
     ensures { station.new.platform.number ≡ station.old.platform.number }
 {
     let platform = station.platform();
@@ -107,7 +125,7 @@ fn visit_one<J: Run, C: Clock, R: Wait>(
     }
     let done = results_of(alloc, hand, blocks, platform)?;
     let mut tasks = Tasks::new(alloc);
-    let _ = station.visit(rt, alloc, done.as_slice(), MOST, &mut tasks);
+    let _ = station.visit(rt, alloc, done.as_slice(), most, &mut tasks);
     Ok(())
 }
 
@@ -117,18 +135,21 @@ fn finish<J: Run, C: Clock, R: Wait>(
     alloc: Global,
     hand: &Hand<J>,
     blocks: &Blocks,
+    most: usize,
     stations: &mut Vec<Station<J, C>>,
 ) -> Result<Option<usize>, Memory>
+    requires most { (1 ≤ most) × (most ≤ 32) }
     ensures numbers { (numbers stations.new.items ≡ numbers stations.old.items) × (vec_len stations.new ≡ vec_len stations.old) }
     ensures done { result ≡ Ok None → AllDone stations.new.items }
     ensures fault { IfOk result (λ r. IfSome r (HasFailed stations.new.items)) }
+    ensures unmarked { OnOk result (AreUnmarked stations.new.items) }
 {
     'rounds: for _ in rt.forever() {
         match look_over(stations) {
             Survey::Marked => return Err(Memory),
             Survey::Failed(n) => return Ok(Some(n)),
             Survey::Over => return Ok(None),
-            Survey::Going => visit_each(rt, alloc, hand, blocks, stations)?,
+            Survey::Going => visit_each(rt, alloc, hand, blocks, most, stations)?,
         }
     }
     unreachable!()
@@ -148,33 +169,37 @@ fn free_in<
     hand: Hand<J>,
     blocks: &Blocks,
     workers: u32,
+    most: usize,
     gate: &G,
 ) -> Result<Ended<J, C>, Memory>
     requires name { (blank.name ≡ L.name) × (blank.parts ≡ L.parts) × (blank.parts ≡ vec_len stations) }
     requires count { vec_len stations ≡ length (graph_of J.plan).platforms }
     requires order { numbers stations.items ≡ count_up (vec_len stations) }
     requires few { length (graph_of J.plan).platforms ≤ 16 }
+    requires most { (1 ≤ most) × (most ≤ 32) }
     ensures order { IfOk result (λ e. (vec_len e.stations ≡ length (graph_of J.plan).platforms) × (numbers e.stations.items ≡ count_up (length (graph_of J.plan).platforms))) }
     ensures done { IfOk result (λ e. e.fault ≡ None → AllDone e.stations.items) }
     ensures fault { IfOk result (λ e. IfSome e.fault (HasFailed e.stations.items)) }
+    ensures unmarked { IfOk result (λ e. AreUnmarked e.stations.items) }
 {
     let (bays, total, rest) = lock_all::<J, L, C>(alloc, blank, stations)?;
-    let shared = Shared::new(hand, bays);
+    let shared = Shared::new(hand, bays, most);
     run_workers(rt, alloc, &shared, blocks, workers, gate);
     let Shared {
         hand,
         bays,
         signs: _,
+        most: _,
     } = shared;
     let stations = unlock_all(alloc, bays, &total, rest)?;
     let mut stations = in_order(alloc, stations)?;
-    let fault = finish(rt, alloc, &hand, blocks, &mut stations)?;
+    let fault = finish(rt, alloc, &hand, blocks, most, &mut stations)?;
     Ok(Ended { stations, fault })
 }
 
 /// Runs the stations of all platforms of a plan by `workers` threads: each visits the stations one after another, each under
-/// its lock, and fires what a visit claimed. After the workers the caller visits all stations until all are finished or one has
-/// a fault: the first that has one is named.
+/// its lock, and fires what a visit claimed. A platform claims at most `most` units at a visit. After the workers the caller
+/// visits all stations until all are finished or one has a fault: the first that has one is named. Every visit had its memory.
 ///
 /// If the readings of a clock stop rising, the run may go on forever. If memory runs out, the stations are lost.
 pub fn free<J: Run + Send + Sync, C: Clock + Send, G: Gate + Sync, R: Threads + Wait + Sync>(
@@ -184,15 +209,20 @@ pub fn free<J: Run + Send + Sync, C: Clock + Send, G: Gate + Sync, R: Threads + 
     hand: Hand<J>,
     blocks: &Blocks,
     workers: u32,
+    most: usize,
     gate: &G,
 ) -> Result<Ended<J, C>, Memory>
     requires count { vec_len stations ≡ length (graph_of J.plan).platforms }
     requires order { numbers stations.items ≡ count_up (vec_len stations) }
     requires few { length (graph_of J.plan).platforms ≤ 16 }
+    requires most { (1 ≤ most) × (most ≤ 32) }
     ensures order { IfOk result (λ e. (vec_len e.stations ≡ length (graph_of J.plan).platforms) × (numbers e.stations.items ≡ count_up (length (graph_of J.plan).platforms))) }
     ensures done { IfOk result (λ e. e.fault ≡ None → AllDone e.stations.items) }
     ensures fault { IfOk result (λ e. IfSome e.fault (HasFailed e.stations.items)) }
+    ensures unmarked { IfOk result (λ e. AreUnmarked e.stations.items) }
 {
     let blank = Blank::new(stations.len() as u64);
-    free_in::<J, Brand, C, G, R>(rt, alloc, blank, stations, hand, blocks, workers, gate)
+    free_in::<J, Brand, C, G, R>(
+        rt, alloc, blank, stations, hand, blocks, workers, most, gate,
+    )
 }

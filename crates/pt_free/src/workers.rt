@@ -12,14 +12,13 @@ use pt_blocks::Blocks;
 use pt_io::Clock;
 use pt_pool::{Run, Station};
 use pt_tags::Memory;
+use pt_turn::Platform;
 use pt_types::Task;
 use std::alloc::Global;
 use std::sync::atomic::{AtomicU64, Ordering};
 use std::sync::ledger::{Blank, Ledger, Share, Total};
 use std::sync::{Mutex, Wait};
-
-/// How many units a platform claims at most in one visit.
-pub(crate) const MOST: usize = 8;
+use std::thread::yield_now;
 
 /// What a lock guards: a station, the results that wait for its next visit, and one part of the run's ledger.
 #[derive(Drop)]
@@ -34,8 +33,19 @@ pub(crate) struct Bay<J: Run, L: Ledger, C: Clock> {
 /// How a visit went, for the worker.
 enum Went {
     On,
+    /// Nothing happened in its turn.
+    Quiet,
     Finished,
     Failed,
+}
+
+impl Went {
+    fn is_quiet(&self) -> bool {
+        match self {
+            Went::Quiet => true,
+            Went::On | Went::Finished | Went::Failed => false,
+        }
+    }
 }
 
 /// When the workers end. Nothing rests on it.
@@ -52,13 +62,19 @@ impl Signs {
 
     fn note(&self, went: Went) {
         match went {
-            Went::On => {}
+            Went::On | Went::Quiet => {}
             Went::Finished => {
                 self.unfinished.fetch_sub(1, Ordering::SeqCst);
             }
             Went::Failed => self.stop.store(1, Ordering::SeqCst),
         }
     }
+}
+
+/// Whether nothing happened in the last turn of a platform.
+fn was_quiet(platform: &Platform) -> bool {
+    let history = platform.history();
+    history.turns() != 0 && history.was_quiet()
 }
 
 impl<J: Run, L: Ledger, C: Clock> Bay<J, L, C> {
@@ -70,7 +86,7 @@ impl<J: Run, L: Ledger, C: Clock> Bay<J, L, C> {
         most: usize,
         tasks: &mut Tasks,
     ) -> (u32, Went)
-        requires most { (1 ≤ most) × (most ≤ 64) }
+        requires most { (1 ≤ most) × (most ≤ 32) }
     {
         let platform = self.station.platform();
         let number = platform.number();
@@ -85,8 +101,11 @@ impl<J: Run, L: Ledger, C: Clock> Bay<J, L, C> {
         match answer {
             Err(_) => (number, Went::Failed),
             Ok(()) => {
-                if !was && self.station.platform().finished() {
+                let platform = self.station.platform();
+                if !was && platform.finished() {
                     (number, Went::Finished)
+                } else if was_quiet(platform) {
+                    (number, Went::Quiet)
                 } else {
                     (number, Went::On)
                 }
@@ -110,7 +129,7 @@ fn visit_at<J: Run, L: Ledger, C: Clock, R: Wait>(
     most: usize,
     tasks: &mut Tasks,
 ) -> (u32, Went)
-    requires most { (1 ≤ most) × (most ≤ 64) }
+    requires most { (1 ≤ most) × (most ≤ 32) }
 {
     bay.lock(rt).visit(rt, alloc, most, tasks)
 }
@@ -132,22 +151,33 @@ pub(crate) struct Shared<J: Run, L: Ledger, C: Clock> {
     pub(crate) hand: Hand<J>,
     pub(crate) bays: Vec<Mutex<Bay<J, L, C>>>,
     pub(crate) signs: Signs,
+    /// How many units a platform claims at most at a visit.
+    pub(crate) most: usize,
+    ghost some: { 1 ≤ most },
+    ghost few: { most ≤ 32 },
 }
 
 impl<J: Run, L: Ledger, C: Clock> Shared<J, L, C> {
     /// No worker has begun.
-    pub(crate) fn new(hand: Hand<J>, bays: Vec<Mutex<Bay<J, L, C>>>) -> Shared<J, L, C>
+    pub(crate) fn new(hand: Hand<J>, bays: Vec<Mutex<Bay<J, L, C>>>, most: usize) -> Shared<J, L, C>
+        requires most { (1 ≤ most) × (most ≤ 32) }
         ensures { result.bays ≡ bays }
     {
         let signs = Signs {
             unfinished: AtomicU64::new(bays.len() as u64),
             stop: AtomicU64::new(0),
         };
-        Shared { hand, bays, signs }
+        Shared {
+            hand,
+            bays,
+            signs,
+            most,
+        }
     }
 }
 
-/// Visits the stations one after another, and fires what a visit claimed once it has released the lock.
+/// Visits the stations one after another, and fires what a visit claimed once it has released the lock. After a round in which
+/// nothing happened it lets other threads run.
 fn work<J: Run, L: Ledger, C: Clock, G: Gate, R: Wait>(
     rt: &R,
     alloc: Global,
@@ -162,13 +192,15 @@ fn work<J: Run, L: Ledger, C: Clock, G: Gate, R: Wait>(
         return;
     }
     let mut at = first % bays.len();
+    let mut quiet = 0;
     let mut tasks = Tasks::new(alloc);
     'rounds: for _ in rt.forever() {
         if signs.ended() {
             break;
         }
         tasks.clear();
-        let (number, went) = visit_at(rt, alloc, &bays[at], MOST, &mut tasks);
+        let (number, went) = visit_at(rt, alloc, &bays[at], shared.most, &mut tasks);
+        quiet = if went.is_quiet() { quiet + 1 } else { 0 };
         signs.note(went);
         for task in tasks.as_slice() {
             gate.at(number, task);
@@ -177,6 +209,10 @@ fn work<J: Run, L: Ledger, C: Clock, G: Gate, R: Wait>(
             }
         }
         at = if at + 1 < bays.len() { at + 1 } else { 0 };
+        if quiet == bays.len() {
+            quiet = 0;
+            yield_now();
+        }
     }
 }
 

@@ -91,7 +91,8 @@ pub fn go_by_clocks<C: Clock + Send, R: Threads + Wait + Sync>(
     Ok(Went { platforms, fault })
 }
 
-/// Runs all platforms, each by its own clock: one worker visits them in turn, and more are threads that each visit all of them.
+/// Runs all platforms, each by its own clock: one worker visits them in turn, and more are threads that each
+/// visit all of them.
 fn visit_all<C: Clock + Send, R: Threads + Wait + Sync>(
     rt: &R,
     alloc: Global,
@@ -109,7 +110,7 @@ fn visit_all<C: Clock + Send, R: Threads + Wait + Sync>(
     if workers == 1 {
         alone(rt, alloc, platforms, clocks, blocks, MOST)
     } else {
-        threaded(rt, alloc, platforms, clocks, blocks, workers, &Open)
+        threaded(rt, alloc, platforms, clocks, blocks, workers, MOST, &Open)
     }
 }
 

@@ -1,0 +1,4 @@
+mod Links
+mod Stations
+mod Naming
+mod Ending

@@ -1,0 +1,111 @@
+//! A threaded run.
+
+ghost use Rattle.std.specs.Prelude.{◌≡◌, ◌<◌, ◌≤◌, ℕ, IfOk, List, Some, length};
+ghost use Rattle.std.specs.Arc.{arc_value};
+ghost use Rattle.pt_io.specs.Told.{tell};
+ghost use Rattle.pt_types.specs.declared.rows.Row.{Row};
+ghost use Rattle.pt_offsets.specs.Plans.{Parts};
+ghost use Rattle.pt_turn.specs.All.{AreAll, AreNew, AreReady, IsReady};
+ghost use Rattle.pt_alone.specs.HasGone.{HaveGone};
+ghost use Rattle.pt_threads.specs.Opened.{AreBegun, AreNamedBy, AreOpen};
+
+use crate::opening::{Ends, open_links};
+use crate::placing::make_stations;
+use crate::reporting::{fault_at, show_histories};
+use pt_alone::Ended;
+use pt_blocks::Blocks;
+use pt_ends::{Settled, settle_run};
+use pt_free::{Gate, Hand, free};
+use pt_io::Clock;
+use pt_offsets::Plan;
+use pt_pool::Run;
+use pt_tags::Memory;
+use pt_turn::Platform;
+use std::alloc::Global;
+use std::marker::Brand;
+use std::sync::{Arc, Wait};
+use std::thread::Threads;
+
+/// The run, once it is named: its links are open, and its clocks have not been read yet.
+fn run_named<J: Run + Send + Sync, C: Clock + Send, G: Gate + Sync, R: Threads + Wait + Sync>(
+    rt: &R,
+    alloc: Global,
+    plan: Arc<Plan>,
+    platforms: Vec<Platform>,
+    clocks: Vec<C>,
+    ends: Ends,
+    blocks: &Blocks,
+    workers: u32,
+    most: usize,
+    gate: &G,
+) -> Result<Ended<C>, Memory>
+    requires plan { J.plan ≡ Some (arc_value plan) }
+    requires all { AreAll (arc_value plan) J.rows platforms.items }
+    requires fresh { AreNew platforms.items }
+    requires clocks { length clocks.items ≡ length platforms.items }
+    requires begun { AreBegun J.began J.fixed (tell C.told C.ahead clocks.items) }
+    requires open { AreOpen (arc_value plan) (length (arc_value plan).graph.links) ends.outlets.items ends.inlets.items }
+    requires named { AreNamedBy J.link ends.outlets.items }
+    requires most { (1 ≤ most) × (most ≤ 32) }
+    ensures ran { IfOk result (λ e. (p : Parts) (rows : ℕ → List Row) → AreReady p rows platforms.items →
+        HaveGone p rows (tell C.told C.ahead clocks.items) (tell C.told C.ahead e.clocks.items) e.platforms.items e.fault) }
+{
+    let Ok(shared) = Arc::try_clone(&plan) else {
+        return Err(Memory);
+    };
+    let stations = make_stations::<J, C>(alloc, &plan, platforms, clocks, ends)?;
+    let pt_free::Ended {
+        stations,
+        fault: failed,
+    } = free(
+        rt,
+        alloc,
+        stations,
+        Hand::new(shared),
+        blocks,
+        workers,
+        most,
+        gate,
+    )?;
+    let Settled { platforms, clocks } = settle_run(rt, alloc, stations, &plan)?;
+    show_histories(platforms.as_slice());
+    let fault = fault_at(platforms.as_slice(), failed);
+    Ok(Ended {
+        platforms,
+        clocks,
+        fault,
+    })
+}
+
+/// Runs all platforms of one plan, just opened and in the order of its graph, each by its own clock: `workers` threads visit
+/// them, in any order. A platform claims at most `most` units at a visit. The gate is called between the claim and the firing
+/// of each task.
+///
+/// Without a fault all are finished; else the first platform that has one is named.
+///
+/// If the readings of a clock stop rising, the run may go on forever. If memory runs out, platforms and clocks are lost.
+pub fn threaded<C: Clock + Send, G: Gate + Sync, R: Threads + Wait + Sync>(
+    rt: &R,
+    alloc: Global,
+    platforms: Vec<Platform>,
+    clocks: Vec<C>,
+    blocks: &Blocks,
+    workers: u32,
+    most: usize,
+    gate: &G,
+) -> Result<Ended<C>, Memory>
+    requires some { 0 < length platforms.items }
+    requires ready { IsReady platforms.items }
+    requires clocks { length clocks.items ≡ length platforms.items }
+    requires most { (1 ≤ most) × (most ≤ 32) }
+    ensures ran { IfOk result (λ e. (plan : Parts) (rows : ℕ → List Row) → AreReady plan rows platforms.items →
+        HaveGone plan rows (tell C.told C.ahead clocks.items) (tell C.told C.ahead e.clocks.items) e.platforms.items e.fault) }
+{
+    let Ok(plan) = Arc::try_clone(platforms[0].plan()) else {
+        return Err(Memory);
+    };
+    let ends = open_links(alloc, &plan)?;
+    run_named::<Brand, C, G, R>(
+        rt, alloc, plan, platforms, clocks, ends, blocks, workers, most, gate,
+    )
+}

@@ -1,0 +1,57 @@
+//! The stations of a run that is about to begin.
+
+ghost use Rattle.std.specs.Prelude.{◌≡◌, IfOk, OnOk, Some, length, vec_len};
+ghost use Rattle.pt_io.specs.Told.{tell};
+ghost use Rattle.pt_offsets.specs.Plans.{IsAdmitted};
+ghost use Rattle.pt_turn.specs.All.{AreAll, AreNew};
+ghost use Rattle.pt_free.specs.Orders.{count_up, numbers};
+ghost use Rattle.pt_threads.specs.Opened.{AreBegun, AreNamedBy, AreOpen};
+
+use crate::opening::{Ends, owners_of};
+use pt_ends::collect;
+use pt_io::Clock;
+use pt_offsets::Plan;
+use pt_pool::{Run, Station};
+use pt_tags::Memory;
+use pt_turn::Platform;
+use std::alloc::Global;
+
+/// A station for each platform, with its clock and the ends of its links, in the order of the platforms.
+pub(crate) fn make_stations<J: Run, C: Clock>(
+    alloc: Global,
+    plan: &Plan,
+    mut platforms: Vec<Platform>,
+    mut clocks: Vec<C>,
+    ends: Ends,
+) -> Result<Vec<Station<J, C>>, Memory>
+    requires plan { J.plan ≡ Some plan.now }
+    requires all { AreAll plan.now J.rows platforms.items }
+    requires fresh { AreNew platforms.items }
+    requires clocks { length clocks.items ≡ length platforms.items }
+    requires begun { AreBegun J.began J.fixed (tell C.told C.ahead clocks.items) }
+    requires open { AreOpen plan.now (length plan.now.graph.links) ends.outlets.items ends.inlets.items }
+    requires named { AreNamedBy J.link ends.outlets.items }
+    ensures admitted { OnOk result (IsAdmitted plan.now) }
+    ensures count { IfOk result (λ v. vec_len v ≡ length plan.now.graph.platforms) }
+    ensures order { IfOk result (λ v. numbers v.items ≡ count_up (length plan.now.graph.platforms)) }
+{
+    let sides = owners_of(alloc, plan.graph())?;
+    let Ends {
+        mut outlets,
+        mut inlets,
+    } = ends;
+    let Ok(mut stations) = Vec::with_capacity(alloc, platforms.len()) else {
+        return Err(Memory);
+    };
+    while let Some(platform) = platforms.pop() {
+        let Some(clock) = clocks.pop() else {
+            unreachable!()
+        };
+        let number = platform.number();
+        let sending = collect(alloc, sides.senders.as_slice(), number, &mut outlets)?;
+        let taking = collect(alloc, sides.receivers.as_slice(), number, &mut inlets)?;
+        stations.push_reserved(Station::new(platform, clock, sending, taking));
+    }
+    stations.as_mut_slice().reverse();
+    Ok(stations)
+}
