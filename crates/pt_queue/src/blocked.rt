@@ -27,7 +27,10 @@ fn holds_up(table: &[Groups], least: &Least, unit: Unit, tag: Tag, other: &Waiti
         && other.unit.group < count_at(table, other.unit.actor)
 }
 
-/// A listed unit that holds up this one; `None` if there is none.
+/// The last listed unit that holds up this one; `None` if there is none.
+///
+/// An actor mostly has a greater number than those that lead to it. So the last unit is mostly the nearest, which holds up
+/// this one for longest.
 fn holder_listed(
     table: &[Groups],
     listed: &[Waiting],
@@ -37,8 +40,9 @@ fn holder_listed(
 ) -> Option<Unit>
     ensures { is_some result ≡ list_any (holds_up table.now (least_of least.now) unit tag) listed.now }
 {
-    for other in listed {
-        if holds_up(table, least, unit, tag, other) {
+    for behind in 0..listed.len() {
+        let other = listed[listed.len() - behind - 1];
+        if holds_up(table, least, unit, tag, &other) {
             return Some(other.unit);
         }
     }
@@ -72,7 +76,7 @@ fn unit_holds_up(
     }
 }
 
-/// A unit of `others` that holds up this one; `None` if there is none.
+/// The last unit of `others` that holds up this one; `None` if there is none.
 fn holder_among(
     table: &[Groups],
     listed: &[Waiting],
@@ -84,9 +88,10 @@ fn holder_among(
     requires rises { IsRising listed.now }
     ensures { is_some result ≡ list_any (unit_holds_up table.now (least_of least.now) unit tag listed.now) others.now }
 {
-    for other in others {
-        if unit_holds_up(table, listed, unit, tag, least, *other) {
-            return Some(*other);
+    for behind in 0..others.len() {
+        let other = others[others.len() - behind - 1];
+        if unit_holds_up(table, listed, unit, tag, least, other) {
+            return Some(other);
         }
     }
     None
@@ -107,7 +112,32 @@ fn holder(table: &[Groups], listed: &[Waiting], unit: Unit, tag: Tag, least: &Le
     holder_listed(table, listed, unit, tag, least)
 }
 
-/// Whether the unit that last held up this one still does.
+/// Whether the unit that took the place of this one's last holder holds it up. If so, that is remembered.
+fn is_held_by_successor(
+    table: &[Groups],
+    listed: &[Waiting],
+    holders: &Holders,
+    unit: Unit,
+    tag: Tag,
+    least: &Least,
+    last: Unit,
+) -> bool
+    requires rises { IsRising listed.now }
+    ensures { result ≡ true → list_any (holds_up table.now (least_of least.now) unit tag) listed.now ≡ true }
+{
+    match holders.successor(last) {
+        None => false,
+        Some(next) => {
+            if !unit_holds_up(table, listed, unit, tag, least, next) {
+                return false;
+            }
+            holders.keep(unit, next);
+            true
+        }
+    }
+}
+
+/// Whether the unit that last held up this one still does, or else the one that took its place.
 fn is_held_still(
     table: &[Groups],
     listed: &[Waiting],
@@ -121,7 +151,12 @@ fn is_held_still(
 {
     match holders.of(unit) {
         None => false,
-        Some(last) => unit_holds_up(table, listed, unit, tag, least, last),
+        Some(last) => {
+            if unit_holds_up(table, listed, unit, tag, least, last) {
+                return true;
+            }
+            is_held_by_successor(table, listed, holders, unit, tag, least, last)
+        }
     }
 }
 
