@@ -4,12 +4,13 @@ ghost use Rattle.std.specs.Prelude.{◌≡◌, true, is_some};
 ghost use Rattle.std.specs.List.{list_any};
 ghost use Rattle.pt_causality.specs.Delays.{least_of};
 ghost use Rattle.pt_queue.specs.Events.{IsRising};
-ghost use Rattle.pt_queue.specs.Listed.{holds_up, unit_holds_up};
+ghost use Rattle.pt_queue.specs.Listed.{AreTags, SomeHoldsUp, holds_up, unit_holds_up};
 
 use crate::events::reaches;
 use crate::groups::{Groups, count_at};
 use crate::holders::Holders;
-use crate::waiting::{Waiting, tag_of};
+use crate::least_tags::tag_in;
+use crate::waiting::Waiting;
 use pt_causality::Least;
 use pt_tags::Tag;
 use pt_types::Unit;
@@ -49,19 +50,18 @@ fn holder_listed(
     None
 }
 
-/// Whether `other` is listed and holds up this unit.
+/// Whether `other` has events and holds up this unit.
 fn unit_holds_up(
     table: &[Groups],
-    listed: &[Waiting],
+    tags: &[Option<Tag>],
     unit: Unit,
     tag: Tag,
     least: &Least,
     other: Unit,
 ) -> bool
-    requires rises { IsRising listed.now }
-    ensures { result ≡ unit_holds_up table.now (least_of least.now) unit tag listed.now other }
+    ensures { result ≡ unit_holds_up table.now (least_of least.now) unit tag tags.now other }
 {
-    match tag_of(listed, other) {
+    match tag_in(tags, other) {
         None => false,
         Some(from) => holds_up(
             table,
@@ -79,18 +79,17 @@ fn unit_holds_up(
 /// The last unit of `others` that holds up this one; `None` if there is none.
 fn holder_among(
     table: &[Groups],
-    listed: &[Waiting],
+    tags: &[Option<Tag>],
     unit: Unit,
     tag: Tag,
     least: &Least,
     others: &[Unit],
 ) -> Option<Unit>
-    requires rises { IsRising listed.now }
-    ensures { is_some result ≡ list_any (unit_holds_up table.now (least_of least.now) unit tag listed.now) others.now }
+    ensures { is_some result ≡ list_any (unit_holds_up table.now (least_of least.now) unit tag tags.now) others.now }
 {
     for behind in 0..others.len() {
         let other = others[others.len() - behind - 1];
-        if unit_holds_up(table, listed, unit, tag, least, other) {
+        if unit_holds_up(table, tags, unit, tag, least, other) {
             return Some(other);
         }
     }
@@ -100,13 +99,21 @@ fn holder_among(
 /// A listed unit that holds up this one; `None` if there is none.
 ///
 /// Searches the units from which a path leads here, if these are known and fewer than the listed ones.
-fn holder(table: &[Groups], listed: &[Waiting], unit: Unit, tag: Tag, least: &Least) -> Option<Unit>
+fn holder(
+    table: &[Groups],
+    listed: &[Waiting],
+    tags: &[Option<Tag>],
+    unit: Unit,
+    tag: Tag,
+    least: &Least,
+) -> Option<Unit>
     requires rises { IsRising listed.now }
+    requires tags { AreTags table.now listed.now tags.now }
     ensures { is_some result ≡ list_any (holds_up table.now (least_of least.now) unit tag) listed.now }
 {
     if let Some(others) = least.before(unit) {
         if others.len() < listed.len() {
-            return holder_among(table, listed, unit, tag, least, others);
+            return holder_among(table, tags, unit, tag, least, others);
         }
     }
     holder_listed(table, listed, unit, tag, least)
@@ -115,20 +122,19 @@ fn holder(table: &[Groups], listed: &[Waiting], unit: Unit, tag: Tag, least: &Le
 /// Whether the unit that took the place of this one's last holder holds it up. If so, that is remembered.
 fn is_held_by_successor(
     table: &[Groups],
-    listed: &[Waiting],
+    tags: &[Option<Tag>],
     holders: &Holders,
     unit: Unit,
     tag: Tag,
     least: &Least,
     last: Unit,
 ) -> bool
-    requires rises { IsRising listed.now }
-    ensures { result ≡ true → list_any (holds_up table.now (least_of least.now) unit tag) listed.now ≡ true }
+    ensures { result ≡ true → SomeHoldsUp table.now (least_of least.now) unit tag tags.now }
 {
     match holders.successor(last) {
         None => false,
         Some(next) => {
-            if !unit_holds_up(table, listed, unit, tag, least, next) {
+            if !unit_holds_up(table, tags, unit, tag, least, next) {
                 return false;
             }
             holders.keep(unit, next);
@@ -140,22 +146,21 @@ fn is_held_by_successor(
 /// Whether the unit that last held up this one still does, or else the one that took its place.
 fn is_held_still(
     table: &[Groups],
-    listed: &[Waiting],
+    tags: &[Option<Tag>],
     holders: &Holders,
     unit: Unit,
     tag: Tag,
     least: &Least,
 ) -> bool
-    requires rises { IsRising listed.now }
-    ensures { result ≡ true → list_any (holds_up table.now (least_of least.now) unit tag) listed.now ≡ true }
+    ensures { result ≡ true → SomeHoldsUp table.now (least_of least.now) unit tag tags.now }
 {
     match holders.of(unit) {
         None => false,
         Some(last) => {
-            if unit_holds_up(table, listed, unit, tag, least, last) {
+            if unit_holds_up(table, tags, unit, tag, least, last) {
                 return true;
             }
-            is_held_by_successor(table, listed, holders, unit, tag, least, last)
+            is_held_by_successor(table, tags, holders, unit, tag, least, last)
         }
     }
 }
@@ -166,18 +171,20 @@ fn is_held_still(
 pub fn is_blocked(
     table: &[Groups],
     listed: &[Waiting],
+    tags: &[Option<Tag>],
     holders: &Holders,
     unit: Unit,
     tag: Tag,
     least: &Least,
 ) -> bool
     requires rises { IsRising listed.now }
+    requires tags { AreTags table.now listed.now tags.now }
     ensures { result ≡ list_any (holds_up table.now (least_of least.now) unit tag) listed.now }
 {
-    if is_held_still(table, listed, holders, unit, tag, least) {
+    if is_held_still(table, tags, holders, unit, tag, least) {
         return true;
     }
-    match holder(table, listed, unit, tag, least) {
+    match holder(table, listed, tags, unit, tag, least) {
         None => false,
         Some(holder) => {
             holders.keep(unit, holder);

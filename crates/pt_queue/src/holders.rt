@@ -1,5 +1,6 @@
 //! Which unit last held up each unit.
 
+use crate::least_tags::place_of;
 use pt_tags::Memory;
 use pt_types::Unit;
 use std::alloc::Global;
@@ -16,11 +17,6 @@ pub struct Holders {
     last: Vec<Cell<Option<Unit>>>,
     /// At the same places: which unit was last found to hold up a unit that this one had held up before.
     successors: Vec<Cell<Option<Unit>>>,
-}
-
-/// The index of a unit: `8 * actor + group`.
-fn place_of(unit: Unit) -> usize {
-    8 * unit.actor as usize + unit.group as usize
 }
 
 /// `units` places without a unit.

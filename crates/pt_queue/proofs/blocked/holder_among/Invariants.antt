@@ -5,4 +5,4 @@ use Rattle.pt_queue.specs.Listed.{unit_holds_up}
 use Rattle.pt_queue.proofs.blocked.holder_among.Given as goal
 
 abbrev pub invariant-loop-behind : goal.invariant-loop-behind
-invariant-loop-behind l = list_any (unit_holds_up l.table (least_of l.least) l.unit l.tag l.listed) (drop (length l.others - l.behind) l.others) ≡ false
+invariant-loop-behind l = list_any (unit_holds_up l.table (least_of l.least) l.unit l.tag l.tags) (drop (length l.others - l.behind) l.others) ≡ false

@@ -1,9 +1,5 @@
-use Rattle.std.proofs.Common.{◌≡◌, sym, refl}
-use Rattle.pt_causality.specs.Delays.{least_of}
-use Rattle.pt_queue.specs.Listed.{tag_of}
-use Rattle.pt_queue.proofs.Holding.{listed_holds}
+use Rattle.std.proofs.Common.{sym}
 use Rattle.pt_queue.proofs.blocked.is_held_by_successor.Goals as goal
 
 pub returns-else-not-unit_holds_up : goal.returns-else-not-unit_holds_up
-returns-else-not-unit_holds_up c = λ held.
-    listed_holds c.args.table.now (least_of c.args.least.now) c.args.unit c.args.tag c.args.listed.now c.in-Some.next (tag_of c.args.listed.now c.in-Some.next) refl (sym c.if-not-unit_holds_up.ensures)
+returns-else-not-unit_holds_up c = λ held. (c.in-Some.next, sym c.if-not-unit_holds_up.ensures)
