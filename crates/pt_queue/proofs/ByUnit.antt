@@ -1,5 +1,5 @@
 -- Tags by the places of units.
-use Rattle.std.proofs.Common.{◌≡◌, ◌≢◌, ℕ, ◌+◌, ◌*◌, ◌<◌, ◌≤◌, ◌⊎◌, ⊎_elim, nat_lt, Bool, true, false, if◌then◌else◌, IsSome, List, Option, Some, None, length, replicate, slice_index_or, slice_set, refl, sym, ap, ap₂, subst, ◌∙◌, arith}
+use Rattle.std.proofs.Common.{◌≡◌, ◌≢◌, ℕ, ◌+◌, ◌*◌, ◌<◌, ◌≤◌, ◌⊎◌, ⊎_elim, nat_lt, true, false, if◌then◌else◌, IsSome, List, Option, Some, None, length, replicate, slice_index_or, slice_set, refl, sym, ap, subst, ◌∙◌, arith}
 use Rattle.std.proofs.lemmas.Bool.{cases_Bool, false≢true, lt-ltb}
 use Rattle.std.proofs.lemmas.List.{get_or-replicate, get_or-set_same, get_or-set_other, get_or_past, length-replicate}
 use Rattle.pt_tags.specs.declared.tag.Tag.{Tag}
@@ -42,12 +42,12 @@ tags_set tags u x tag l there = ⊎_elim
     ∙ sym (ap (λ b. if b then tag else tag_in tags x) y))
     (λ (n : same_part u x ≡ false).
     ⊎_elim
-        (λ (m : x.group < 8).
-        in_place (slice_set tags (8 * u.actor + u.group) tag) x m
-        ∙ get_or-set_other tags (8 * u.actor + u.group) (8 * x.actor + x.group) tag None (places_apart u x l m n)
-        ∙ sym (in_place tags x m))
-        (λ (m : 8 ≤ x.group). no_place (slice_set tags (8 * u.actor + u.group) tag) x m ∙ sym (no_place tags x m))
-        (either x.group 8)
+    (λ (m : x.group < 8).
+    in_place (slice_set tags (8 * u.actor + u.group) tag) x m
+    ∙ get_or-set_other tags (8 * u.actor + u.group) (8 * x.actor + x.group) tag None (places_apart u x l m n)
+    ∙ sym (in_place tags x m))
+    (λ (m : 8 ≤ x.group). no_place (slice_set tags (8 * u.actor + u.group) tag) x m ∙ sym (no_place tags x m))
+    (either x.group 8)
     ∙ sym (ap (λ b. if b then tag else tag_in tags x) n))
     (cases_Bool (same_part u x))
 
@@ -62,9 +62,9 @@ tags_stay tags u x None fits out = ⊎_elim
     none : tag_in tags u ≡ None
     none = ⊎_elim
         (λ (l : u.group < 8). in_place tags u l ∙ ⊎_elim
-            (λ (m : 8 ≤ u.group). absurd (omega (arith, l, m)))
-            (λ (m : length tags ≤ 8 * u.actor + u.group). get_or_past tags (8 * u.actor + u.group) None m)
-            out)
+        (λ (m : 8 ≤ u.group). absurd (omega (arith, l, m)))
+        (λ (m : length tags ≤ 8 * u.actor + u.group). get_or_past tags (8 * u.actor + u.group) None m)
+        out)
         (λ (m : 8 ≤ u.group). no_place tags u m)
         (either u.group 8)
 

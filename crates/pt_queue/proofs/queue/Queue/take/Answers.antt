@@ -1,4 +1,4 @@
-use Rattle.std.proofs.Common.{◌≡◌, ◌++◌, ◌==◌, None, vec_capacity, map, filter, not, if◌then◌else◌, length, ◌*◌, ap, ap₂, ◌∙◌, subst, sym, arith}
+use Rattle.std.proofs.Common.{◌≡◌, ◌++◌, ◌==◌, None, vec_capacity, map, filter, not, if◌then◌else◌, length, ap, ap₂, ◌∙◌, subst, sym, arith}
 use Rattle.pt_types.specs.Ports.{eight, when}
 use Rattle.pt_types.specs.declared.firing.Event.{Event}
 use Rattle.pt_semantics.specs.Claiming.{without_unit}
