@@ -15,7 +15,7 @@ use Rattle.pt_queue.specs.declared.waiting.Waiting.{Waiting}
 use Rattle.pt_queue.specs.Groups.{AreGroups}
 use Rattle.pt_queue.specs.Events.{IsPlaced, IsRising}
 use Rattle.pt_queue.specs.Lines.{AreKept, IsInLine, all_of, line_at, settled}
-use Rattle.pt_queue.specs.Listed.{AreKnown, AreListed, FitsIn, tag_of}
+use Rattle.pt_queue.specs.Listed.{AreKnown, AreListed, AreTags, FitsIn, tag_of}
 use Rattle.pt_queue.specs.Scans.{is_at, is_of, least_from, sooner, sooner_if, unit_in}
 use Rattle.pt_queue.proofs.Following.{least_after, least_kept}
 use Rattle.pt_queue.proofs.Found.{least_found}
@@ -49,6 +49,14 @@ none_known g table events ws capacity lawful are none empty room = record {
 -- room for all listed units
 pub known_fit : (table : List Groups) (lines : List (List Event)) (loose : List Event) (ws : List Waiting) (capacity : ℕ) → AreKept table lines loose → AreKnown table (all_of (settled lines loose)) ws capacity → Each (λ (w : Waiting). FitsIn capacity w.unit) ws
 known_fit table lines loose ws capacity k known = all_fit table (all_of (settled lines loose)) ws capacity known.few known.room (placed_settled table lines loose k) known.units
+
+-- the tags by unit have that room too
+pub roomy : (table : List Groups) (events : List Event) (ws : List Waiting) (tags : List (Option Tag)) (capacity : ℕ) → AreKnown table events ws capacity → AreTags table ws tags → AreKnown table events ws (length tags)
+roomy table events ws tags capacity known are = record {
+  units = known.units;
+  room = let room : length tags ≡ 8 * length table = are.room in omega (arith, room);
+  few = known.few;
+}
 
 -- one event more
 pub known_more : (table : List Groups) (events new : List Event) (ws vs : List Waiting) (capacity more : ℕ) (e : Event) (unit : Part) → AreKnown table events ws capacity → IsRising vs → unit ≡ unit_in table e → ((x : Part) → tag_of vs x ≡ (if same_part unit x then sooner (tag_of ws unit) e.tag else tag_of ws x)) → capacity ≤ more → ((u : Part) → least_from table u None new ≡ sooner_if (is_of table u e) (least_from table u None events) e.tag) → AreKnown table new vs more

@@ -21,10 +21,10 @@ use Rattle.pt_queue.specs.declared.groups.Groups.{Groups}
 use Rattle.pt_queue.specs.declared.waiting.Waiting.{Waiting}
 use Rattle.pt_queue.specs.Groups.{AreGroups, groups_at}
 use Rattle.pt_queue.specs.Events.{AreWaiting, IsBlocked, IsClear, IsLeastTag, IsPlaced, waiting_in, IsRising}
-use Rattle.pt_queue.specs.Listed.{AreListed, holds_up, tag_holds_up, tag_of, unit_holds_up}
+use Rattle.pt_queue.specs.Listed.{AreListed, AreTags, SomeHoldsUp, holds_up, tag_holds_up, tag_in, tag_of, unit_holds_up}
 use Rattle.pt_queue.specs.Scans.{reaches}
 use Rattle.pt_queue.proofs.Found.{blocked_by, from_unit, not_both_ways}
-use Rattle.pt_queue.proofs.Listing.{in_tag, tag_in}
+use Rattle.pt_queue.proofs.Listing.{in_tag, tag_in as listed_tag}
 use Rattle.pt_queue.proofs.Known.{event_in, waiting_is}
 use Rattle.pt_queue.proofs.Waits.{placed_actor}
 
@@ -156,12 +156,16 @@ listed_holds table least u t ws x (Some s) is h =
     let w = in_tag ws x s is in
     holds_one (holds_up table least u t) ws w.0 w.1 (subst (λ (y : Waiting). holds_up table least u t y ≡ true) (λ i. record { unit = sym w.2 i; tag = sym w.3 i }) h)
 
-pub any_before : (table : List Groups) (least : Part → Part → Option Delay) (u : Part) (t : Tag) (ws : List Waiting) (units : List Part) → IsRising ws → ((x : Part) → IsSome (least x u) → Contains units x) → list_any (unit_holds_up table least u t ws) units ≡ list_any (holds_up table least u t) ws
-any_before table least u t ws units rises all = both_ways (list_any (unit_holds_up table least u t ws) units) (list_any (holds_up table least u t) ws)
-    (λ h. let x = one_holds (unit_holds_up table least u t ws) units h in listed_holds table least u t ws x.0 (tag_of ws x.0) refl x.2)
+-- one of all units
+pub some_holds : (table : List Groups) (least : Part → Part → Option Delay) (u : Part) (t : Tag) (ws : List Waiting) (tags : List (Option Tag)) → AreTags table ws tags → SomeHoldsUp table least u t tags → list_any (holds_up table least u t) ws ≡ true
+some_holds table least u t ws tags are some = listed_holds table least u t ws some.0 (tag_in tags some.0) (sym (are.same some.0)) some.1
+
+pub any_before : (table : List Groups) (least : Part → Part → Option Delay) (u : Part) (t : Tag) (ws : List Waiting) (tags : List (Option Tag)) (units : List Part) → IsRising ws → AreTags table ws tags → ((x : Part) → IsSome (least x u) → Contains units x) → list_any (unit_holds_up table least u t tags) units ≡ list_any (holds_up table least u t) ws
+any_before table least u t ws tags units rises are all = both_ways (list_any (unit_holds_up table least u t tags) units) (list_any (holds_up table least u t) ws)
+    (λ h. let x = one_holds (unit_holds_up table least u t tags) units h in some_holds table least u t ws tags are (x.0, x.2))
     (λ h.
     let w = one_holds (holds_up table least u t) ws h in
     let one = and_parts (not (same_part w.0.unit u)) (reaches (least w.0.unit u) w.0.tag t && nat_lt w.0.unit.group (groups_at table w.0.unit.actor).count) w.2 in
     let two = and_parts (reaches (least w.0.unit u) w.0.tag t) (nat_lt w.0.unit.group (groups_at table w.0.unit.actor).count) one.1 in
-    holds_one (unit_holds_up table least u t ws) units w.0.unit (contains_in units w.0.unit (all w.0.unit (reaches_some (least w.0.unit u) w.0.tag t two.0)))
-    (ap (tag_holds_up table least u t w.0.unit) (tag_in ws w.0 rises w.1) ∙ w.2))
+    holds_one (unit_holds_up table least u t tags) units w.0.unit (contains_in units w.0.unit (all w.0.unit (reaches_some (least w.0.unit u) w.0.tag t two.0)))
+    (ap (tag_holds_up table least u t w.0.unit) (are.same w.0.unit ∙ listed_tag ws w.0 rises w.1) ∙ w.2))

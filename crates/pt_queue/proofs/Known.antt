@@ -1,5 +1,5 @@
 -- The list of units and the events.
-use Rattle.std.proofs.Common.{◌≡◌, ℕ, ◌*◌, ◌<◌, ◌≤◌, ◌==◌, ◌⊎◌, true, false, if◌then◌else◌, List, [], ◌∷◌, Option, Some, None, length, refl, sym, ap, subst, ◌∙◌, inl, ⊎_elim, ne_eqb, arith}
+use Rattle.std.proofs.Common.{◌≡◌, ℕ, ◌*◌, ◌<◌, ◌≤◌, ◌==◌, true, false, if◌then◌else◌, List, [], ◌∷◌, Option, Some, None, length, refl, sym, ap, subst, ◌∙◌, inl, ⊎_elim, ne_eqb, arith}
 use Rattle.std.proofs.lemmas.Bool.{cases_Bool}
 use Rattle.pt_tags.specs.declared.tag.Tag.{Tag}
 use Rattle.pt_tags.specs.Tags.{UpTo}

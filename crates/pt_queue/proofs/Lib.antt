@@ -14,3 +14,4 @@ pub mod Holding
 pub mod Quiet
 pub mod Ports
 pub mod Changing
+pub mod ByUnit

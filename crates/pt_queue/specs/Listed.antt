@@ -1,5 +1,5 @@
 -- The list of the units that have events.
-use Rattle.std.specs.Prelude.{◌≡◌, ℕ, ◌+◌, ◌*◌, ◌<◌, ◌≤◌, ◌==◌, ◌&&◌, ◌||◌, ◌⊎◌, nat_lt, not, Bool, false, List, [], ◌∷◌, Option, Some, None, length, take, drop, if◌then◌else◌}
+use Rattle.std.specs.Prelude.{◌≡◌, ℕ, ◌+◌, ◌*◌, ◌<◌, ◌≤◌, ◌==◌, ◌&&◌, ◌||◌, nat_lt, not, Bool, false, List, [], ◌∷◌, Option, Some, None, length, take, drop, slice_index_or, true, if◌then◌else◌}
 use Rattle.pt_tags.specs.declared.tag.Tag.{Tag}
 use Rattle.pt_tags.specs.declared.tag.Delay.{Delay}
 use Rattle.pt_types.specs.declared.firing.Event.{Event}
@@ -51,6 +51,19 @@ abbrev pub tag_holds_up : List Groups → (Part → Part → Option Delay) → P
 tag_holds_up table least u t x None = false
 tag_holds_up table least u t x (Some w) = holds_up table least u t (record { unit = x; tag = w })
 
--- unit x is listed, differs from u, and its least tag leads to u at t or before
-abbrev pub unit_holds_up : List Groups → (Part → Part → Option Delay) → Part → Tag → List Waiting → Part → Bool
-unit_holds_up table least u t listed x = tag_holds_up table least u t x (tag_of listed x)
+-- the tag at a unit's place, eight places for each actor
+abbrev pub tag_in : List (Option Tag) → Part → Option Tag
+tag_in tags u = if nat_lt u.group 8 then slice_index_or tags (8 * u.actor + u.group) None else None
+
+-- at each unit's place is its tag in the list
+pub record AreTags (table : List Groups) (listed : List Waiting) (tags : List (Option Tag)) : Type 0 where
+  pub room : length tags ≡ 8 * length table
+  pub same : (u : Part) → tag_in tags u ≡ tag_of listed u
+
+-- unit x has a tag, differs from u, and the tag leads to u at t or before
+abbrev pub unit_holds_up : List Groups → (Part → Part → Option Delay) → Part → Tag → List (Option Tag) → Part → Bool
+unit_holds_up table least u t tags x = tag_holds_up table least u t x (tag_in tags x)
+
+-- some unit does
+abbrev pub SomeHoldsUp : List Groups → (Part → Part → Option Delay) → Part → Tag → List (Option Tag) → Type 0
+SomeHoldsUp table least u t tags = (x : Part) × (unit_holds_up table least u t tags x ≡ true)

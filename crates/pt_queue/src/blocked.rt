@@ -4,12 +4,13 @@ ghost use Rattle.std.specs.Prelude.{◌≡◌, true, is_some};
 ghost use Rattle.std.specs.List.{list_any};
 ghost use Rattle.pt_causality.specs.Delays.{least_of};
 ghost use Rattle.pt_queue.specs.Events.{IsRising};
-ghost use Rattle.pt_queue.specs.Listed.{holds_up, unit_holds_up};
+ghost use Rattle.pt_queue.specs.Listed.{AreTags, SomeHoldsUp, holds_up, unit_holds_up};
 
 use crate::events::reaches;
 use crate::groups::{Groups, count_at};
 use crate::holders::Holders;
-use crate::waiting::{Waiting, tag_of};
+use crate::least_tags::tag_in;
+use crate::waiting::Waiting;
 use pt_causality::Least;
 use pt_tags::Tag;
 use pt_types::Unit;
@@ -27,7 +28,10 @@ fn holds_up(table: &[Groups], least: &Least, unit: Unit, tag: Tag, other: &Waiti
         && other.unit.group < count_at(table, other.unit.actor)
 }
 
-/// A listed unit that holds up this one; `None` if there is none.
+/// The last listed unit that holds up this one; `None` if there is none.
+///
+/// An actor mostly has a greater number than those that lead to it. So the last unit is mostly the nearest, which holds up
+/// this one for longest.
 fn holder_listed(
     table: &[Groups],
     listed: &[Waiting],
@@ -37,27 +41,27 @@ fn holder_listed(
 ) -> Option<Unit>
     ensures { is_some result ≡ list_any (holds_up table.now (least_of least.now) unit tag) listed.now }
 {
-    for other in listed {
-        if holds_up(table, least, unit, tag, other) {
+    for behind in 0..listed.len() {
+        let other = listed[listed.len() - behind - 1];
+        if holds_up(table, least, unit, tag, &other) {
             return Some(other.unit);
         }
     }
     None
 }
 
-/// Whether `other` is listed and holds up this unit.
+/// Whether `other` has events and holds up this unit.
 fn unit_holds_up(
     table: &[Groups],
-    listed: &[Waiting],
+    tags: &[Option<Tag>],
     unit: Unit,
     tag: Tag,
     least: &Least,
     other: Unit,
 ) -> bool
-    requires rises { IsRising listed.now }
-    ensures { result ≡ unit_holds_up table.now (least_of least.now) unit tag listed.now other }
+    ensures { result ≡ unit_holds_up table.now (least_of least.now) unit tag tags.now other }
 {
-    match tag_of(listed, other) {
+    match tag_in(tags, other) {
         None => false,
         Some(from) => holds_up(
             table,
@@ -72,21 +76,21 @@ fn unit_holds_up(
     }
 }
 
-/// A unit of `others` that holds up this one; `None` if there is none.
+/// The last unit of `others` that holds up this one; `None` if there is none.
 fn holder_among(
     table: &[Groups],
-    listed: &[Waiting],
+    tags: &[Option<Tag>],
     unit: Unit,
     tag: Tag,
     least: &Least,
     others: &[Unit],
 ) -> Option<Unit>
-    requires rises { IsRising listed.now }
-    ensures { is_some result ≡ list_any (unit_holds_up table.now (least_of least.now) unit tag listed.now) others.now }
+    ensures { is_some result ≡ list_any (unit_holds_up table.now (least_of least.now) unit tag tags.now) others.now }
 {
-    for other in others {
-        if unit_holds_up(table, listed, unit, tag, least, *other) {
-            return Some(*other);
+    for behind in 0..others.len() {
+        let other = others[others.len() - behind - 1];
+        if unit_holds_up(table, tags, unit, tag, least, other) {
+            return Some(other);
         }
     }
     None
@@ -95,33 +99,69 @@ fn holder_among(
 /// A listed unit that holds up this one; `None` if there is none.
 ///
 /// Searches the units from which a path leads here, if these are known and fewer than the listed ones.
-fn holder(table: &[Groups], listed: &[Waiting], unit: Unit, tag: Tag, least: &Least) -> Option<Unit>
+fn holder(
+    table: &[Groups],
+    listed: &[Waiting],
+    tags: &[Option<Tag>],
+    unit: Unit,
+    tag: Tag,
+    least: &Least,
+) -> Option<Unit>
     requires rises { IsRising listed.now }
+    requires tags { AreTags table.now listed.now tags.now }
     ensures { is_some result ≡ list_any (holds_up table.now (least_of least.now) unit tag) listed.now }
 {
     if let Some(others) = least.before(unit) {
         if others.len() < listed.len() {
-            return holder_among(table, listed, unit, tag, least, others);
+            return holder_among(table, tags, unit, tag, least, others);
         }
     }
     holder_listed(table, listed, unit, tag, least)
 }
 
-/// Whether the unit that last held up this one still does.
+/// Whether the unit that took the place of this one's last holder holds it up. If so, that is remembered.
+fn is_held_by_successor(
+    table: &[Groups],
+    tags: &[Option<Tag>],
+    holders: &Holders,
+    unit: Unit,
+    tag: Tag,
+    least: &Least,
+    last: Unit,
+) -> bool
+    ensures { result ≡ true → SomeHoldsUp table.now (least_of least.now) unit tag tags.now }
+{
+    match holders.successor(last) {
+        None => false,
+        Some(next) => {
+            if !unit_holds_up(table, tags, unit, tag, least, next) {
+                return false;
+            }
+            holders.keep(unit, next);
+            true
+        }
+    }
+}
+
+/// Whether the unit that last held up this one still does, or else the one that took its place.
 fn is_held_still(
     table: &[Groups],
-    listed: &[Waiting],
+    tags: &[Option<Tag>],
     holders: &Holders,
     unit: Unit,
     tag: Tag,
     least: &Least,
 ) -> bool
-    requires rises { IsRising listed.now }
-    ensures { result ≡ true → list_any (holds_up table.now (least_of least.now) unit tag) listed.now ≡ true }
+    ensures { result ≡ true → SomeHoldsUp table.now (least_of least.now) unit tag tags.now }
 {
     match holders.of(unit) {
         None => false,
-        Some(last) => unit_holds_up(table, listed, unit, tag, least, last),
+        Some(last) => {
+            if unit_holds_up(table, tags, unit, tag, least, last) {
+                return true;
+            }
+            is_held_by_successor(table, tags, holders, unit, tag, least, last)
+        }
     }
 }
 
@@ -131,18 +171,20 @@ fn is_held_still(
 pub fn is_blocked(
     table: &[Groups],
     listed: &[Waiting],
+    tags: &[Option<Tag>],
     holders: &Holders,
     unit: Unit,
     tag: Tag,
     least: &Least,
 ) -> bool
     requires rises { IsRising listed.now }
+    requires tags { AreTags table.now listed.now tags.now }
     ensures { result ≡ list_any (holds_up table.now (least_of least.now) unit tag) listed.now }
 {
-    if is_held_still(table, listed, holders, unit, tag, least) {
+    if is_held_still(table, tags, holders, unit, tag, least) {
         return true;
     }
-    match holder(table, listed, unit, tag, least) {
+    match holder(table, listed, tags, unit, tag, least) {
         None => false,
         Some(holder) => {
             holders.keep(unit, holder);

@@ -1,47 +1,72 @@
 //! Which unit last held up each unit.
 
+use crate::least_tags::place_of;
 use pt_tags::Memory;
 use pt_types::Unit;
 use std::alloc::Global;
 use std::cell::Cell;
 
 /// For each unit the one that last held it up, which is tried first the next time. So a unit that stays held up costs one
-/// lookup a turn, and a search only once that holder no longer holds it up.
+/// lookup a turn. For each holder also the one that took its place, which is tried next. So when a holder lets go of many
+/// units, as a rule only the first of them costs a search.
 ///
 /// This is only a hint, and no contract mentions it: each use checks that it still holds.
 #[derive(Drop)]
 pub struct Holders {
     /// By actor and group, eight places for each actor.
     last: Vec<Cell<Option<Unit>>>,
+    /// At the same places: which unit was last found to hold up a unit that this one had held up before.
+    successors: Vec<Cell<Option<Unit>>>,
 }
 
-/// The index of a unit: `8 * actor + group`.
-fn place_of(unit: Unit) -> usize {
-    8 * unit.actor as usize + unit.group as usize
+/// `units` places without a unit.
+fn none(alloc: Global, units: usize) -> Result<Vec<Cell<Option<Unit>>>, Memory> {
+    let mut places = Vec::with_capacity(alloc, units)?;
+    for _ in 0..units {
+        places.push(Cell::new(None))?;
+    }
+    Ok(places)
+}
+
+/// The unit at another one's place.
+fn at(places: &[Cell<Option<Unit>>], unit: Unit) -> Option<Unit> {
+    match places.get(place_of(unit)) {
+        None => None,
+        Some(place) => place.get(),
+    }
+}
+
+/// Sets the unit at another one's place.
+fn set(places: &[Cell<Option<Unit>>], unit: Unit, other: Unit) {
+    if let Some(place) = places.get(place_of(unit)) {
+        place.set(Some(other));
+    }
 }
 
 impl Holders {
     /// An empty cache for `units` units.
     pub fn new(alloc: Global, units: usize) -> Result<Holders, Memory> {
-        let mut last = Vec::with_capacity(alloc, units)?;
-        for _ in 0..units {
-            last.push(Cell::new(None))?;
-        }
-        Ok(Holders { last })
+        Ok(Holders {
+            last: none(alloc, units)?,
+            successors: none(alloc, units)?,
+        })
     }
 
     /// The unit that last held up this one.
     pub fn of(&self, unit: Unit) -> Option<Unit> {
-        match self.last.get(place_of(unit)) {
-            None => None,
-            Some(last) => last.get(),
-        }
+        at(self.last.as_slice(), unit)
     }
 
-    /// Records which unit holds up this one now.
+    /// The unit that took the place of this holder.
+    pub fn successor(&self, holder: Unit) -> Option<Unit> {
+        at(self.successors.as_slice(), holder)
+    }
+
+    /// Records which unit holds up this one now, and that it took the place of the one before.
     pub fn keep(&self, unit: Unit, holder: Unit) {
-        if let Some(last) = self.last.get(place_of(unit)) {
-            last.set(Some(holder));
+        if let Some(last) = self.of(unit) {
+            set(self.successors.as_slice(), last, holder);
         }
+        set(self.last.as_slice(), unit, holder);
     }
 }

@@ -11,6 +11,7 @@ mod blocked;
 mod events;
 mod groups;
 mod holders;
+mod least_tags;
 mod line;
 mod lines;
 mod loose;

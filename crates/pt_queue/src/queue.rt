@@ -16,10 +16,11 @@ use crate::blocked::is_blocked;
 use crate::events::{remove, unit_of};
 use crate::groups::{Groups, all_groups};
 use crate::holders::Holders;
+use crate::least_tags::{lower_tag, no_tags, set_tag, tag_in};
 use crate::lines::Lines;
 use crate::loose::settle;
 use crate::scan::{line_number, remove_from_lines};
-use crate::waiting::{Waiting, lower, set, tag_of};
+use crate::waiting::{Waiting, lower, set};
 use crate::whole::{least_of_unit, values_of};
 use pt_causality::Least;
 use pt_tags::{Memory, Tag};
@@ -40,6 +41,8 @@ pub struct Queue {
     groups: Vec<Groups>,
     /// The units that have events, with room for all units.
     waiting: Vec<Waiting>,
+    /// The same tags, at the place `8 * actor + group` of each unit.
+    tags: Vec<Option<Tag>>,
     holders: Holders,
     lines: Lines,
     loose: VecDeque<Event>,
@@ -54,13 +57,13 @@ impl Model for Queue {
     ghost use Rattle.std.specs.VecDeque.{deque_len, deque_capacity};
     ghost use Rattle.pt_queue.specs.Events.{Queued};
     ghost use Rattle.pt_queue.specs.Lines.{AreKept, all_of, settled};
-    ghost use Rattle.pt_queue.specs.Listed.{AreKnown};
+    ghost use Rattle.pt_queue.specs.Listed.{AreKnown, AreTags};
 
     ghost Value = { Queued };
 
     ghost view = { λ q. record { groups = q.groups.items; events = all_of (settled q.lines q.loose.items); spare = q.spare } };
 
-    ghost invariant = { λ q. AreKept q.groups.items q.lines q.loose.items × (q.spare + deque_len q.loose ≤ deque_capacity q.loose) × AreKnown q.groups.items (all_of (settled q.lines q.loose.items)) q.waiting.items (vec_capacity q.waiting) };
+    ghost invariant = { λ q. AreKept q.groups.items q.lines q.loose.items × (q.spare + deque_len q.loose ≤ deque_capacity q.loose) × AreKnown q.groups.items (all_of (settled q.lines q.loose.items)) q.waiting.items (vec_capacity q.waiting) × AreTags q.groups.items q.waiting.items q.tags.items };
 }
 
 impl Queue {
@@ -73,10 +76,12 @@ impl Queue {
         let groups = all_groups(alloc, graph)?;
         let lines = Lines::new(alloc, 8 * groups.len())?;
         let waiting = Vec::with_capacity(alloc, 8 * groups.len())?;
+        let tags = no_tags(alloc, 8 * groups.len())?;
         let holders = Holders::new(alloc, 8 * groups.len())?;
         Ok(Queue {
             groups,
             waiting,
+            tags,
             holders,
             lines,
             loose: VecDeque::new(alloc),
@@ -118,6 +123,7 @@ impl Queue {
         self.spare -= 1;
         let unit = unit_of(self.groups.as_slice(), &event);
         lower(&mut self.waiting, unit, event.tag);
+        lower_tag(&mut self.tags, unit, event.tag);
         let line = line_number(event.actor, event.port);
         if !self.lines.push(line, event) {
             self.short = line;
@@ -132,7 +138,7 @@ impl Queue {
     pub fn least(&self, unit: Unit) -> Option<Tag>
         ensures { (g : Graph) → AreGroups g self.now.groups → IsLeastTag g (waiting_in self.now.events) unit result }
     {
-        tag_of(self.waiting.as_slice(), unit)
+        tag_in(self.tags.as_slice(), unit)
     }
 
     /// The units that have events, in rising order of actor and group, each with its least tag.
@@ -155,6 +161,7 @@ impl Queue {
         remove(&mut self.loose, table, unit, tag);
         let least = least_of_unit(table, &self.lines, &self.loose, unit);
         set(&mut self.waiting, unit, least);
+        set_tag(&mut self.tags, unit, least);
         inputs
     }
 
@@ -171,6 +178,7 @@ impl Queue {
         is_blocked(
             self.groups.as_slice(),
             self.waiting.as_slice(),
+            self.tags.as_slice(),
             &self.holders,
             unit,
             tag,

@@ -64,14 +64,6 @@ fn tag_at(listed: &[Waiting], place: usize, unit: Unit) -> Option<Tag>
     }
 }
 
-/// The tag of a unit, if it is listed.
-pub fn tag_of(listed: &[Waiting], unit: Unit) -> Option<Tag>
-    requires { IsRising listed.now }
-    ensures { result ≡ tag_of listed.now unit }
-{
-    tag_at(listed, place_of(listed, unit), unit)
-}
-
 /// Lists a unit at its place, with a tag. Allocates nothing.
 fn put(listed: &mut Vec<Waiting>, place: usize, unit: Unit, tag: Tag)
     requires rises { IsRising listed.old.items }
@@ -94,7 +86,7 @@ fn put(listed: &mut Vec<Waiting>, place: usize, unit: Unit, tag: Tag)
 }
 
 /// The lesser of a tag and the least tag so far.
-fn earlier(so_far: Option<Tag>, tag: Tag) -> Tag
+pub fn earlier(so_far: Option<Tag>, tag: Tag) -> Tag
     ensures { Some result ≡ sooner so_far tag }
 {
     match so_far {

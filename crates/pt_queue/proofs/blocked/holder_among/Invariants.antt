@@ -1,8 +1,8 @@
-use Rattle.std.proofs.Common.{◌≡◌, drop}
+use Rattle.std.proofs.Common.{◌≡◌, ◌-◌, false, length, drop}
 use Rattle.std.specs.List.{list_any}
 use Rattle.pt_causality.specs.Delays.{least_of}
 use Rattle.pt_queue.specs.Listed.{unit_holds_up}
 use Rattle.pt_queue.proofs.blocked.holder_among.Given as goal
 
-abbrev pub invariant-loop-other : goal.invariant-loop-other
-invariant-loop-other l = list_any (unit_holds_up l.table (least_of l.least) l.unit l.tag l.listed) (drop l.other-index l.others) ≡ list_any (unit_holds_up l.table (least_of l.least) l.unit l.tag l.listed) l.others
+abbrev pub invariant-loop-behind : goal.invariant-loop-behind
+invariant-loop-behind l = list_any (unit_holds_up l.table (least_of l.least) l.unit l.tag l.tags) (drop (length l.others - l.behind) l.others) ≡ false

@@ -1,10 +1,11 @@
-use Rattle.std.proofs.Common.{◌≡◌, ◌<◌, None, [], ◌∷◌, ◌++◌, vec_capacity, length, ap, ap₂, sym, subst, ◌∙◌, arith}
+use Rattle.std.proofs.Common.{◌≡◌, ◌<◌, None, [], ◌∷◌, ◌++◌, vec_capacity, if◌then◌else◌, length, ap, ap₂, sym, subst, ◌∙◌, arith}
 use Rattle.pt_semantics.specs.Meaning.{added}
+use Rattle.pt_semantics.specs.Units.{same_part}
 use Rattle.pt_queue.specs.Events.{waiting_in, value_in, IsPlaced, Queued}
 use Rattle.pt_queue.specs.Lines.{AreKept, all_of, joined_by, settled}
 use Rattle.pt_queue.specs.Listed.{AreKnown, FitsIn}
-use Rattle.pt_queue.specs.Scans.{unit_in}
-use Rattle.pt_queue.proofs.Changing.{known_fit, known_more}
+use Rattle.pt_queue.specs.Scans.{sooner, unit_in}
+use Rattle.pt_queue.proofs.Changing.{known_fit, known_more, roomy}
 use Rattle.pt_queue.proofs.Flat.{line_kept, loose_pushed, waits_joined, waits_loose}
 use Rattle.pt_queue.proofs.Following.{least_joined, least_loose}
 use Rattle.pt_queue.proofs.Known.{unit_fits}
@@ -36,6 +37,13 @@ lower-requires-clause-unit c =
     let placed : IsPlaced table c.args.event = record { actor = subst (λ (v : Queued). c.args.event.actor < length v.groups) (sym c.self.view_is) c.requires.actor; port = c.requires.port } in
     subst (FitsIn (vec_capacity c.self.inside.waiting)) (sym (c.unit_of-unit.ensures ∙ ap (λ gs. unit_in gs c.args.event) c.as_slice.ensures.value)) (unit_fits table c.args.event (vec_capacity c.self.inside.waiting) c.self.invariant.2.few c.self.invariant.2.room placed)
 
+pub lower_tag-requires : goal.lower_tag-requires
+lower_tag-requires c =
+    let table = c.self.inside.groups.items in
+    let placed : IsPlaced table c.args.event = record { actor = subst (λ (v : Queued). c.args.event.actor < length v.groups) (sym c.self.view_is) c.requires.actor; port = c.requires.port } in
+    let known = roomy table (all_of (settled c.self.inside.lines c.self.inside.loose.items)) c.self.inside.waiting.items c.self.inside.tags.items (vec_capacity c.self.inside.waiting) c.self.invariant.2 c.self.invariant.3 in
+    subst (FitsIn (length c.self.inside.tags.items)) (sym (c.unit_of-unit.ensures ∙ ap (λ gs. unit_in gs c.args.event) c.as_slice.ensures.value)) (unit_fits table c.args.event (length c.self.inside.tags.items) known.few known.room placed)
+
 pub invariant_of-self : goal.invariant_of-self
 invariant_of-self c =
     let table = c.self.inside.groups.items in
@@ -49,6 +57,10 @@ invariant_of-self c =
           (subst (λ es. AreKnown table (all_of (settled c.self.inside.lines es)) c.lower.new.listed.items (vec_capacity c.lower.new.listed)) (sym loose)
           (known_more table (all_of (settled c.self.inside.lines c.self.inside.loose.items)) (all_of (settled c.self.inside.lines (c.self.inside.loose.items ++ c.args.event ∷ []))) c.self.inside.waiting.items c.lower.new.listed.items (vec_capacity c.self.inside.waiting) (vec_capacity c.lower.new.listed) c.args.event c.unit_of-unit.result c.self.invariant.2 c.lower.ensures.rises unit c.lower.ensures.tags c.lower.ensures.capacity
           (least_loose table c.self.inside.lines c.self.inside.loose.items c.args.event c.self.invariant.0 placed))),
+      record {
+        room = c.lower_tag.ensures.len ∙ c.self.invariant.3.room;
+        same = λ x. c.lower_tag.ensures.tags x ∙ ap₂ (λ a b. if same_part c.unit_of-unit.result x then sooner a c.args.event.tag else b) (c.self.invariant.3.same c.unit_of-unit.result) (c.self.invariant.3.same x) ∙ sym (c.lower.ensures.tags x);
+      },
     )
 
 pub invariant_of-self-else-not-push : goal.invariant_of-self-else-not-push
@@ -63,4 +75,8 @@ invariant_of-self-else-not-push c =
       subst (λ ls. AreKnown table (all_of (settled ls c.self.inside.loose.items)) c.lower.new.listed.items (vec_capacity c.lower.new.listed)) (sym lines)
           (known_more table (all_of (settled c.self.inside.lines c.self.inside.loose.items)) (all_of (settled (joined_by c.self.inside.lines c.args.event) c.self.inside.loose.items)) c.self.inside.waiting.items c.lower.new.listed.items (vec_capacity c.self.inside.waiting) (vec_capacity c.lower.new.listed) c.args.event c.unit_of-unit.result c.self.invariant.2 c.lower.ensures.rises unit c.lower.ensures.tags c.lower.ensures.capacity
           (least_joined table c.self.inside.lines c.self.inside.loose.items c.args.event c.self.invariant.0 placed kept)),
+      record {
+        room = c.lower_tag.ensures.len ∙ c.self.invariant.3.room;
+        same = λ x. c.lower_tag.ensures.tags x ∙ ap₂ (λ a b. if same_part c.unit_of-unit.result x then sooner a c.args.event.tag else b) (c.self.invariant.3.same c.unit_of-unit.result) (c.self.invariant.3.same x) ∙ sym (c.lower.ensures.tags x);
+      },
     )

@@ -1,5 +1,9 @@
-use Rattle.std.proofs.Common.{◌≡◌, [], length, replicate, vec_capacity, ap, ap₂, ◌∙◌, ◌*◌, arith}
+use Rattle.std.proofs.Common.{◌≡◌, [], None, Option, length, replicate, vec_capacity, sym, ap, ap₂, ◌∙◌, ◌*◌, arith}
+use Rattle.std.proofs.lemmas.List.{length-replicate}
+use Rattle.pt_tags.specs.declared.tag.Tag.{Tag}
 use Rattle.pt_queue.specs.Lines.{all_of, settled}
+use Rattle.pt_queue.specs.Listed.{tag_in, tag_of}
+use Rattle.pt_queue.proofs.ByUnit.{no_tags}
 use Rattle.pt_queue.proofs.Changing.{none_kept, none_known}
 use Rattle.pt_queue.proofs.Views.{none_in}
 use Rattle.pt_queue.proofs.queue.Queue.new.Goals as goal
@@ -16,4 +20,8 @@ invariant_of-result c =
       none_kept table c.in_ok-lines.lines c.new-3.result.items (c.in_ok-lines.ensures ∙ ap (λ n. replicate (8 * n) []) len) c.new-3.ensures.items,
       omega (arith, c.new-3.ensures.len, c.new-3.result.ok),
       none_known c.args.graph.now table (all_of (settled c.in_ok-lines.lines c.new-3.result.items)) c.in_ok-waiting.waiting.items (vec_capacity c.in_ok-waiting.waiting) c.requires.lawful c.in_ok-groups.ensures none c.in_ok-waiting.ensures.items (omega (arith, len_2, c.in_ok-waiting.ensures.exact)),
+      record {
+        room = ap length c.in_ok-tags.ensures ∙ length-replicate {A = Option Tag} (8 * c.len-3.result) None ∙ ap (λ n. 8 * n) (c.len-3.ensures ∙ c.in_ok-groups.groups.ok.0);
+        same = λ u. ap (λ ts. tag_in ts u) c.in_ok-tags.ensures ∙ no_tags (8 * c.len-3.result) u ∙ sym (ap (λ ws. tag_of ws u) c.in_ok-waiting.ensures.items);
+      },
     )

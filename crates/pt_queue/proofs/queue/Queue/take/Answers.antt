@@ -1,13 +1,13 @@
-use Rattle.std.proofs.Common.{◌≡◌, ◌++◌, ◌==◌, None, vec_capacity, map, filter, not, ap, ap₂, ◌∙◌, subst, sym, arith}
+use Rattle.std.proofs.Common.{◌≡◌, ◌++◌, ◌==◌, None, vec_capacity, map, filter, not, if◌then◌else◌, length, ap, ap₂, ◌∙◌, subst, sym, arith}
 use Rattle.pt_types.specs.Ports.{eight, when}
 use Rattle.pt_types.specs.declared.firing.Event.{Event}
 use Rattle.pt_semantics.specs.Claiming.{without_unit}
-use Rattle.pt_semantics.specs.Units.{unit_inputs}
+use Rattle.pt_semantics.specs.Units.{same_part, unit_inputs}
 use Rattle.pt_queue.specs.Groups.{AreGroups, group_in}
 use Rattle.pt_queue.specs.Events.{waiting_in, Queued}
 use Rattle.pt_queue.specs.Lines.{AreInLines, all_of, settled}
 use Rattle.pt_queue.specs.Scans.{is_at, least_from}
-use Rattle.pt_queue.proofs.Changing.{known_fit, left_fits, left_kept, left_known}
+use Rattle.pt_queue.proofs.Changing.{known_fit, left_fits, left_kept, left_known, roomy}
 use Rattle.pt_queue.proofs.Views.{inputs_whole, removed_waits, view_waits}
 use Rattle.pt_queue.proofs.queue.Queue.take.Goals as goal
 
@@ -31,6 +31,16 @@ set-requires-clause-unit c =
     let least : c.least_of_unit-least.result ≡ least_from table c.args.unit None (all_of c.remove_from_lines.new.lines ++ c.remove.new.events.items) = c.least_of_unit-least.ensures ∙ ap (λ gs. least_from gs c.args.unit None (all_of c.remove_from_lines.new.lines ++ c.remove.new.events.items)) c.as_slice-table.ensures.value in
     left_fits table c.args.unit c.args.tag c.self.inside.lines c.remove_from_lines.new.lines c.self.inside.loose.items c.remove.new.events.items c.self.invariant.0 lines loose c.self.inside.waiting.items (vec_capacity c.self.inside.waiting) c.least_of_unit-least.result c.self.invariant.2 least
 
+pub set_tag-requires : goal.set_tag-requires
+set_tag-requires c =
+    let table = c.self.inside.groups.items in
+    let keep = λ (e : Event). not (is_at table c.args.unit c.args.tag e) in
+    let lines : c.remove_from_lines.new.lines ≡ map (filter keep) c.self.inside.lines = c.remove_from_lines.ensures ∙ ap (λ gs. map (filter (λ (e : Event). not (is_at gs c.args.unit c.args.tag e))) c.self.inside.lines) c.as_slice-table.ensures.value in
+    let loose : c.remove.new.events.items ≡ filter keep c.self.inside.loose.items = c.remove.ensures.left ∙ ap (λ gs. filter (λ (e : Event). not (is_at gs c.args.unit c.args.tag e)) c.self.inside.loose.items) c.as_slice-table.ensures.value in
+    let least : c.least_of_unit-least.result ≡ least_from table c.args.unit None (all_of c.remove_from_lines.new.lines ++ c.remove.new.events.items) = c.least_of_unit-least.ensures ∙ ap (λ gs. least_from gs c.args.unit None (all_of c.remove_from_lines.new.lines ++ c.remove.new.events.items)) c.as_slice-table.ensures.value in
+    left_fits table c.args.unit c.args.tag c.self.inside.lines c.remove_from_lines.new.lines c.self.inside.loose.items c.remove.new.events.items c.self.invariant.0 lines loose c.self.inside.waiting.items (length c.self.inside.tags.items) c.least_of_unit-least.result
+    (roomy table (all_of (settled c.self.inside.lines c.self.inside.loose.items)) c.self.inside.waiting.items c.self.inside.tags.items (vec_capacity c.self.inside.waiting) c.self.invariant.2 c.self.invariant.3) least
+
 pub invariant_of-self : goal.invariant_of-self
 invariant_of-self c =
     let table = c.self.inside.groups.items in
@@ -42,6 +52,10 @@ invariant_of-self c =
       omega (arith, c.remove.ensures.len, c.remove.ensures.capacity, c.self.invariant.1),
       left_known table c.args.unit c.args.tag c.self.inside.lines c.remove_from_lines.new.lines c.self.inside.loose.items c.remove.new.events.items c.self.invariant.0 lines loose
           c.self.inside.waiting.items c.set.new.listed.items (vec_capacity c.self.inside.waiting) (vec_capacity c.set.new.listed) c.least_of_unit-least.result c.self.invariant.2 c.set.ensures.rises least c.set.ensures.tags c.set.ensures.capacity,
+      record {
+        room = c.set_tag.ensures.len ∙ c.self.invariant.3.room;
+        same = λ x. c.set_tag.ensures.tags x ∙ ap (λ o. if same_part c.args.unit x then c.least_of_unit-least.result else o) (c.self.invariant.3.same x) ∙ sym (c.set.ensures.tags x);
+      },
     )
 
 pub returns-clause-inputs : goal.returns-clause-inputs
