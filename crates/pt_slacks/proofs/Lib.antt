@@ -1,0 +1,13 @@
+pub mod Admitting
+pub mod Answering
+pub mod Changed
+pub mod Circles
+pub mod Concluding
+pub mod Costs
+pub mod Entries
+pub mod Most
+pub mod Pushes
+pub mod Rounds
+pub mod Settling
+pub mod Turning
+pub mod Walking

@@ -1,0 +1,23 @@
+//! Slacks, and why a graph has none with which it can run.
+
+use pt_tags::List;
+
+/// The slack of a sender or an actuator.
+#[derive(Clone, Copy, Debug, PartialEq, Eq)]
+pub struct Slack {
+    /// The number of the actor in the graph, from 0.
+    pub actor: u32,
+    /// In microseconds.
+    pub slack: u64,
+}
+
+/// Why there are no least slacks.
+#[derive(Drop)]
+pub enum SlackFault {
+    /// Memory ran out.
+    Memory,
+    /// However great the slacks are, one of these senders can't send in time: from each to the next, and from the last to
+    /// the first, the slack that is needed grows, by `gain` microseconds in all. Senders are named by their numbers in the
+    /// graph, from 0; the first has the least number.
+    Ring { sends: List<u32>, gain: u64 },
+}
