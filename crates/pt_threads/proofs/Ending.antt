@@ -1,5 +1,5 @@
 -- What a run is known to be, from its stations at its end.
-use Rattle.std.proofs.Common.{◌≡◌, ℕ, ◌<◌, ◌≤◌, ◌==◌, true, false, List, [], ◌∷◌, ◌++◌, None, Some, Option, length, get_or, map, refl, sym, ap, subst, ◌∙◌, ⊎_elim, arith, eqb-true, cond}
+use Rattle.std.proofs.Common.{◌≡◌, ℕ, ◌<◌, ◌==◌, true, false, List, [], ◌∷◌, None, Some, Option, length, get_or, map, refl, sym, ap, subst, ◌∙◌, ⊎_elim, arith, eqb-true, cond}
 use Rattle.std.proofs.Math.Path.{fun_ext}
 use Rattle.std.specs.Prelude.{IfSome, option_map, slice_get, slice_index_or, unwrap_or}
 use Rattle.std.proofs.lemmas.Bool.{cases_Bool, cond-false}
@@ -19,7 +19,7 @@ use Rattle.pt_causality.specs.Ranked.{level_of}
 use Rattle.pt_offsets.specs.Plans.{IsAdmitted, Parts}
 use Rattle.pt_turn.specs.declared.fault.TurnFault.{TurnFault}
 use Rattle.pt_turn.specs.All.{AreAll, AreReady, histories_of}
-use Rattle.pt_turn.specs.Platforms.{PlatformView, level_at, rows_at, state_at}
+use Rattle.pt_turn.specs.Platforms.{PlatformView, rows_at, state_at}
 use Rattle.pt_turn.specs.Running.{Shows}
 use Rattle.pt_fixed_order.proofs.Whole.{linked_if_finished}
 use Rattle.pt_together.specs.Asked.{AreLegal}

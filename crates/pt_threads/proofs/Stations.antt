@@ -1,9 +1,9 @@
 -- The station of one platform.
-use Rattle.std.proofs.Common.{◌≡◌, ℕ, ◌+◌, ◌<◌, ◌≤◌, ◌^◌, List, [], ◌∷◌, ◌++◌, None, Some, Option, false, length, get_or, map, refl, sym, ap, subst, ◌∙◌, arith, append_assoc, add-one}
+use Rattle.std.proofs.Common.{◌≡◌, ℕ, ◌+◌, ◌<◌, List, [], ◌∷◌, ◌++◌, None, Some, Option, false, length, get_or, map, refl, sym, ap, subst, ◌∙◌, arith, append_assoc, add-one}
 use mathlib.Core.List.{reverse, reverse-append}
-use Rattle.std.specs.Prelude.{option_map, slice_get}
+use Rattle.std.specs.Prelude.{slice_get}
 use Rattle.std.proofs.lemmas.Option.{slice_get_within}
-use Rattle.pt_io.specs.Told.{AreAsAhead, HandedOut}
+use Rattle.pt_io.specs.Told.{AreAsAhead}
 use Rattle.pt_io.proofs.Stepping.{none_handed}
 use Rattle.pt_types.specs.declared.graph.Graph.{Graph}
 use Rattle.pt_types.specs.declared.graph.Link.{Link}

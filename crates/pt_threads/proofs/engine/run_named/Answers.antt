@@ -1,4 +1,4 @@
-use Rattle.std.proofs.Common.{◌≡◌, ◌≤◌, ◌∙◌, length, sym, ap, subst}
+use Rattle.std.proofs.Common.{◌≤◌, ◌∙◌, length, sym, ap, subst}
 use Rattle.std.specs.Arc.{arc_value}
 use Rattle.pt_io.specs.Told.{tell}
 use Rattle.pt_types.specs.declared.graph.Graph.{Graph}

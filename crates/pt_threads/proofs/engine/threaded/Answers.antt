@@ -1,4 +1,4 @@
-use Rattle.std.proofs.Common.{◌≡◌, rules}
+use Rattle.std.proofs.Common.{rules}
 use Rattle.std.specs.Arc.{arc_value}
 use Rattle.pt_threads.proofs.Naming.{ready_named}
 use Rattle.pt_threads.proofs.engine.threaded.Goals as goal

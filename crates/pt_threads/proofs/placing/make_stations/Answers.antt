@@ -1,6 +1,5 @@
-use Rattle.std.proofs.Common.{◌≡◌, ◌+◌, ◌<◌, ◌∷◌, ◌++◌, [], List, Some, length, vec_len, refl, sym, ap, subst, ◌∙◌, append-nil, arith}
+use Rattle.std.proofs.Common.{◌≡◌, ◌<◌, ◌∷◌, ◌++◌, [], List, length, vec_len, refl, sym, ap, subst, ◌∙◌, append-nil, arith}
 use mathlib.Core.List.{reverse}
-use Rattle.pt_io.specs.Told.{ClockView}
 use Rattle.pt_types.specs.declared.graph.Graph.{Graph}
 use Rattle.pt_pool.specs.Ends.{leaves, reaches}
 use Rattle.pt_pool.specs.Station.{StationView}

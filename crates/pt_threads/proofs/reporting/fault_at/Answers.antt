@@ -1,7 +1,7 @@
-use Rattle.std.proofs.Common.{get_or, subst, sym, Some}
+use Rattle.std.proofs.Common.{get_or, subst}
 use Rattle.std.proofs.lemmas.Option.{slice_get-get_or}
 use Rattle.pt_turn.specs.Platforms.{PlatformView}
-use Rattle.pt_threads.specs.Reported.{IsFaultOf, IsPlace, IsReported}
+use Rattle.pt_threads.specs.Reported.{IsFaultOf, IsPlace}
 use Rattle.pt_threads.proofs.reporting.fault_at.Goals as goal
 
 pub returns-in-Some : goal.returns-in-Some
