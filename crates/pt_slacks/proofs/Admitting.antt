@@ -1,5 +1,5 @@
 -- The slacks that are needed are those with which each sender can send in time.
-use Rattle.std.proofs.Common.{◌≡◌, ℕ, ℤ, zero, suc, ◌+◌, ◌-◌, ◌<◌, ◌≤◌, true, false, List, [], ◌∷◌, Option, Some, None, length, get_or, map, refl, sym, ap, ap₂, subst, ◌∙◌, arith, ◌⊎◌, inl, inr, ⊎_elim, slice_get}
+use Rattle.std.proofs.Common.{◌≡◌, ℕ, ◌+◌, ◌<◌, ◌≤◌, List, Option, Some, None, length, get_or, map, refl, sym, ap, subst, ◌∙◌, arith, ◌⊎◌, ⊎_elim, slice_get}
 use Rattle.std.proofs.lemmas.Bool.{cases_lt}
 use Rattle.std.proofs.lemmas.Option.{slice_get-get_or, slice_get_within}
 use Rattle.pt_tags.specs.declared.tag.Delay.{Delay}
@@ -17,17 +17,17 @@ use Rattle.pt_semantics.specs.Edges.{Edge}
 use Rattle.pt_semantics.specs.Paths.{Goes}
 use Rattle.pt_semantics.specs.Ranks.{sum_along}
 use Rattle.pt_semantics.specs.Units.{at_output}
-use Rattle.pt_semantics.proofs.Lookups.{none_some, same_some}
+use Rattle.pt_semantics.proofs.Lookups.{same_some}
 use Rattle.pt_causality.specs.Delays.{AreLeast, HasLeast, IsUnit}
 use Rattle.pt_offsets.specs.Margins.{unit_at}
 use Rattle.pt_offsets.proofs.Small.{past_kind, some_group}
 use Rattle.pt_offsets.proofs.Sources.{first_unit}
 use Rattle.pt_slacks.specs.declared.hop.Hop.{Hop}
 use Rattle.pt_slacks.specs.Hops.{cost_of, hop_at, hop_of}
-use Rattle.pt_slacks.specs.Needs.{IsBase, IsMost, IsNeed, IsRaised, by_hop, by_kind, by_sensor, needed_by}
+use Rattle.pt_slacks.specs.Needs.{by_hop, by_kind, by_sensor, needed_by}
 use Rattle.pt_slacks.specs.Rows.{IsEnough}
 use Rattle.pt_slacks.specs.Slacks.{Admits, with_slack, with_slacks}
-use Rattle.pt_slacks.proofs.Changed.{FromLink, bound_link, bound_sensor, goes_from, goes_to, kind_with, output_with, source_of}
+use Rattle.pt_slacks.proofs.Changed.{bound_link, bound_sensor, goes_from, goes_to, kind_with, output_with}
 use Rattle.pt_slacks.proofs.Costs.{hop_is, hops_len, no_link}
 
 pub not_send : (own : ℕ) → Receive ≡ Send own → ⊥

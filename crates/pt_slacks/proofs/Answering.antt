@@ -1,12 +1,10 @@
 -- The needs of all senders and actuators are the least slacks of the graph.
-use Rattle.std.proofs.Common.{◌≡◌, ℕ, ℤ, pos, negsuc, zero, suc, ◌+◌, ◌-◌, ◌<◌, ◌≤◌, ◌+ℤ◌, ◌-ℤ◌, ◌≤ℤ◌, List, [], ◌∷◌, Option, Some, None, length, map, refl, sym, ap, subst, ◌∙◌, arith, ◌⊎◌, inl, inr, ⊎_elim}
+use Rattle.std.proofs.Common.{◌≡◌, ℕ, ℤ, pos, negsuc, ◌+◌, ◌<◌, ◌≤◌, ◌+ℤ◌, ◌-ℤ◌, ◌≤ℤ◌, List, Option, Some, None, length, map, refl, sym, ap, subst, ◌∙◌, arith, ◌⊎◌, inl, inr, ⊎_elim}
 use Rattle.std.proofs.lemmas.Int.{ints}
 use Rattle.pt_tags.specs.declared.tag.Delay.{Delay}
 use Rattle.pt_types.specs.declared.graph.Graph.{Graph}
-use Rattle.pt_types.specs.declared.graph.Link.{Link}
 use Rattle.pt_types.specs.declared.graph.Unit.{Unit as Part}
-use Rattle.pt_types.specs.declared.kind.Kind.{Kind}
-use Rattle.pt_types.specs.declared.kind.Kind.TheVariants.{Actuator, Receive, Send, Sensor}
+use Rattle.pt_types.specs.declared.kind.Kind.TheVariants.{Send, Sensor}
 use Rattle.pt_types.specs.Lawful.{IsLawful}
 use Rattle.pt_types.specs.Lookups.{kind_of}
 use Rattle.pt_types.proofs.LawfulLinks.{link_at}
@@ -16,18 +14,15 @@ use Rattle.pt_semantics.specs.Offsets.{HasOffset}
 use Rattle.pt_semantics.specs.Paced.{at_least_zero}
 use Rattle.pt_semantics.specs.Paths.{Goes}
 use Rattle.pt_semantics.specs.Ranks.{sum_along}
-use Rattle.pt_semantics.specs.Units.{at_input, at_output}
 use Rattle.pt_causality.specs.Delays.{AreLeast}
 use Rattle.pt_offsets.specs.Margins.{unit_at}
 use Rattle.pt_offsets.proofs.Sources.{first_unit}
 use Rattle.pt_slacks.specs.declared.hop.Hop.{Hop}
 use Rattle.pt_slacks.specs.Hops.{cost_of, hop_at, hop_of}
-use Rattle.pt_slacks.specs.Needs.{IsBase, IsMost, IsNeed, IsRaised, by_hop, by_kind, by_sensor, needed_by}
-use Rattle.pt_slacks.specs.Rows.{IsEnough, IsLeastRow}
-use Rattle.pt_slacks.specs.Slacks.{Admits, AreLeastSlacks, slack_for, with_slack, with_slacks}
-use Rattle.pt_slacks.proofs.Admitting.{HopOf, admits_enough, admits_path, along, below_of, by_hop_is, by_sensor_is, feeds_by, hop_of_link, link_hop, needs_path, not_send, not_sensor, path_in, send_before, sensor_some, zero_or}
-use Rattle.pt_slacks.proofs.Changed.{FromLink, bound_link, bound_sensor, input_with, kind_with, output_with, source_of}
-use Rattle.pt_slacks.proofs.Rounds.{hop_more, up_to}
+use Rattle.pt_slacks.specs.Needs.{IsNeed, by_hop, by_sensor, needed_by}
+use Rattle.pt_slacks.specs.Slacks.{Admits, slack_for, with_slacks}
+use Rattle.pt_slacks.proofs.Admitting.{admits_path, along, below_of, by_hop_is, by_sensor_is, feeds_by, hop_of_link, link_hop, needs_path, not_send, not_sensor, path_in, send_before, sensor_some, zero_or}
+use Rattle.pt_slacks.proofs.Changed.{FromLink, bound_link, bound_sensor, kind_with, output_with, source_of}
 
 pub at_zero : (z : ℤ) → z ≤ℤ pos 0 → at_least_zero z ≡ 0
 at_zero (pos n) h = omega (arith, ints, h)

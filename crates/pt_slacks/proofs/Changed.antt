@@ -1,5 +1,5 @@
 -- A graph with other slacks has the same paths, and the same bounds but at receivers.
-use Rattle.std.proofs.Common.{◌≡◌, ℕ, ℤ, zero, suc, ◌+◌, ◌-◌, ◌<◌, ◌≤◌, ◌==◌, Bool, true, false, List, [], ◌∷◌, Option, Some, None, length, get_or, map, refl, sym, ap, ap₂, subst, ◌∙◌, arith, ◌⊎◌, inl, inr, ⊎_elim, slice_get}
+use Rattle.std.proofs.Common.{◌≡◌, ℕ, zero, suc, ◌+◌, ◌==◌, true, false, List, [], ◌∷◌, Option, Some, None, get_or, map, refl, sym, ap, ap₂, subst, ◌∙◌, arith, ◌⊎◌, inl, inr, ⊎_elim, slice_get}
 use Rattle.std.proofs.lemmas.Bool.{cases_Bool, eqb-true, eq-eqb}
 use Rattle.pt_tags.specs.declared.tag.Delay.{Delay}
 use Rattle.pt_types.specs.declared.graph.Graph.{Graph}
@@ -13,12 +13,12 @@ use Rattle.pt_types.specs.Groups.{input_group, no_actor, output_group}
 use Rattle.pt_types.specs.Lawful.{IsLawful}
 use Rattle.pt_types.specs.Lookups.{kind_of, platform_of, slack_of}
 use Rattle.pt_types.specs.Ports.{when}
-use Rattle.pt_types.proofs.LawfulLinks.{IsLink, link_at, links_once}
-use Rattle.pt_semantics.specs.Bounds.{Feeds, bound_by, bound_of, error_of, link_bound}
+use Rattle.pt_types.proofs.LawfulLinks.{link_at, links_once}
+use Rattle.pt_semantics.specs.Bounds.{bound_by, bound_of, error_of, link_bound}
 use Rattle.pt_semantics.specs.Edges.{Edge, of_wire, weight, wires}
-use Rattle.pt_semantics.specs.Lists.{IsIn, first_of}
+use Rattle.pt_semantics.specs.Lists.{IsIn}
 use Rattle.pt_semantics.specs.Paths.{Goes}
-use Rattle.pt_semantics.specs.Units.{at_input, at_output, source, target}
+use Rattle.pt_semantics.specs.Units.{at_input, at_output, target}
 use Rattle.pt_semantics.proofs.Lookups.{first_of_at, first_of_found, none_some, same_some, when_found}
 use Rattle.pt_semantics.proofs.Words.{when-false}
 use Rattle.pt_offsets.specs.Margins.{unit_at}

@@ -1,5 +1,5 @@
 -- Rings of senders: what they gain, and where they begin.
-use Rattle.std.proofs.Common.{◌≡◌, ℕ, ℤ, pos, zero, suc, ◌+◌, ◌-◌, ◌<◌, ◌≤◌, ◌+ℤ◌, ◌-ℤ◌, ◌==◌, ◌≢◌, Bool, true, false, not, List, [], ◌∷◌, ◌++◌, Option, Some, None, length, map, slice_index, slice_get, if◌then◌else◌, refl, sym, ap, subst, ◌∙◌, arith, ◌⊎◌, inl, inr, ⊎_elim}
+use Rattle.std.proofs.Common.{◌≡◌, ℕ, ℤ, pos, ◌+◌, ◌-◌, ◌<◌, ◌+ℤ◌, ◌-ℤ◌, ◌==◌, true, false, not, List, [], ◌∷◌, ◌++◌, Option, Some, None, length, map, slice_index, if◌then◌else◌, refl, sym, ap, subst, ◌∙◌, arith, ⊎_elim}
 use Rattle.std.specs.List.{take_while}
 use Rattle.std.proofs.lemmas.Bool.{cases_Bool, eqb-false, eqb-true}
 use Rattle.std.proofs.lemmas.Int.{ints}
@@ -7,7 +7,6 @@ use Rattle.std.proofs.lemmas.List.{append-nil}
 use Rattle.std.proofs.lemmas.List.Sums.{take_while-cons}
 use Rattle.pt_tags.specs.declared.tag.Delay.{Delay}
 use Rattle.pt_types.specs.declared.graph.Graph.{Graph}
-use Rattle.pt_types.specs.declared.graph.Link.{Link}
 use Rattle.pt_types.specs.declared.graph.Unit.{Unit as Part}
 use Rattle.pt_types.specs.Lawful.{IsLawful}
 use Rattle.pt_types.specs.Lookups.{kind_of}
@@ -21,7 +20,7 @@ use Rattle.pt_slacks.specs.Needs.{by_hop, needed_by}
 use Rattle.pt_slacks.specs.Rings.{Gains, GainsAlong}
 use Rattle.pt_slacks.specs.Rows.{HasRisen, row_at}
 use Rattle.pt_slacks.specs.Trails.{Raises, Trails}
-use Rattle.pt_slacks.proofs.Admitting.{HopOf, by_hop_is, has_least, hop_of_link}
+use Rattle.pt_slacks.proofs.Admitting.{by_hop_is, has_least, hop_of_link}
 
 -- a sum of gains from each of these to the next, and from the last to the first
 abbrev pub Round : Graph → List ℕ → ℤ → Type 0

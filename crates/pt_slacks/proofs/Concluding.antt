@@ -1,9 +1,8 @@
 -- The needs by the least row are the least slacks.
-use Rattle.std.proofs.Common.{◌≡◌, ℕ, ◌+◌, ◌<◌, ◌≤◌, List, Option, length, map, slice_index, refl, sym, ap, subst, ◌∙◌, arith, ◌⊎◌, inl, inr, ⊎_elim}
+use Rattle.std.proofs.Common.{◌≡◌, ℕ, ◌<◌, ◌≤◌, List, Option, length, map, slice_index, sym, ap, subst, ◌∙◌, arith, ⊎_elim}
 use Rattle.pt_tags.specs.declared.tag.Delay.{Delay}
 use Rattle.pt_types.specs.declared.graph.Graph.{Graph}
 use Rattle.pt_types.specs.declared.graph.Unit.{Unit as Part}
-use Rattle.pt_types.specs.declared.kind.Kind.{Kind}
 use Rattle.pt_types.specs.declared.kind.Kind.TheVariants.{Actuator, Receive, Send}
 use Rattle.pt_types.specs.Groups.{input_group}
 use Rattle.pt_types.specs.Lawful.{IsLawful}
@@ -15,8 +14,8 @@ use Rattle.pt_slacks.specs.declared.hop.Hop.{Hop}
 use Rattle.pt_slacks.specs.Hops.{hop_at, hop_of}
 use Rattle.pt_slacks.specs.Needs.{AreNeeds, HasSlack, IsNeed, by_hop, by_sensor}
 use Rattle.pt_slacks.specs.Rows.{IsEnough, IsLeastRow}
-use Rattle.pt_slacks.specs.Slacks.{Admits, AreLeastSlacks, with_slacks}
-use Rattle.pt_slacks.proofs.Admitting.{HopOf, admits_enough, below_of, hop_of_link, not_send}
+use Rattle.pt_slacks.specs.Slacks.{AreLeastSlacks, with_slacks}
+use Rattle.pt_slacks.proofs.Admitting.{admits_enough, below_of, hop_of_link, not_send}
 use Rattle.pt_slacks.proofs.Answering.{need_asks, need_least, needs_admit}
 use Rattle.pt_slacks.proofs.Rounds.{hop_more, up_to}
 

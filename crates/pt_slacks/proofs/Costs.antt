@@ -6,7 +6,7 @@ use Rattle.pt_types.specs.declared.graph.Graph.{Graph}
 use Rattle.pt_types.specs.declared.graph.Link.{Link}
 use Rattle.pt_types.specs.Lawful.{IsLawful}
 use Rattle.pt_types.specs.Lookups.{kind_of, slack_of, platform_of}
-use Rattle.pt_semantics.specs.Bounds.{error_of, link_bound}
+use Rattle.pt_semantics.specs.Bounds.{error_of}
 use Rattle.pt_semantics.specs.Lists.{IsIn}
 use Rattle.pt_offsets.proofs.Small.{in_get, link_bound_small}
 use Rattle.pt_slacks.specs.declared.hop.Hop.{Hop}

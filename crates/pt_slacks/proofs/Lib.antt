@@ -7,6 +7,7 @@ pub mod Costs
 pub mod Entries
 pub mod Most
 pub mod Pushes
+pub mod Refusing
 pub mod Rounds
 pub mod Settling
 pub mod Turning

@@ -5,9 +5,6 @@ use Rattle.std.proofs.Math.Nat.{le-max_left, le-max_right}
 use Rattle.pt_slacks.specs.Needs.{IsMost}
 use Rattle.pt_offsets.proofs.Maxima.{last_or_before}
 
-pub most_none : (start : ℕ) (f : ℕ → ℕ) → IsMost start 0 f start
-most_none start f = record { from = omega arith; each = λ k h. absurd (omega arith); some = inl refl }
-
 max_is : (x y : ℕ) → (max x y ≡ x) ⊎ (max x y ≡ y)
 max_is x y = grind arith
 

@@ -1,5 +1,5 @@
 -- Rounds raise slacks to the least ones that are enough.
-use Rattle.std.proofs.Common.{◌≡◌, ℕ, zero, suc, ◌+◌, ◌-◌, ◌*◌, ◌<◌, ◌≤◌, ◌^◌, true, List, [], ◌∷◌, Option, Some, None, length, get_or, slice_index, refl, sym, ap, subst, ◌∙◌, arith, ◌⊎◌, inl, inr, ⊎_elim, leb-true}
+use Rattle.std.proofs.Common.{◌≡◌, ℕ, zero, suc, ◌+◌, ◌*◌, ◌<◌, ◌≤◌, ◌^◌, true, List, Option, Some, None, length, slice_index, subst, arith, ⊎_elim, leb-true}
 use Rattle.std.proofs.lemmas.Bool.{and_parts}
 use Rattle.pt_tags.specs.declared.tag.Delay.{Delay}
 use Rattle.pt_types.specs.declared.graph.Graph.{Graph}
@@ -14,8 +14,8 @@ use Rattle.pt_types.proofs.LawfulActors.{any_kind}
 use Rattle.pt_offsets.specs.Margins.{unit_at}
 use Rattle.pt_slacks.specs.declared.hop.Hop.{Hop}
 use Rattle.pt_slacks.specs.Hops.{hop_at}
-use Rattle.pt_slacks.specs.Needs.{IsBase, IsMost, IsRaised, by_hop, by_kind, by_sensor, needed_by}
-use Rattle.pt_slacks.specs.Rows.{AreBases, AreRows, HasRisen, IsEnough, IsLeastRow, IsNext, row_at}
+use Rattle.pt_slacks.specs.Needs.{IsBase, IsRaised, by_hop, by_kind, by_sensor, needed_by}
+use Rattle.pt_slacks.specs.Rows.{AreRows, IsEnough, IsLeastRow, IsNext, row_at}
 
 pub up_to : (x y z : ℕ) → x ≤ y → y ≤ z → x ≤ z
 up_to x y z h k = omega arith

@@ -1,6 +1,5 @@
 -- Different numbers, and a ring that is begun at its least number.
-use Rattle.std.proofs.Common.{◌≡◌, ℕ, ℤ, pos, zero, suc, ◌+◌, ◌<◌, ◌≤◌, ◌≢◌, List, [], ◌∷◌, ◌++◌, Option, length, get_or, map, take, drop, nat_lt, refl, sym, ap, subst, ◌∙◌, arith, ◌⊎◌, inl, inr, ⊎_elim}
-use Rattle.std.specs.List.{IsFirstBest}
+use Rattle.std.proofs.Common.{◌≡◌, ℕ, pos, suc, ◌+◌, ◌<◌, ◌≤◌, ◌≢◌, List, [], ◌∷◌, ◌++◌, length, get_or, take, drop, refl, sym, ap, subst, ◌∙◌, arith, inl, inr, ⊎_elim}
 use Rattle.std.proofs.lemmas.Bool.{ltb-false}
 use Rattle.std.proofs.lemmas.List.{drop_more, take-append-drop}
 use Rattle.pt_types.specs.declared.graph.Graph.{Graph}
@@ -8,7 +7,7 @@ use Rattle.pt_semantics.specs.Lists.{Each, IsIn}
 use Rattle.pt_semantics.proofs.Lookups.{Each-append, Each-from, Each-in, IsIn-append, IsIn-append_left, IsIn-append_right}
 use Rattle.pt_causality.specs.Ranking.{Apart}
 use Rattle.pt_causality.specs.Rings.{IsTurned}
-use Rattle.pt_slacks.specs.Rings.{GainsAlong, IsRing}
+use Rattle.pt_slacks.specs.Rings.{IsRing}
 use Rattle.pt_slacks.proofs.Circles.{Round, rotate}
 
 apart_join : (xs ys : List ℕ) → Apart xs → Apart ys → ((x y : ℕ) → IsIn x xs → IsIn y ys → x ≢ y) → Apart (xs ++ ys)

@@ -1,5 +1,5 @@
 -- The walk back along the senders that raised one another.
-use Rattle.std.proofs.Common.{◌≡◌, ℕ, ℤ, pos, zero, suc, ◌+◌, ◌-◌, ◌+ℤ◌, ◌-ℤ◌, ◌<◌, ◌≤◌, ◌^◌, ◌==◌, ◌≢◌, ◌||◌, Bool, true, false, not, eqb, List, [], ◌∷◌, ◌++◌, Option, Some, None, length, map, reverse, slice_index, slice_get, refl, sym, ap, subst, ◌∙◌, arith, ◌⊎◌, inl, inr, ⊎_elim}
+use Rattle.std.proofs.Common.{◌≡◌, ℕ, pos, zero, suc, ◌+◌, ◌-◌, ◌-ℤ◌, ◌<◌, ◌≤◌, ◌==◌, ◌≢◌, ◌||◌, Bool, true, false, not, eqb, List, [], ◌∷◌, ◌++◌, Option, length, map, reverse, slice_index, refl, sym, ap, subst, ◌∙◌, arith, ◌⊎◌, inl, inr, ⊎_elim}
 use Rattle.std.specs.List.{AllByRecursion, IsDistinct, list_any, take_while}
 use Rattle.std.proofs.lemmas.Bool.{cases_Bool, eqb-false, eqb-true, false≢true}
 use Rattle.std.proofs.lemmas.Int.{ints}
@@ -7,7 +7,6 @@ use Rattle.std.proofs.lemmas.List.{map-append, reverse-append, length-append, le
 use Rattle.std.proofs.lemmas.Map.Steps.{length-le_from_distinct_below}
 use Rattle.pt_tags.specs.declared.tag.Delay.{Delay}
 use Rattle.pt_types.specs.declared.graph.Graph.{Graph}
-use Rattle.pt_types.specs.declared.graph.Link.{Link}
 use Rattle.pt_types.specs.declared.graph.Unit.{Unit as Part}
 use Rattle.pt_types.specs.Lawful.{IsLawful}
 use Rattle.pt_types.proofs.LawfulLinks.{links_once_out}
@@ -19,11 +18,11 @@ use Rattle.pt_slacks.specs.declared.hop.Hop.{Hop}
 use Rattle.pt_slacks.specs.Hops.{hop_at, hop_of}
 use Rattle.pt_slacks.specs.Needs.{by_hop}
 use Rattle.pt_slacks.specs.Rings.{GainsAlong, IsRing}
-use Rattle.pt_slacks.specs.Rows.{AreRows, HasRisen, IsNext, row_at}
+use Rattle.pt_slacks.specs.Rows.{AreRows, HasRisen, row_at}
 use Rattle.pt_slacks.specs.Trails.{IsClosing, IsTrail, IsWalk, Raises, Trails}
-use Rattle.pt_slacks.proofs.Admitting.{HopOf, hop_of_link}
-use Rattle.pt_slacks.proofs.Circles.{AlongTo, Round, along_to, rotate}
-use Rattle.pt_slacks.proofs.Rounds.{hop_more, rows_rise, up_to}
+use Rattle.pt_slacks.proofs.Admitting.{hop_of_link}
+use Rattle.pt_slacks.proofs.Circles.{Round, along_to, rotate}
+use Rattle.pt_slacks.proofs.Rounds.{hop_more, rows_rise}
 use Rattle.pt_slacks.proofs.Turning.{apart_left, turned_ring}
 
 all_apart : (a : ℕ) (xs : List ℕ) → Each (λ y. a ≢ y) xs → AllByRecursion (λ y. eqb a y ≡ false) xs

@@ -1,5 +1,5 @@
 -- Links with what each adds to the slack of its sender.
-use Rattle.std.specs.Prelude.{◌+◌, ◌≡◌, ℕ, List, map, slice_index_or}
+use Rattle.std.specs.Prelude.{◌+◌, ℕ, List, slice_index_or}
 use Rattle.pt_types.specs.declared.graph.Graph.{Graph}
 use Rattle.pt_types.specs.declared.graph.Link.{Link}
 use Rattle.pt_types.specs.Lookups.{platform_of}

@@ -1,9 +1,10 @@
 -- Rings of senders, in which each needs a greater slack than the one before it.
-use Rattle.std.specs.Prelude.{◌≡◌, ◌+◌, ◌+ℤ◌, ◌-ℤ◌, ◌<◌, ◌≤◌, ◌∷◌, [], ℕ, ℤ, pos, List, Option, Some, slice_get}
+use Rattle.std.specs.Prelude.{◌≡◌, ◌+◌, ◌+ℤ◌, ◌-ℤ◌, ◌<◌, ◌≤◌, ◌∷◌, [], ℕ, ℤ, pos, List, Some, slice_get}
 use Rattle.pt_tags.specs.declared.tag.Delay.{Delay}
 use Rattle.pt_types.specs.declared.graph.Graph.{Graph}
 use Rattle.pt_types.specs.declared.graph.Link.{Link}
 use Rattle.pt_types.specs.declared.kind.Kind.TheVariants.{Send}
+use Rattle.pt_types.specs.Lawful.{IsLawful}
 use Rattle.pt_types.specs.Lookups.{kind_of, platform_of}
 use Rattle.pt_semantics.specs.Bounds.{error_of}
 use Rattle.pt_semantics.specs.Lists.{Each}
@@ -11,6 +12,7 @@ use Rattle.pt_semantics.specs.Paths.{IsLeast}
 use Rattle.pt_causality.specs.Ranking.{Apart}
 use Rattle.pt_offsets.specs.Margins.{unit_at}
 use Rattle.pt_slacks.specs.declared.slack.SlackFault.{SlackFault}
+use Rattle.pt_slacks.specs.Slacks.{Admits}
 use Rattle.pt_slacks.specs.declared.slack.SlackFault.TheVariants.{Memory, Ring}
 
 -- the link from sender w leads to a receiver that reaches sender v, and v needs at least the slack of w plus n, where n is
@@ -46,3 +48,7 @@ pub record IsRing (g : Graph) (sends : List ℕ) (gain : ℕ) : Type 0 where
 abbrev pub CauseOfSlacks : SlackFault → Graph → Type 0
 CauseOfSlacks Memory g = Unit {0}
 CauseOfSlacks (Ring sends gain) g = IsRing g sends gain
+
+-- whatever its slacks, a graph with a ring has a sender that can't send in time
+abbrev pub RingsAdmitNothing : Type 0
+RingsAdmitNothing = (g : Graph) (sends : List ℕ) (gain : ℕ) (slack : ℕ → ℕ) → IsLawful g → IsRing g sends gain → Admits g slack → ⊥

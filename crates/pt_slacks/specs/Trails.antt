@@ -1,5 +1,5 @@
 -- Trails of hops whose senders raised one another, from one that rose in a round to one that rose in the last round.
-use Rattle.std.specs.Prelude.{◌≡◌, ◌+◌, ◌<◌, ◌∷◌, [], ℕ, List, Option, length, reverse, slice_index}
+use Rattle.std.specs.Prelude.{◌≡◌, ◌+◌, ◌∷◌, [], ℕ, List, Option, length, reverse, slice_index}
 use Rattle.pt_tags.specs.declared.tag.Delay.{Delay}
 use Rattle.pt_types.specs.declared.graph.Unit.{Unit as Part}
 use Rattle.pt_causality.specs.Ranking.{Apart}

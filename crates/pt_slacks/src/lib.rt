@@ -9,6 +9,7 @@
 
 mod answer;
 mod hop;
+mod impossible;
 mod needs;
 mod ring;
 mod rows;
@@ -16,4 +17,5 @@ mod settled;
 mod slack;
 
 pub use answer::slacks;
+pub use impossible::rings_admit_nothing;
 pub use slack::{Slack, SlackFault};

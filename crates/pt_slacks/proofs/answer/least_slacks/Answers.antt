@@ -1,4 +1,4 @@
-use Rattle.std.proofs.Common.{◌≡◌, slice_index, ap, ◌∙◌}
+use Rattle.std.proofs.Common.{slice_index, ap, ◌∙◌}
 use Rattle.pt_causality.specs.Delays.{least_of}
 use Rattle.pt_slacks.specs.Listed.{listed}
 use Rattle.pt_slacks.proofs.Concluding.{are_least}

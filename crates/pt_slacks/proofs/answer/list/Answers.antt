@@ -1,4 +1,4 @@
-use Rattle.std.proofs.Common.{◌≡◌, ◌++◌, ◌+◌, ◌<◌, drop, length, slice_index, get_or, subst, sym, ap, ◌∙◌, arith}
+use Rattle.std.proofs.Common.{◌≡◌, ◌++◌, ◌+◌, ◌<◌, drop, length, slice_index, get_or, subst, ap, ◌∙◌, arith}
 use Rattle.pt_slacks.specs.Listed.{listed, listed_from}
 use Rattle.pt_slacks.proofs.Entries.{entries_more, entries_whole}
 use Rattle.pt_slacks.proofs.answer.list.Goals as goal

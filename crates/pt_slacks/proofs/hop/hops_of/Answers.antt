@@ -1,4 +1,4 @@
-use Rattle.std.proofs.Common.{◌≡◌, ◌<◌, ◌^◌, get_or, subst, arith}
+use Rattle.std.proofs.Common.{◌<◌, ◌^◌, get_or, subst, arith}
 use Rattle.pt_semantics.specs.Lists.{IsIn}
 use Rattle.pt_offsets.proofs.Small.{in_get}
 use Rattle.pt_slacks.specs.Hops.{cost_of}

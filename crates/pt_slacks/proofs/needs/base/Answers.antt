@@ -1,10 +1,7 @@
-use Rattle.std.proofs.Common.{◌≡◌, ◌+◌, true, sym, subst, ap, ◌∙◌}
+use Rattle.std.proofs.Common.{◌≡◌, true, sym, subst}
 use Rattle.pt_types.specs.Kinds.{kind_is_lawful}
 use Rattle.pt_types.proofs.LawfulActors.{any_kind}
-use Rattle.pt_causality.specs.Delays.{least_of}
 use Rattle.pt_offsets.proofs.Small.{kind_read}
-use Rattle.pt_slacks.specs.Needs.{IsMost, by_sensor}
-use Rattle.pt_slacks.proofs.Most.{most_more}
 use Rattle.pt_slacks.proofs.needs.base.Goals as goal
 
 pub by_kind-requires : goal.by_kind-requires

@@ -1,4 +1,4 @@
-use Rattle.std.proofs.Common.{◌≡◌, ◌+◌, slice_index, sym, subst}
+use Rattle.std.proofs.Common.{◌+◌, slice_index, sym, subst}
 use Rattle.pt_causality.specs.Delays.{least_of}
 use Rattle.pt_slacks.specs.Needs.{IsMost, by_hop}
 use Rattle.pt_slacks.proofs.Most.{most_more}

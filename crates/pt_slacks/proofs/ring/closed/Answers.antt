@@ -1,4 +1,4 @@
-use Rattle.std.proofs.Common.{◌≡◌, ◌-◌, ◌+◌, ◌<◌, ◌≤◌, length, refl, slice_index, sym, subst, ap, ◌∙◌, arith}
+use Rattle.std.proofs.Common.{◌≡◌, ◌-◌, ◌+◌, length, refl, slice_index, sym, subst, ap, ◌∙◌, arith}
 use Rattle.pt_causality.specs.Delays.{least_of}
 use Rattle.pt_slacks.specs.Rings.{IsRing}
 use Rattle.pt_slacks.specs.Rows.{row_at}

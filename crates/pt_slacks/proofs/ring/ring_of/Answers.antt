@@ -1,4 +1,4 @@
-use Rattle.std.proofs.Common.{◌≡◌, ◌≢◌, ◌<◌, ◌≤◌, ◌^◌, ◌+◌, ◌-◌, ◌==◌, [], List, ℕ, true, false, length, slice_index, slice_index_or, sym, subst, ap, ◌∙◌, arith}
+use Rattle.std.proofs.Common.{◌≡◌, ◌<◌, ◌≤◌, ◌^◌, ◌+◌, ◌-◌, ◌==◌, [], List, ℕ, true, false, length, slice_index, slice_index_or, sym, subst, ap, ◌∙◌, arith}
 use Rattle.std.specs.List.{list_any}
 use Rattle.std.proofs.lemmas.List.{get_or_read}
 use Rattle.std.specs.Prelude.{reverse}
@@ -7,7 +7,7 @@ use Rattle.pt_slacks.specs.Rows.{row_at}
 use Rattle.pt_slacks.specs.Trails.{IsClosing}
 use Rattle.pt_slacks.proofs.Costs.{cheap, hops_len}
 use Rattle.pt_slacks.proofs.Rounds.{row_len, rows_fit}
-use Rattle.pt_slacks.proofs.Walking.{asks_at, back, closes, none_asks, walk_ends, walk_more}
+use Rattle.pt_slacks.proofs.Walking.{asks_at, back, closes, walk_ends, walk_more}
 use Rattle.pt_slacks.proofs.ring.ring_of.Goals as goal
 
 -- the row of a round

@@ -1,4 +1,4 @@
-use Rattle.std.proofs.Common.{◌≡◌, ◌+◌, ◌<◌, ℕ, length, slice_index, sym, ap, subst, ◌∙◌, arith}
+use Rattle.std.proofs.Common.{length, slice_index, sym, ap, subst, ◌∙◌, arith}
 use Rattle.std.proofs.lemmas.List.{length_push}
 use Rattle.pt_causality.specs.Delays.{least_of}
 use Rattle.pt_slacks.specs.Hops.{hop_at}

@@ -1,4 +1,4 @@
-use Rattle.std.proofs.Common.{◌≡◌, ◌+◌, ◌<◌, ◌≤◌, ◌^◌, ℕ, length, slice_index, sym, subst, ◌∙◌, arith}
+use Rattle.std.proofs.Common.{◌≡◌, ◌+◌, ◌≤◌, length, sym, subst, ◌∙◌, arith}
 use Rattle.pt_causality.specs.Delays.{least_of}
 use Rattle.pt_slacks.specs.Rows.{AreRows, HasRisen, row_at}
 use Rattle.pt_slacks.proofs.Costs.{cheap, hops_len}
