@@ -101,7 +101,12 @@ impl CommandScript {
     }
 
     /// Runs a command; from then on no call fails.
-    fn run<R: Threads + Wait + Sync>(&mut self, rt: &R, alloc: Global, line: &str) -> Result<String, AllocError> {
+    fn run<R: Threads + Wait + Sync>(
+        &mut self,
+        rt: &R,
+        alloc: Global,
+        line: &str,
+    ) -> Result<String, AllocError> {
         let words = words(alloc, line)?;
         let failing = match self.fetch {
             Some(number) => vec![in alloc; number]?,

@@ -2,8 +2,8 @@
 //!
 //! `graph JSON` writes `ok` or the first fault of a graph, `delays JSON` its least delays, `margins JSON` its margins, and
 //! `readings JSON` the readings of its platforms. `command LINE` is a line of a script of commands over files in memory, and
-//! `platform LINE` one of a script that drives platforms turn by turn. `measure N` measures the reader of rows and the
-//! firing of kinds. A line that begins with `#` is a heading, which is written as it is.
+//! `platform LINE` one of a script that drives platforms turn by turn. `meet firing JSON`, `meet reading JSON` and `meet ending JSON`
+//! are runs by threads. `measure N` measures the reader of rows and the firing of kinds. A line that begins with `#` is a heading, which is written as it is.
 //!
 //! `stdin` has the tables and `stdout` what each line must give. That was worked out by hand, but for random graphs, of
 //! which only `agree` says something.
@@ -15,6 +15,7 @@ mod files;
 mod graphs;
 mod margins;
 mod measure;
+mod meetings;
 mod plans;
 mod platforms;
 mod readings;
@@ -37,6 +38,7 @@ enum Word {
     Readings,
     Command,
     Platform,
+    Meet,
     Measure,
 }
 
@@ -50,6 +52,7 @@ impl Word {
             "readings" => Word::Readings,
             "command" => Word::Command,
             "platform" => Word::Platform,
+            "meet" => Word::Meet,
             "measure" => Word::Measure,
             _ if name.starts_with('#') => Word::Heading,
             _ => return None,
@@ -109,6 +112,7 @@ fn answer<R: Threads + Wait + Sync>(
         Word::Readings => readings::readings(alloc, rest, &tables.blocks)?,
         Word::Command => tables.commands.follow(waiting, alloc, rest)?,
         Word::Platform => tables.platforms.follow(alloc, rest, &tables.blocks)?,
+        Word::Meet => meetings::meet(waiting, alloc, rest, &tables.blocks)?,
         Word::Measure => measure::measured(rt, rest.parse().unwrap_or(0))?,
     };
     Ok(text)

@@ -45,8 +45,24 @@ fn files(alloc: Global, graph: &str) -> Result<Shelf, AllocError> {
     Ok(Shelf::new(alloc, contents, Vec::new(alloc)))
 }
 
+/// The run that the first word of a line names, of the graph that follows.
+pub fn meet<R: Threads + Wait + Sync>(
+    rt: &R,
+    alloc: Global,
+    line: &str,
+    blocks: &Blocks,
+) -> Result<String, AllocError> {
+    let (name, text) = line.split_once(' ').unwrap_or((line, ""));
+    match name {
+        "firing" => firing(rt, alloc, text, blocks),
+        "reading" => reading(rt, alloc, text, blocks),
+        "ending" => ending(rt, alloc, text, blocks),
+        _ => String::from_str(alloc, "no such meeting\n"),
+    }
+}
+
 /// Runs a graph of one platform by two workers that claim a unit at a visit, and says whether the first firing met another one.
-pub fn firing<R: Threads + Wait + Sync>(
+fn firing<R: Threads + Wait + Sync>(
     rt: &R,
     alloc: Global,
     text: &str,
@@ -60,21 +76,29 @@ pub fn firing<R: Threads + Wait + Sync>(
     let Ok(entries) = recorded(alloc, &mut source, plan.graph(), LateRows::Refused) else {
         return String::from_str(alloc, "no rows\n");
     };
-    let platforms = open_all(alloc, &plan, entries)?;
+    let Ok(platforms) = open_all(alloc, &plan, entries) else {
+        return Err(AllocError);
+    };
     if platforms.len() != 1 {
         return String::from_str(alloc, "not one platform\n");
     }
     let mut clocks = Vec::new(alloc);
     clocks.push(StepClock::new(100, 1))?;
     let meeting = Meeting::new();
-    let ended = threaded(rt, alloc, platforms, clocks, blocks, 2, 1, &meeting)?;
-    let fault = if ended.fault.is_some() { "a fault" } else { "no fault" };
+    let Ok(ended) = threaded(rt, alloc, platforms, clocks, blocks, 2, 1, &meeting) else {
+        return Err(AllocError);
+    };
+    let fault = if ended.fault.is_some() {
+        "a fault"
+    } else {
+        "no fault"
+    };
     let met = meeting.met();
     Ok(format!(in alloc; "{met} met, {fault}\n")?)
 }
 
 /// Runs a graph of two platforms by two workers, and says whether the first readings of both clocks met.
-pub fn reading<R: Threads + Wait + Sync>(
+fn reading<R: Threads + Wait + Sync>(
     rt: &R,
     alloc: Global,
     text: &str,
@@ -92,7 +116,7 @@ pub fn reading<R: Threads + Wait + Sync>(
 }
 
 /// Runs a graph of two platforms many times by 2, 4 and 8 workers, and says how often it ended otherwise than it may.
-pub fn ending<R: Threads + Wait + Sync>(
+fn ending<R: Threads + Wait + Sync>(
     rt: &R,
     alloc: Global,
     text: &str,
@@ -136,8 +160,21 @@ fn run<C: Clock + Send, R: Threads + Wait + Sync>(
     }
     words.push(format!(in alloc; "{workers}")?)?;
     let mut source = files(alloc, text)?;
-    let mut out = Page::new(alloc, ROOM, Vec::new(alloc))?;
-    let mut notes = Page::new(alloc, ROOM, Vec::new(alloc))?;
-    let outcome = ptides(rt, alloc, words.as_slice(), &mut source, &mut out, &mut notes, clocks, blocks);
+    let (Ok(mut out), Ok(mut notes)) = (
+        Page::new(alloc, ROOM, Vec::new(alloc)),
+        Page::new(alloc, ROOM, Vec::new(alloc)),
+    ) else {
+        return Err(AllocError);
+    };
+    let outcome = ptides(
+        rt,
+        alloc,
+        words.as_slice(),
+        &mut source,
+        &mut out,
+        &mut notes,
+        clocks,
+        blocks,
+    );
     Ok((outcome, out))
 }

@@ -40,7 +40,10 @@ impl Clock for MeetingClock {
 }
 
 /// The clocks of a command that meet here.
-pub fn meeting_clocks(alloc: Global, meeting: &Arc<Meeting>) -> Result<Vec<MeetingClock>, AllocError>
+pub fn meeting_clocks(
+    alloc: Global,
+    meeting: &Arc<Meeting>,
+) -> Result<Vec<MeetingClock>, AllocError>
     ensures { IfOk result (λ clocks. length clocks.items ≡ 16) }
 {
     let mut clocks = Vec::with_capacity(alloc, CLOCKS)?;
