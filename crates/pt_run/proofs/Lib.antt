@@ -5,6 +5,7 @@ pub mod Planned
 pub mod Complete
 pub mod Agreeing
 pub mod Made
+pub mod Migrating
 pub mod Headline
 pub mod CauseTable
 pub mod Exact
