@@ -11,6 +11,7 @@
 #   expected.notes   the standard error; where there is none, nothing may be written
 #   expected.log     what `run --log` writes after the table
 #   expected.check   what `check` writes
+#   expected.migrate   what `migrate` writes
 #   rows.py, make.py   write the sensor files that are stored, or a file that is too large to be stored
 #
 # It also checks the commands and outputs in the READMEs, the schema, the manual page and the completion. What isn't
@@ -113,6 +114,24 @@ check_example() { # NAME FOLDER
         compare_status "$name: check" 0
         compare "$name: expected.check" "$folder/expected.check" "$work/output"
     fi
+    if [ -e "$folder/expected.migrate" ]; then
+        start migrate graph.json
+        compare_status "$name: migrate" 0
+        compare "$name: expected.migrate" "$folder/expected.migrate" "$work/output"
+    fi
+    if [ -e "$folder/expected.csv" ]; then
+        check_text "$name" "$folder/expected.csv"
+    fi
+}
+
+# The text of a graph says the same as its file, and is the text of itself.
+check_text() { # NAME TABLES
+    start migrate graph.json
+    mv -- "$work/output" "$copy/text.json"
+    start migrate text.json
+    compare "$1: the text of its text" "$copy/text.json" "$work/output"
+    start meaning text.json
+    compare "$1: the meaning of its text" "$2" "$work/output"
 }
 
 # The table of examples/refused/README.md has a row for each folder, with its status and its line.

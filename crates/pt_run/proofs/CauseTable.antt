@@ -31,7 +31,7 @@ use Rattle.pt_run.specs.Causes.{CauseOfText, MeansLong, RunStops, Writing}
 use Rattle.pt_run.specs.CauseTable.{CauseTable, IsAccepted, IsNotPaced, IsRunCommand, OfRows, OnPlatform, OverFile, OverGraph}
 use Rattle.pt_run.specs.Making.{Ends}
 use Rattle.pt_run.specs.Statuses.{status_of, status_of_fault}
-use Rattle.pt_run.specs.Words.{Order, over, make}
+use Rattle.pt_run.specs.Words.{Order, over, make, migrate}
 use Rattle.pt_run.specs.Written.{Leaves, WritesText}
 
 -- the status of a fault is not 5
@@ -68,21 +68,25 @@ module _ (left : Leaves) (tells : Contents) (blocks : List Named) (r : Reading) 
   usage None k = refl
   usage (Some (over command name)) k = absurd k
   usage (Some (make n workers)) k = absurd k
+  usage (Some (migrate name)) k = absurd k.1
 
   graph_unread : (order : Option Order) → Ends (Some (fault.Read None)) left order tells blocks r w → OverFile order (λ name. ReadFails [] name r)
   graph_unread None k = absurd (let e = k.0 in cc)
   graph_unread (Some (over command name)) k = k.0
   graph_unread (Some (make n workers)) k = absurd k
+  graph_unread (Some (migrate name)) k = k.1
 
   graph : (f : GraphFault) (order : Option Order) → Ends (Some (fault.Graph f)) left order tells blocks r w → OverFile order (λ name. IfSome (tells name) (λ bytes. graph_of blocks bytes ≡ Err f))
   graph f None k = absurd (let e = k.0 in cc)
   graph f (Some (over command name)) k = k.0
   graph f (Some (make n workers)) k = absurd k
+  graph f (Some (migrate name)) k = k.1
 
   cycle : (actors : List ℕ) (order : Option Order) → Ends (Some (fault.Cycle actors)) left order tells blocks r w → OverGraph order tells blocks (λ command name g. IsFreeCycle g actors)
   cycle actors None k = absurd (let e = k.0 in cc)
   cycle actors (Some (over command name)) (k, same) = (k.0, k.1, k.2.0)
   cycle actors (Some (make n workers)) k = absurd k
+  cycle actors (Some (migrate name)) k = absurd k.1
 
   infeasible : (send : ℕ) (offset : ℤ) (slack : ℕ) (order : Option Order) → Ends (Some (fault.Infeasible send offset slack)) left order tells blocks r w → OverGraph order tells blocks (λ command name g. (command ≢ Meaning) × NoFreeCycle g × IsFirstInfeasible g send offset slack)
   infeasible send offset slack None k = absurd (let e = k.0 in cc)
@@ -93,6 +97,7 @@ module _ (left : Leaves) (tells : Contents) (blocks : List Named) (r : Reading) 
       of Check g free h = (check_reads, free, h.0)
       of Meaning g free h = absurd h.0
   infeasible send offset slack (Some (make n workers)) k = absurd k
+  infeasible send offset slack (Some (migrate name)) k = absurd k.1
 
   sensor_unread : (actor : ℕ) (order : Option Order) → Ends (Some (fault.Read (Some actor))) left order tells blocks r w → OverGraph order tells blocks (λ command name g. IsAccepted command g × OfRows command (λ late. SensorUnread late tells g actor (name ∷ []) r))
   sensor_unread actor None k = absurd (let e = k.0 in cc)
@@ -103,6 +108,7 @@ module _ (left : Leaves) (tells : Contents) (blocks : List Named) (r : Reading) 
       of Check g free h = absurd h.0
       of Meaning g free h = ((free, λ reads. absurd (reads refl)), h.0)
   sensor_unread actor (Some (make n workers)) k = absurd k
+  sensor_unread actor (Some (migrate name)) k = absurd k.1
 
   sensor : (actor : ℕ) (f : RowFault) (order : Option Order) → Ends (Some (fault.Sensor actor f)) left order tells blocks r w → OverGraph order tells blocks (λ command name g. IsAccepted command g × OfRows command (λ late. SensorFails late tells g actor f))
   sensor actor f None k = absurd (let e = k.0 in cc)
@@ -113,6 +119,7 @@ module _ (left : Leaves) (tells : Contents) (blocks : List Named) (r : Reading) 
       of Check g free h = absurd h.0
       of Meaning g free h = ((free, λ reads. absurd (reads refl)), h.0)
   sensor actor f (Some (make n workers)) k = absurd k
+  sensor actor f (Some (migrate name)) k = absurd k.1
 
   late_row : (actor row seen limit : ℕ) (order : Option Order) → Ends (Some (fault.LateRow actor row seen limit)) left order tells blocks r w → OverGraph order tells blocks (λ command name g. IsRunCommand command × IsAccepted command g × SensorLate tells g actor row seen limit)
   late_row actor row seen limit None k = absurd (let e = k.0 in cc)
@@ -123,6 +130,7 @@ module _ (left : Leaves) (tells : Contents) (blocks : List Named) (r : Reading) 
       of Check g free h = absurd h.0
       of Meaning g free h = absurd h.0
   late_row actor row seen limit (Some (make n workers)) k = absurd k
+  late_row actor row seen limit (Some (migrate name)) k = absurd k.1
 
   -- the platform that stopped a run, as its recorded turns show
   pub stopped : (g : Graph) (workers : ℕ) (clock : ClockChoice) (platform : ℕ) (f : TurnFault) → RunStops tells g workers clock left platform f → OnPlatform left g platform (λ v. Shows g v.turns (state_at v) f)
@@ -149,6 +157,7 @@ module _ (left : Leaves) (tells : Contents) (blocks : List Named) (r : Reading) 
       of Check g free h = absurd h.0
       of Meaning g free h = absurd h.0
   late_message platform actor tag reading limit (Some (make n workers)) k = absurd k
+  late_message platform actor tag reading limit (Some (migrate name)) k = absurd k.1
 
   long : (platform : ℕ) (order : Option Order) → Ends (Some (fault.Long (Some platform))) left order tells blocks r w → OverGraph order tells blocks (λ command name g. IsRunCommand command × IsAccepted command g × OnPlatform left g platform (λ v. ShowsLong g (state_at v)))
   long platform None k = absurd (let e = k.0 in cc)
@@ -159,6 +168,7 @@ module _ (left : Leaves) (tells : Contents) (blocks : List Named) (r : Reading) 
       of Check g free h = absurd h.0
       of Meaning g free h = absurd h.0
   long platform (Some (make n workers)) k = absurd k
+  long platform (Some (migrate name)) k = absurd k.1
 
   long_meaning : (order : Option Order) → Ends (Some (fault.Long None)) left order tells blocks r w → OverGraph order tells blocks (λ command name g. (command ≡ Meaning) × NoFreeCycle g × MeansLong tells g)
   long_meaning None k = absurd (let e = k.0 in cc)
@@ -169,11 +179,13 @@ module _ (left : Leaves) (tells : Contents) (blocks : List Named) (r : Reading) 
       of Check g free h = absurd h.0
       of Meaning g free h = (refl, free, h.0)
   long_meaning (Some (make n workers)) k = absurd k
+  long_meaning (Some (migrate name)) k = absurd k.1
 
   write : (order : Option Order) → Ends (Some fault.Write) left order tells blocks r w → Rose w.before w.now
   write None k = absurd (let e = k.0 in cc)
   write (Some (over command name)) k = k.0
   write (Some (make n workers)) k = k.0
+  write (Some (migrate name)) k = k.1
 
   unwritten : (f : Fault) (order : Option Order) → f ≢ fault.Write → Ends (Some f) left order tells blocks r w → w.written_now ≡ w.written_before
   unwritten fault.Memory None never k = k.1
@@ -199,15 +211,25 @@ module _ (left : Leaves) (tells : Contents) (blocks : List Named) (r : Reading) 
   unwritten (fault.Read None) (Some (over command name)) never k = k.2
   unwritten (fault.Read (Some actor)) (Some (over command name)) never k = k.1
   unwritten fault.Memory (Some (make n workers)) never k = k.1
+  unwritten fault.Memory (Some (migrate name)) never k = k.2
   unwritten fault.Usage (Some (make n workers)) never k = absurd k
+  unwritten fault.Usage (Some (migrate name)) never k = k.2
   unwritten (fault.Graph f) (Some (make n workers)) never k = absurd k
+  unwritten (fault.Graph f) (Some (migrate name)) never k = k.2
   unwritten (fault.Cycle actors) (Some (make n workers)) never k = absurd k
+  unwritten (fault.Cycle actors) (Some (migrate name)) never k = k.2
   unwritten (fault.Infeasible send offset slack) (Some (make n workers)) never k = absurd k
+  unwritten (fault.Infeasible send offset slack) (Some (migrate name)) never k = k.2
   unwritten (fault.Sensor actor f) (Some (make n workers)) never k = absurd k
+  unwritten (fault.Sensor actor f) (Some (migrate name)) never k = k.2
   unwritten (fault.LateRow actor row seen limit) (Some (make n workers)) never k = absurd k
+  unwritten (fault.LateRow actor row seen limit) (Some (migrate name)) never k = k.2
   unwritten (fault.LateMessage platform actor tag reading limit) (Some (make n workers)) never k = absurd k
+  unwritten (fault.LateMessage platform actor tag reading limit) (Some (migrate name)) never k = k.2
   unwritten (fault.Long platform) (Some (make n workers)) never k = absurd k
+  unwritten (fault.Long platform) (Some (migrate name)) never k = k.2
   unwritten (fault.Read file) (Some (make n workers)) never k = absurd k
+  unwritten (fault.Read file) (Some (migrate name)) never k = k.2
 
   missed_are : (order : Option Order) → Ends None left order tells blocks r w → left.misses ≡ flat_map missed_by left.platforms
   missed_are None k = absurd (let e = k.0 in cc)
@@ -218,6 +240,7 @@ module _ (left : Leaves) (tells : Contents) (blocks : List Named) (r : Reading) 
       of Check h = h.0.0 ∙ sym (ap (flat_map missed_by) h.0.1)
       of Meaning h = h.0.0 ∙ sym (ap (flat_map missed_by) h.0.1)
   missed_are (Some (make n workers)) (none, text, run, appends) = none ∙ sym run.none_missed
+  missed_are (Some (migrate name)) k = k.0.0 ∙ sym (ap (flat_map missed_by) k.0.1)
 
 pub caused : (status : ℕ) (o : Option Fault) (left : Leaves) (order : Option Order) (tells : Contents) (blocks : List Named) (r : Reading) (w : Writing) → status ≡ status_of o left.misses → Ends o left order tells blocks r w → CauseTable status o left order tells blocks r w
 caused status o left order tells blocks r w is ends = record {

@@ -47,8 +47,9 @@ use Rattle.pt_run.specs.Causes.{CauseOf, CauseOfCheck, CauseOfMeaning, CauseOfRu
 use Rattle.pt_run.specs.CauseTable.{OfRows}
 use Rattle.pt_run.specs.Exact.{Defines, IsExact, WantsGraph, WantsMemory, WantsRows}
 use Rattle.pt_run.specs.Making.{Ends}
+use Rattle.pt_run.specs.Migrating.{EndsMigrated}
 use Rattle.pt_run.specs.Texts.{EndsBy}
-use Rattle.pt_run.specs.Words.{Order}
+use Rattle.pt_run.specs.Words.{Order, over, migrate}
 use Rattle.pt_run.specs.Written.{GraphWith, IsMeant, Leaves, Writes, clocking}
 use Rattle.pt_run.proofs.Complete.{agrees, ok_err, same_ok, too_late}
 use Rattle.pt_types.specs.Limits.{most_claims}
@@ -323,6 +324,33 @@ module _ (tells : Contents) (blocks : List Named) (name bytes : List ℕ) (told 
       by_outcome (Some fault.Memory) k = inr (inl refl)
       by_outcome (Some e) k = absurd (no_graph k.0.0 k.0.1)
 
+  -- `migrate` of a file with a fault
+  unmigrated : (f : GraphFault) (outcome : Option Fault) → graph_of blocks bytes ≡ Err f → EndsMigrated outcome left name tells blocks r w → (outcome ≡ Some (fault.Graph f)) ⊎ WantsGraph outcome
+  unmigrated f outcome is ends = by_outcome outcome ends
+    where
+      no_graph : (h : Graph) → IfSome (tells name) (λ bytes. graph_of blocks bytes ≡ Ok h) → ⊥
+      no_graph h other = ok_err h f (sym (one_defined (Err f) (Ok h) is other))
+
+      by_outcome : (o : Option Fault) → EndsMigrated o left name tells blocks r w → (o ≡ Some (fault.Graph f)) ⊎ WantsGraph o
+      by_outcome None k = absurd (no_graph k.1.0 k.1.1)
+      by_outcome (Some fault.Write) k = absurd (no_graph k.2.0 k.2.1)
+      by_outcome (Some (fault.Graph e)) k = inl (ap (λ z. Some (fault.Graph z)) (sym (same_err {X = Graph} f e (one_defined (Err f) (Err e) is k.1))))
+      by_outcome (Some (fault.Read None)) k = inr (inr refl)
+      by_outcome (Some fault.Memory) k = inr (inl refl)
+      by_outcome (Some e) k = absurd k.1
+
+  -- and of one that defines a graph
+  migrated : (g : Graph) (outcome : Option Fault) → graph_of blocks bytes ≡ Ok g → EndsMigrated outcome left name tells blocks r w → ((outcome ≡ None) ⊎ (outcome ≡ Some fault.Write)) ⊎ WantsGraph outcome
+  migrated g outcome is ends = by_outcome outcome ends
+    where
+      by_outcome : (o : Option Fault) → EndsMigrated o left name tells blocks r w → ((o ≡ None) ⊎ (o ≡ Some fault.Write)) ⊎ WantsGraph o
+      by_outcome None k = inl (inl refl)
+      by_outcome (Some fault.Write) k = inl (inr refl)
+      by_outcome (Some (fault.Graph f)) k = absurd (ok_err g f (one_defined (Ok g) (Err f) is k.1))
+      by_outcome (Some (fault.Read None)) k = inr (inr refl)
+      by_outcome (Some fault.Memory) k = inr (inl refl)
+      by_outcome (Some e) k = absurd k.1
+
 -- the words are no command
 usage : (left : Leaves) (tells : Contents) (blocks : List Named) (r : Reading) (w : Writing) (outcome : Option Fault) → Ends outcome left None tells blocks r w → (outcome ≡ Some fault.Usage) ⊎ WantsMemory outcome
 usage left tells blocks r w (Some fault.Memory) k = inr refl
@@ -423,10 +451,15 @@ exact o left order tells blocks r w ends = record {
   sensor = λ command g actor f reads fails. sensor tells g o reads.no_free_cycle reads.files command actor f reads.feasible fails (over_graph command g reads.graph);
   late_row = λ workers clock log g actor row seen limit reads late. first_late tells g o reads.no_free_cycle reads.files workers clock log actor row seen limit (reads.feasible (run_meaning workers clock log)) late (over_graph (Run workers clock log) g reads.graph);
   long_meaning = λ g rows reads are too_long. long_meaning tells g o reads.no_free_cycle reads.files rows are too_long (over_graph Meaning g reads.graph);
+  unmigrated = λ f d. unmigrated tells blocks d.name d.bytes d.told left r w f o d.defines (by_migrate (Err f) d);
+  migrated = λ g d. migrated tells blocks d.name d.bytes d.told left r w g o d.defines (by_migrate (Ok g) d);
 }
   where
-    by_words : (command : Command) (defined : Result Graph GraphFault) (d : Defines order tells blocks command defined) → EndsBy o left (Some (command, d.name)) tells blocks r w
+    by_words : (command : Command) (defined : Result Graph GraphFault) (d : Defines order tells blocks (over command) defined) → EndsBy o left (Some (command, d.name)) tells blocks r w
     by_words command defined d = subst (λ z. Ends o left z tells blocks r w) d.words ends
 
-    over_graph : (command : Command) (g : Graph) → Defines order tells blocks command (Ok g) → Answer command tells g o
+    by_migrate : (defined : Result Graph GraphFault) (d : Defines order tells blocks migrate defined) → EndsMigrated o left d.name tells blocks r w
+    by_migrate defined d = subst (λ z. Ends o left z tells blocks r w) d.words ends
+
+    over_graph : (command : Command) (g : Graph) → Defines order tells blocks (over command) (Ok g) → Answer command tells g o
     over_graph command g d = answer tells blocks d.name d.bytes d.told left r w command g o d.defines (by_words command (Ok g) d)

@@ -7,6 +7,7 @@ pub mod Told
 pub mod Complete
 pub mod Agreeing
 pub mod Made
+pub mod Migrating
 pub mod Headline
 pub mod CauseTable
 pub mod Exact

@@ -56,7 +56,7 @@ use Rattle.pt_run.specs.Telling.{Tells}
 use Rattle.pt_offsets.specs.Faults.{CauseOfPlan}
 use Rattle.pt_offsets.specs.declared.fault.PlanFault.{PlanFault}
 use Rattle.pt_offsets.specs.declared.fault.PlanFault.TheVariants as unplanned
-use Rattle.pt_run.specs.Words.{make, order_by, order_of, over}
+use Rattle.pt_run.specs.Words.{make, migrate, order_by, order_of, over}
 use Rattle.pt_types.specs.Limits.{most_claims}
 
 -- a made graph has a plan, unless memory runs out
@@ -179,6 +179,10 @@ made_number_in words order n k says is = by_request (grammar.order_of words) ref
     by_request (Some (grammar.meaning graph)) e h = absurd (other graph h)
       where
         other : (graph : List ℕ) → Some (over Meaning graph) ≡ Some (make n k) → ⊥
+        other graph h = cc
+    by_request (Some (grammar.migrate graph)) e h = absurd (other graph h)
+      where
+        other : (graph : List ℕ) → Some (migrate graph) ≡ Some (make n k) → ⊥
         other graph h = cc
     by_request (Some (grammar.make number workers)) e h = made_number words n k (e ∙ ap Some (same number workers h))
       where

@@ -25,19 +25,22 @@ use Rattle.pt_run.specs.declared.fault.Fault.TheVariants as fault
 use Rattle.pt_run.specs.declared.words.Command.{Command}
 use Rattle.pt_run.specs.declared.words.Command.TheVariants.{Run, Check, Meaning}
 use Rattle.pt_run.specs.Causes.{MeansLong, Writing}
-use Rattle.pt_run.specs.Words.{Order, over, make}
+use Rattle.pt_run.specs.Words.{Order, over, make, migrate}
 use Rattle.pt_run.specs.Written.{GraphWith, Leaves}
 
--- the words are a command on a graph file, and a fact holds of the file's name
+-- the words are a command on a graph file, `migrate` included, and a fact holds of the file's name
 abbrev pub OverFile : Option Order → (List ℕ → Type 0) → Type 0
 OverFile None Fact = ⊥
 OverFile (Some (make number workers)) Fact = ⊥
+OverFile (Some (migrate name)) Fact = Fact name
 OverFile (Some (over command name)) Fact = Fact name
 
--- they are, and a fact holds of the command, the file's name and the graph that the file defines
+-- they are a command that needs more of the graph than its text, and a fact holds of the command, the file's name and the graph
+-- that the file defines
 abbrev pub OverGraph : Option Order → Contents → List Named → (Command → List ℕ → Graph → Type 0) → Type 0
 OverGraph None tells blocks Fact = ⊥
 OverGraph (Some (make number workers)) tells blocks Fact = ⊥
+OverGraph (Some (migrate name)) tells blocks Fact = ⊥
 OverGraph (Some (over command name)) tells blocks Fact = GraphWith tells blocks name (Fact command name)
 
 -- a run, by whatever clock

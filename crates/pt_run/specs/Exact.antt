@@ -22,7 +22,7 @@ use Rattle.pt_run.specs.declared.words.Command.{Command}
 use Rattle.pt_run.specs.declared.words.Command.TheVariants.{Run, Meaning}
 use Rattle.pt_run.specs.Causes.{IsTooLongForAll}
 use Rattle.pt_run.specs.CauseTable.{OfRows}
-use Rattle.pt_run.specs.Words.{Order, over}
+use Rattle.pt_run.specs.Words.{Order, over, migrate}
 
 -- memory ran out
 abbrev pub WantsMemory : Option Fault → Type 0
@@ -36,10 +36,10 @@ WantsGraph outcome = WantsMemory outcome ⊎ (outcome ≡ Some (fault.Read None)
 abbrev pub WantsRows : Option Fault → Type 0
 WantsRows outcome = WantsGraph outcome ⊎ ((actor : ℕ) × (outcome ≡ Some (fault.Read (Some actor))))
 
--- the words are this command on a graph file whose content is known, and it defines this graph or has this fault
-pub record Defines (order : Option Order) (tells : Contents) (blocks : List Named) (command : Command) (defined : Result Graph GraphFault) : Type 0 where
+-- the words give this order for a graph file whose content is known, and it defines this graph or has this fault
+pub record Defines (order : Option Order) (tells : Contents) (blocks : List Named) (order_for : List ℕ → Order) (defined : Result Graph GraphFault) : Type 0 where
   pub name : List ℕ
-  pub words : order ≡ Some (over command name)
+  pub words : order ≡ Some (order_for name)
   pub bytes : List ℕ
   pub told : tells name ≡ Some bytes
   pub defines : graph_of blocks bytes ≡ defined
@@ -47,7 +47,7 @@ pub record Defines (order : Option Order) (tells : Contents) (blocks : List Name
 -- the words are this command on a file that defines this graph, in which each cycle takes time; each sender can send in
 -- time, which `meaning` does not require; and the contents of all sensors' files are known
 pub record ReadsRows (order : Option Order) (tells : Contents) (blocks : List Named) (command : Command) (g : Graph) : Type 0 where
-  pub graph : Defines order tells blocks command (Ok g)
+  pub graph : Defines order tells blocks (over command) (Ok g)
   pub no_free_cycle : NoFreeCycle g
   pub feasible : command ≢ Meaning → IsFeasible g
   pub files : TellsSensors tells g
@@ -57,13 +57,16 @@ pub record IsExact (outcome : Option Fault) (order : Option Order) (tells : Cont
   -- the words are not a valid command line
   pub usage : order ≡ None → (outcome ≡ Some fault.Usage) ⊎ WantsMemory outcome
   -- the graph's text has that fault, or some actors are a cycle that takes no time
-  pub graph : (command : Command) (f : GraphFault) → Defines order tells blocks command (Err f) → (outcome ≡ Some (fault.Graph f)) ⊎ WantsGraph outcome
-  pub cycle : (command : Command) (g : Graph) → Defines order tells blocks command (Ok g) → (NoFreeCycle g → ⊥) → ((actors : List ℕ) × IsFreeCycle g actors × (outcome ≡ Some (fault.Cycle actors))) ⊎ WantsGraph outcome
+  pub graph : (command : Command) (f : GraphFault) → Defines order tells blocks (over command) (Err f) → (outcome ≡ Some (fault.Graph f)) ⊎ WantsGraph outcome
+  pub cycle : (command : Command) (g : Graph) → Defines order tells blocks (over command) (Ok g) → (NoFreeCycle g → ⊥) → ((actors : List ℕ) × IsFreeCycle g actors × (outcome ≡ Some (fault.Cycle actors))) ⊎ WantsGraph outcome
   -- that sender is the first that can't send in time, which `meaning` accepts
-  pub infeasible : (command : Command) (g : Graph) (send : ℕ) (offset : ℤ) (slack : ℕ) → command ≢ Meaning → Defines order tells blocks command (Ok g) → NoFreeCycle g → IsFirstInfeasible g send offset slack →
+  pub infeasible : (command : Command) (g : Graph) (send : ℕ) (offset : ℤ) (slack : ℕ) → command ≢ Meaning → Defines order tells blocks (over command) (Ok g) → NoFreeCycle g → IsFirstInfeasible g send offset slack →
       (outcome ≡ Some (fault.Infeasible send offset slack)) ⊎ WantsGraph outcome
   -- that sensor is the first without rows: its file has that fault, or that row is late, which `meaning` accepts
   pub sensor : (command : Command) (g : Graph) (actor : ℕ) (f : RowFault) → ReadsRows order tells blocks command g → OfRows command (λ late. SensorFails late tells g actor f) → (outcome ≡ Some (fault.Sensor actor f)) ⊎ WantsRows outcome
   pub late_row : (workers : ℕ) (clock : ClockChoice) (log : Bool) (g : Graph) (actor row seen limit : ℕ) → ReadsRows order tells blocks (Run workers clock log) g → SensorLate tells g actor row seen limit → (outcome ≡ Some (fault.LateRow actor row seen limit)) ⊎ WantsRows outcome
   -- the meaning of these rows is too long
   pub long_meaning : (g : Graph) (rows : ℕ → List Row) → ReadsRows order tells blocks Meaning g → AreRows tells g rows → IsTooLongForAll g rows → (outcome ≡ Some (fault.Long None)) ⊎ WantsRows outcome
+  -- `migrate` answers a fault of the graph's text too, and writes any graph that the text defines, unless a write fails
+  pub unmigrated : (f : GraphFault) → Defines order tells blocks migrate (Err f) → (outcome ≡ Some (fault.Graph f)) ⊎ WantsGraph outcome
+  pub migrated : (g : Graph) → Defines order tells blocks migrate (Ok g) → ((outcome ≡ None) ⊎ (outcome ≡ Some fault.Write)) ⊎ WantsGraph outcome

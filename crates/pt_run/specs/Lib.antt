@@ -9,6 +9,7 @@ pub mod Texts
 pub mod Notes
 pub mod Telling
 pub mod Making
+pub mod Migrating
 pub mod Asking
 pub mod Headline
 pub mod CauseTable

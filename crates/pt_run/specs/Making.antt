@@ -1,5 +1,5 @@
 -- How a run of a made input ends, and how any call ends.
-use Rattle.std.specs.Prelude.{◌≡◌, ℕ, List, [], Option, None, Some, flat_map, length}
+use Rattle.std.specs.Prelude.{◌≡◌, ℕ, List, [], ◌∷◌, Option, None, Some, flat_map, length}
 use Rattle.pt_io.specs.Causes.{Appends, AppendsPart, Rose}
 use Rattle.pt_blocks.specs.declared.blocks.Named.{Named}
 use Rattle.pt_history.specs.declared.miss.Miss.{Miss}
@@ -8,7 +8,7 @@ use Rattle.pt_causality.specs.Ranked.{level_of, rank_of}
 use Rattle.pt_offsets.specs.Plans.{IsAdmitted, Parts}
 use Rattle.pt_turn.specs.Platforms.{PlatformView}
 use Rattle.pt_monitors.specs.Platforms.{missed_by}
-use Rattle.pt_sensors.specs.Asked.{Asks, Contents, Reading}
+use Rattle.pt_sensors.specs.Asked.{Asks, AsksOrNot, Contents, Reading}
 use Rattle.pt_sensors.specs.Places.{of_run}
 use Rattle.pt_rounds.specs.HaveRun.{HaveRun}
 use Rattle.pt_made.specs.Input.{made_graph, made_rows}
@@ -16,10 +16,11 @@ use Rattle.pt_made.specs.Summary.{summary}
 use Rattle.pt_run.specs.declared.fault.Fault.{Fault}
 use Rattle.pt_run.specs.declared.fault.Fault.TheVariants as fault
 use Rattle.pt_run.specs.Causes.{Writing}
+use Rattle.pt_run.specs.Migrating.{EndsMigrated}
 use Rattle.pt_run.specs.Written.{HasNothing, Leaves}
 use Rattle.pt_run.specs.Telling.{Tells, TellsBy}
 use Rattle.pt_run.specs.Texts.{AsksBy, EndsBy}
-use Rattle.pt_run.specs.Words.{Order, over, make}
+use Rattle.pt_run.specs.Words.{Order, over, make, migrate}
 
 -- what a run of the input made from n must write and leave: its platforms ran in paced rounds until all were finished and
 -- missed nothing, and the text is the summary of the meaning
@@ -45,15 +46,18 @@ abbrev pub Ends : Option Fault → Leaves → Option Order → Contents → List
 Ends outcome left None tells blocks r w = EndsBy outcome left None tells blocks r w
 Ends outcome left (Some (over command graph)) tells blocks r w = EndsBy outcome left (Some (command, graph)) tells blocks r w
 Ends outcome left (Some (make number workers)) tells blocks r w = EndsMade outcome left number w
+Ends outcome left (Some (migrate graph)) tells blocks r w = EndsMigrated outcome left graph tells blocks r w
 
--- which files are asked for: none for a made input
+-- which files are asked for: none for a made input, and at most the graph file for `migrate`
 abbrev pub AsksOf : Option Fault → Option Order → Contents → List Named → Reading → Type 0
 AsksOf outcome None tells blocks r = AsksBy outcome None tells blocks r
 AsksOf outcome (Some (over command graph)) tells blocks r = AsksBy outcome (Some (command, graph)) tells blocks r
 AsksOf outcome (Some (make number workers)) tells blocks r = Asks r.asked_before r.asked_now []
+AsksOf outcome (Some (migrate graph)) tells blocks r = AsksOrNot r.asked_before r.asked_now (graph ∷ [])
 
--- what is put on notes: the lines of a run of a made input have no names
+-- what is put on notes: the lines of a run of a made input and those of `migrate` have no names
 abbrev pub TellsOf : Option Fault → List Miss → List PlatformView → Option Order → Contents → List Named → Writing → Type 0
 TellsOf outcome misses platforms None tells blocks w = TellsBy outcome misses platforms None tells blocks w
 TellsOf outcome misses platforms (Some (over command graph)) tells blocks w = TellsBy outcome misses platforms (Some (command, graph)) tells blocks w
 TellsOf outcome misses platforms (Some (make number workers)) tells blocks w = Tells outcome misses None w
+TellsOf outcome misses platforms (Some (migrate graph)) tells blocks w = Tells outcome misses None w

@@ -60,7 +60,7 @@ read_line (Some actor) g = codes "read fault: sensor " ++ actor_name g actor ++ 
 
 -- the line of each fault
 abbrev pub note_line : Fault → Option Graph → List ℕ
-note_line fault.Usage g = codes "usage: ptides run GRAPH [--workers N] [--clock paced|step:START:STEP|machine] [--log] | check GRAPH | meaning GRAPH | make NUMBER [--workers N]" ++ 10 ∷ []
+note_line fault.Usage g = codes "usage: ptides run GRAPH [--workers N] [--clock paced|step:START:STEP|machine] [--log] | check GRAPH | meaning GRAPH | make NUMBER [--workers N] | migrate GRAPH" ++ 10 ∷ []
 note_line (fault.Graph f) g = graph.fault_line f
 note_line (fault.Cycle actors) g = cycle_line g actors
 note_line (fault.Infeasible send offset slack) g = infeasible_line (actor_name g send) offset slack

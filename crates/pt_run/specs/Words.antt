@@ -6,10 +6,12 @@ use Rattle.pt_words.specs.Grammar.{Request}
 use Rattle.pt_run.specs.declared.words.Command.{Command}
 use Rattle.pt_run.specs.declared.words.Command.TheVariants.{Run, Check, Meaning}
 
--- what words can ask for: a command on the graph file with this name, or a run of an input made from a number
+-- what words can ask for: a command on the graph file with this name, a run of an input made from a number, or the graph file
+-- with this name as a file of version 2
 pub data Order : Type 0 where
   over : (command : Command) (graph : List ℕ) → Order
   make : (number workers : ℕ) → Order
+  migrate : (graph : List ℕ) → Order
 
 -- the order of a request
 abbrev pub order_by : Request → Order
@@ -17,6 +19,7 @@ order_by (grammar.run graph workers clock log) = over (Run workers clock log) gr
 order_by (grammar.check graph) = over Check graph
 order_by (grammar.meaning graph) = over Meaning graph
 order_by (grammar.make number workers) = make number workers
+order_by (grammar.migrate graph) = migrate graph
 
 -- what the words ask for, by the grammar
 abbrev pub order_of : List (String Global) → Option Order

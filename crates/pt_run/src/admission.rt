@@ -6,6 +6,7 @@ ghost use Rattle.pt_graph.specs.GraphOf.{graph_of};
 ghost use Rattle.pt_sensors.specs.Asked.{Asks, AsksOrNot};
 ghost use Rattle.pt_run.specs.Causes.{CauseOfGraph};
 ghost use Rattle.pt_run.specs.declared.fault.Fault.TheVariants.{Memory as NoMemory};
+ghost use Rattle.pt_run.specs.Migrating.{IsDefined};
 
 use crate::fault::{Fault, fault_of_graph};
 use pt_blocks::Blocks;
@@ -22,6 +23,7 @@ pub fn graph_at<S: Source>(
     blocks: &Blocks,
 ) -> Result<Graph, Fault>
     ensures graph { IfOk result (λ g. IfSome (S.tells source.old name.now) (λ bytes. graph_of blocks.now.listed.items bytes ≡ Ok g)) }
+    ensures defined { IfOk result (IsDefined blocks.now.listed.items) }
     ensures lawful { IfOk result IsLawful }
     ensures fault { IfErr result (λ f. CauseOfGraph f (S.tells source.old) blocks.now.listed.items name.now
         (record { asked_before = S.asked source.old; asked_now = S.asked source.new; before = S.faults source.old; now = S.faults source.new })) }

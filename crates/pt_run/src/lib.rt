@@ -1,12 +1,13 @@
 //! The top call: runs the command of a command line, with a source of files and sinks for output.
 //!
 //! `run GRAPH` reads the graph file and the rows of its sensors, runs all platforms by the clock that the words name, and writes
-//! the table of every actuator. `make NUMBER` makes a graph and rows from a number and writes a summary. What holds of a run is in
-//! `specs/Headline.antt`, why a call ended as it did in `specs/CauseTable.antt` and `specs/Exact.antt`, and what each command
-//! must write in `specs/Written.antt`, `specs/Runs.antt` and `specs/Making.antt`.
+//! the table of every actuator. `make NUMBER` makes a graph and rows from a number and writes a summary. `migrate GRAPH`
+//! writes the graph file as one of version 2. What holds of a run is in `specs/Headline.antt`, why a call ended as it did in `specs/CauseTable.antt` and `specs/Exact.antt`, and what each command
+//! must write in `specs/Written.antt`, `specs/Runs.antt`, `specs/Making.antt` and `specs/Migrating.antt`.
 //!
 //! Read first: `ptides`, then `specs/Headline.antt`; `run_of` is a paced run of a plan. Only the functions between `ptides` and
-//! `engines` may wait and start threads; paced runs, `check`, `meaning` and `make` return, as the absence of that bound in them says.
+//! `engines` may wait and start threads; paced runs, `check`, `meaning`, `make` and `migrate` return, as the absence of that bound in
+//! them says.
 #![tactic(auto)]
 
 mod admission;
@@ -17,6 +18,7 @@ mod finished_run;
 mod laws;
 mod make;
 mod meaning;
+mod migrate;
 mod notes;
 mod outcome;
 mod output;

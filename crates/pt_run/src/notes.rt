@@ -15,7 +15,7 @@ use std::alloc::{AllocError, Global};
 
 /// The line for a command line that is not valid.
 const USAGE: &str =
-    "usage: ptides run GRAPH [--workers N] [--clock paced|step:START:STEP|machine] [--log] | check GRAPH | meaning GRAPH | make NUMBER [--workers N]\n";
+    "usage: ptides run GRAPH [--workers N] [--clock paced|step:START:STEP|machine] [--log] | check GRAPH | meaning GRAPH | make NUMBER [--workers N] | migrate GRAPH\n";
 
 /// Puts the line of a fault on `notes`, and returns the fault; if there is no memory for the line, that becomes the fault.
 /// A failed put has no other effect.

@@ -20,6 +20,7 @@ use crate::check::check_answer;
 use crate::fault::Fault;
 use crate::make::make;
 use crate::meaning::meaning_answer;
+use crate::migrate::migrate;
 use crate::notes::{tell, tell_write};
 use crate::outcome::{Ending, Outcome};
 use crate::output::put_text;
@@ -34,14 +35,14 @@ use std::alloc::Global;
 use std::sync::Wait;
 use std::thread::Threads;
 
-/// Runs the command of these words, those after the program's name: `run GRAPH`, `check GRAPH`, `meaning GRAPH` or
-/// `make NUMBER`.
+/// Runs the command of these words, those after the program's name: `run GRAPH`, `check GRAPH`, `meaning GRAPH`,
+/// `make NUMBER` or `migrate GRAPH`.
 ///
 /// Files are read from the source by name; `make` reads none. The text goes to `out`, line by line. After a fault, one line
 /// on `notes` says why; after a run with misses, one line for each. In a run by the machine's clock platform i reads clock i of
 /// the 16 that are handed in; no other call reads them. `blocks` has the functions that actors may name.
 ///
-/// This call may wait. No clause says which commands end: the parts of `check`, `meaning`, `make` and a paced run that don't take
+/// This call may wait. No clause says which commands end: the parts of `check`, `meaning`, `make`, `migrate` and a paced run that don't take
 /// `rt` do, and a run by a clock of its own, `--clock step:..` or `--clock machine`, may go on forever if its clock stops.
 pub fn ptides<S: Source, K: Sink, E: Sink, C: Clock + Send, R: Threads + Wait + Sync>(
     rt: &R,
@@ -68,8 +69,8 @@ pub fn ptides<S: Source, K: Sink, E: Sink, C: Clock + Send, R: Threads + Wait + 
     // And it ends so, unless memory runs out or a read fails, whenever the words and the files have that cause and none before it: one field for each answer that
     // depends on them alone.
     ensures exact { IsExact result.fault (order_of words.now) (S.tells source.old) blocks.now.listed.items }
-    // All of it, for every command: what was written and what is left, and the cause of each fault, by cases in `EndsBy` and
-    // `EndsMade`.
+    // All of it, for every command: what was written and what is left, and the cause of each fault, by cases in `EndsBy`,
+    // `EndsMade` and `EndsMigrated`.
     ensures ends { Ends result.fault (left_of result (order_of words.now) (tell C.told C.ahead clocks.items) (tell C.told C.ahead result.clocks.items)) (order_of words.now) (S.tells source.old) blocks.now.listed.items
         (record { asked_before = S.asked source.old; asked_now = S.asked source.new; before = S.faults source.old; now = S.faults source.new })
         (record { before = K.faults out.old; now = K.faults out.new; written_before = K.written out.old; written_now = K.written out.new }) }
@@ -131,6 +132,9 @@ fn run_words<S: Source, K: Sink, E: Sink, C: Clock + Send, R: Threads + Wait + S
         }
         Ok(Some(Asked::Make { number, workers })) => {
             return make(alloc, number, workers, out, notes, blocks);
+        }
+        Ok(Some(Asked::Migrate { graph })) => {
+            return migrate(alloc, graph, source, out, notes, blocks);
         }
         Ok(None) => Fault::Usage,
         Err(_) => Fault::Memory,

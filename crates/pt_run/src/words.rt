@@ -31,6 +31,8 @@ pub enum Asked<'a> {
     Over { command: Command, graph: &'a str },
     /// A run of the input made from `number` (1 to 100), with `workers` workers (1 to 64).
     Make { number: u32, workers: u32 },
+    /// The graph file with this name as a file of version 2.
+    Migrate { graph: &'a str },
 }
 
 /// What the words ask for; `None` if the command line is not valid.
@@ -70,5 +72,6 @@ fn asked_by<'a>(order: Order<'a>) -> Asked<'a>
             graph,
         },
         Order::Make { number, workers } => Asked::Make { number, workers },
+        Order::Migrate { graph } => Asked::Migrate { graph },
     }
 }

@@ -7,6 +7,7 @@ pub(crate) enum Command {
     Check,
     Meaning,
     Make,
+    Migrate,
 }
 
 /// The clock that the platforms of a run read.
@@ -42,5 +43,9 @@ pub enum Order<'a> {
     Make {
         number: u32,
         workers: u32,
+    },
+    /// Write it as a file of version 2.
+    Migrate {
+        graph: &'a str,
     },
 }

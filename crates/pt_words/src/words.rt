@@ -47,6 +47,7 @@ fn command_of(word: &str) -> Option<Command>
         "check" => Some(Command::Check),
         "meaning" => Some(Command::Meaning),
         "make" => Some(Command::Make),
+        "migrate" => Some(Command::Migrate),
         _ => None,
     }
 }
@@ -97,6 +98,7 @@ fn request_of<'m, 'a>(command: Command, values: Values<'m, 'a>) -> Option<Order<
         Command::Check if is_bare(values) => Some(Order::Check { graph }),
         Command::Meaning if is_bare(values) => Some(Order::Meaning { graph }),
         Command::Make => make_of(values, graph),
+        Command::Migrate if is_bare(values) => Some(Order::Migrate { graph }),
         _ => None,
     }
 }

@@ -21,3 +21,6 @@ returns-clause-fault g c =
     subst (λ f. CauseOfGraph f tells blocks c.args.name.now r) (sym c.fault_of_graph.ensures)
     (graph_fails tells blocks c.args.name.now c.in-Err.fault r (λ other.
     of_content (graph_of blocks) 1048577 (graph_of-fetched blocks) (tells c.args.name.now) c.in-Ok.bytes.items (Err c.in-Err.fault) c.in-Ok.ensures.bytes (rw c.as_slice.ensures.value at (c.in-Err.ensures.graph other))))
+
+pub returns-in-Ok-read_graph-clause-defined : goal.returns-in-Ok-read_graph-clause-defined
+returns-in-Ok-read_graph-clause-defined g c = (c.as_slice.result.now, c.in-Ok-read_graph.ensures.graph)

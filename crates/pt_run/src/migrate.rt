@@ -1,0 +1,89 @@
+//! The command `migrate`.
+
+ghost use Rattle.std.specs.Prelude.{◌≡◌, ◌∷◌, [], IfErr, IfOk, None};
+ghost use Rattle.pt_sensors.specs.Asked.{AsksOrNot};
+ghost use Rattle.pt_run.specs.Causes.{CauseOfGraph};
+ghost use Rattle.pt_run.specs.Migrating.{EndsMigrated, IsDefined, IsMigrated};
+ghost use Rattle.pt_run.specs.Statuses.{status_of};
+ghost use Rattle.pt_run.specs.Telling.{Tells};
+ghost use Rattle.pt_run.specs.Texts.{left_by};
+ghost use Rattle.pt_run.specs.Written.{GraphWith};
+
+use crate::admission::graph_at;
+use crate::fault::Fault;
+use crate::notes::{tell, tell_write};
+use crate::outcome::Ending;
+use crate::output::put_text;
+use pt_blocks::Blocks;
+use pt_graph_writer::graph_text;
+use pt_io::{Sink, Source};
+use pt_tags::Memory;
+use pt_types::Graph;
+use std::alloc::Global;
+
+/// Writes the graph in the file with this name as a file of version 2: one line of compact JSON.
+///
+/// Only the graph file is read. The graph need not be able to run: a cycle that takes no time and a sender that can't send in
+/// time are written as they are. A text of more than 1,048,576 bytes is written too, though no command reads it.
+pub fn migrate<S: Source, K: Sink, E: Sink>(
+    alloc: Global,
+    name: &str,
+    source: &mut S,
+    out: &mut K,
+    notes: &mut E,
+    blocks: &Blocks,
+) -> Ending
+    ensures status { result.status ≡ status_of result.fault result.misses }
+    ensures asks { AsksOrNot (S.asked source.old) (S.asked source.new) (name.now ∷ []) }
+    ensures ends { EndsMigrated result.fault (left_by result) name.now (S.tells source.old) blocks.now.listed.items
+        (record { asked_before = S.asked source.old; asked_now = S.asked source.new; before = S.faults source.old; now = S.faults source.new })
+        (record { before = K.faults out.old; now = K.faults out.new; written_before = K.written out.old; written_now = K.written out.new }) }
+    ensures flushed { result.fault ≡ None → K.flushed out.new }
+    ensures notes { Tells result.fault result.misses None
+        (record { before = E.faults notes.old; now = E.faults notes.new; written_before = E.written notes.old; written_now = E.written notes.new }) }
+{
+    let text = match migrated(alloc, source, name, blocks) {
+        Ok(text) => text,
+        Err(fault) => {
+            let fault = tell(alloc, notes, fault, None);
+            return Ending::refused(alloc, fault);
+        }
+    };
+    if put_text(out, text.as_slice()).is_err() {
+        tell_write(notes);
+        return Ending::refused(alloc, Fault::Write);
+    }
+    Ending::done(Vec::new(alloc), Vec::new(alloc))
+}
+
+/// The line that `migrate` writes for the graph in the file with this name.
+fn migrated<S: Source>(
+    alloc: Global,
+    source: &mut S,
+    name: &str,
+    blocks: &Blocks,
+) -> Result<Vec<u8>, Fault>
+    ensures text { IfOk result (λ text. GraphWith (S.tells source.old) blocks.now.listed.items name.now (λ g. IsMigrated g blocks.now.listed.items text.items)) }
+    ensures fault { IfErr result (λ f. CauseOfGraph f (S.tells source.old) blocks.now.listed.items name.now
+        (record { asked_before = S.asked source.old; asked_now = S.asked source.new; before = S.faults source.old; now = S.faults source.new })) }
+    ensures asks { AsksOrNot (S.asked source.old) (S.asked source.new) (name.now ∷ []) }
+{
+    let graph = match graph_at(alloc, source, name, blocks) {
+        Ok(graph) => graph,
+        Err(fault) => return Err(fault),
+    };
+    match graph_line(alloc, &graph, blocks) {
+        Ok(line) => Ok(line),
+        Err(_) => Err(Fault::Memory),
+    }
+}
+
+/// The text of a graph as a file of version 2, with its line feed.
+fn graph_line(alloc: Global, graph: &Graph, blocks: &Blocks) -> Result<Vec<u8>, Memory>
+    requires { IsDefined blocks.now.listed.items graph.now }
+    ensures { IfOk result (λ line. IsMigrated graph.now blocks.now.listed.items line.items) }
+{
+    let mut line = graph_text(alloc, graph, blocks)?;
+    line.push(b'\n')?;
+    Ok(line)
+}
