@@ -22,7 +22,7 @@ use Rattle.pt_run.specs.Causes.{CauseOfGraph, Writing}
 use Rattle.pt_run.specs.Faults.{fault_of_rows}
 use Rattle.pt_run.specs.Making.{AsksOf}
 use Rattle.pt_run.specs.Texts.{Answers, AsksAfterGraph, AsksFor, AsksInOrder, EndsOver, HasEnded, MeaningFails, PutBy, fault_in, files_for, is_refused}
-use Rattle.pt_run.specs.Words.{Order, make, over}
+use Rattle.pt_run.specs.Words.{Order, make, migrate, over}
 use Rattle.pt_run.specs.Written.{Leaves}
 use Rattle.pt_run.proofs.Ending.{never}
 
@@ -44,6 +44,7 @@ pub asked_nothing : (order : Option Order) (outcome : Option Fault) (tells : Con
 asked_nothing None outcome tells blocks r is h = h
 asked_nothing (Some (over command name)) outcome tells blocks r is h = subst (λ o. AsksInOrder o command tells blocks name r.asked_before r.asked_now) (sym is) (inl h)
 asked_nothing (Some (make number workers)) outcome tells blocks r is h = h
+asked_nothing (Some (migrate name)) outcome tells blocks r is h = inl h
 
 -- the files of a graph that is not refused
 not_refused : (outcome : Option Fault) (g : Graph) (before now : Option (List (List ℕ))) → is_refused outcome ≡ false → AsksFiles g before now → (n : ℕ) × Asks before now (if is_refused outcome then [] else files_before g n)

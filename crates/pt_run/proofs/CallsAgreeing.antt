@@ -97,7 +97,7 @@ module _ (clock : ClockChoice) (log : Bool) (tells : Contents) (blocks : List Na
     decides : Decides answer
 
   -- of such causes
-  defines : (workers : ℕ) (defined : Result Graph GraphFault) → IfSome (tells name) (λ bytes. graph_of blocks bytes ≡ defined) → Defines (Some (over (Run workers clock log) name)) tells blocks (Run workers clock log) defined
+  defines : (workers : ℕ) (defined : Result Graph GraphFault) → IfSome (tells name) (λ bytes. graph_of blocks bytes ≡ defined) → Defines (Some (over (Run workers clock log) name)) tells blocks (over (Run workers clock log)) defined
   defines workers defined file = record { name = name; words = refl; bytes = all.bytes; told = all.told; defines = of_bytes (tells name) all.bytes (λ bytes. graph_of blocks bytes ≡ defined) all.told file }
 
   reads : (workers : ℕ) (g : Graph) → IfSome (tells name) (λ bytes. graph_of blocks bytes ≡ Ok g) → NoFreeCycle g → IsFeasible g → ReadsRows (Some (over (Run workers clock log) name)) tells blocks (Run workers clock log) g
