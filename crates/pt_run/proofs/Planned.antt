@@ -1,11 +1,8 @@
 -- How a run over a graph ends, by how it ends over its plan.
 use Rattle.std.proofs.Common.{◌≡◌, ◌≢◌, ℕ, Bool, true, false, List, [], length, Option, Some, None, Result, Ok, Err, IfOk, IfErr, refl, sym, ap, subst, ◌∙◌, ⊎_elim}
-use Rattle.std.specs.Prelude.{IfSome, String, string_bytes}
+use Rattle.std.specs.Prelude.{String, string_bytes}
 use Rattle.std.specs.declared.alloc.Global.{Global}
 use Rattle.pt_types.specs.declared.graph.Graph.{Graph}
-use Rattle.pt_blocks.specs.declared.blocks.Named.{Named}
-use Rattle.pt_graph.specs.GraphOf.{graph_of}
-use Rattle.pt_history.specs.declared.miss.Miss.{Miss}
 use Rattle.pt_semantics.specs.Cycles.{NoFreeCycle}
 use Rattle.pt_semantics.specs.Offsets.{IsFeasible}
 use Rattle.pt_semantics.specs.Ranks.{AreLevels}
@@ -30,13 +27,11 @@ use Rattle.pt_words.specs.declared.orders.ClockChoice.{ClockChoice}
 use Rattle.pt_words.specs.declared.orders.ClockChoice.TheVariants.{Machine, Paced, Step}
 use Rattle.pt_run.specs.Clocks.{AreBackBy, AreKept}
 use Rattle.pt_run.specs.declared.outcome.Ending.{Ending}
-use Rattle.pt_run.specs.declared.words.Command.{Command}
-use Rattle.pt_run.specs.Telling.{Tells, TellsBy}
 use Rattle.pt_run.specs.declared.words.Command.TheVariants.{Check, Meaning, Run}
 use Rattle.pt_run.specs.Faults.{fault_of_plan, fault_of_rows}
 use Rattle.pt_run.specs.Written.{IsChecked, IsMeant, Leaves, Writes, has_run, nothing}
 use Rattle.pt_run.specs.Causes.{CauseOf, Writing}
-use Rattle.pt_run.specs.Texts.{CheckFails, EndsOver, EndsPlan, HasEnded, IsStopped, IsUnplanned, MeaningFails, WroteRun, left_by, left_with, of_run}
+use Rattle.pt_run.specs.Texts.{CheckFails, EndsOver, EndsPlan, HasEnded, IsStopped, IsUnplanned, MeaningFails, WroteRun, left_with, of_run}
 
 -- what a call leaves, with what the clocks showed before its run and after it
 abbrev over : Leaves → List ClockView → List ClockView → Leaves

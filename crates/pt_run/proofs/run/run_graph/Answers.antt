@@ -1,12 +1,11 @@
-use Rattle.std.proofs.Common.{◌∙◌, [], ap, refl}
+use Rattle.std.proofs.Common.{[]}
 use Rattle.std.specs.Arc.{arc_value}
-use Rattle.pt_types.specs.declared.graph.Graph.{Graph}
 use Rattle.pt_sensors.specs.Asked.{Reading}
 use Rattle.pt_words.specs.declared.orders.ClockChoice.TheVariants.{Paced}
 use Rattle.pt_run.specs.Causes.{Writing}
 use Rattle.pt_run.specs.Texts.{left_by}
 use Rattle.pt_run.proofs.Asks.{run_asks}
-use Rattle.pt_run.proofs.Planned.{ended_plan, ends_plan, unplanned}
+use Rattle.pt_run.proofs.Planned.{ended_plan, ends_plan}
 use Rattle.pt_run.proofs.run.run_graph.Goals as goal
 
 pub returns-clause-ends : goal.returns-clause-ends
