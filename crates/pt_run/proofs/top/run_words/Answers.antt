@@ -23,10 +23,10 @@ returns-clause-asks g c =
     let asked = g.S.Source.asked c.args.source.now in
     let r : Reading = record { asked_before = asked; asked_now = asked; before = g.S.Source.faults c.args.source.now; now = g.S.Source.faults c.args.source.now } in
     elim c.match-order_of.branch [
-      in-Ok-None w ↦
-        let none : order_of c.args.words.now ≡ None = search rules in
-        subst (λ o. AsksOf c.refused.result.fault o tells c.args.blocks.now.listed.items r) (sym none) (asks_none asked asked refl)
-    | in-Err w ↦
-        let memory : c.refused.result.fault ≡ Some Memory = search rules in
-        asked_nothing (order_of c.args.words.now) c.refused.result.fault tells c.args.blocks.now.listed.items r memory (asks_none asked asked refl)
+      | in-Ok-None w ↦
+          let none : order_of c.args.words.now ≡ None = search rules in
+          subst (λ o. AsksOf c.refused.result.fault o tells c.args.blocks.now.listed.items r) (sym none) (asks_none asked asked refl)
+      | in-Err w ↦
+          let memory : c.refused.result.fault ≡ Some Memory = search rules in
+          asked_nothing (order_of c.args.words.now) c.refused.result.fault tells c.args.blocks.now.listed.items r memory (asks_none asked asked refl)
     ]
