@@ -1,8 +1,8 @@
 use Rattle.std.proofs.Common.{◌-◌, ◌≤◌, vec_len}
 use Rattle.pt_cases.proofs.meetings.clocks.meeting_clocks.Given as goal
 
-abbrev pub invariant-loop-alloc : goal.invariant-loop-alloc
-invariant-loop-alloc l = vec_len l.clocks ≤ 16
+abbrev pub invariant-loop-clocks : goal.invariant-loop-clocks
+invariant-loop-clocks l = vec_len l.clocks ≤ 16
 
-abbrev pub decreases-loop-alloc : goal.decreases-loop-alloc
-decreases-loop-alloc l = 16 - vec_len l.clocks
+abbrev pub decreases-loop-clocks : goal.decreases-loop-clocks
+decreases-loop-clocks l = 16 - vec_len l.clocks
