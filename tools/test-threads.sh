@@ -8,7 +8,8 @@
 # occurs. TIMES says how often each run is made, 10 if it is unset.
 #   Examples: all whose run is over within a second, by 1 to 64 workers, alone and with more runs beside.
 #   Threads: a run starts as many as there are workers. If some or all can't be started, it ends as any other.
-#   Memory: if it is refused, in the middle or from there on, the run ends as any other, or with 9 and nothing on standard output.
+#   Memory: if it is refused, at each allocation of a short run in turn, once or from there on, and at some of a longer one, the run
+#     ends as any other, or with 9 and nothing on standard output.
 #   A full disk and a failed write: the run ends with 8. A run that is stopped for a time and goes on ends as any other. A run that is
 #   ended by a signal has written nothing.
 #
@@ -81,12 +82,12 @@ run_by() { # WORKERS
     (cd "$place" && exec "$program" run graph.json --clock machine --workers "$1") >"$work/out" 2>"$work/notes" </dev/null
 }
 
-# Two platforms: on p s ──► d ──► w, on q r ──► f ──► out; 50 rows, and a link whose messages take up to 20,000.
-make_graph() {
-    place=$work/graph
+# Two platforms: on p s ──► d ──► w, on q r ──► f ──► out; and 50 rows, the last at half of the horizon.
+make_graph() { # UNTIL DELAY
+    place=$work/graph.$1
     mkdir -p -- "$place"
-    cat >"$place/graph.json" <<'GRAPH'
-{"ptides":1,"until":100000,"clock_error":5,
+    cat >"$place/graph.json" <<GRAPH
+{"ptides":1,"until":$1,"clock_error":5,
  "platforms":["p","q"],
  "actors":[
   {"name":"s","platform":"p","kind":"sensor","file":"s.csv","bound":10},
@@ -96,9 +97,9 @@ make_graph() {
   {"name":"f","platform":"q","kind":"delay","d":60},
   {"name":"out","platform":"q","kind":"actuator","slack":0}],
  "wires":[["s",0,"d",0],["d",0,"w",0],["r",0,"f",0],["f",0,"out",0]],
- "links":[{"from":"w","to":"r","delay":20000}]}
+ "links":[{"from":"w","to":"r","delay":$2}]}
 GRAPH
-    { echo time,seen,value; seq -f %.0f 1000 1000 50000 | sed 's/.*/&,&,7/'; } >"$place/s.csv"
+    { echo time,seen,value; seq -f %.0f $(($1 / 100)) $(($1 / 100)) $(($1 / 2)) | sed 's/.*/&,&,7/'; } >"$place/s.csv"
     take_meaning
 }
 
@@ -156,6 +157,25 @@ refused() { # REFUSAL NINE WORKERS
     fi
 }
 
+# Each allocation of the run in the folder `place` is refused, one after another: once, and from there on.
+try_each_memory() {
+    local many number status out
+    cp -- "$work/meaning" "$work/wanted.out"
+    : >"$work/wanted.notes"
+    for many in 1 0; do
+        (cd "$place" && LD_PRELOAD=$library REFUSE="memory 1-$((counts[0] + 40))/1 $many ENOMEM" REFUSE_FOLDER=$work \
+            exec "$program" run graph.json --clock machine --workers 4) >"$work/lines" 2>/dev/null </dev/null
+        while read -r number status out _; do
+            case "$status $out" in
+                '0 whole' | '5 whole' | '4 none' | '9 none') pass ;;
+                *) fail "memory refused at $number, $many times (0: always): status $status, output $out" ;;
+            esac
+        done <"$work/lines"
+        number=$(wc -l <"$work/lines")
+        if [ "$number" -eq $((counts[0] + 40)) ]; then pass; else fail "memory refused at $number places, not $((counts[0] + 40))"; fi
+    done
+}
+
 try_refusals() {
     local k
     if ! build_library; then
@@ -172,6 +192,14 @@ try_refusals() {
         refused "memory $k 1 ENOMEM" nine 4
         refused "memory $k 0 ENOMEM" nine 4
     done
+}
+
+try_refusals_in_turn() {
+    if build_library; then
+        try_each_memory
+    else
+        skip 'memory that is refused at each allocation, since no library can be preloaded'
+    fi
 }
 
 try_writes() {
@@ -217,9 +245,11 @@ try_signals() {
 }
 
 try_examples
-make_graph
+make_graph 100000 20000
 try_beside
 try_refusals
 try_writes
 try_signals
+make_graph 300 5000
+try_refusals_in_turn
 finish
