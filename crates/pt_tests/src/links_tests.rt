@@ -1,6 +1,9 @@
-//! Messages that go through a pipe.
+//! Messages that go through a pipe, and through the two ends of a link.
 
-use pt_links::Pipe;
+ghost use Rattle.std.specs.Prelude.{◌≡◌, pos};
+ghost use Rattle.pt_tags.specs.declared.message.Message.TheVariants.{Event};
+
+use pt_links::{Bounds, Pipe, link, settle};
 use pt_tags::{Message, Tag};
 use std::test::Fail;
 
@@ -41,5 +44,37 @@ fn holds_64_messages_round_its_end(rt: HostRuntime) -> Result<(), Fail> {
         assert_eq!(rt; pipe.take(), Some(event(value)));
     }
     assert_eq!(rt; pipe.take(), None);
+    Ok(())
+}
+
+/// An event at that time.
+fn event_at(time: u64) -> Message
+    ensures { result ≡ Event (record { time = time; step = 0 }) (pos 7) }
+{
+    Message::Event {
+        tag: Tag { time, step: 0 },
+        value: 7,
+    }
+}
+
+#[test]
+fn a_link_holds_64_messages_in_their_order(rt: HostRuntime) -> Result<(), Fail> {
+    let bounds = Bounds {
+        until: 100,
+        actors: 1,
+        level: 0,
+    };
+    let Ok((mut outlet, mut inlet)) = link(rt.alloc(), bounds) else {
+        return Err("no link")?;
+    };
+    for time in 1..65 {
+        assert_eq!(rt; outlet.push(&rt, event_at(time)), Ok(()));
+    }
+    assert_eq!(rt; outlet.push(&rt, event_at(65)), Err(event_at(65)));
+    for time in 1..65 {
+        assert_eq!(rt; inlet.take(&rt), Some(event_at(time)));
+    }
+    assert_eq!(rt; inlet.take(&rt), None);
+    assert_eq!(rt; settle(&rt, outlet, inlet).left(), 0);
     Ok(())
 }
