@@ -127,19 +127,23 @@ try_memory() { # WHAT WORD..
 try_files() { # WHAT WORD..
     local way read_fault='7 none other: read fault: (graph|sensor [A-Za-z0-9_]+)' stride
     stride=$(((counts[2] + most_refused - 1) / most_refused))
-    for way in EACCES EMFILE ENOMEM EINTR; do
+    for way in EACCES EMFILE ENOMEM; do
         refuse_each "open 1-${counts[1]}/1 1 $way" "$same|$read_fault" "$@"
     done
-    for way in EIO EINTR EAGAIN; do
+    for way in EIO EAGAIN; do
         refuse_each "read 1-${counts[2]}/$stride 1 $way" "$same|$read_fault" "$@"
     done
-    for way in EIO ENOSPC EPIPE EINTR EAGAIN none; do
+    for way in EIO ENOSPC EPIPE EAGAIN none; do
         refuse_each "out 1-${counts[3]}/1 1 $way" "$same|8 (none|part) other: write fault" "$@"
         refuse_each "notes 1-${counts[4]}/1 1 $way" "${same% *} (none|part|whole|other: .*)" "$@"
     done
-    refuse_each "read 1-${counts[2]}/$stride 1 one" "$same" "$@"
-    refuse_each "out 1-${counts[3]}/1 1 one" "$same" "$@"
-    refuse_each "notes 1-${counts[4]}/1 1 one" "$same" "$@"
+    refuse_each "open 1-${counts[1]}/1 1 EINTR" "$same" "$@"
+    # One byte at a time; and a call that a signal interrupts is made again.
+    for way in one EINTR; do
+        refuse_each "read 1-${counts[2]}/$stride 1 $way" "$same" "$@"
+        refuse_each "out 1-${counts[3]}/1 1 $way" "$same" "$@"
+        refuse_each "notes 1-${counts[4]}/1 1 $way" "$same" "$@"
+    done
 }
 
 # want STATUS OUTPUT NOTES: what the next command has to give; a file that isn't there is an empty one.

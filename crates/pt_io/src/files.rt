@@ -1,11 +1,13 @@
 //! Files as a source.
 
-ghost use Rattle.std.specs.Prelude.{◌≡◌, ◌+◌, ◌≤◌, ℕ, List, Option, None, Some, IfOk, IfSome, OnOk, IsErrOf, take, vec_len};
+ghost use Rattle.std.specs.Prelude.{◌≡◌, ◌+◌, ◌≤◌, ℕ, List, Option, None, Some, IfOk, IfSome, OnOk, IsErrOf, length, take, vec_len};
+ghost use Rattle.std.specs.Io.KnownBytes.{ReadConsumes};
 ghost use Rattle.pt_io.specs.Causes.{Rose, counted};
 
+use crate::TRIES;
 use crate::source::{FetchFault, Source};
 use std::alloc::Global;
-use std::io::Read;
+use std::io::{ErrorKind, Read};
 use std::rt::Files;
 use std::{fs, io};
 
@@ -50,7 +52,8 @@ impl<R: Files + Drop> Opener for SystemFiles<R> {
 
 /// What an opener opens, as a source.
 ///
-/// If the opener reports a content, a fetch gives its bytes. A read that gives no bytes is the end of the content.
+/// If the opener reports a content, a fetch gives its bytes. A read that gives no bytes is the end of the content; one that a
+/// signal interrupts is tried again.
 #[derive(Drop)]
 pub struct FileSource<O: Opener + Drop> {
     files: O,
@@ -122,7 +125,7 @@ fn first_bytes<R: Read>(alloc: Global, reader: &mut R, most: usize) -> Result<Ve
     let mut buffer = [0u8; 16384];
     while bytes.len() <= most {
         let room = (most - bytes.len()).min(buffer.len() - 1) + 1;
-        match reader.read(&mut buffer[..room]) {
+        match read_some(reader, &mut buffer[..room]) {
             Ok(0) => return Ok(bytes),
             Ok(count) => {
                 if bytes.extend_from_slice(&buffer[..count]).is_err() {
@@ -133,4 +136,20 @@ fn first_bytes<R: Read>(alloc: Global, reader: &mut R, most: usize) -> Result<Ve
         }
     }
     Ok(bytes)
+}
+
+/// Reads into a front of the buffer, and gives its length. A read that a signal interrupts is tried again.
+#[tactic(auto, using(crate::proofs::Trying::read_after))]
+fn read_some<R: Read>(reader: &mut R, buffer: &mut [u8]) -> io::Result<usize>
+    ensures bound { IfOk result (λ count. count ≤ length buffer.new) }
+    ensures len { length buffer.new ≡ length buffer.old }
+    ensures bytes { ReadConsumes (R.remaining reader.old) (R.remaining reader.new) result buffer.new }
+{
+    for _ in 0..TRIES {
+        match reader.read(buffer) {
+            Err(error) if error.kind() == ErrorKind::Interrupted => {}
+            other => return other,
+        }
+    }
+    reader.read(buffer)
 }

@@ -16,6 +16,9 @@ mod shelf;
 mod sink;
 mod source;
 
+/// How often a read or write that a signal interrupts is tried before it counts as failed.
+const TRIES: u32 = u32::MAX;
+
 pub use clock::{Clock, ListClock, MachineClock, StepClock};
 pub use files::{FileSource, Opener, SystemFiles};
 pub use outputs::{NotesSink, OutSink};

@@ -1,21 +1,23 @@
 //! Writers as sinks: the standard output and the standard error.
 
 ghost use Rattle.std.specs.Prelude.{◌≡◌, ◌-◌, ◌≤◌, [], None, IfOk, OnOk, OnErr, drop, is_err, IsOk, length, take, vec_capacity, vec_len};
-ghost use Rattle.std.specs.Io.KnownBytes.{append_known};
+ghost use Rattle.std.specs.Io.KnownBytes.{append_known, WriteAppends};
 ghost use Rattle.pt_io.specs.Causes.{Appends, AppendsPart, Keeps, Rose, counted, counted_if};
 
+use crate::TRIES;
 use crate::sink::{PutFault, Sink};
 use pt_tags::Memory;
 use std::alloc::Global;
-use std::io::Write;
+use std::io::{self, ErrorKind, Write};
 
 /// The least capacity of the buffer, in bytes.
 const ROOM: usize = 65536;
 
 /// A buffered writer, for the standard output.
 ///
-/// What it took are the bytes that the writer behind it was given, if that reports them, followed by the buffer. A write that takes no bytes of a nonempty piece is a fault. Bytes that a failed write
-/// leaves stay in the buffer; bytes in the buffer are lost when the sink is dropped.
+/// What it took are the bytes that the writer behind it was given, if that reports them, followed by the buffer. A write that
+/// takes no bytes of a nonempty piece is a fault; one that a signal interrupts is tried again. Bytes that a failed write leaves
+/// stay in the buffer; bytes in the buffer are lost when the sink is dropped.
 #[derive(Drop)]
 pub struct OutSink<W: Write + Drop> {
     out: W,
@@ -192,12 +194,27 @@ fn write_out<W: Write>(bytes: &[u8], out: &mut W) -> usize
 {
     let mut count = 0;
     while count < bytes.len() {
-        match out.write(&bytes[count..]) {
+        match write_some(&bytes[count..], out) {
             Ok(more) if more > 0 => count += more,
             _ => return count,
         }
     }
     count
+}
+
+/// Writes a front of the bytes, and gives its length. A write that a signal interrupts is tried again.
+#[tactic(auto, using(crate::proofs::Trying::written_after))]
+fn write_some<W: Write>(bytes: &[u8], out: &mut W) -> io::Result<usize>
+    ensures bound { IfOk result (λ count. count ≤ length bytes.now) }
+    ensures bytes { WriteAppends (W.contents out.old) (W.contents out.new) result bytes.now }
+{
+    for _ in 0..TRIES {
+        match out.write(bytes) {
+            Err(error) if error.kind() == ErrorKind::Interrupted => {}
+            other => return other,
+        }
+    }
+    out.write(bytes)
 }
 
 /// Removes the first `count` bytes.
