@@ -1,5 +1,5 @@
 -- With the least slacks nothing is missed in a paced run.
-use Rattle.std.proofs.Common.{◌≡◌, ℕ, ◌+◌, ◌<◌, ◌≤◌, Bool, List, [], IfSome, Option, Some, None, Ok, ℤ, pos, negsuc, ◌+ℤ◌, ◌≤ℤ◌, length, arith, refl, sym, ap, subst, ◌∙◌}
+use Rattle.std.proofs.Common.{◌≡◌, ℕ, ◌+◌, ◌<◌, ◌≤◌, List, [], IfSome, Option, Some, None, Ok, ℤ, pos, negsuc, ◌+ℤ◌, ◌≤ℤ◌, length, arith, refl, sym, ap, subst, ◌∙◌}
 use Rattle.std.specs.Prelude.{flat_map, slice_get}
 use Rattle.std.proofs.lemmas.Int.{ints}
 use Rattle.std.proofs.lemmas.Option.{slice_get_within}
@@ -13,7 +13,6 @@ use Rattle.pt_types.specs.declared.rows.Row.{Row}
 use Rattle.pt_types.specs.Groups.{input_group}
 use Rattle.pt_types.specs.Lawful.{IsLawful}
 use Rattle.pt_types.specs.Lookups.{kind_of}
-use Rattle.pt_blocks.specs.declared.blocks.Named.{Named}
 use Rattle.pt_graph_text.specs.declared.fault.GraphFault.{GraphFault}
 use Rattle.pt_graph.specs.GraphOf.{graph_of}
 use Rattle.pt_history.specs.declared.miss.Miss.{Miss}
