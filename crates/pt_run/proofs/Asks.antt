@@ -17,7 +17,7 @@ use Rattle.pt_run.specs.declared.fault.Fault.{Fault}
 use Rattle.pt_run.specs.declared.fault.Fault.TheVariants as fault
 use Rattle.pt_run.specs.declared.outcome.Ending.{Ending}
 use Rattle.pt_run.specs.declared.words.Command.{Command}
-use Rattle.pt_run.specs.declared.words.Command.TheVariants.{Run, Check, Meaning}
+use Rattle.pt_run.specs.declared.words.Command.TheVariants.{Run, Check, Meaning, Slacks}
 use Rattle.pt_run.specs.Causes.{CauseOfGraph, Writing}
 use Rattle.pt_run.specs.Faults.{fault_of_rows}
 use Rattle.pt_run.specs.Making.{AsksOf}
@@ -29,6 +29,7 @@ use Rattle.pt_run.proofs.Ending.{never}
 -- nothing was asked for
 pub asks_nothing : (c : Command) (outcome : Option Fault) (g : Graph) (before now : Option (List (List ℕ))) → now ≡ before → AsksFor c outcome g before now
 asks_nothing Check outcome g before now same = (0, asks_none before now same)
+asks_nothing Slacks outcome g before now same = (0, asks_none before now same)
 asks_nothing (Run workers clock log) outcome g before now same = (0, by_bool (is_refused outcome))
   where
     by_bool : (b : Bool) → Asks before now (if b then [] else files_before g 0)
@@ -77,6 +78,7 @@ meaning_asks tells g r made before now fails files = not_refused (fault_in made)
     by_fault (fault.Graph e) h = refl
     by_fault (fault.Cycle actors) h = absurd h
     by_fault (fault.Infeasible send offset slack) h = absurd h
+    by_fault (fault.Ring sends gain) h = absurd h
     by_fault (fault.Sensor actor e) h = refl
     by_fault (fault.LateRow actor row seen limit) h = refl
     by_fault (fault.LateMessage platform actor tag reading limit) h = refl
@@ -96,6 +98,7 @@ whatever_clock command workers clock other log outcome g before now is h = subst
 -- if there is no memory for the line of a fault
 memory_asks : (c : Command) (f : Fault) (g : Graph) (before now : Option (List (List ℕ))) → AsksFor c (Some f) g before now → AsksFor c (Some fault.Memory) g before now
 memory_asks Check f g before now h = h
+memory_asks Slacks f g before now h = h
 memory_asks (Run workers clock log) f g before now (n, h) = by_bool (is_refused (Some f)) h
   where
     by_bool : (b : Bool) → Asks before now (if b then [] else files_before g n) → (k : ℕ) × Asks before now (files_before g k)
@@ -115,6 +118,7 @@ answer_asks c (Ok text) o w g before now h asks = by_outcome o.fault h.1
     wrote Check k = k
     wrote (Run workers clock log) k = k
     wrote Meaning k = k
+    wrote Slacks k = k
 
     by_outcome : (e : Option Fault) → PutBy e (string_bytes text) w → AsksFor c e g before now
     by_outcome None put = asks
@@ -137,6 +141,7 @@ asked_in_order c outcome left tells told blocks name g r w first asked now read 
     by_fault fault.Usage h all = all
     by_fault (fault.Cycle actors) h all = all
     by_fault (fault.Infeasible send offset slack) h all = all
+    by_fault (fault.Ring sends gain) h all = all
     by_fault (fault.Sensor actor e) h all = all
     by_fault (fault.LateRow actor row seen limit) h all = all
     by_fault (fault.LateMessage platform actor tag reading limit) h all = all
@@ -167,6 +172,7 @@ asked_for_graph c outcome f told tells blocks name r first now is tell cause ask
     by_fault fault.Usage h one = absurd h
     by_fault (fault.Cycle actors) h one = absurd h
     by_fault (fault.Infeasible send offset slack) h one = absurd h
+    by_fault (fault.Ring sends gain) h one = absurd h
     by_fault (fault.Sensor actor e) h one = absurd h
     by_fault (fault.LateRow actor row seen limit) h one = absurd h
     by_fault (fault.LateMessage platform actor tag reading limit) h one = absurd h

@@ -31,7 +31,7 @@ use Rattle.pt_run.specs.Words.{over}
 use Rattle.pt_run.specs.Written.{HasNothing, Leaves, clocking, has_run}
 use Rattle.pt_run.specs.declared.fault.Fault.{Fault}
 use Rattle.pt_run.specs.declared.fault.Fault.TheVariants as fault
-use Rattle.pt_run.specs.declared.words.Command.TheVariants.{Meaning, Run}
+use Rattle.pt_run.specs.declared.words.Command.TheVariants.{Run}
 use Rattle.pt_run.proofs.Exact.{exact}
 use Rattle.pt_run.proofs.RunsAgreeing.{runs_agree, texts_agree}
 use Rattle.pt_run.proofs.StepsAgreeing.{step_runs}
@@ -66,9 +66,6 @@ no_graph o calm wants = ⊎_elim (λ (e : o ≡ Some fault.Memory). not_memory o
 
 no_rows : (o : Option Fault) → IsUndisturbed o → WantsRows o → ⊥
 no_rows o calm wants = ⊎_elim (λ (h : WantsGraph o). no_graph o calm h) (λ (h : (actor : ℕ) × (o ≡ Some (fault.Read (Some actor)))). not_read o (Some h.0) calm h.1) wants
-
-run_meaning : (workers : ℕ) (clock : ClockChoice) (log : Bool) → Run workers clock log ≡ Meaning → ⊥
-run_meaning workers clock log e = cc
 
 module _ (clock : ClockChoice) (log : Bool) (tells : Contents) (blocks : List Named) (name : List ℕ) (all : TellsAll tells blocks name) where
   -- a call that had a run and wrote all of its text, which is none if a platform stopped the run
@@ -149,6 +146,7 @@ module _ (clock : ClockChoice) (log : Bool) (tells : Contents) (blocks : List Na
     classify (Some fault.Write) k calm = absurd calm
     classify (Some (fault.Read sensor)) k calm = absurd calm
     classify (Some (fault.Long None)) ((g, file, (free, cause)), same) calm = absurd cause
+    classify (Some (fault.Ring sends gain)) ((g, file, (free, cause)), same) calm = absurd cause
     classify (Some (fault.Long (Some platform))) ((g, file, (free, stop)), same) calm =
         inl (halted (Some (fault.Long (Some platform))) g refl refl (λ e. none_some (fault.Long (Some platform)) (sym e)) file stop.plan stop.graph stop.run stop.no_misses same)
     classify (Some (fault.LateMessage platform actor tag reading limit)) ((g, file, (free, stop)), same) calm =
@@ -161,7 +159,7 @@ module _ (clock : ClockChoice) (log : Bool) (tells : Contents) (blocks : List Na
         (h.cycle (Run others clock log) g (defines others (Ok g) file) (λ free. free cause.first cause.edge cause.path cause.cycle cause.free))))
     classify (Some (fault.Infeasible send offset slack)) ((g, file, (free, (cause, nothing))), same) calm =
         inr (refused (fault.Infeasible send offset slack) refl nothing same
-        (λ others o h still. by_cause (fault.Infeasible send offset slack) o (WantsGraph o) refl (no_graph o still) (h.infeasible (Run others clock log) g send offset slack (run_meaning others clock log) (defines others (Ok g) file) free cause)))
+        (λ others o h still. by_cause (fault.Infeasible send offset slack) o (WantsGraph o) refl (no_graph o still) (h.infeasible (Run others clock log) g send offset slack tt (defines others (Ok g) file) free cause)))
     classify (Some (fault.Sensor actor f)) ((g, file, (free, (feasible, cause, nothing))), same) calm =
         inr (refused (fault.Sensor actor f) refl nothing same
         (λ others o h still. by_cause (fault.Sensor actor f) o (WantsRows o) refl (no_rows o still) (h.sensor (Run others clock log) g actor f (reads others g file free feasible) cause)))

@@ -1,5 +1,5 @@
 -- Each answer has its cause.
-use Rattle.std.proofs.Common.{◌≡◌, ◌≢◌, ℕ, Bool, List, [], ◌∷◌, Option, Some, None, Err, IfSome, ℤ, refl, sym, ap, subst, ◌∙◌, arith}
+use Rattle.std.proofs.Common.{◌≡◌, ◌≢◌, ℕ, List, [], ◌∷◌, Option, Some, None, Err, IfSome, ℤ, refl, sym, ap, subst, ◌∙◌, arith}
 use Rattle.std.specs.Prelude.{flat_map}
 use Rattle.pt_io.specs.Causes.{Rose}
 use Rattle.pt_types.specs.declared.graph.Graph.{Graph}
@@ -12,6 +12,7 @@ use Rattle.pt_offsets.specs.Margins.{IsFirstInfeasible}
 use Rattle.pt_sensors.specs.declared.fault.RowFault.{RowFault}
 use Rattle.pt_offsets.specs.Plans.{Parts}
 use Rattle.pt_semantics.specs.Cycles.{NoFreeCycle}
+use Rattle.pt_slacks.specs.Rings.{IsRing}
 use Rattle.pt_semantics.specs.Offsets.{IsFeasible}
 use Rattle.pt_monitors.specs.Platforms.{missed_by}
 use Rattle.pt_sensors.specs.Asked.{Contents, ReadFails, Reading}
@@ -19,7 +20,7 @@ use Rattle.pt_sensors.specs.Recorded.{SensorFails, SensorLate, SensorUnread}
 use Rattle.pt_run.specs.declared.fault.Fault.{Fault}
 use Rattle.pt_run.specs.declared.fault.Fault.TheVariants as fault
 use Rattle.pt_run.specs.declared.words.Command.{Command}
-use Rattle.pt_run.specs.declared.words.Command.TheVariants.{Run, Check, Meaning}
+use Rattle.pt_run.specs.declared.words.Command.TheVariants.{Run, Check, Meaning, Slacks}
 use Rattle.pt_tags.specs.declared.tag.Tag.{Tag}
 use Rattle.pt_turn.specs.declared.fault.TurnFault.{TurnFault}
 use Rattle.pt_turn.specs.declared.fault.TurnFault.TheVariants as turn
@@ -28,7 +29,7 @@ use Rattle.pt_turn.specs.Running.{Shows, ShowsLate, ShowsLong}
 use Rattle.pt_words.specs.declared.orders.ClockChoice.{ClockChoice}
 use Rattle.pt_words.specs.declared.orders.ClockChoice.TheVariants.{Paced}
 use Rattle.pt_run.specs.Causes.{CauseOfText, MeansLong, RunStops, Writing}
-use Rattle.pt_run.specs.CauseTable.{CauseTable, IsAccepted, IsNotPaced, IsRunCommand, OfRows, OnPlatform, OverFile, OverGraph}
+use Rattle.pt_run.specs.CauseTable.{AsksFeasible, CauseTable, IsAccepted, IsNotPaced, IsRunCommand, OfRows, OnPlatform, OverFile, OverGraph}
 use Rattle.pt_run.specs.Making.{Ends}
 use Rattle.pt_run.specs.Statuses.{status_of, status_of_fault}
 use Rattle.pt_run.specs.Words.{Order, over, make, migrate}
@@ -40,6 +41,7 @@ not_missed fault.Usage e = omega (arith, e)
 not_missed (fault.Graph f) e = omega (arith, e)
 not_missed (fault.Cycle actors) e = omega (arith, e)
 not_missed (fault.Infeasible send offset slack) e = omega (arith, e)
+not_missed (fault.Ring sends gain) e = omega (arith, e)
 not_missed (fault.Sensor actor f) e = omega (arith, e)
 not_missed (fault.LateRow actor row seen limit) e = omega (arith, e)
 not_missed (fault.LateMessage platform actor tag reading limit) e = omega (arith, e)
@@ -56,12 +58,6 @@ none_misses (Some f) misses e = absurd (not_missed f e)
 is_missed : (misses : List Miss) → misses ≢ [] → status_of None misses ≡ 5
 is_missed [] h = absurd (h refl)
 is_missed (m ∷ ms) h = refl
-
-run_reads : (workers : ℕ) (clock : ClockChoice) (log : Bool) → Run workers clock log ≢ Meaning
-run_reads workers clock log e = cc
-
-check_reads : Check ≢ Meaning
-check_reads e = cc
 
 module _ (left : Leaves) (tells : Contents) (blocks : List Named) (r : Reading) (w : Writing) where
   usage : (order : Option Order) → Ends (Some fault.Usage) left order tells blocks r w → order ≡ None
@@ -88,16 +84,29 @@ module _ (left : Leaves) (tells : Contents) (blocks : List Named) (r : Reading) 
   cycle actors (Some (make n workers)) k = absurd k
   cycle actors (Some (migrate name)) k = absurd k.1
 
-  infeasible : (send : ℕ) (offset : ℤ) (slack : ℕ) (order : Option Order) → Ends (Some (fault.Infeasible send offset slack)) left order tells blocks r w → OverGraph order tells blocks (λ command name g. (command ≢ Meaning) × NoFreeCycle g × IsFirstInfeasible g send offset slack)
+  infeasible : (send : ℕ) (offset : ℤ) (slack : ℕ) (order : Option Order) → Ends (Some (fault.Infeasible send offset slack)) left order tells blocks r w → OverGraph order tells blocks (λ command name g. AsksFeasible command × NoFreeCycle g × IsFirstInfeasible g send offset slack)
   infeasible send offset slack None k = absurd (let e = k.0 in cc)
   infeasible send offset slack (Some (over command name)) (k, same) = (k.0, k.1, of command k.0 k.2.0 k.2.1)
     where
-      of : (c : Command) (g : Graph) → NoFreeCycle g → CauseOfText c (fault.Infeasible send offset slack) left tells g (name ∷ []) r → (c ≢ Meaning) × NoFreeCycle g × IsFirstInfeasible g send offset slack
-      of (Run workers clock log) g free h = (run_reads workers clock log, free, h.0)
-      of Check g free h = (check_reads, free, h.0)
+      of : (c : Command) (g : Graph) → NoFreeCycle g → CauseOfText c (fault.Infeasible send offset slack) left tells g (name ∷ []) r → AsksFeasible c × NoFreeCycle g × IsFirstInfeasible g send offset slack
+      of (Run workers clock log) g free h = (tt, free, h.0)
+      of Check g free h = (tt, free, h.0)
       of Meaning g free h = absurd h.0
+      of Slacks g free h = absurd h.0
   infeasible send offset slack (Some (make n workers)) k = absurd k
   infeasible send offset slack (Some (migrate name)) k = absurd k.1
+
+  ring : (sends : List ℕ) (gain : ℕ) (order : Option Order) → Ends (Some (fault.Ring sends gain)) left order tells blocks r w → OverGraph order tells blocks (λ command name g. (command ≡ Slacks) × NoFreeCycle g × IsRing g sends gain)
+  ring sends gain None k = absurd (let e = k.0 in cc)
+  ring sends gain (Some (over command name)) (k, same) = (k.0, k.1, of command k.0 k.2.0 k.2.1)
+    where
+      of : (c : Command) (g : Graph) → NoFreeCycle g → CauseOfText c (fault.Ring sends gain) left tells g (name ∷ []) r → (c ≡ Slacks) × NoFreeCycle g × IsRing g sends gain
+      of (Run workers clock log) g free h = absurd h
+      of Check g free h = absurd h.0
+      of Meaning g free h = absurd h.0
+      of Slacks g free h = (refl, free, h.0)
+  ring sends gain (Some (make n workers)) k = absurd k
+  ring sends gain (Some (migrate name)) k = absurd k.1
 
   sensor_unread : (actor : ℕ) (order : Option Order) → Ends (Some (fault.Read (Some actor))) left order tells blocks r w → OverGraph order tells blocks (λ command name g. IsAccepted command g × OfRows command (λ late. SensorUnread late tells g actor (name ∷ []) r))
   sensor_unread actor None k = absurd (let e = k.0 in cc)
@@ -106,7 +115,8 @@ module _ (left : Leaves) (tells : Contents) (blocks : List Named) (r : Reading) 
       of : (c : Command) (g : Graph) → NoFreeCycle g → CauseOfText c (fault.Read (Some actor)) left tells g (name ∷ []) r → IsAccepted c g × OfRows c (λ late. SensorUnread late tells g actor (name ∷ []) r)
       of (Run workers clock log) g free h = ((free, λ reads. h.0), h.1)
       of Check g free h = absurd h.0
-      of Meaning g free h = ((free, λ reads. absurd (reads refl)), h.0)
+      of Meaning g free h = ((free, λ reads. absurd reads), h.0)
+      of Slacks g free h = absurd h.0
   sensor_unread actor (Some (make n workers)) k = absurd k
   sensor_unread actor (Some (migrate name)) k = absurd k.1
 
@@ -117,7 +127,8 @@ module _ (left : Leaves) (tells : Contents) (blocks : List Named) (r : Reading) 
       of : (c : Command) (g : Graph) → NoFreeCycle g → CauseOfText c (fault.Sensor actor f) left tells g (name ∷ []) r → IsAccepted c g × OfRows c (λ late. SensorFails late tells g actor f)
       of (Run workers clock log) g free h = ((free, λ reads. h.0), h.1)
       of Check g free h = absurd h.0
-      of Meaning g free h = ((free, λ reads. absurd (reads refl)), h.0)
+      of Meaning g free h = ((free, λ reads. absurd reads), h.0)
+      of Slacks g free h = absurd h.0
   sensor actor f (Some (make n workers)) k = absurd k
   sensor actor f (Some (migrate name)) k = absurd k.1
 
@@ -129,6 +140,7 @@ module _ (left : Leaves) (tells : Contents) (blocks : List Named) (r : Reading) 
       of (Run workers clock log) g free h = (tt, (free, λ reads. h.0), h.1)
       of Check g free h = absurd h.0
       of Meaning g free h = absurd h.0
+      of Slacks g free h = absurd h.0
   late_row actor row seen limit (Some (make n workers)) k = absurd k
   late_row actor row seen limit (Some (migrate name)) k = absurd k.1
 
@@ -156,6 +168,7 @@ module _ (left : Leaves) (tells : Contents) (blocks : List Named) (r : Reading) 
       of (Run workers clock log) g free h = (never_paced g workers clock platform actor tag reading limit h, (free, λ reads. feasible g workers clock platform (turn.Late actor tag reading limit) h), stopped g workers clock platform (turn.Late actor tag reading limit) h)
       of Check g free h = absurd h.0
       of Meaning g free h = absurd h.0
+      of Slacks g free h = absurd h.0
   late_message platform actor tag reading limit (Some (make n workers)) k = absurd k
   late_message platform actor tag reading limit (Some (migrate name)) k = absurd k.1
 
@@ -167,6 +180,7 @@ module _ (left : Leaves) (tells : Contents) (blocks : List Named) (r : Reading) 
       of (Run workers clock log) g free h = (tt, (free, λ reads. feasible g workers clock platform turn.Long h), stopped g workers clock platform turn.Long h)
       of Check g free h = absurd h.0
       of Meaning g free h = absurd h.0
+      of Slacks g free h = absurd h.0
   long platform (Some (make n workers)) k = absurd k
   long platform (Some (migrate name)) k = absurd k.1
 
@@ -178,6 +192,7 @@ module _ (left : Leaves) (tells : Contents) (blocks : List Named) (r : Reading) 
       of (Run workers clock log) g free h = absurd h
       of Check g free h = absurd h.0
       of Meaning g free h = (refl, free, h.0)
+      of Slacks g free h = absurd h.0
   long_meaning (Some (make n workers)) k = absurd k
   long_meaning (Some (migrate name)) k = absurd k.1
 
@@ -193,6 +208,7 @@ module _ (left : Leaves) (tells : Contents) (blocks : List Named) (r : Reading) 
   unwritten (fault.Graph f) None never k = k.2
   unwritten (fault.Cycle actors) None never k = k.2
   unwritten (fault.Infeasible send offset slack) None never k = k.2
+  unwritten (fault.Ring sends gain) None never k = k.2
   unwritten (fault.Sensor actor f) None never k = k.2
   unwritten (fault.LateRow actor row seen limit) None never k = k.2
   unwritten (fault.LateMessage platform actor tag reading limit) None never k = k.2
@@ -204,6 +220,7 @@ module _ (left : Leaves) (tells : Contents) (blocks : List Named) (r : Reading) 
   unwritten (fault.Graph f) (Some (over command name)) never k = k.2
   unwritten (fault.Cycle actors) (Some (over command name)) never k = k.1
   unwritten (fault.Infeasible send offset slack) (Some (over command name)) never k = k.1
+  unwritten (fault.Ring sends gain) (Some (over command name)) never k = k.1
   unwritten (fault.Sensor actor f) (Some (over command name)) never k = k.1
   unwritten (fault.LateRow actor row seen limit) (Some (over command name)) never k = k.1
   unwritten (fault.LateMessage platform actor tag reading limit) (Some (over command name)) never k = k.1
@@ -220,6 +237,8 @@ module _ (left : Leaves) (tells : Contents) (blocks : List Named) (r : Reading) 
   unwritten (fault.Cycle actors) (Some (migrate name)) never k = k.2
   unwritten (fault.Infeasible send offset slack) (Some (make n workers)) never k = absurd k
   unwritten (fault.Infeasible send offset slack) (Some (migrate name)) never k = k.2
+  unwritten (fault.Ring sends gain) (Some (make n workers)) never k = absurd k
+  unwritten (fault.Ring sends gain) (Some (migrate name)) never k = k.2
   unwritten (fault.Sensor actor f) (Some (make n workers)) never k = absurd k
   unwritten (fault.Sensor actor f) (Some (migrate name)) never k = k.2
   unwritten (fault.LateRow actor row seen limit) (Some (make n workers)) never k = absurd k
@@ -239,6 +258,7 @@ module _ (left : Leaves) (tells : Contents) (blocks : List Named) (r : Reading) 
       of (Run workers clock log) run = run.finished.missed
       of Check h = h.0.0 ∙ sym (ap (flat_map missed_by) h.0.1)
       of Meaning h = h.0.0 ∙ sym (ap (flat_map missed_by) h.0.1)
+      of Slacks h = h.0.0 ∙ sym (ap (flat_map missed_by) h.0.1)
   missed_are (Some (make n workers)) (none, text, run, appends) = none ∙ sym run.none_missed
   missed_are (Some (migrate name)) k = k.0.0 ∙ sym (ap (flat_map missed_by) k.0.1)
 
@@ -249,6 +269,7 @@ caused status o left order tells blocks r w is ends = record {
   graph = λ f e. graph left tells blocks r w f order (by (fault.Graph f) e);
   cycle = λ actors e. cycle left tells blocks r w actors order (by (fault.Cycle actors) e);
   infeasible = λ send offset slack e. infeasible left tells blocks r w send offset slack order (by (fault.Infeasible send offset slack) e);
+  ring = λ sends gain e. ring left tells blocks r w sends gain order (by (fault.Ring sends gain) e);
   sensor_unread = λ actor e. sensor_unread left tells blocks r w actor order (by (fault.Read (Some actor)) e);
   sensor = λ actor f e. sensor left tells blocks r w actor f order (by (fault.Sensor actor f) e);
   late_row = λ actor row seen limit e. late_row left tells blocks r w actor row seen limit order (by (fault.LateRow actor row seen limit) e);

@@ -18,7 +18,7 @@ use Rattle.pt_io.specs.Told.{ClockView}
 use Rattle.pt_words.specs.declared.orders.ClockChoice.{ClockChoice}
 use Rattle.pt_run.specs.declared.outcome.Ending.{Ending}
 use Rattle.pt_run.specs.declared.words.Command.{Command}
-use Rattle.pt_run.specs.declared.words.Command.TheVariants.{Run, Check, Meaning}
+use Rattle.pt_run.specs.declared.words.Command.TheVariants.{Run, Check, Meaning, Slacks}
 use Rattle.pt_run.specs.Faults.{fault_of_graph}
 use Rattle.pt_run.specs.Written.{HasNothing, Leaves, Writes, nothing}
 use Rattle.pt_run.specs.Causes.{CauseOf, CauseOfGraph, CauseOfMeaning, CauseOfRun, CauseOfText, Writing}
@@ -64,6 +64,7 @@ module _ (tells : Contents) (g : Graph) (left : Leaves) (name : List ℕ) (first
   of_run workers clock (fault.Graph e) h = h
   of_run workers clock (fault.Cycle actors) h = h
   of_run workers clock (fault.Infeasible send offset slack) h = h
+  of_run workers clock (fault.Ring sends gain) h = h
   of_run workers clock (fault.Sensor actor e) h = h
   of_run workers clock (fault.LateRow actor row seen limit) h = h
   of_run workers clock (fault.LateMessage platform actor tag reading limit) h = h
@@ -79,6 +80,7 @@ module _ (tells : Contents) (g : Graph) (left : Leaves) (name : List ℕ) (first
   of_meaning (fault.Graph e) h = h
   of_meaning (fault.Cycle actors) h = h
   of_meaning (fault.Infeasible send offset slack) h = h
+  of_meaning (fault.Ring sends gain) h = h
   of_meaning (fault.Sensor actor e) h = h
   of_meaning (fault.LateRow actor row seen limit) h = h
   of_meaning (fault.LateMessage platform actor tag reading limit) h = h
@@ -92,6 +94,7 @@ module _ (tells : Contents) (g : Graph) (left : Leaves) (name : List ℕ) (first
   of_text : (c : Command) (f : Fault) → CauseOfText c f left tells g [] inner → CauseOfText c f left tells g (name ∷ []) outer
   of_text (Run workers clock log) f h = of_run workers clock f h
   of_text Check f h = h
+  of_text Slacks f h = h
   of_text Meaning f h = (of_meaning f h.0, h.1)
 
   after_file : (c : Command) (f : Fault) → CauseOf c f left tells g [] inner → CauseOf c f left tells g (name ∷ []) outer
@@ -99,6 +102,7 @@ module _ (tells : Contents) (g : Graph) (left : Leaves) (name : List ℕ) (first
   after_file c (fault.Graph e) h = (h.0, of_text c (fault.Graph e) h.1)
   after_file c (fault.Cycle actors) h = h
   after_file c (fault.Infeasible send offset slack) h = (h.0, of_text c (fault.Infeasible send offset slack) h.1)
+  after_file c (fault.Ring sends gain) h = (h.0, of_text c (fault.Ring sends gain) h.1)
   after_file c (fault.Sensor actor e) h = (h.0, of_text c (fault.Sensor actor e) h.1)
   after_file c (fault.LateRow actor row seen limit) h = (h.0, of_text c (fault.LateRow actor row seen limit) h.1)
   after_file c (fault.LateMessage platform actor tag reading limit) h = (h.0, of_text c (fault.LateMessage platform actor tag reading limit) h.1)
@@ -116,6 +120,7 @@ pub never : (c : Command) (left : Leaves) (tells : Contents) (g : Graph) (r : Re
 never (Run workers clock log) left tells g r = (λ h. h, (λ e h. h), λ h. h)
 never Check left tells g r = (λ h. h.0, (λ e h. h.0), λ h. h.0)
 never Meaning left tells g r = (λ h. h.0, (λ e h. h.0), λ h. h.0)
+never Slacks left tells g r = (λ h. h.0, (λ e h. h.0), λ h. h.0)
 
 -- a command over a graph that was read from the file of that name
 pub ends_file : (c : Command) (outcome : Option Fault) (left : Leaves) (tells told : Contents) (blocks : List Named) (name : List ℕ) (g : Graph) (first asked now : Option (List (List ℕ))) (start before last : ℕ) (w : Writing) → told ≡ tells
@@ -139,6 +144,7 @@ ends_file c outcome left tells told blocks name g first asked now start before l
     by_fault (fault.Graph e) h = absurd ((never c left tells g within).1 e h.0.1)
     by_fault (fault.Cycle actors) h = ((g, read, h.0), h.1)
     by_fault (fault.Infeasible send offset slack) h = ((g, read, on (fault.Infeasible send offset slack) h.0), h.1)
+    by_fault (fault.Ring sends gain) h = ((g, read, on (fault.Ring sends gain) h.0), h.1)
     by_fault (fault.Sensor actor e) h = ((g, read, on (fault.Sensor actor e) h.0), h.1)
     by_fault (fault.LateRow actor row seen limit) h = ((g, read, on (fault.LateRow actor row seen limit) h.0), h.1)
     by_fault (fault.LateMessage platform actor tag reading limit) h = ((g, read, on (fault.LateMessage platform actor tag reading limit) h.0), h.1)
@@ -170,6 +176,7 @@ never_written : (d : Command) (tells : Contents) (g : Graph) (r : Reading) → C
 never_written (Run workers clock log) tells g r k = k
 never_written Check tells g r k = k.0
 never_written Meaning tells g r k = k.0
+never_written Slacks tells g r k = k.0
 
 -- a question over a graph ends with its answer
 pub ends_answer : (c : Command) (made : Result (String Global) Fault) (o : Ending) (tells : Contents) (g : Graph) (r : Reading) (w : Writing) →
@@ -190,6 +197,7 @@ ends_answer c (Err f) o tells g r w good bad h = subst (λ left. EndsOver o.faul
     by_fault (fault.Graph e) k = (k, h.2)
     by_fault (fault.Cycle actors) k = (k, h.2)
     by_fault (fault.Infeasible send offset slack) k = (k, h.2)
+    by_fault (fault.Ring sends gain) k = (k, h.2)
     by_fault (fault.Sensor actor e) k = (k, h.2)
     by_fault (fault.LateRow actor row seen limit) k = (k, h.2)
     by_fault (fault.LateMessage platform actor tag reading limit) k = (k, h.2)

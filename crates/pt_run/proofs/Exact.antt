@@ -1,5 +1,5 @@
 -- Where a cause is there, and none before it, its answer comes.
-use Rattle.std.proofs.Common.{◌≡◌, ◌≢◌, ℕ, ◌+◌, ◌*◌, ◌<◌, ◌≤◌, ◌⊎◌, Bool, List, [], ◌∷◌, Option, Some, None, Result, Ok, Err, IfSome, ℤ, pos, ◌+ℤ◌, ◌≤ℤ◌, ◌<ℤ◌, length, slice_get, refl, sym, ap, ap₂, subst, ◌∙◌, arith, inl, inr, ⊎_elim}
+use Rattle.std.proofs.Common.{◌≡◌, ℕ, ◌+◌, ◌*◌, ◌<◌, ◌≤◌, ◌⊎◌, Bool, List, [], ◌∷◌, Option, Some, None, Result, Ok, Err, IfSome, ℤ, pos, ◌+ℤ◌, ◌≤ℤ◌, ◌<ℤ◌, length, slice_get, refl, sym, ap, ap₂, subst, ◌∙◌, arith, inl, inr, ⊎_elim}
 use Rattle.std.proofs.lemmas.Bool.{cases_lt}
 use Rattle.std.proofs.lemmas.Int.{ints}
 use Rattle.pt_tags.specs.declared.tag.Tag.{Tag}
@@ -12,6 +12,11 @@ use Rattle.pt_types.specs.declared.rows.Row.{Row}
 use Rattle.pt_blocks.specs.declared.blocks.Named.{Named}
 use Rattle.pt_graph_text.specs.declared.fault.GraphFault.{GraphFault}
 use Rattle.pt_graph.specs.GraphOf.{graph_of}
+use Rattle.pt_graph.proofs.Lawful.{lawful_of}
+use Rattle.pt_types.specs.Lawful.{IsLawful}
+use Rattle.pt_slacks.specs.Rings.{IsRing}
+use Rattle.pt_slacks.specs.Slacks.{Admits}
+use Rattle.pt_slacks.proofs.Refusing.{rings_admit_nothing}
 use Rattle.pt_causality.specs.Ranked.{IsFreeCycle}
 use Rattle.pt_offsets.specs.Margins.{IsFirstInfeasible}
 use Rattle.pt_offsets.specs.Plans.{Parts}
@@ -42,9 +47,9 @@ use Rattle.pt_run.proofs.RunsAgreeing.{rows_are_one}
 use Rattle.pt_run.specs.declared.fault.Fault.{Fault}
 use Rattle.pt_run.specs.declared.fault.Fault.TheVariants as fault
 use Rattle.pt_run.specs.declared.words.Command.{Command}
-use Rattle.pt_run.specs.declared.words.Command.TheVariants.{Run, Check, Meaning}
-use Rattle.pt_run.specs.Causes.{CauseOf, CauseOfCheck, CauseOfMeaning, CauseOfRun, CauseOfText, IsTooLongForAll, Writing}
-use Rattle.pt_run.specs.CauseTable.{OfRows}
+use Rattle.pt_run.specs.declared.words.Command.TheVariants.{Run, Check, Meaning, Slacks}
+use Rattle.pt_run.specs.Causes.{CauseOf, CauseOfCheck, CauseOfMeaning, CauseOfNoSlacks, CauseOfRun, CauseOfText, IsTooLongForAll, Writing}
+use Rattle.pt_run.specs.CauseTable.{AsksFeasible, OfRows}
 use Rattle.pt_run.specs.Exact.{Defines, IsExact, WantsGraph, WantsMemory, WantsRows}
 use Rattle.pt_run.specs.Making.{Ends}
 use Rattle.pt_run.specs.Migrating.{EndsMigrated}
@@ -207,33 +212,68 @@ meant_long tells g text rows told are meant too_long =
     (subst (λ rank. IsMeaning g rank (of_run g rows) meant.tables.firings) (ranks_are_one g means.rank too_long.rank means.ranks too_long.ranks) meaning)
     meant.tables.fact too_long.longer
 
--- a graph has no cycle that takes no time, and but for `meaning` each sender can send in time
+-- a graph has no cycle that takes no time, and each sender can send in time, if the command refuses others
 abbrev IsFit : Command → Graph → Type 0
-IsFit command g = NoFreeCycle g × (command ≢ Meaning → IsFeasible g)
+IsFit command g = NoFreeCycle g × (AsksFeasible command → IsFeasible g)
+
+-- `run` and `meaning`, which read the sensors' files
+abbrev ReadsSensors : Command → Type 0
+ReadsSensors (Run workers clock log) = Unit {0}
+ReadsSensors Check = ⊥
+ReadsSensors Meaning = Unit {0}
+ReadsSensors Slacks = ⊥
+
+-- all was written, or a write failed
+abbrev IsPut : Option Fault → Type 0
+IsPut outcome = (outcome ≡ None) ⊎ (outcome ≡ Some fault.Write)
+
+-- some slacks admit a graph
+abbrev HasSlacks : Graph → Type 0
+HasSlacks g = (slack : ℕ → ℕ) × Admits g slack
 
 -- what an answer tells of the graph
 data Answer (command : Command) (tells : Contents) (g : Graph) (outcome : Option Fault) : Type 0 where
   memory : outcome ≡ Some fault.Memory → Answer command tells g outcome
   graph_unread : outcome ≡ Some (fault.Read None) → Answer command tells g outcome
   cyclic : (actors : List ℕ) → outcome ≡ Some (fault.Cycle actors) → IsFreeCycle g actors → Answer command tells g outcome
-  slow : (send : ℕ) (offset : ℤ) (slack : ℕ) → outcome ≡ Some (fault.Infeasible send offset slack) → NoFreeCycle g → command ≢ Meaning → IsFirstInfeasible g send offset slack → Answer command tells g outcome
-  unread : (actor : ℕ) → outcome ≡ Some (fault.Read (Some actor)) → IsFit command g → Answer command tells g outcome
+  slow : (send : ℕ) (offset : ℤ) (slack : ℕ) → outcome ≡ Some (fault.Infeasible send offset slack) → NoFreeCycle g → AsksFeasible command → IsFirstInfeasible g send offset slack → Answer command tells g outcome
+  ringed : (sends : List ℕ) (gain : ℕ) → outcome ≡ Some (fault.Ring sends gain) → NoFreeCycle g → command ≡ Slacks → IsRing g sends gain → Answer command tells g outcome
+  unread : (actor : ℕ) → outcome ≡ Some (fault.Read (Some actor)) → IsFit command g → ReadsSensors command → Answer command tells g outcome
   wrong : (actor : ℕ) (f : RowFault) → outcome ≡ Some (fault.Sensor actor f) → IsFit command g → OfRows command (λ late. SensorFails late tells g actor f) → Answer command tells g outcome
   tardy : (actor row seen limit : ℕ) → outcome ≡ Some (fault.LateRow actor row seen limit) → IsFit command g → OfRows command (λ late. (late ≡ Refused) × SensorLate tells g actor row seen limit) → Answer command tells g outcome
   long : outcome ≡ Some (fault.Long None) → IsFit command g → OfRows command (λ late. AllHave late tells g) → Answer command tells g outcome
-  whole : IsFit command g → (command ≢ Check → OfRows command (λ late. AllHave late tells g)) → (command ≡ Meaning → (text : List ℕ) × IsMeant tells g text) → Answer command tells g outcome
+  whole : IsFit command g → (ReadsSensors command → OfRows command (λ late. AllHave late tells g)) → (command ≡ Meaning → (text : List ℕ) × IsMeant tells g text) → (command ≡ Slacks → HasSlacks g × IsPut outcome) → Answer command tells g outcome
 
 run_meaning : (workers : ℕ) (clock : ClockChoice) (log : Bool) → Run workers clock log ≡ Meaning → ⊥
 run_meaning workers clock log e = cc
 
-run_check : (workers : ℕ) (clock : ClockChoice) (log : Bool) → Run workers clock log ≡ Check → ⊥
-run_check workers clock log e = cc
+run_slacks : (workers : ℕ) (clock : ClockChoice) (log : Bool) → Run workers clock log ≡ Slacks → ⊥
+run_slacks workers clock log e = cc
 
 check_meaning : Check ≡ Meaning → ⊥
 check_meaning e = cc
 
-meaning_check : Meaning ≡ Check → ⊥
-meaning_check e = cc
+check_slacks : Check ≡ Slacks → ⊥
+check_slacks e = cc
+
+meaning_slacks : Meaning ≡ Slacks → ⊥
+meaning_slacks e = cc
+
+slacks_meaning : Slacks ≡ Meaning → ⊥
+slacks_meaning e = cc
+
+-- `slacks` refuses no sender and reads no sensor's file
+no_judge : (command : Command) → command ≡ Slacks → AsksFeasible command → ⊥
+no_judge (Run workers clock log) e a = run_slacks workers clock log e
+no_judge Check e a = check_slacks e
+no_judge Meaning e a = a
+no_judge Slacks e a = a
+
+no_rows : (command : Command) (A : LateRows → Type 0) → command ≡ Slacks → OfRows command A → ⊥
+no_rows (Run workers clock log) A e a = run_slacks workers clock log e
+no_rows Check A e a = a
+no_rows Meaning A e a = meaning_slacks e
+no_rows Slacks A e a = a
 
 taken_refused : Taken ≡ Refused → ⊥
 taken_refused e = cc
@@ -242,11 +282,11 @@ taken_refused e = cc
 module _ (left : Leaves) (tells : Contents) (g : Graph) (others : List (List ℕ)) (r : Reading) where
   run_kept : (workers : ℕ) (clock : ClockChoice) (log : Bool) (c : Clocking) (plan : Parts) (platforms : List PlatformView) (stop : Option (ℕ × TurnFault)) (outcome : Option Fault) → NoFreeCycle g → plan.graph ≡ g → HasRun tells c plan platforms stop → Answer (Run workers clock log) tells g outcome
   run_kept workers clock log c plan platforms stop outcome free same run =
-      whole (free, λ e. subst IsFeasible same run.admitted.feasible) (λ e. subst (λ z. AllHave Refused tells z) same (run.rows, run.sensors, run.in_time)) (λ e. absurd (run_meaning workers clock log e))
+      whole (free, λ e. subst IsFeasible same run.admitted.feasible) (λ e. subst (λ z. AllHave Refused tells z) same (run.rows, run.sensors, run.in_time)) (λ e. absurd (run_meaning workers clock log e)) (λ e. absurd (run_slacks workers clock log e))
 
   by_run : (workers : ℕ) (clock : ClockChoice) (log : Bool) (f : Fault) → NoFreeCycle g → CauseOfRun workers clock f left tells g others r → Answer (Run workers clock log) tells g (Some f)
-  by_run workers clock log (fault.Infeasible send offset slack) free h = slow send offset slack refl free (run_meaning workers clock log) h.0
-  by_run workers clock log (fault.Read (Some actor)) free h = unread actor refl (free, λ e. h.0)
+  by_run workers clock log (fault.Infeasible send offset slack) free h = slow send offset slack refl free tt h.0
+  by_run workers clock log (fault.Read (Some actor)) free h = unread actor refl (free, λ e. h.0) tt
   by_run workers clock log (fault.Sensor actor f) free h = wrong actor f refl (free, λ e. h.0) h.1
   by_run workers clock log (fault.LateRow actor row seen limit) free h = tardy actor row seen limit refl (free, λ e. h.0) (refl, h.1)
   by_run workers clock log (fault.Long (Some platform)) free h = run_kept workers clock log (clocking workers clock left) h.plan left.platforms (Some (platform, turn.Long)) (Some (fault.Long (Some platform))) free h.graph h.run
@@ -255,29 +295,35 @@ module _ (left : Leaves) (tells : Contents) (g : Graph) (others : List (List ℕ
   by_run workers clock log f free h = absurd h
 
   by_check : (f : Fault) → NoFreeCycle g → CauseOfCheck f g → Answer Check tells g (Some f)
-  by_check (fault.Infeasible send offset slack) free h = slow send offset slack refl free check_meaning h
+  by_check (fault.Infeasible send offset slack) free h = slow send offset slack refl free tt h
   by_check f free h = absurd h
 
   by_meaning : (f : Fault) → NoFreeCycle g → CauseOfMeaning f tells g others r → Answer Meaning tells g (Some f)
-  by_meaning (fault.Read (Some actor)) free h = unread actor refl (free, λ e. absurd (e refl))
-  by_meaning (fault.Sensor actor f) free h = wrong actor f refl (free, λ e. absurd (e refl)) h
-  by_meaning (fault.Long None) free h = long refl (free, λ e. absurd (e refl)) (h.rows, h.sensors, λ a. tt)
+  by_meaning (fault.Read (Some actor)) free h = unread actor refl (free, λ e. absurd e) tt
+  by_meaning (fault.Sensor actor f) free h = wrong actor f refl (free, λ e. absurd e) h
+  by_meaning (fault.Long None) free h = long refl (free, λ e. absurd e) (h.rows, h.sensors, λ a. tt)
   by_meaning f free h = absurd h
+
+  by_slacks : (f : Fault) → NoFreeCycle g → CauseOfNoSlacks f g → Answer Slacks tells g (Some f)
+  by_slacks (fault.Ring sends gain) free h = ringed sends gain refl free refl h
+  by_slacks f free h = absurd h
 
   by_text : (command : Command) (f : Fault) → NoFreeCycle g → CauseOfText command f left tells g others r → Answer command tells g (Some f)
   by_text (Run workers clock log) f free h = by_run workers clock log f free h
   by_text Check f free h = by_check f free h.0
   by_text Meaning f free h = by_meaning f free h.0
+  by_text Slacks f free h = by_slacks f free h.0
 
   by_cause : (command : Command) (f : Fault) → CauseOf command f left tells g others r → Answer command tells g (Some f)
   by_cause command (fault.Cycle actors) h = cyclic actors refl h.0
   by_cause command fault.Memory h = memory refl
   by_cause command f h = by_text command f h.0 h.1
 
-  wrote : (command : Command) (l : Leaves) (text : List ℕ) (outcome : Option Fault) → Writes command tells g l text → Answer command tells g outcome
-  wrote (Run workers clock log) l text outcome (free, run) = run_kept workers clock log (clocking workers clock l) run.plan l.platforms None outcome free run.graph run.finished.run
-  wrote Check l text outcome (free, (none, checked)) = whole (free, λ e. checked.feasible) (λ e. absurd (e refl)) (λ e. absurd (check_meaning e))
-  wrote Meaning l text outcome (free, (none, meant)) = whole (free, λ e. absurd (e refl)) (λ e. (meant.rows, meant.sensors, λ a. tt)) (λ e. (text, meant))
+  wrote : (command : Command) (l : Leaves) (text : List ℕ) (outcome : Option Fault) → IsPut outcome → Writes command tells g l text → Answer command tells g outcome
+  wrote (Run workers clock log) l text outcome put (free, run) = run_kept workers clock log (clocking workers clock l) run.plan l.platforms None outcome free run.graph run.finished.run
+  wrote Check l text outcome put (free, (none, checked)) = whole (free, λ e. checked.feasible) (λ e. absurd e) (λ e. absurd (check_meaning e)) (λ e. absurd (check_slacks e))
+  wrote Meaning l text outcome put (free, (none, meant)) = whole (free, λ e. absurd e) (λ e. (meant.rows, meant.sensors, λ a. tt)) (λ e. (text, meant)) (λ e. absurd (meaning_slacks e))
+  wrote Slacks l text outcome put (free, (none, slacked)) = whole (free, λ e. absurd e) (λ e. absurd e) (λ e. absurd (slacks_meaning e)) (λ e. ((slacked.slack, slacked.least.admits), put))
 
 -- over a graph file that is told
 module _ (tells : Contents) (blocks : List Named) (name bytes : List ℕ) (told : tells name ≡ Some bytes) (left : Leaves) (r : Reading) (w : Writing) where
@@ -293,15 +339,15 @@ module _ (tells : Contents) (blocks : List Named) (name bytes : List ℕ) (told 
       this_graph : (h : Graph) → IfSome (tells name) (λ bytes. graph_of blocks bytes ≡ Ok h) → h ≡ g
       this_graph h other = sym (same_ok {E = GraphFault} g h (one_defined (Ok g) (Ok h) is other))
 
-      wrote_here : (o : Option Fault) (l : Leaves) (text : List ℕ) (h : Graph) → IfSome (tells name) (λ bytes. graph_of blocks bytes ≡ Ok h) → Writes command tells h l text → Answer command tells g o
-      wrote_here o l text h file writes = wrote left tells g (name ∷ []) r command l text o (subst (λ z. Writes command tells z l text) (this_graph h file) writes)
+      wrote_here : (o : Option Fault) (l : Leaves) (text : List ℕ) (h : Graph) → IsPut o → IfSome (tells name) (λ bytes. graph_of blocks bytes ≡ Ok h) → Writes command tells h l text → Answer command tells g o
+      wrote_here o l text h put file writes = wrote left tells g (name ∷ []) r command l text o put (subst (λ z. Writes command tells z l text) (this_graph h file) writes)
 
       fails_here : (f : Fault) → GraphWith tells blocks name (λ h. CauseOf command f left tells h (name ∷ []) r) → Answer command tells g (Some f)
       fails_here f (h, file, cause) = by_cause left tells g (name ∷ []) r command f (subst (λ z. CauseOf command f left tells z (name ∷ []) r) (this_graph h file) cause)
 
       by_outcome : (o : Option Fault) → EndsBy o left (Some (command, name)) tells blocks r w → Answer command tells g o
-      by_outcome None (text, (h, file, writes), appends) = wrote_here None left text h file writes
-      by_outcome (Some fault.Write) (rose, (none, misses, text, (h, file, writes), part)) = wrote_here (Some fault.Write) (record left { misses = misses }) text h file writes
+      by_outcome None (text, (h, file, writes), appends) = wrote_here None left text h (inl refl) file writes
+      by_outcome (Some fault.Write) (rose, (none, misses, text, (h, file, writes), part)) = wrote_here (Some fault.Write) (record left { misses = misses }) text h (inr refl) file writes
       by_outcome (Some fault.Usage) k = absurd k
       by_outcome (Some (fault.Graph f)) k = absurd (ok_err g f (one_defined (Ok g) (Err f) is k.0))
       by_outcome (Some (fault.Read None)) k = graph_unread refl
@@ -362,11 +408,13 @@ both : (command : Command) (A B : LateRows → Type 0) (C : Type 0) → ((late :
 both (Run workers clock log) A B C h a b = h Refused a b
 both Meaning A B C h a b = h Taken a b
 both Check A B C h a b = absurd a
+both Slacks A B C h a b = absurd a
 
-reads_rows : (command : Command) (A : LateRows → Type 0) → OfRows command A → command ≢ Check
-reads_rows (Run workers clock log) A a e = run_check workers clock log e
-reads_rows Meaning A a e = meaning_check e
-reads_rows Check A a e = a
+reads_rows : (command : Command) (A : LateRows → Type 0) → OfRows command A → ReadsSensors command
+reads_rows (Run workers clock log) A a = tt
+reads_rows Meaning A a = tt
+reads_rows Check A a = absurd a
+reads_rows Slacks A a = absurd a
 
 -- by what the answer tells
 module _ (tells : Contents) (g : Graph) (outcome : Option Fault) where
@@ -375,14 +423,15 @@ module _ (tells : Contents) (g : Graph) (outcome : Option Fault) where
   cycle command never (graph_unread is) = inr (inr is)
   cycle command never (cyclic actors is h) = inl (actors, h, is)
   cycle command never (slow send offset slack is free judges h) = absurd (never free)
-  cycle command never (unread actor is fit) = absurd (never fit.0)
+  cycle command never (ringed sends gain is free slacks h) = absurd (never free)
+  cycle command never (unread actor is fit reads) = absurd (never fit.0)
   cycle command never (wrong actor f is fit h) = absurd (never fit.0)
   cycle command never (tardy actor row seen limit is fit h) = absurd (never fit.0)
   cycle command never (long is fit h) = absurd (never fit.0)
-  cycle command never (whole fit rows meant) = absurd (never fit.0)
+  cycle command never (whole fit rows meant slacked) = absurd (never fit.0)
 
   module _ (free : NoFreeCycle g) where
-    infeasible : (command : Command) (send : ℕ) (offset : ℤ) (slack : ℕ) → command ≢ Meaning → IsFirstInfeasible g send offset slack → Answer command tells g outcome → (outcome ≡ Some (fault.Infeasible send offset slack)) ⊎ WantsGraph outcome
+    infeasible : (command : Command) (send : ℕ) (offset : ℤ) (slack : ℕ) → AsksFeasible command → IsFirstInfeasible g send offset slack → Answer command tells g outcome → (outcome ≡ Some (fault.Infeasible send offset slack)) ⊎ WantsGraph outcome
     infeasible command send offset slack judges first a = by_answer a
       where
         unfit : IsFit command g → ⊥
@@ -393,14 +442,39 @@ module _ (tells : Contents) (g : Graph) (outcome : Option Fault) where
         by_answer (graph_unread is) = inr (inr is)
         by_answer (cyclic actors is h) = absurd (free h.first h.edge h.path h.cycle h.free)
         by_answer (slow other offset2 slack2 is free2 judges2 h) = inl (is ∙ ap Some (one_infeasible g send other slack slack2 offset offset2 first h))
-        by_answer (unread actor is fit) = absurd (unfit fit)
+        by_answer (ringed sends gain is free2 slacks h) = absurd (no_judge command slacks judges)
+        by_answer (unread actor is fit reads) = absurd (unfit fit)
         by_answer (wrong actor f is fit h) = absurd (unfit fit)
         by_answer (tardy actor row seen limit is fit h) = absurd (unfit fit)
         by_answer (long is fit h) = absurd (unfit fit)
-        by_answer (whole fit rows meant) = absurd (unfit fit)
+        by_answer (whole fit rows meant slacked) = absurd (unfit fit)
+
+    ring : ((slack : ℕ → ℕ) → Admits g slack → ⊥) → Answer Slacks tells g outcome → ((sends : List ℕ) × (gain : ℕ) × IsRing g sends gain × (outcome ≡ Some (fault.Ring sends gain))) ⊎ WantsGraph outcome
+    ring none (memory is) = inr (inl is)
+    ring none (graph_unread is) = inr (inr is)
+    ring none (cyclic actors is h) = absurd (free h.first h.edge h.path h.cycle h.free)
+    ring none (slow send offset slack is free2 judges h) = absurd judges
+    ring none (ringed sends gain is free2 slacks h) = inl (sends, gain, h, is)
+    ring none (unread actor is fit reads) = absurd reads
+    ring none (wrong actor f is fit h) = absurd h
+    ring none (tardy actor row seen limit is fit h) = absurd h
+    ring none (long is fit h) = absurd h
+    ring none (whole fit rows meant slacked) = let (has, put) = slacked refl in absurd (none has.0 has.1)
+
+    least_slacks : (slack : ℕ → ℕ) → IsLawful g → Admits g slack → Answer Slacks tells g outcome → IsPut outcome ⊎ WantsGraph outcome
+    least_slacks slack lawful admits (memory is) = inr (inl is)
+    least_slacks slack lawful admits (graph_unread is) = inr (inr is)
+    least_slacks slack lawful admits (cyclic actors is h) = absurd (free h.first h.edge h.path h.cycle h.free)
+    least_slacks slack lawful admits (slow send offset own is free2 judges h) = absurd judges
+    least_slacks slack lawful admits (ringed sends gain is free2 slacks h) = absurd (rings_admit_nothing g sends gain slack lawful h admits)
+    least_slacks slack lawful admits (unread actor is fit reads) = absurd reads
+    least_slacks slack lawful admits (wrong actor f is fit h) = absurd h
+    least_slacks slack lawful admits (tardy actor row seen limit is fit h) = absurd h
+    least_slacks slack lawful admits (long is fit h) = absurd h
+    least_slacks slack lawful admits (whole fit rows meant slacked) = let (has, put) = slacked refl in inl put
 
     module _ (told : TellsSensors tells g) where
-      sensor : (command : Command) (actor : ℕ) (f : RowFault) → (command ≢ Meaning → IsFeasible g) → OfRows command (λ late. SensorFails late tells g actor f) → Answer command tells g outcome → (outcome ≡ Some (fault.Sensor actor f)) ⊎ WantsRows outcome
+      sensor : (command : Command) (actor : ℕ) (f : RowFault) → (AsksFeasible command → IsFeasible g) → OfRows command (λ late. SensorFails late tells g actor f) → Answer command tells g outcome → (outcome ≡ Some (fault.Sensor actor f)) ⊎ WantsRows outcome
       sensor command actor f feasible fails a = by_answer a
         where
           have_rows : OfRows command (λ late. AllHave late tells g) → ⊥
@@ -411,36 +485,39 @@ module _ (tells : Contents) (g : Graph) (outcome : Option Fault) where
           by_answer (graph_unread is) = inr (inl (inr is))
           by_answer (cyclic actors is h) = absurd (free h.first h.edge h.path h.cycle h.free)
           by_answer (slow send offset slack is free2 judges h) = absurd (too_late g send slack offset (feasible judges) h)
-          by_answer (unread other is fit) = inr (inr (other, is))
+          by_answer (ringed sends gain is free2 slacks h) = absurd (no_rows command (λ late. SensorFails late tells g actor f) slacks fails)
+          by_answer (unread other is fit reads) = inr (inr (other, is))
           by_answer (wrong other e is fit h) =
               inl (is ∙ ap Some (both command (λ late. SensorFails late tells g actor f) (λ late. SensorFails late tells g other e) (fault.Sensor other e ≡ fault.Sensor actor f) (λ late p q. one_fails tells g told late actor other f e p q) fails h))
           by_answer (tardy other row seen limit is fit h) =
               absurd (both command (λ late. SensorFails late tells g actor f) (λ late. (late ≡ Refused) × SensorLate tells g other row seen limit) ⊥
               (λ late p q. fails_late tells g told actor other row seen limit f (subst (λ l. SensorFails l tells g actor f) q.0 p) q.1) fails h)
           by_answer (long is fit h) = absurd (have_rows h)
-          by_answer (whole fit rows meant) = absurd (have_rows (rows (reads_rows command (λ late. SensorFails late tells g actor f) fails)))
+          by_answer (whole fit rows meant slacked) = absurd (have_rows (rows (reads_rows command (λ late. SensorFails late tells g actor f) fails)))
 
       first_late : (workers : ℕ) (clock : ClockChoice) (log : Bool) (actor row seen limit : ℕ) → IsFeasible g → SensorLate tells g actor row seen limit → Answer (Run workers clock log) tells g outcome → (outcome ≡ Some (fault.LateRow actor row seen limit)) ⊎ WantsRows outcome
       first_late workers clock log actor row seen limit feasible late (memory is) = inr (inl (inl is))
       first_late workers clock log actor row seen limit feasible late (graph_unread is) = inr (inl (inr is))
       first_late workers clock log actor row seen limit feasible late (cyclic actors is h) = absurd (free h.first h.edge h.path h.cycle h.free)
       first_late workers clock log actor row seen limit feasible late (slow send offset slack is free2 judges h) = absurd (too_late g send slack offset feasible h)
-      first_late workers clock log actor row seen limit feasible late (unread other is fit) = inr (inr (other, is))
+      first_late workers clock log actor row seen limit feasible late (ringed sends gain is free2 slacks h) = absurd (run_slacks workers clock log slacks)
+      first_late workers clock log actor row seen limit feasible late (unread other is fit reads) = inr (inr (other, is))
       first_late workers clock log actor row seen limit feasible late (wrong other f is fit h) = absurd (fails_late tells g told other actor row seen limit f h late)
       first_late workers clock log actor row seen limit feasible late (tardy other row2 seen2 limit2 is fit h) = inl (is ∙ ap Some (one_late tells g told actor other row row2 seen seen2 limit limit2 late h.1))
       first_late workers clock log actor row seen limit feasible late (long is fit h) = absurd (late_all tells g told actor row seen limit late h)
-      first_late workers clock log actor row seen limit feasible late (whole fit rows meant) = absurd (late_all tells g told actor row seen limit late (rows (run_check workers clock log)))
+      first_late workers clock log actor row seen limit feasible late (whole fit rows meant slacked) = absurd (late_all tells g told actor row seen limit late (rows tt))
 
       long_meaning : (rows : ℕ → List Row) → AreRows tells g rows → IsTooLongForAll g rows → Answer Meaning tells g outcome → (outcome ≡ Some (fault.Long None)) ⊎ WantsRows outcome
       long_meaning rows are too_long (memory is) = inr (inl (inl is))
       long_meaning rows are too_long (graph_unread is) = inr (inl (inr is))
       long_meaning rows are too_long (cyclic actors is h) = absurd (free h.first h.edge h.path h.cycle h.free)
-      long_meaning rows are too_long (slow send offset slack is free2 judges h) = absurd (judges refl)
-      long_meaning rows are too_long (unread other is fit) = inr (inr (other, is))
+      long_meaning rows are too_long (slow send offset slack is free2 judges h) = absurd judges
+      long_meaning rows are too_long (ringed sends gain is free2 slacks h) = absurd (meaning_slacks slacks)
+      long_meaning rows are too_long (unread other is fit reads) = inr (inr (other, is))
       long_meaning rows are too_long (wrong other f is fit h) = absurd (fails_rows tells g told Taken other f (rows other) h (are other))
       long_meaning rows are too_long (tardy other row seen limit is fit h) = absurd (taken_refused h.0)
       long_meaning rows are too_long (long is fit h) = inl is
-      long_meaning rows are too_long (whole fit had meant) = let (text, all) = meant refl in absurd (meant_long tells g text rows told are all too_long)
+      long_meaning rows are too_long (whole fit had meant slacked) = let (text, all) = meant refl in absurd (meant_long tells g text rows told are all too_long)
 
 pub exact : (o : Option Fault) (left : Leaves) (order : Option Order) (tells : Contents) (blocks : List Named) (r : Reading) (w : Writing) → Ends o left order tells blocks r w → IsExact o order tells blocks
 exact o left order tells blocks r w ends = record {
@@ -449,8 +526,10 @@ exact o left order tells blocks r w ends = record {
   cycle = λ command g d never. cycle tells g o command never (over_graph command g d);
   infeasible = λ command g send offset slack judges d free first. infeasible tells g o free command send offset slack judges first (over_graph command g d);
   sensor = λ command g actor f reads fails. sensor tells g o reads.no_free_cycle reads.files command actor f reads.feasible fails (over_graph command g reads.graph);
-  late_row = λ workers clock log g actor row seen limit reads late. first_late tells g o reads.no_free_cycle reads.files workers clock log actor row seen limit (reads.feasible (run_meaning workers clock log)) late (over_graph (Run workers clock log) g reads.graph);
+  late_row = λ workers clock log g actor row seen limit reads late. first_late tells g o reads.no_free_cycle reads.files workers clock log actor row seen limit (reads.feasible tt) late (over_graph (Run workers clock log) g reads.graph);
   long_meaning = λ g rows reads are too_long. long_meaning tells g o reads.no_free_cycle reads.files rows are too_long (over_graph Meaning g reads.graph);
+  ring = λ g d free none. ring tells g o free none (over_graph Slacks g d);
+  slacked = λ g slack are d free admits. least_slacks tells g o free slack (lawful_of blocks d.bytes g are d.defines) admits (over_graph Slacks g d);
   unmigrated = λ f d. unmigrated tells blocks d.name d.bytes d.told left r w f o d.defines (by_migrate (Err f) d);
   migrated = λ g d. migrated tells blocks d.name d.bytes d.told left r w g o d.defines (by_migrate (Ok g) d);
 }

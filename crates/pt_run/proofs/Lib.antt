@@ -8,6 +8,7 @@ pub mod Complete
 pub mod Agreeing
 pub mod Made
 pub mod Migrating
+pub mod SlackRuns
 pub mod Headline
 pub mod CauseTable
 pub mod Exact

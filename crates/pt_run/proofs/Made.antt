@@ -46,7 +46,7 @@ use Rattle.pt_words.specs.Grammar as grammar
 use Rattle.pt_words.proofs.Numbers.{made_number}
 use Rattle.pt_run.specs.declared.words.Asked.{Asked}
 use Rattle.pt_run.specs.declared.words.Asked.TheVariants.{Make}
-use Rattle.pt_run.specs.declared.words.Command.TheVariants.{Run, Check, Meaning}
+use Rattle.pt_run.specs.declared.words.Command.TheVariants.{Run, Check, Meaning, Slacks}
 use Rattle.pt_run.specs.Asking.{in_words}
 use Rattle.pt_blocks.specs.declared.blocks.Named.{Named}
 use Rattle.pt_sensors.specs.Asked.{Contents}
@@ -71,7 +71,7 @@ never_refused n (unplanned.Infeasible send offset slack) h other =
     in_time b slack t o le is late = omega (arith, ints)
 never_refused n unplanned.Memory h other = other refl
 
-place_of : {X : Type 0} (x : X) (xs : List X) → IsIn x xs → (i : ℕ) × (slice_get xs i ≡ Some x)
+pub place_of : {X : Type 0} (x : X) (xs : List X) → IsIn x xs → (i : ℕ) × (slice_get xs i ≡ Some x)
 place_of x [] h = absurd h
 place_of x (y ∷ ys) h =
     ⊎_elim
@@ -79,7 +79,7 @@ place_of x (y ∷ ys) h =
     (λ (m : IsIn x ys). let there = place_of x ys m in (suc there.0, there.1))
     h
 
-none_of : {X : Type 0} (xs : List X) → ((x : X) → IsIn x xs → ⊥) → xs ≡ []
+pub none_of : {X : Type 0} (xs : List X) → ((x : X) → IsIn x xs → ⊥) → xs ≡ []
 none_of [] h = refl
 none_of (x ∷ xs) h = absurd (h x (inl refl))
 
@@ -183,6 +183,10 @@ made_number_in words order n k says is = by_request (grammar.order_of words) ref
     by_request (Some (grammar.migrate graph)) e h = absurd (other graph h)
       where
         other : (graph : List ℕ) → Some (migrate graph) ≡ Some (make n k) → ⊥
+        other graph h = cc
+    by_request (Some (grammar.slacks graph)) e h = absurd (other graph h)
+      where
+        other : (graph : List ℕ) → Some (over Slacks graph) ≡ Some (make n k) → ⊥
         other graph h = cc
     by_request (Some (grammar.make number workers)) e h = made_number words n k (e ∙ ap Some (same number workers h))
       where

@@ -11,6 +11,7 @@ use Rattle.pt_offsets.specs.Faults.{CauseOfPlan}
 use Rattle.pt_offsets.specs.declared.fault.PlanFault.{PlanFault}
 use Rattle.pt_offsets.specs.declared.fault.PlanFault.TheVariants as plan
 use Rattle.pt_offsets.specs.Plans.{IsAdmitted, Parts}
+use Rattle.pt_slacks.specs.Text.{IsSlacked}
 use Rattle.pt_sensors.specs.declared.recorded_fault.RecordedFault.{RecordedFault}
 use Rattle.pt_sensors.specs.declared.recorded_fault.RecordedFault.TheVariants as rows
 use Rattle.pt_sensors.specs.declared.recorded_fault.LateRows.TheVariants.{Refused}
@@ -27,11 +28,11 @@ use Rattle.pt_words.specs.declared.orders.ClockChoice.{ClockChoice}
 use Rattle.pt_words.specs.declared.orders.ClockChoice.TheVariants.{Machine, Paced, Step}
 use Rattle.pt_run.specs.Clocks.{AreBackBy, AreKept}
 use Rattle.pt_run.specs.declared.outcome.Ending.{Ending}
-use Rattle.pt_run.specs.declared.words.Command.TheVariants.{Check, Meaning, Run}
+use Rattle.pt_run.specs.declared.words.Command.TheVariants.{Check, Meaning, Run, Slacks}
 use Rattle.pt_run.specs.Faults.{fault_of_plan, fault_of_rows}
 use Rattle.pt_run.specs.Written.{IsChecked, IsMeant, Leaves, Writes, has_run, nothing}
 use Rattle.pt_run.specs.Causes.{CauseOf, Writing}
-use Rattle.pt_run.specs.Texts.{CheckFails, EndsOver, EndsPlan, HasEnded, IsStopped, IsUnplanned, MeaningFails, WroteRun, left_with, of_run}
+use Rattle.pt_run.specs.Texts.{CheckFails, EndsOver, EndsPlan, HasEnded, IsStopped, IsUnplanned, MeaningFails, SlacksFail, WroteRun, left_with, of_run}
 
 -- what a call leaves, with what the clocks showed before its run and after it
 abbrev over : Leaves → List ClockView → List ClockView → Leaves
@@ -99,6 +100,7 @@ ends_plan o left workers clock log tells g plan r w admitted is ends = by_outcom
     by_outcome (Some (fault.Graph f)) h = absurd h
     by_outcome (Some (fault.Cycle actors)) h = absurd h
     by_outcome (Some (fault.Infeasible send offset slack)) h = absurd h
+    by_outcome (Some (fault.Ring sends gain)) h = absurd h
 
 -- a run that ended
 pub ended_plan : (ran : Result Ran RunFault) (o : Ending) (before now : List ClockView) (workers : ℕ) (clock : ClockChoice) (log : Bool) (tells : Contents) (plan : Parts) (r : Reading) (w : Writing) →
@@ -172,6 +174,7 @@ check_fails g level (Err f) levels h = λ tells r. by_fault f h tells r
     by_fault fault.Memory k tells r = (refl, refl)
     by_fault (fault.Cycle actors) k tells r = absurd k
     by_fault fault.Usage k tells r = absurd k
+    by_fault (fault.Ring sends gain) k tells r = absurd k
     by_fault (fault.Graph e) k tells r = absurd k
     by_fault (fault.Sensor actor e) k tells r = absurd k
     by_fault (fault.LateRow actor row seen limit) k tells r = absurd k
@@ -197,6 +200,7 @@ meaning_fails tells g r level (Err f) levels h = by_fault f h
     by_fault (fault.Cycle actors) k = absurd k
     by_fault (fault.Infeasible send offset slack) k = (free, (k, (refl, refl)))
     by_fault fault.Usage k = (free, (k, (refl, refl)))
+    by_fault (fault.Ring sends gain) k = (free, (k, (refl, refl)))
     by_fault (fault.Graph e) k = (free, (k, (refl, refl)))
     by_fault (fault.Sensor actor e) k = (free, (k, (refl, refl)))
     by_fault (fault.LateRow actor row seen limit) k = (free, (k, (refl, refl)))
@@ -204,3 +208,29 @@ meaning_fails tells g r level (Err f) levels h = by_fault f h
     by_fault (fault.Long platform) k = (free, (k, (refl, refl)))
     by_fault (fault.Read sensor) k = (free, (k, (refl, refl)))
     by_fault fault.Write k = (free, (k, (refl, refl)))
+
+-- `slacks` over such a graph
+pub slacked : (g : Graph) (level : ℕ → ℕ) (made : Result (String Global) Fault) → AreLevels g level → IfOk made (λ text. IsSlacked g (string_bytes text)) → IfOk made (λ text. (tells : Contents) → Writes Slacks tells g nothing (string_bytes text))
+slacked g level (Ok text) levels h = λ tells. (levels_forbid_cycles g level levels, ((refl, refl), h))
+slacked g level (Err f) levels h = tt
+
+pub slacks_fail : (g : Graph) (level : ℕ → ℕ) (made : Result (String Global) Fault) → AreLevels g level → IfErr made (λ f. SlacksFail f g) → IfErr made (λ f. (tells : Contents) (r : Reading) → CauseOf Slacks f nothing tells g [] r)
+slacks_fail g level (Ok text) levels h = tt
+slacks_fail g level (Err f) levels h = λ tells r. by_fault f h tells r
+  where
+    free : NoFreeCycle g
+    free = levels_forbid_cycles g level levels
+
+    by_fault : (e : Fault) → SlacksFail e g → (tells : Contents) (r : Reading) → CauseOf Slacks e nothing tells g [] r
+    by_fault (fault.Ring sends gain) k tells r = (free, (k, (refl, refl)))
+    by_fault fault.Memory k tells r = (refl, refl)
+    by_fault (fault.Cycle actors) k tells r = absurd k
+    by_fault (fault.Infeasible send offset slack) k tells r = absurd k
+    by_fault fault.Usage k tells r = absurd k
+    by_fault (fault.Graph e) k tells r = absurd k
+    by_fault (fault.Sensor actor e) k tells r = absurd k
+    by_fault (fault.LateRow actor row seen limit) k tells r = absurd k
+    by_fault (fault.LateMessage platform actor tag reading limit) k tells r = absurd k
+    by_fault (fault.Long platform) k tells r = absurd k
+    by_fault (fault.Read sensor) k tells r = absurd k
+    by_fault fault.Write k tells r = absurd k

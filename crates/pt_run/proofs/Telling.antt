@@ -12,6 +12,11 @@ pub pushed_thrice : {T E : Type 0} (r : Result T E) (new second first old x y z 
 pushed_thrice (Ok v) new second first old x y z one two told = told ∙ ap (λ w. w ++ z) (two ∙ ap (λ w. w ++ y) one) ∙ append_assoc (old ++ x) y z ∙ append_assoc old x (y ++ z)
 pushed_thrice (Err e) new second first old x y z one two told = tt
 
+-- two pushes and a piece after them
+pub after_two : {T E : Type 0} (r : Result T E) (new second first old x y z : List ℕ) → first ≡ old ++ x → second ≡ first ++ y → OnOk r (new ≡ second ++ z) → OnOk r (new ≡ old ++ (x ++ (y ++ z)))
+after_two (Ok v) new second first old x y z one two told = told ∙ ap (λ w. w ++ z) (two ∙ ap (λ w. w ++ y) one) ∙ append_assoc (old ++ x) y z ∙ append_assoc old x (y ++ z)
+after_two (Err e) new second first old x y z one two told = tt
+
 -- a piece after another
 pub after_one : {T E : Type 0} (r : Result T E) (new first old x y : List ℕ) → first ≡ old ++ x → OnOk r (new ≡ first ++ y) → OnOk r (new ≡ old ++ (x ++ y))
 after_one (Ok w) new first old x y one told = told ∙ ap (λ u. u ++ y) one ∙ append_assoc old x y

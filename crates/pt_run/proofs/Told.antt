@@ -14,7 +14,7 @@ use Rattle.pt_words.specs.declared.orders.ClockChoice.{ClockChoice}
 use Rattle.pt_run.specs.declared.fault.Fault.{Fault}
 use Rattle.pt_run.specs.declared.fault.Fault.TheVariants as fault
 use Rattle.pt_run.specs.declared.words.Command.{Command}
-use Rattle.pt_run.specs.declared.words.Command.TheVariants.{Run, Check, Meaning}
+use Rattle.pt_run.specs.declared.words.Command.TheVariants.{Run, Check, Meaning, Slacks}
 use Rattle.pt_run.specs.Causes.{CauseOf, CauseOfRun, CauseOfText, RunStops, Writing}
 use Rattle.pt_run.specs.Telling.{AreOfGraph, Tells, TellsBy}
 use Rattle.pt_run.specs.Texts.{EndsOver}
@@ -36,6 +36,7 @@ module _ (tells : Contents) (g : Graph) (r : Reading) (left : Leaves) where
   of_text (Run workers clock log) text h = of_run workers clock log text h
   of_text Check text h = of_none left g h.0
   of_text Meaning text h = of_none left g h.0
+  of_text Slacks text h = of_none left g h.0
 
   by_run : (workers : ℕ) (clock : ClockChoice) (f : Fault) → CauseOfRun workers clock f left tells g [] r → AreOfGraph left.platforms g
   by_run workers clock (fault.Infeasible send offset slack) h = of_none left g h.1
@@ -44,6 +45,7 @@ module _ (tells : Contents) (g : Graph) (r : Reading) (left : Leaves) where
   by_run workers clock (fault.LateRow actor row seen limit) h = of_none left g h.2
   by_run workers clock (fault.LateMessage platform actor tag reading limit) h = of_stop workers clock platform _ h
   by_run workers clock (fault.Long (Some platform)) h = of_stop workers clock platform _ h
+  by_run workers clock (fault.Ring sends gain) h = absurd h
   by_run workers clock (fault.Long None) h = absurd h
   by_run workers clock (fault.Read None) h = absurd h
   by_run workers clock fault.Usage h = absurd h
@@ -56,11 +58,13 @@ module _ (tells : Contents) (g : Graph) (r : Reading) (left : Leaves) where
   by_text (Run workers clock log) f h = by_run workers clock f h
   by_text Check f h = of_none left g h.1
   by_text Meaning f h = of_none left g h.1
+  by_text Slacks f h = of_none left g h.1
 
   by_cause : (c : Command) (f : Fault) → CauseOf c f left tells g [] r → AreOfGraph left.platforms g
   by_cause c (fault.Cycle actors) h = of_none left g h.1
   by_cause c fault.Memory h = of_none left g h
   by_cause c (fault.Infeasible send offset slack) h = by_text c (fault.Infeasible send offset slack) h.1
+  by_cause c (fault.Ring sends gain) h = by_text c (fault.Ring sends gain) h.1
   by_cause c (fault.Read sensor) h = by_text c (fault.Read sensor) h.1
   by_cause c (fault.Sensor actor e) h = by_text c (fault.Sensor actor e) h.1
   by_cause c (fault.LateRow actor row seen limit) h = by_text c (fault.LateRow actor row seen limit) h.1
@@ -78,6 +82,7 @@ of_graph c (Some fault.Usage) left tells g r w h = by_cause tells g r left c fau
 of_graph c (Some (fault.Graph e)) left tells g r w h = by_cause tells g r left c (fault.Graph e) h.0
 of_graph c (Some (fault.Cycle actors)) left tells g r w h = by_cause tells g r left c (fault.Cycle actors) h.0
 of_graph c (Some (fault.Infeasible send offset slack)) left tells g r w h = by_cause tells g r left c (fault.Infeasible send offset slack) h.0
+of_graph c (Some (fault.Ring sends gain)) left tells g r w h = by_cause tells g r left c (fault.Ring sends gain) h.0
 of_graph c (Some (fault.Read sensor)) left tells g r w h = by_cause tells g r left c (fault.Read sensor) h.0
 of_graph c (Some (fault.Sensor actor e)) left tells g r w h = by_cause tells g r left c (fault.Sensor actor e) h.0
 of_graph c (Some (fault.LateRow actor row seen limit)) left tells g r w h = by_cause tells g r left c (fault.LateRow actor row seen limit) h.0
@@ -95,6 +100,7 @@ told_file c (Some (fault.Read None)) misses platforms tells blocks name g w read
 told_file c (Some (fault.Read (Some actor))) misses platforms tells blocks name g w read of h = (g, read, (of, h))
 told_file c (Some (fault.Cycle actors)) misses platforms tells blocks name g w read of h = (g, read, (of, h))
 told_file c (Some (fault.Infeasible send offset slack)) misses platforms tells blocks name g w read of h = (g, read, (of, h))
+told_file c (Some (fault.Ring sends gain)) misses platforms tells blocks name g w read of h = (g, read, (of, h))
 told_file c (Some (fault.Sensor actor f)) misses platforms tells blocks name g w read of h = (g, read, (of, h))
 told_file c (Some (fault.LateRow actor row seen limit)) misses platforms tells blocks name g w read of h = (g, read, (of, h))
 told_file c (Some (fault.LateMessage platform actor tag reading limit)) misses platforms tells blocks name g w read of h = (g, read, (of, h))

@@ -12,6 +12,7 @@ use Rattle.pt_sensors.specs.declared.fault.RowFault.{RowFault}
 use Rattle.pt_semantics.specs.Cycles.{NoFreeCycle}
 use Rattle.pt_semantics.specs.Offsets.{IsFeasible}
 use Rattle.pt_monitors.specs.Platforms.{missed_by}
+use Rattle.pt_slacks.specs.Rings.{IsRing}
 use Rattle.pt_sensors.specs.declared.recorded_fault.LateRows.{LateRows}
 use Rattle.pt_sensors.specs.declared.recorded_fault.LateRows.TheVariants.{Refused, Taken}
 use Rattle.pt_sensors.specs.Asked.{Contents, ReadFails, Reading}
@@ -23,7 +24,7 @@ use Rattle.pt_words.specs.declared.orders.ClockChoice.TheVariants.{Paced}
 use Rattle.pt_run.specs.declared.fault.Fault.{Fault}
 use Rattle.pt_run.specs.declared.fault.Fault.TheVariants as fault
 use Rattle.pt_run.specs.declared.words.Command.{Command}
-use Rattle.pt_run.specs.declared.words.Command.TheVariants.{Run, Check, Meaning}
+use Rattle.pt_run.specs.declared.words.Command.TheVariants.{Run, Check, Meaning, Slacks}
 use Rattle.pt_run.specs.Causes.{MeansLong, Writing}
 use Rattle.pt_run.specs.Words.{Order, over, make, migrate}
 use Rattle.pt_run.specs.Written.{GraphWith, Leaves}
@@ -48,9 +49,16 @@ abbrev pub IsRunCommand : Command → Type 0
 IsRunCommand (Run workers clock log) = Unit {0}
 IsRunCommand _ = ⊥
 
--- nothing refuses the graph before its sensors' files are read; `meaning` accepts senders that can't send in time
+-- `run` and `check`, which refuse a sender that can't send in time; `meaning` and `slacks` accept it
+abbrev pub AsksFeasible : Command → Type 0
+AsksFeasible (Run workers clock log) = Unit {0}
+AsksFeasible Check = Unit {0}
+AsksFeasible Meaning = ⊥
+AsksFeasible Slacks = ⊥
+
+-- nothing refuses the graph before its sensors' files are read
 abbrev pub IsAccepted : Command → Graph → Type 0
-IsAccepted command g = NoFreeCycle g × (command ≢ Meaning → IsFeasible g)
+IsAccepted command g = NoFreeCycle g × (AsksFeasible command → IsFeasible g)
 
 -- a run by a clock of its own, and not by the paced one
 abbrev pub IsNotPaced : Command → Type 0
@@ -66,6 +74,7 @@ abbrev pub OfRows : Command → (LateRows → Type 0) → Type 0
 OfRows (Run workers clock log) Fact = Fact Refused
 OfRows Meaning Fact = Fact Taken
 OfRows Check Fact = ⊥
+OfRows Slacks Fact = ⊥
 
 -- the table, for one call
 pub record CauseTable (status : ℕ) (outcome : Option Fault) (left : Leaves) (order : Option Order) (tells : Contents) (blocks : List Named) (r : Reading) (w : Writing) : Type 0 where
@@ -75,8 +84,10 @@ pub record CauseTable (status : ℕ) (outcome : Option Fault) (left : Leaves) (o
   pub graph_unread : outcome ≡ Some (fault.Read None) → OverFile order (λ name. ReadFails [] name r)
   pub graph : (f : GraphFault) → outcome ≡ Some (fault.Graph f) → OverFile order (λ name. IfSome (tells name) (λ bytes. graph_of blocks bytes ≡ Err f))
   pub cycle : (actors : List ℕ) → outcome ≡ Some (fault.Cycle actors) → OverGraph order tells blocks (λ command name g. IsFreeCycle g actors)
-  -- that sender is the first that can't send in time, which `meaning` accepts
-  pub infeasible : (send : ℕ) (offset : ℤ) (slack : ℕ) → outcome ≡ Some (fault.Infeasible send offset slack) → OverGraph order tells blocks (λ command name g. (command ≢ Meaning) × NoFreeCycle g × IsFirstInfeasible g send offset slack)
+  -- that sender is the first that can't send in time, and the command refuses it
+  pub infeasible : (send : ℕ) (offset : ℤ) (slack : ℕ) → outcome ≡ Some (fault.Infeasible send offset slack) → OverGraph order tells blocks (λ command name g. AsksFeasible command × NoFreeCycle g × IsFirstInfeasible g send offset slack)
+  -- whatever the slacks of these senders, one of them can't send in time
+  pub ring : (sends : List ℕ) (gain : ℕ) → outcome ≡ Some (fault.Ring sends gain) → OverGraph order tells blocks (λ command name g. (command ≡ Slacks) × NoFreeCycle g × IsRing g sends gain)
   -- that sensor is the first without rows: its file could not be read, the file has that fault, or that row is late
   pub sensor_unread : (actor : ℕ) → outcome ≡ Some (fault.Read (Some actor)) → OverGraph order tells blocks (λ command name g. IsAccepted command g × OfRows command (λ late. SensorUnread late tells g actor (name ∷ []) r))
   pub sensor : (actor : ℕ) (f : RowFault) → outcome ≡ Some (fault.Sensor actor f) → OverGraph order tells blocks (λ command name g. IsAccepted command g × OfRows command (λ late. SensorFails late tells g actor f))

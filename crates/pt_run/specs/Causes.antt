@@ -10,6 +10,7 @@ use Rattle.pt_semantics.specs.Offsets.{IsFeasible}
 use Rattle.pt_offsets.specs.Plans.{Parts}
 use Rattle.pt_causality.specs.Ranked.{IsFreeCycle}
 use Rattle.pt_offsets.specs.Margins.{IsFirstInfeasible}
+use Rattle.pt_slacks.specs.Rings.{IsRing}
 use Rattle.pt_sensors.specs.declared.recorded_fault.LateRows.TheVariants.{Refused, Taken}
 use Rattle.pt_sensors.specs.Asked.{Contents, ReadFails, Reading}
 use Rattle.pt_sensors.specs.Recorded.{AreRows, SensorFails, SensorLate, SensorUnread}
@@ -20,7 +21,7 @@ use Rattle.pt_run.specs.Runs.{HasRun}
 use Rattle.pt_run.specs.declared.fault.Fault.{Fault}
 use Rattle.pt_run.specs.declared.fault.Fault.TheVariants as fault
 use Rattle.pt_run.specs.declared.words.Command.{Command}
-use Rattle.pt_run.specs.declared.words.Command.TheVariants.{Run, Check, Meaning}
+use Rattle.pt_run.specs.declared.words.Command.TheVariants.{Run, Check, Meaning, Slacks}
 use Rattle.pt_run.specs.Written.{GraphWith, HasNothing, IsTooLong, Leaves, WrotePart, clocking}
 use Rattle.pt_types.specs.Limits.{most_claims}
 
@@ -75,11 +76,17 @@ CauseOfMeaning (fault.Sensor actor f) tells g others r = SensorFails Taken tells
 CauseOfMeaning (fault.Long None) tells g others r = MeansLong tells g
 CauseOfMeaning _ tells g others r = ⊥
 
+-- why `slacks` gave no text for a graph without a free cycle
+abbrev pub CauseOfNoSlacks : Fault → Graph → Type 0
+CauseOfNoSlacks (fault.Ring sends gain) g = IsRing g sends gain
+CauseOfNoSlacks _ g = ⊥
+
 -- why a command gave no text for a graph without a free cycle
 abbrev pub CauseOfText : Command → Fault → Leaves → Contents → Graph → List (List ℕ) → Reading → Type 0
 CauseOfText (Run workers clock log) f left tells g others r = CauseOfRun workers clock f left tells g others r
 CauseOfText Check f left tells g others r = CauseOfCheck f g × HasNothing left
 CauseOfText Meaning f left tells g others r = CauseOfMeaning f tells g others r × HasNothing left
+CauseOfText Slacks f left tells g others r = CauseOfNoSlacks f g × HasNothing left
 
 -- why a command gave no text for a graph: a cycle that takes no time comes before all other causes
 abbrev pub CauseOf : Command → Fault → Leaves → Contents → Graph → List (List ℕ) → Reading → Type 0

@@ -1,9 +1,10 @@
 -- If the words and the known files have a cause, and none before it in the order of `CauseTable`, the answer is that fault,
 -- or one that known files cannot rule out: out of memory, or a failed read. So with `CauseTable` each of these answers comes
 -- exactly if it has its cause. How else a run ends is in `IsComplete`.
-use Rattle.std.specs.Prelude.{◌≡◌, ◌≢◌, ◌⊎◌, ℕ, ℤ, Bool, List, Option, Some, None, Result, Ok, Err}
+use Rattle.std.specs.Prelude.{◌≡◌, ◌⊎◌, ℕ, ℤ, Bool, List, Option, Some, None, Result, Ok, Err}
 use Rattle.pt_types.specs.declared.graph.Graph.{Graph}
 use Rattle.pt_types.specs.declared.rows.Row.{Row}
+use Rattle.pt_blocks.specs.Blocks.{AreBlocks}
 use Rattle.pt_blocks.specs.declared.blocks.Named.{Named}
 use Rattle.pt_graph_text.specs.declared.fault.GraphFault.{GraphFault}
 use Rattle.pt_graph.specs.GraphOf.{graph_of}
@@ -14,14 +15,16 @@ use Rattle.pt_semantics.specs.Cycles.{NoFreeCycle}
 use Rattle.pt_semantics.specs.Offsets.{IsFeasible}
 use Rattle.pt_sensors.specs.Asked.{Contents}
 use Rattle.pt_sensors.specs.Recorded.{AreRows, SensorFails, SensorLate}
+use Rattle.pt_slacks.specs.Rings.{IsRing}
+use Rattle.pt_slacks.specs.Slacks.{Admits}
 use Rattle.pt_run.specs.RunsAgreeing.{TellsSensors}
 use Rattle.pt_words.specs.declared.orders.ClockChoice.{ClockChoice}
 use Rattle.pt_run.specs.declared.fault.Fault.{Fault}
 use Rattle.pt_run.specs.declared.fault.Fault.TheVariants as fault
 use Rattle.pt_run.specs.declared.words.Command.{Command}
-use Rattle.pt_run.specs.declared.words.Command.TheVariants.{Run, Meaning}
+use Rattle.pt_run.specs.declared.words.Command.TheVariants.{Run, Meaning, Slacks}
 use Rattle.pt_run.specs.Causes.{IsTooLongForAll}
-use Rattle.pt_run.specs.CauseTable.{OfRows}
+use Rattle.pt_run.specs.CauseTable.{AsksFeasible, OfRows}
 use Rattle.pt_run.specs.Words.{Order, over, migrate}
 
 -- memory ran out
@@ -45,11 +48,11 @@ pub record Defines (order : Option Order) (tells : Contents) (blocks : List Name
   pub defines : graph_of blocks bytes ≡ defined
 
 -- the words are this command on a file that defines this graph, in which each cycle takes time; each sender can send in
--- time, which `meaning` does not require; and the contents of all sensors' files are known
+-- time, if the command refuses others; and the contents of all sensors' files are known
 pub record ReadsRows (order : Option Order) (tells : Contents) (blocks : List Named) (command : Command) (g : Graph) : Type 0 where
   pub graph : Defines order tells blocks (over command) (Ok g)
   pub no_free_cycle : NoFreeCycle g
-  pub feasible : command ≢ Meaning → IsFeasible g
+  pub feasible : AsksFeasible command → IsFeasible g
   pub files : TellsSensors tells g
 
 -- each cause that the words and the known files decide gives its answer
@@ -59,9 +62,13 @@ pub record IsExact (outcome : Option Fault) (order : Option Order) (tells : Cont
   -- the graph's text has that fault, or some actors are a cycle that takes no time
   pub graph : (command : Command) (f : GraphFault) → Defines order tells blocks (over command) (Err f) → (outcome ≡ Some (fault.Graph f)) ⊎ WantsGraph outcome
   pub cycle : (command : Command) (g : Graph) → Defines order tells blocks (over command) (Ok g) → (NoFreeCycle g → ⊥) → ((actors : List ℕ) × IsFreeCycle g actors × (outcome ≡ Some (fault.Cycle actors))) ⊎ WantsGraph outcome
-  -- that sender is the first that can't send in time, which `meaning` accepts
-  pub infeasible : (command : Command) (g : Graph) (send : ℕ) (offset : ℤ) (slack : ℕ) → command ≢ Meaning → Defines order tells blocks (over command) (Ok g) → NoFreeCycle g → IsFirstInfeasible g send offset slack →
+  -- that sender is the first that can't send in time, and the command refuses it
+  pub infeasible : (command : Command) (g : Graph) (send : ℕ) (offset : ℤ) (slack : ℕ) → AsksFeasible command → Defines order tells blocks (over command) (Ok g) → NoFreeCycle g → IsFirstInfeasible g send offset slack →
       (outcome ≡ Some (fault.Infeasible send offset slack)) ⊎ WantsGraph outcome
+  -- with no slacks can each sender send in time, so a ring is named; if with some they can, `slacks` writes the least, unless a
+  -- write fails. The blocks are those of a `Blocks`
+  pub ring : (g : Graph) → Defines order tells blocks (over Slacks) (Ok g) → NoFreeCycle g → ((slack : ℕ → ℕ) → Admits g slack → ⊥) → ((sends : List ℕ) × (gain : ℕ) × IsRing g sends gain × (outcome ≡ Some (fault.Ring sends gain))) ⊎ WantsGraph outcome
+  pub slacked : (g : Graph) (slack : ℕ → ℕ) → AreBlocks blocks → Defines order tells blocks (over Slacks) (Ok g) → NoFreeCycle g → Admits g slack → ((outcome ≡ None) ⊎ (outcome ≡ Some fault.Write)) ⊎ WantsGraph outcome
   -- that sensor is the first without rows: its file has that fault, or that row is late, which `meaning` accepts
   pub sensor : (command : Command) (g : Graph) (actor : ℕ) (f : RowFault) → ReadsRows order tells blocks command g → OfRows command (λ late. SensorFails late tells g actor f) → (outcome ≡ Some (fault.Sensor actor f)) ⊎ WantsRows outcome
   pub late_row : (workers : ℕ) (clock : ClockChoice) (log : Bool) (g : Graph) (actor row seen limit : ℕ) → ReadsRows order tells blocks (Run workers clock log) g → SensorLate tells g actor row seen limit → (outcome ≡ Some (fault.LateRow actor row seen limit)) ⊎ WantsRows outcome

@@ -10,6 +10,8 @@ use Rattle.pt_offsets.specs.declared.fault.PlanFault.{PlanFault}
 use Rattle.pt_offsets.specs.declared.fault.PlanFault.TheVariants as plan
 use Rattle.pt_sensors.specs.declared.recorded_fault.RecordedFault.{RecordedFault}
 use Rattle.pt_sensors.specs.declared.recorded_fault.RecordedFault.TheVariants as recorded
+use Rattle.pt_slacks.specs.declared.slack.SlackFault.{SlackFault}
+use Rattle.pt_slacks.specs.declared.slack.SlackFault.TheVariants as slack
 use Rattle.pt_run.specs.declared.fault.Fault.{Fault}
 use Rattle.pt_run.specs.declared.fault.Fault.TheVariants as fault
 
@@ -27,6 +29,11 @@ fault_of_cycle (cycle.Cycle actors) = fault.Cycle actors
 abbrev pub fault_of_offset : OffsetFault → Fault
 fault_of_offset offset.Memory = fault.Memory
 fault_of_offset (offset.Infeasible send o slack) = fault.Infeasible send o slack
+
+-- the fault of a call, from that of a graph without least slacks
+abbrev pub fault_of_slacks : SlackFault → Fault
+fault_of_slacks slack.Memory = fault.Memory
+fault_of_slacks (slack.Ring sends gain) = fault.Ring sends gain
 
 -- the fault of a call, from that of a graph without a plan
 abbrev pub fault_of_plan : PlanFault → Fault

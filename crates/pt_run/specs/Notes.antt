@@ -36,6 +36,14 @@ offset_part offset slack = codes ", offset " ++ signed_decimal offset ++ codes "
 abbrev pub infeasible_line : List ℕ → ℤ → ℕ → List ℕ
 infeasible_line name offset slack = (codes "graph: infeasible " ++ name) ++ offset_part offset slack
 
+-- , gain N
+abbrev pub gain_part : ℕ → List ℕ
+gain_part gain = codes ", gain " ++ decimal gain ++ 10 ∷ []
+
+-- graph: ring NAME NAME .., gain N
+abbrev pub ring_line : Option Graph → List ℕ → ℕ → List ℕ
+ring_line g sends gain = codes "graph: ring" ++ (names_of g sends ++ gain_part gain)
+
 -- late NAME row R, seen S past L
 abbrev pub late_line : List ℕ → ℕ → ℕ → ℕ → List ℕ
 late_line name row seen limit = codes "late " ++ name ++ codes " row " ++ decimal row ++ codes ", seen " ++ decimal seen ++ codes " past " ++ decimal limit ++ 10 ∷ []
@@ -60,10 +68,11 @@ read_line (Some actor) g = codes "read fault: sensor " ++ actor_name g actor ++ 
 
 -- the line of each fault
 abbrev pub note_line : Fault → Option Graph → List ℕ
-note_line fault.Usage g = codes "usage: ptides run GRAPH [--workers N] [--clock paced|step:START:STEP|machine] [--log] | check GRAPH | meaning GRAPH | make NUMBER [--workers N] | migrate GRAPH" ++ 10 ∷ []
+note_line fault.Usage g = codes "usage: ptides run GRAPH [--workers N] [--clock paced|step:START:STEP|machine] [--log] | check GRAPH | meaning GRAPH | make NUMBER [--workers N] | migrate GRAPH | slacks GRAPH" ++ 10 ∷ []
 note_line (fault.Graph f) g = graph.fault_line f
 note_line (fault.Cycle actors) g = cycle_line g actors
 note_line (fault.Infeasible send offset slack) g = infeasible_line (actor_name g send) offset slack
+note_line (fault.Ring sends gain) g = ring_line g sends gain
 note_line (fault.Sensor actor f) g = sensor.fault_line (actor_name g actor) f
 note_line (fault.LateRow actor row seen limit) g = late_line (actor_name g actor) row seen limit
 note_line (fault.LateMessage platform actor tag reading limit) g = late_message_line (actor_name g actor) tag reading limit

@@ -10,6 +10,7 @@ status_of_fault fault.Usage = 1
 status_of_fault (fault.Graph f) = 2
 status_of_fault (fault.Cycle actors) = 2
 status_of_fault (fault.Infeasible send offset slack) = 2
+status_of_fault (fault.Ring sends gain) = 2
 status_of_fault (fault.Sensor actor f) = 3
 status_of_fault (fault.LateRow actor row seen limit) = 4
 status_of_fault (fault.LateMessage platform actor tag reading limit) = 4

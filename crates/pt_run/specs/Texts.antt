@@ -28,20 +28,22 @@ use Rattle.pt_run.specs.Clocks.{read_for, read_in}
 use Rattle.pt_run.specs.Words.{Order}
 use Rattle.pt_run.specs.Faults.{fault_of_plan, fault_of_rows}
 use Rattle.pt_run.specs.declared.words.Command.{Command}
-use Rattle.pt_run.specs.declared.words.Command.TheVariants.{Check}
+use Rattle.pt_run.specs.declared.words.Command.TheVariants.{Check, Slacks}
 use Rattle.pt_run.specs.Written.{GraphWith, HasNothing, Leaves, Writes, Wrote, clocking, nothing}
-use Rattle.pt_run.specs.Causes.{CauseOf, CauseOfCheck, CauseOfMeaning, IsCause, IsTooLongForAll, Writing}
+use Rattle.pt_run.specs.Causes.{CauseOf, CauseOfCheck, CauseOfMeaning, CauseOfNoSlacks, IsCause, IsTooLongForAll, Writing}
 
 -- the graph is refused before the files of its sensors are read
 abbrev pub is_refused : Option Fault → Bool
 is_refused (Some (fault.Cycle actors)) = true
 is_refused (Some (fault.Infeasible send offset slack)) = true
+is_refused (Some (fault.Ring sends gain)) = true
 is_refused _ = false
 
--- the sensors' files that a command asks for, among the first n actors of a graph: none for `check`, and none if the graph is
--- refused
+-- the sensors' files that a command asks for, among the first n actors of a graph: none for `check` and `slacks`, and none if the
+-- graph is refused
 abbrev pub files_for : Command → Option Fault → Graph → ℕ → List (List ℕ)
 files_for Check outcome g n = []
+files_for Slacks outcome g n = []
 files_for _ outcome g n = if is_refused outcome then [] else files_before g n
 
 -- the source was asked for these files, for some n
@@ -109,7 +111,7 @@ PutBy (Some f) text w = (f ≡ fault.Write) × Rose w.before w.now × AppendsPar
 abbrev pub OrMemory : Option Fault → Fault → Type 0
 OrMemory outcome f = (outcome ≡ Some f) ⊎ (outcome ≡ Some fault.Memory)
 
--- how `check` or `meaning` ends: its text is put, or its fault is reported
+-- how `check`, `meaning` or `slacks` ends: its text is put, or its fault is reported
 abbrev pub Answers : Result (String Global) Fault → Ending → Writing → Type 0
 Answers (Ok text) o w = (left_by o ≡ nothing) × PutBy o.fault (string_bytes text) w
 Answers (Err f) o w = (left_by o ≡ nothing) × OrMemory o.fault f × (w.written_now ≡ w.written_before)
@@ -174,6 +176,11 @@ HasEnded (Err f) o w = IsStopped f o × (w.written_now ≡ w.written_before)
 abbrev pub CheckFails : Fault → Graph → Type 0
 CheckFails fault.Memory g = Unit {0}
 CheckFails f g = CauseOfCheck f g
+
+-- why there is no text of the slacks
+abbrev pub SlacksFail : Fault → Graph → Type 0
+SlacksFail fault.Memory g = Unit {0}
+SlacksFail f g = CauseOfNoSlacks f g
 
 -- why there are no tables of the meaning with these rows
 abbrev pub MeaningTablesFail : Fault → Graph → (ℕ → List Row) → Type 0

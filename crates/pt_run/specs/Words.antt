@@ -4,7 +4,7 @@ use Rattle.std.specs.declared.alloc.Global.{Global}
 use Rattle.pt_words.specs.Grammar as grammar
 use Rattle.pt_words.specs.Grammar.{Request}
 use Rattle.pt_run.specs.declared.words.Command.{Command}
-use Rattle.pt_run.specs.declared.words.Command.TheVariants.{Run, Check, Meaning}
+use Rattle.pt_run.specs.declared.words.Command.TheVariants.{Run, Check, Meaning, Slacks}
 
 -- what words can ask for: a command on the graph file with this name, a run of an input made from a number, or the graph file
 -- with this name as a file of version 2
@@ -20,6 +20,7 @@ order_by (grammar.check graph) = over Check graph
 order_by (grammar.meaning graph) = over Meaning graph
 order_by (grammar.make number workers) = make number workers
 order_by (grammar.migrate graph) = migrate graph
+order_by (grammar.slacks graph) = over Slacks graph
 
 -- what the words ask for, by the grammar
 abbrev pub order_of : List (String Global) → Option Order

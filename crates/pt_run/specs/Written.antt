@@ -14,6 +14,7 @@ use Rattle.pt_history.specs.declared.miss.Miss.{Miss}
 use Rattle.pt_turn.specs.Platforms.{PlatformView}
 use Rattle.pt_offsets.specs.Plans.{Parts}
 use Rattle.pt_offsets.specs.Margins.{HasActorOffset, HasMargin}
+use Rattle.pt_slacks.specs.Text.{IsSlacked}
 use Rattle.pt_tables.specs.Margins.{margins_text}
 use Rattle.pt_sensors.specs.Asked.{Contents}
 use Rattle.pt_sensors.specs.Places.{of_run}
@@ -25,7 +26,7 @@ use Rattle.pt_run.specs.Runs.{IsFinishedRun}
 use Rattle.pt_run.specs.declared.fault.Fault.{Fault}
 use Rattle.pt_run.specs.declared.fault.Fault.TheVariants as fault
 use Rattle.pt_run.specs.declared.words.Command.{Command}
-use Rattle.pt_run.specs.declared.words.Command.TheVariants.{Run, Check, Meaning}
+use Rattle.pt_run.specs.declared.words.Command.TheVariants.{Run, Check, Meaning, Slacks}
 use Rattle.pt_types.specs.Limits.{most_claims}
 
 -- the graph file with this name, if its content is known, defines a graph, and a fact holds of that graph
@@ -109,6 +110,7 @@ abbrev pub WritesText : Command → Contents → Graph → Leaves → List ℕ �
 WritesText (Run workers clock log) tells g left text = IsRun tells g workers clock log left text
 WritesText Check tells g left text = HasNothing left × IsChecked g text
 WritesText Meaning tells g left text = HasNothing left × IsMeant tells g text
+WritesText Slacks tells g left text = HasNothing left × IsSlacked g text
 
 -- what a command must write for a graph, which has no free cycle, and what it leaves
 abbrev pub Writes : Command → Contents → Graph → Leaves → List ℕ → Type 0

@@ -2,12 +2,13 @@
 
 ghost use Rattle.std.specs.Prelude.{◌≡◌};
 ghost use Rattle.pt_run.specs.Statuses.{status_of_fault};
-ghost use Rattle.pt_run.specs.Faults.{fault_of_cycle, fault_of_graph, fault_of_offset, fault_of_plan, fault_of_rows};
+ghost use Rattle.pt_run.specs.Faults.{fault_of_cycle, fault_of_graph, fault_of_offset, fault_of_plan, fault_of_rows, fault_of_slacks};
 
 use pt_causality::CycleFault;
 use pt_graph::GraphFault;
 use pt_offsets::{OffsetFault, PlanFault};
 use pt_sensors::{RecordedFault, RowFault};
+use pt_slacks::SlackFault;
 use pt_tags::{List, Tag};
 
 /// Why a call did not write its whole answer. Actors are numbered as in the graph, from 0; times are microseconds.
@@ -24,6 +25,12 @@ pub enum Fault {
         send: u32,
         offset: i64,
         slack: u64,
+    },
+    /// However great the slacks are, one of these senders can't send in time: from each to the next, and from the last to the
+    /// first, the slack that is needed grows, by `gain` in all. The first has the least number.
+    Ring {
+        sends: List<u32>,
+        gain: u64,
     },
     /// The sensor's file has this fault.
     Sensor {
@@ -70,6 +77,7 @@ pub fn status_of(fault: &Fault) -> u8
         Fault::Graph(_) => 2,
         Fault::Cycle(_) => 2,
         Fault::Infeasible { .. } => 2,
+        Fault::Ring { .. } => 2,
         Fault::Sensor { .. } => 3,
         Fault::LateRow { .. } => 4,
         Fault::LateMessage { .. } => 4,
@@ -115,6 +123,16 @@ pub fn fault_of_offset(fault: OffsetFault) -> Fault
             offset,
             slack,
         },
+    }
+}
+
+/// The fault of a call, from that of a graph without least slacks.
+pub fn fault_of_slacks(fault: SlackFault) -> Fault
+    ensures { result ≡ fault_of_slacks fault }
+{
+    match fault {
+        SlackFault::Memory => Fault::Memory,
+        SlackFault::Ring { sends, gain } => Fault::Ring { sends, gain },
     }
 }
 

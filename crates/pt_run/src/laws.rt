@@ -1,7 +1,8 @@
-//! Theorems about calls of `run`.
+//! Theorems about paced runs and calls of `run`.
 
 ghost use Rattle.pt_run.specs.Agreeing.{RunsAgree};
 ghost use Rattle.pt_run.specs.CallsAgreeing.{CallsAgree};
+ghost use Rattle.pt_run.specs.SlackRuns.{SlackRoundsMissNothing, SlackRunsMissNothing};
 
 /// What a paced run must write and what it leaves is a function of the graph file and the files of its sensors.
 pub fn runs_agree()
@@ -13,4 +14,11 @@ pub fn runs_agree()
 /// readings or more from a clock of steps.
 pub fn calls_agree()
     ensures { CallsAgree }
+{}
+
+/// A paced run of a graph with its least slacks misses nothing: each actuator's slack is as great as its offset asks for, and no
+/// paced run sends a message past its sender's slack.
+pub fn slack_runs_miss_nothing()
+    ensures rounds { SlackRoundsMissNothing }
+    ensures runs { SlackRunsMissNothing }
 {}

@@ -2,11 +2,11 @@
 //!
 //! `run GRAPH` reads the graph file and the rows of its sensors, runs all platforms by the clock that the words name, and writes
 //! the table of every actuator. `make NUMBER` makes a graph and rows from a number and writes a summary. `migrate GRAPH`
-//! writes the graph file as one of version 2. What holds of a run is in `specs/Headline.antt`, why a call ended as it did in `specs/CauseTable.antt` and `specs/Exact.antt`, and what each command
+//! writes the graph file as one of version 2, and `slacks GRAPH` the least slacks with which the graph can run. What holds of a run is in `specs/Headline.antt`, why a call ended as it did in `specs/CauseTable.antt` and `specs/Exact.antt`, and what each command
 //! must write in `specs/Written.antt`, `specs/Runs.antt`, `specs/Making.antt` and `specs/Migrating.antt`.
 //!
 //! Read first: `ptides`, then `specs/Headline.antt`; `run_of` is a paced run of a plan. Only the functions between `ptides` and
-//! `engines` may wait and start threads; paced runs, `check`, `meaning`, `make` and `migrate` return, as the absence of that bound in
+//! `engines` may wait and start threads; paced runs, `check`, `meaning`, `make`, `migrate` and `slacks` return, as the absence of that bound in
 //! them says.
 #![tactic(auto)]
 
@@ -26,13 +26,14 @@ mod own_clocks;
 mod plan_laws;
 mod plan_run;
 mod run;
+mod slacks;
 mod top;
 mod went;
 mod words;
 
 pub use fault::Fault;
 pub use finished_run::Ran;
-pub use laws::{calls_agree, runs_agree};
+pub use laws::{calls_agree, runs_agree, slack_runs_miss_nothing};
 pub use outcome::Outcome;
 pub use plan_laws::{finished_runs_agree, plan_runs_agree, step_runs_agree};
 pub use plan_run::{RunFault, run_of};

@@ -3,7 +3,7 @@
 ghost use Rattle.std.specs.Prelude.{◌≡◌, ◌⊎◌, ◌++◌, [], ◌∷◌, IfOk, None, OnOk, Some, option_map, string_bytes};
 ghost use Rattle.pt_run.specs.declared.fault.Fault.TheVariants.{Memory, Write};
 ghost use Rattle.pt_run.specs.Telling.{Tells};
-ghost use Rattle.pt_run.specs.Notes.{actor_name, at_part, cycle_line, infeasible_line, late_line, late_message_line, long_line, names_of, note_line, offset_part, platform_name, read_line};
+ghost use Rattle.pt_run.specs.Notes.{actor_name, at_part, cycle_line, gain_part, infeasible_line, late_line, late_message_line, long_line, names_of, note_line, offset_part, platform_name, read_line, ring_line};
 
 use crate::fault::Fault;
 use pt_graph::fault_line as graph_line;
@@ -15,7 +15,7 @@ use std::alloc::{AllocError, Global};
 
 /// The line for a command line that is not valid.
 const USAGE: &str =
-    "usage: ptides run GRAPH [--workers N] [--clock paced|step:START:STEP|machine] [--log] | check GRAPH | meaning GRAPH | make NUMBER [--workers N] | migrate GRAPH\n";
+    "usage: ptides run GRAPH [--workers N] [--clock paced|step:START:STEP|machine] [--log] | check GRAPH | meaning GRAPH | make NUMBER [--workers N] | migrate GRAPH | slacks GRAPH\n";
 
 /// Puts the line of a fault on `notes`, and returns the fault; if there is no memory for the line, that becomes the fault.
 /// A failed put has no other effect.
@@ -66,6 +66,7 @@ fn push_line(line: &mut String, fault: &Fault, graph: Option<&Graph>) -> Result<
             offset,
             slack,
         } => push_infeasible(line, actor_name(graph, *send), offset, *slack),
+        Fault::Ring { sends, gain } => push_ring(line, sends.as_slice(), *gain, graph),
         Fault::Sensor { actor, fault } => sensor_line(line, actor_name(graph, *actor), fault),
         Fault::LateRow {
             actor,
@@ -94,6 +95,27 @@ fn push_cycle(line: &mut String, actors: &[u32], graph: Option<&Graph>) -> Resul
     line.push_str("graph: cycle")?;
     push_names(line, actors, graph)?;
     line.push_str("\n")
+}
+
+/// Appends the line of a ring of senders.
+fn push_ring(
+    line: &mut String,
+    sends: &[u32],
+    gain: u64,
+    graph: Option<&Graph>,
+) -> Result<(), AllocError>
+    ensures { OnOk result (string_bytes line.new ≡ string_bytes line.old ++ ring_line (option_map (λ g. g.now) graph.entry) sends.now gain) }
+{
+    line.push_str("graph: ring")?;
+    push_names(line, sends, graph)?;
+    push_gain(line, gain)
+}
+
+/// Appends the gain of a ring, and ends the line.
+fn push_gain(line: &mut String, gain: u64) -> Result<(), AllocError>
+    ensures { OnOk result (string_bytes line.new ≡ string_bytes line.old ++ gain_part gain) }
+{
+    write!(line, ", gain {gain}\n")
 }
 
 /// Appends the names of actors, each after a space.

@@ -26,6 +26,7 @@ use crate::outcome::{Ending, Outcome};
 use crate::output::put_text;
 use crate::own_clocks::run_own;
 use crate::run::run_graph;
+use crate::slacks::slacks_answer;
 use crate::words::{Asked, Command, order_of};
 use pt_blocks::Blocks;
 use pt_io::{Clock, Sink, Source};
@@ -36,14 +37,14 @@ use std::sync::Wait;
 use std::thread::Threads;
 
 /// Runs the command of these words, those after the program's name: `run GRAPH`, `check GRAPH`, `meaning GRAPH`,
-/// `make NUMBER` or `migrate GRAPH`.
+/// `make NUMBER`, `migrate GRAPH` or `slacks GRAPH`.
 ///
 /// Files are read from the source by name; `make` reads none. The text goes to `out`, line by line. After a fault, one line
 /// on `notes` says why; after a run with misses, one line for each. In a run by the machine's clock platform i reads clock i of
 /// the 16 that are handed in; no other call reads them. `blocks` has the functions that actors may name.
 ///
-/// This call may wait. No clause says which commands end: the parts of `check`, `meaning`, `make`, `migrate` and a paced run that don't take
-/// `rt` do, and a run by a clock of its own, `--clock step:..` or `--clock machine`, may go on forever if its clock stops.
+/// This call may wait. No clause says which commands end: the parts of `check`, `meaning`, `make`, `migrate`, `slacks` and a paced run
+/// that don't take `rt` do, and a run by a clock of its own, `--clock step:..` or `--clock machine`, may go on forever if its clock stops.
 pub fn ptides<S: Source, K: Sink, E: Sink, C: Clock + Send, R: Threads + Wait + Sync>(
     rt: &R,
     alloc: Global,
@@ -221,6 +222,10 @@ fn run_command<S: Source, K: Sink, E: Sink, C: Clock + Send, R: Threads + Wait +
         }
         Command::Meaning => {
             let answer = meaning_answer(alloc, source, &graph);
+            give(alloc, answer, &graph, out, notes)
+        }
+        Command::Slacks => {
+            let answer = slacks_answer(alloc, &graph);
             give(alloc, answer, &graph, out, notes)
         }
     }

@@ -22,6 +22,8 @@ pub enum Command {
     Check,
     /// Write the tables of its meaning, whatever its bounds and slacks.
     Meaning,
+    /// Write the least slacks with which it can run.
+    Slacks,
 }
 
 /// What the words ask for.
@@ -73,5 +75,9 @@ fn asked_by<'a>(order: Order<'a>) -> Asked<'a>
         },
         Order::Make { number, workers } => Asked::Make { number, workers },
         Order::Migrate { graph } => Asked::Migrate { graph },
+        Order::Slacks { graph } => Asked::Over {
+            command: Command::Slacks,
+            graph,
+        },
     }
 }

@@ -17,7 +17,8 @@ use Rattle.pt_slacks.specs.Rows.{IsEnough, IsLeastRow}
 use Rattle.pt_slacks.specs.Slacks.{AreLeastSlacks, with_slacks}
 use Rattle.pt_slacks.proofs.Admitting.{admits_enough, below_of, hop_of_link, not_send}
 use Rattle.pt_slacks.proofs.Answering.{need_asks, need_least, needs_admit}
-use Rattle.pt_slacks.proofs.Rounds.{hop_more, up_to}
+use Rattle.pt_slacks.proofs.Most.{up_to}
+use Rattle.pt_slacks.proofs.Rounds.{hop_more}
 
 not_actuator : (own : ℕ) → Receive ≡ Actuator own → ⊥
 not_actuator own e = cc

@@ -1,5 +1,5 @@
 -- The greatest of some numbers, one more at a time.
-use Rattle.std.proofs.Common.{◌≡◌, ℕ, ◌+◌, ◌<◌, ◌≤◌, refl, sym, ap, subst, ◌∙◌, arith, ◌⊎◌, inl, inr, ⊎_elim}
+use Rattle.std.proofs.Common.{◌≡◌, ℕ, ◌+◌, ◌<◌, ◌≤◌, sym, ap, subst, ◌∙◌, arith, ◌⊎◌, inl, inr, ⊎_elim}
 use Rattle.std.specs.Prelude.{max}
 use Rattle.std.proofs.Math.Nat.{le-max_left, le-max_right}
 use Rattle.pt_slacks.specs.Needs.{IsMost}
@@ -8,7 +8,7 @@ use Rattle.pt_offsets.proofs.Maxima.{last_or_before}
 max_is : (x y : ℕ) → (max x y ≡ x) ⊎ (max x y ≡ y)
 max_is x y = grind arith
 
-up_to : (x y z : ℕ) → x ≤ y → y ≤ z → x ≤ z
+pub up_to : (x y z : ℕ) → x ≤ y → y ≤ z → x ≤ z
 up_to x y z h k = omega arith
 
 -- with one number more the greatest is the greater of both

@@ -51,6 +51,3 @@ module _ (g : Graph) (least : Part → Part → Option Delay) (hops : List Hop) 
       let here : m ≡ k = omega arith in
       subst (λ r. HasRisen n r (row_at (rows ++ next ∷ []) (k + 1)) v) (sym (row_before rows next k (omega arith)))
       (subst (λ r. HasRisen n (row_at rows k) r v) (sym (row_last rows next (k + 1) (omega arith))) (subst (λ j. HasRisen n (row_at rows j) next v) here risen))
-
-  pub one_row : (row : List ℕ) → AreBases g least hops row → AreRows g least hops (row ∷ []) 0
-  one_row row bases = record { len = omega arith; first = bases; next = λ k h. absurd (omega arith) }

@@ -16,9 +16,7 @@ use Rattle.pt_slacks.specs.declared.hop.Hop.{Hop}
 use Rattle.pt_slacks.specs.Hops.{hop_at}
 use Rattle.pt_slacks.specs.Needs.{IsBase, IsRaised, by_hop, by_kind, by_sensor, needed_by}
 use Rattle.pt_slacks.specs.Rows.{AreRows, IsEnough, IsLeastRow, IsNext, row_at}
-
-pub up_to : (x y z : ℕ) → x ≤ y → y ≤ z → x ≤ z
-up_to x y z h k = omega arith
+use Rattle.pt_slacks.proofs.Most.{up_to}
 
 same_le : (x y z : ℕ) → x ≡ y → y ≤ z → x ≤ z
 same_le x y z e h = omega (arith, e, h)

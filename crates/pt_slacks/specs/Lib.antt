@@ -4,4 +4,5 @@ pub mod Needs
 pub mod Rings
 pub mod Rows
 pub mod Slacks
+pub mod Text
 pub mod Trails

@@ -4,7 +4,7 @@
 //! leads to. So slacks are raised in rounds, from what the sensors alone ask for. If they don't settle, a ring of senders
 //! raises itself.
 //!
-//! Read first: `slacks`, then `specs/Slacks.antt` and `specs/Rings.antt`.
+//! Read first: `slacks`, then `specs/Slacks.antt` and `specs/Rings.antt`; `slacks_text` writes the answer.
 #![tactic(auto)]
 
 mod answer;
@@ -15,7 +15,9 @@ mod ring;
 mod rows;
 mod settled;
 mod slack;
+mod text;
 
 pub use answer::slacks;
 pub use impossible::rings_admit_nothing;
 pub use slack::{Slack, SlackFault};
+pub use text::slacks_text;

@@ -7,8 +7,8 @@ use Rattle.std.proofs.lemmas.Bool.{and_parts}
 use Rattle.std.proofs.lemmas.Bool.Decides.{nat_tests}
 use Rattle.pt_words.specs.declared.orders.ClockChoice.{ClockChoice}
 use Rattle.pt_words.specs.declared.orders.Command.{Command}
-use Rattle.pt_words.specs.declared.orders.Command.TheVariants.{Run, Check, Meaning, Make, Migrate}
-use Rattle.pt_words.specs.Grammar.{run, check, meaning, make, migrate, clock_in, command_of, graph_in, is_bare, is_numeral, log_in, made_number_of, make_of, number_within, order_of, order_with, request_of, request_over, run_of, workers_in}
+use Rattle.pt_words.specs.declared.orders.Command.TheVariants.{Run, Check, Meaning, Make, Migrate, Slacks}
+use Rattle.pt_words.specs.Grammar.{run, check, meaning, make, migrate, slacks, clock_in, command_of, graph_in, is_bare, is_numeral, log_in, made_number_of, make_of, number_within, order_of, order_with, request_of, request_over, run_of, workers_in}
 use Rattle.pt_words.specs.Said.{Said, among, said}
 
 -- what comes of an option comes of a value that is there
@@ -79,6 +79,10 @@ over_by Make words word n k h = made_by words word n k h
 over_by Migrate words word n k h = absurd (other (if_found (is_bare words) (Some (migrate word)) (make n k) h).1)
   where
     other : Some (migrate word) ≡ Some (make n k) → ⊥
+    other e = cc
+over_by Slacks words word n k h = absurd (other (if_found (is_bare words) (Some (slacks word)) (make n k) h).1)
+  where
+    other : Some (slacks word) ≡ Some (make n k) → ⊥
     other e = cc
 
 pub made_number : (words : List (String Global)) (n k : ℕ) → order_of words ≡ Some (make n k) → n ≤ 100

@@ -7,7 +7,7 @@ use Rattle.std.specs.declared.alloc.Global.{Global}
 use Rattle.pt_words.specs.declared.orders.ClockChoice.{ClockChoice}
 use Rattle.pt_words.specs.declared.orders.ClockChoice.TheVariants.{Machine, Paced, Step}
 use Rattle.pt_words.specs.declared.orders.Command.{Command}
-use Rattle.pt_words.specs.declared.orders.Command.TheVariants.{Run, Check, Meaning, Make, Migrate}
+use Rattle.pt_words.specs.declared.orders.Command.TheVariants.{Run, Check, Meaning, Make, Migrate, Slacks}
 use Rattle.pt_words.specs.Said.{Said, among, said}
 
 -- what a command line asks for: a command on a graph file, where a run has its number of workers, its clock, and whether the
@@ -18,6 +18,7 @@ pub data Request : Type 0 where
   meaning : (graph : List ℕ) → Request
   make : (number : ℕ) (workers : ℕ) → Request
   migrate : (graph : List ℕ) → Request
+  slacks : (graph : List ℕ) → Request
 
 -- the command with this name
 abbrev pub command_of : List ℕ → Option Command
@@ -26,7 +27,8 @@ command_of word =
     if bytes_eq word (codes "check") then Some Check else (
     if bytes_eq word (codes "meaning") then Some Meaning else (
     if bytes_eq word (codes "make") then Some Make else (
-    if bytes_eq word (codes "migrate") then Some Migrate else None))))
+    if bytes_eq word (codes "migrate") then Some Migrate else (
+    if bytes_eq word (codes "slacks") then Some Slacks else None)))))
 
 -- digits without a sign, and without a leading zero unless it is `0`
 abbrev pub is_numeral : List ℕ → Bool
@@ -109,6 +111,7 @@ request_over Check words graph = if is_bare words then Some (check graph) else N
 request_over Meaning words graph = if is_bare words then Some (meaning graph) else None
 request_over Make words number = make_of words number
 request_over Migrate words graph = if is_bare words then Some (migrate graph) else None
+request_over Slacks words graph = if is_bare words then Some (slacks graph) else None
 
 -- the request of a command with the values of the words after it
 abbrev pub request_of : Command → Said → Option Request

@@ -4,9 +4,9 @@ use Rattle.std.specs.Borrow.{Bor}
 use Rattle.clap.specs.Matches.{found_of, matched_of, raw_values}
 use Rattle.clap.specs.declared.parser.matches.ArgMatches.{ArgMatches}
 use Rattle.pt_words.specs.declared.orders.Order.{Order}
-use Rattle.pt_words.specs.declared.orders.Order.TheVariants.{Run, Check, Meaning, Make, Migrate}
+use Rattle.pt_words.specs.declared.orders.Order.TheVariants.{Run, Check, Meaning, Make, Migrate, Slacks}
 use Rattle.pt_words.specs.declared.words.Values.{Values}
-use Rattle.pt_words.specs.Grammar.{Request, run, check, meaning, make, migrate}
+use Rattle.pt_words.specs.Grammar.{Request, run, check, meaning, make, migrate, slacks}
 use Rattle.pt_words.specs.Said.{Said}
 
 -- the values of an argument; none if it is absent
@@ -28,3 +28,4 @@ asked (Check graph) = check graph.now
 asked (Meaning graph) = meaning graph.now
 asked (Make number workers) = make number workers
 asked (Migrate graph) = migrate graph.now
+asked (Slacks graph) = slacks graph.now

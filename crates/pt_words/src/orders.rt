@@ -8,6 +8,7 @@ pub(crate) enum Command {
     Meaning,
     Make,
     Migrate,
+    Slacks,
 }
 
 /// The clock that the platforms of a run read.
@@ -46,6 +47,10 @@ pub enum Order<'a> {
     },
     /// Write it as a file of version 2.
     Migrate {
+        graph: &'a str,
+    },
+    /// Write the least slacks with which it can run.
+    Slacks {
         graph: &'a str,
     },
 }

@@ -48,6 +48,7 @@ fn command_of(word: &str) -> Option<Command>
         "meaning" => Some(Command::Meaning),
         "make" => Some(Command::Make),
         "migrate" => Some(Command::Migrate),
+        "slacks" => Some(Command::Slacks),
         _ => None,
     }
 }
@@ -99,6 +100,7 @@ fn request_of<'m, 'a>(command: Command, values: Values<'m, 'a>) -> Option<Order<
         Command::Meaning if is_bare(values) => Some(Order::Meaning { graph }),
         Command::Make => make_of(values, graph),
         Command::Migrate if is_bare(values) => Some(Order::Migrate { graph }),
+        Command::Slacks if is_bare(values) => Some(Order::Slacks { graph }),
         _ => None,
     }
 }
