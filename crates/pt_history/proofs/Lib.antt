@@ -12,3 +12,4 @@ pub mod TaskLists
 pub mod DoneLists
 pub mod Ended
 pub mod InTurn
+pub mod Matching

@@ -14,7 +14,7 @@ length-tasks (m ∷ ms) [] e = absurd (omega arith)
 length-tasks (m ∷ ms) (c ∷ cs) e = ap suc (length-tasks ms cs (omega arith))
 
 -- a claim is that of its mark and its cells
-task_back : (task : Task) (m : Mark) → m ≡ mark_of task → length task.inputs ≡ 8 → task_of m (cells_of task.inputs task.state) ≡ task
+pub task_back : (task : Task) (m : Mark) → m ≡ mark_of task → length task.inputs ≡ 8 → task_of m (cells_of task.inputs task.state) ≡ task
 task_back task m is h =
     ap (λ (k : Mark). task_of k (cells_of task.inputs task.state)) is
     ∙ (λ i. record { number = task.number; actor = task.actor; tag = task.tag; inputs = ports_back task.inputs task.state h i; state = state_back task.inputs task.state h i })

@@ -1,6 +1,6 @@
 //! Groups of nine optional values, stored flat.
 
-ghost use Rattle.std.specs.Prelude.{◌≡◌, ◌+◌, ◌<◌, ◌≤◌, ◌++◌, ◌∷◌, [], OnOk, Some, length, slice_get, slice_index, slice_set, vec_len, vec_capacity};
+ghost use Rattle.std.specs.Prelude.{◌≡◌, ◌+◌, ◌<◌, ◌≤◌, ◌++◌, ◌∷◌, [], OnOk, Some, length, slice_get, pos, slice_index, slice_index_or, slice_set, true, vec_len, vec_capacity};
 ghost use Rattle.pt_history.specs.Cells.{cells_at, cells_of, nonzero, places_from, ports_in, state_in, values_in};
 
 use crate::pieces::{MOST_ITEMS, widened};
@@ -74,10 +74,24 @@ impl Cells {
         ensures room { self.new.spare + 1 ≡ self.old.spare }
     {
         push_cells(&mut self.places, &mut self.values, cells);
-        match self.ends.push(self.places.len() as u32) {
-            Ok(()) => self.spare -= 1,
-            Err(_) => unreachable!(),
-        }
+        self.ends.push_reserved(self.places.len() as u32);
+        self.spare -= 1;
+    }
+
+    /// Whether group `number` is this one.
+    pub fn is(&self, number: usize, cells: &[Option<i64>; 9]) -> bool
+        requires { number < length self.now.cells }
+        ensures { result ≡ true → slice_get self.now.cells number ≡ Some cells.now }
+    {
+        let end = self.ends[number];
+        let start = start_of(self.ends.as_slice(), number);
+        are_cells(
+            self.places.as_slice(),
+            self.values.as_slice(),
+            start,
+            end,
+            cells,
+        )
     }
 
     /// Group `number`, counted from 0.
@@ -89,6 +103,39 @@ impl Cells {
         let start = start_of(self.ends.as_slice(), number);
         cells_between(self.places.as_slice(), self.values.as_slice(), start, end)
     }
+}
+
+/// Whether the group at indices from `start` up to, not including, `end` has exactly the values of these cells.
+fn are_cells(places: &[u8], values: &[i64], start: u32, end: u32, cells: &[Option<i64>]) -> bool
+    requires nine { length cells.now ≡ 9 }
+    requires rises { start ≤ end }
+    requires places { end ≤ length places.now }
+    requires values { end ≤ length values.now }
+    ensures { result ≡ true → cells_at places.now values.now start end ≡ cells.now }
+{
+    let mut at = start;
+    for (number, cell) in cells.iter().enumerate() {
+        match *cell {
+            None => (),
+            Some(value) => {
+                if at >= end || !is_at(places, values, at, number as u8, value) {
+                    return false;
+                }
+                at += 1;
+            }
+        }
+    }
+    at == end
+}
+
+/// Whether the place and the value at an index are these.
+fn is_at(places: &[u8], values: &[i64], at: u32, place: u8, value: i64) -> bool
+    requires places { at < length places.now }
+    requires values { at < length values.now }
+    ensures place { result ≡ true → slice_index_or places.now at 0 ≡ place }
+    ensures value { result ≡ true → slice_index_or values.now at (pos 0) ≡ value }
+{
+    places[at as usize] == place && values[at as usize] == value
 }
 
 /// The index at which a group begins: the end of the one before it, or 0.
@@ -153,16 +200,9 @@ fn push_cell(places: &mut Vec<u8>, values: &mut Vec<i64>, place: u8, cell: Optio
     ensures one_place { vec_len places.new ≤ vec_len places.old + 1 }
     ensures one_value { vec_len values.new ≤ vec_len values.old + 1 }
 {
-    let Some(value) = cell else {
-        return;
-    };
-    match places.push(place) {
-        Ok(()) => (),
-        Err(_) => unreachable!(),
-    }
-    match values.push(value) {
-        Ok(()) => (),
-        Err(_) => unreachable!(),
+    if let Some(value) = cell {
+        places.push_reserved(place);
+        values.push_reserved(value);
     }
 }
 

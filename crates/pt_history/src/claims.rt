@@ -1,6 +1,6 @@
 //! Claims, stored flat.
 
-ghost use Rattle.std.specs.Prelude.{◌≡◌, ◌+◌, ◌<◌, ◌≤◌, ◌++◌, ◌∷◌, [], OnOk, Some, length, max, option_map, slice_get};
+ghost use Rattle.std.specs.Prelude.{◌≡◌, ◌+◌, ◌<◌, ◌≤◌, ◌++◌, ◌∷◌, [], OnOk, Some, length, max, option_map, slice_get, true};
 ghost use Rattle.pt_history.specs.Tasks.{mark_of, task_of};
 
 use crate::cells::{Cells, cells_of, parts_of};
@@ -71,10 +71,8 @@ impl Claims {
         ensures room { self.new.spare + 1 ≡ self.old.spare }
     {
         self.cells.push(&cells_of(&task.inputs, task.state));
-        match self.marks.push(mark_of(task)) {
-            Ok(()) => self.spare -= 1,
-            Err(_) => unreachable!(),
-        }
+        self.marks.push_reserved(mark_of(task));
+        self.spare -= 1;
     }
 
     /// The number of claims.
@@ -90,6 +88,15 @@ impl Claims {
         ensures { slice_get self.now.tasks number ≡ Some result }
     {
         task_of(self.marks[number], &self.cells.get(number))
+    }
+
+    /// Whether claim `number` is this task. Nothing is read that isn't compared.
+    pub fn is(&self, number: usize, task: &Task) -> bool
+        requires { number < length self.now.tasks }
+        ensures { result ≡ true → slice_get self.now.tasks number ≡ Some task.now }
+    {
+        same_mark(self.marks[number], mark_of(task))
+            && self.cells.is(number, &cells_of(&task.inputs, task.state))
     }
 
     /// Claim `number`, counted from 0, without its inputs and its state.
@@ -110,6 +117,13 @@ pub(crate) fn mark_of(task: &Task) -> Mark
         number: task.number,
         actor: task.actor,
     }
+}
+
+/// Whether two marks are equal.
+fn same_mark(first: Mark, second: Mark) -> bool
+    ensures { result ≡ true → first ≡ second }
+{
+    first == second
 }
 
 /// The claim with these inputs and this state.

@@ -58,10 +58,8 @@ impl Ends {
         ensures total { self.new.total ≡ self.old.total }
         ensures room { self.new.spare + 1 ≡ self.old.spare }
     {
-        match self.ends.push(self.total as u32) {
-            Ok(()) => self.spare -= 1,
-            Err(_) => unreachable!(),
-        }
+        self.ends.push_reserved(self.total as u32);
+        self.spare -= 1;
     }
 
     /// Makes the last list end `more` items later. Allocates nothing.

@@ -128,10 +128,8 @@ impl History {
         ensures turns { self.new.turns ≡ self.old.turns ++ quiet head.first head.last head.count ∷ [] }
         ensures room { self.new.room ≡ record self.old.room { turns = self.old.room.turns - 1 } }
     {
-        match self.heads.push(head) {
-            Ok(()) => self.room.turns -= 1,
-            Err(_) => unreachable!(),
-        }
+        self.heads.push_reserved(head);
+        self.room.turns -= 1;
         self.work.begin();
         self.rows.begin();
         self.taken.begin();

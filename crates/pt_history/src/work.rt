@@ -1,6 +1,6 @@
 //! Claims and their results, stored flat.
 
-ghost use Rattle.std.specs.Prelude.{◌≡◌, ◌↔◌, ◌+◌, ◌<◌, ◌≤◌, ◌^◌, ◌++◌, ◌∷◌, [], IfSome, OnOk, Some, length, max, option_map, slice_get, true, vec_len, vec_capacity};
+ghost use Rattle.std.specs.Prelude.{◌≡◌, ◌+◌, ◌<◌, ◌≤◌, ◌^◌, ◌++◌, ◌∷◌, [], IfSome, OnOk, Some, length, max, option_map, slice_get, vec_len, vec_capacity};
 ghost use Rattle.pt_history.specs.Tasks.{mark_of};
 ghost use Rattle.pt_history.specs.Works.{AreWithin, IsStored, done_of, task_at};
 
@@ -114,10 +114,8 @@ impl Work {
         let source = source_of(&self.claims, &mut self.others, &done.task);
         self.fired
             .push(&cells_of(&done.fired.outputs, done.fired.state));
-        match self.sources.push(source) {
-            Ok(()) => self.spare -= 1,
-            Err(_) => unreachable!(),
-        }
+        self.sources.push_reserved(source);
+        self.spare -= 1;
     }
 
     /// Appends results. Allocates nothing.
@@ -196,10 +194,8 @@ fn source_of(claims: &Claims, others: &mut Vec<Task>, task: &Task) -> Source
         return Source::Claim(number);
     }
     let number = others.len() as u32;
-    match others.push(*task) {
-        Ok(()) => Source::Other(number),
-        Err(_) => unreachable!(),
-    }
+    others.push_reserved(*task);
+    Source::Other(number)
 }
 
 /// The number of the claim that is this task; `None` if the claim of its number is another, or if there is none.
@@ -210,18 +206,11 @@ fn claim_of(claims: &Claims, task: &Task) -> Option<u32>
         return None;
     }
     let number = task.number as usize;
-    if same_task(&claims.get(number), task) {
+    if claims.is(number, task) {
         Some(number as u32)
     } else {
         None
     }
-}
-
-/// Whether two tasks are equal.
-fn same_task(first: &Task, second: &Task) -> bool
-    ensures { (result ≡ true) ↔ (first.now ≡ second.now) }
-{
-    *first == *second
 }
 
 /// The task of a result.
