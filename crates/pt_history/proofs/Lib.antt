@@ -6,3 +6,10 @@ pub mod Reading
 pub mod Quietness
 pub mod Cutting
 pub mod LastMember
+pub mod Filling
+pub mod CellLists
+pub mod TaskLists
+pub mod DoneLists
+pub mod Ended
+pub mod InTurn
+pub mod Matching

@@ -1,14 +1,16 @@
 -- What heads and lists tell of each turn.
-use Rattle.std.proofs.Common.{rules, ◌≡◌, ◌==◌, ℕ, zero, suc, ◌+◌, ◌<◌, ◌&&◌, List, [], ◌∷◌, ◌++◌, length, get_or, Some, drop, refl, sym, ap, ap₂, ◌∙◌, arith, eqb}
-use Rattle.std.specs.Prelude.{option_map, slice_get}
+use Rattle.std.proofs.Common.{rules, ◌≡◌, ℕ, zero, suc, ◌+◌, ◌<◌, List, [], ◌∷◌, ◌++◌, length, get_or, Some, None, Option, subst, ◌≤◌, ◌⊎◌, inl, inr, drop, refl, sym, ap, ap₂, ◌∙◌, arith, eqb}
+use Rattle.std.specs.Prelude.{option_map, slice_get, unwrap_or}
 use Rattle.std.specs.List.{flat_map}
-use Rattle.std.proofs.lemmas.List.{drop_all, drop_more}
+use Rattle.std.proofs.lemmas.List.{drop_all, drop_more, get_or_past}
+use Rattle.std.proofs.lemmas.Bool.{cases_lt}
 use Rattle.std.proofs.lemmas.Option.{get_or_from_slice_get}
 use Rattle.pt_types.specs.declared.firing.OnLink.{OnLink}
 use Rattle.pt_types.specs.declared.firing.Task.{Task}
 use Rattle.pt_semantics.specs.Turn.{Turn, is_empty}
 use Rattle.pt_history.specs.declared.head.Head.{Head}
 use Rattle.pt_history.specs.Keeping.{Lists, turn_at, turns_from}
+use Rattle.pt_history.specs.Turns.{claimed_in, posted_in}
 
 -- a head that stands for none
 abbrev pub no_head : Head
@@ -54,3 +56,30 @@ all_messages p hs e = all_from (λ (turn : Turn). turn.taken) p p.taken 0 hs (λ
 pub empty_by_length : {X : Type 0} (xs : List X) → is_empty xs ≡ eqb (length xs) 0
 empty_by_length [] = refl
 empty_by_length (x ∷ xs) = search rules
+
+none_at : {Y : Type 0} (ys : List Y) (i : ℕ) → length ys ≤ i → slice_get ys i ≡ None
+none_at [] i h = refl
+none_at (y ∷ ys) zero h = absurd (omega arith)
+none_at (y ∷ ys) (suc i) h = none_at ys i (omega arith)
+
+-- a list of a turn, whether there is such a turn or not
+list_in : {X : Type 0} (f : Turn → List X) (p : Lists) (lists : List (List X)) (k : ℕ) (hs : List Head) → ((j : ℕ) (h : Head) → f (turn_at p j h) ≡ get_or lists j []) → length lists ≡ length hs
+    → unwrap_or (option_map f (slice_get (turns_from p 0 hs) k)) [] ≡ get_or lists k []
+list_in {X} f p lists k hs is e = by (cases_lt k (length hs))
+  where
+    by : (k < length hs) ⊎ (length hs ≤ k) → unwrap_or (option_map f (slice_get (turns_from p 0 hs) k)) [] ≡ get_or lists k []
+    by (inl lt) = ap (λ (o : Option Turn). unwrap_or (option_map f o) []) (get_turn p k hs no_head lt) ∙ is k (get_or hs k no_head)
+    by (inr past) = ap (λ (o : Option Turn). unwrap_or (option_map f o) []) (none_at (turns_from p 0 hs) k (subst (λ n. n ≤ k) (sym (length-turns p 0 hs)) past)) ∙ sym (get_or_past lists k [] (subst (λ n. n ≤ k) (sym e) past))
+
+pub posted_of : (p : Lists) (k : ℕ) (hs : List Head) → length p.posted ≡ length hs → posted_in (turns_from p 0 hs) k ≡ get_or p.posted k []
+posted_of p k hs e = list_in (λ (turn : Turn). turn.posted) p p.posted k hs (λ j h. refl) e
+
+pub claimed_of : (p : Lists) (k : ℕ) (hs : List Head) → length p.claimed ≡ length hs → claimed_in (turns_from p 0 hs) k ≡ get_or p.claimed k []
+claimed_of p k hs e = list_in (λ (turn : Turn). turn.claimed) p p.claimed k hs (λ j h. refl) e
+
+-- a list with an item is one of the lists
+pub within_lists : {X : Type 0} (lists : List (List X)) (k i : ℕ) → i < length (get_or lists k []) → k < length lists
+within_lists [] zero i h = absurd (omega arith)
+within_lists [] (suc k) i h = absurd (omega arith)
+within_lists (l ∷ lists) zero i h = omega arith
+within_lists (l ∷ lists) (suc k) i h = let low = within_lists lists k i h in omega (arith, low)

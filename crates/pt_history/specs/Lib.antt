@@ -2,3 +2,9 @@ pub mod Keeping
 pub mod Turns
 pub mod Whole
 pub mod Lists
+pub mod Cells
+pub mod CellsWhole
+pub mod Tasks
+pub mod Works
+pub mod WorkWhole
+pub mod WorkLists

@@ -7,6 +7,12 @@ pub record RoomyLists (X : Type 0) : Type 0 where
   pub spare_items : ℕ
   pub spare_lists : ℕ
 
+-- where lists end that are stored one after another, the number of items of all, and the room left for more lists
+pub record RoomyEnds : Type 0 where
+  pub ends : List ℕ
+  pub total : ℕ
+  pub spare : ℕ
+
 -- a list with its last item changed by f
 abbrev pub on_last : {X : Type 0} → (X → X) → List X → List X
 on_last f [] = []

@@ -1,5 +1,5 @@
 -- Recorded turns, and the room for more.
-use Rattle.std.specs.Prelude.{ℕ, ◌++◌, [], List, max}
+use Rattle.std.specs.Prelude.{ℕ, ◌++◌, [], List, max, option_map, slice_get, unwrap_or}
 use Rattle.pt_types.specs.declared.firing.Done.{Done}
 use Rattle.pt_types.specs.declared.firing.OnLink.{OnLink}
 use Rattle.pt_types.specs.declared.firing.Task.{Task}
@@ -50,3 +50,11 @@ claiming tasks turn = record turn { claimed = turn.claimed ++ tasks }
 -- a turn with more messages sent after it
 abbrev pub sending : List OnLink → Turn → Turn
 sending messages turn = record turn { sent = turn.sent ++ messages }
+
+-- the results posted in turn `number`; none if there is no such turn
+abbrev pub posted_in : List Turn → ℕ → List Done
+posted_in turns number = unwrap_or (option_map (λ (turn : Turn). turn.posted) (slice_get turns number)) []
+
+-- the tasks claimed in turn `number`; none if there is no such turn
+abbrev pub claimed_in : List Turn → ℕ → List Task
+claimed_in turns number = unwrap_or (option_map (λ (turn : Turn). turn.claimed) (slice_get turns number)) []

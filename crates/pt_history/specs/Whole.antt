@@ -6,7 +6,7 @@ use Rattle.pt_history.specs.Turns.{RoomyTurns}
 
 -- the five lists of each turn
 abbrev pub lists_of : Inside → Lists
-lists_of h = record { posted = h.posted.lists; rows = h.rows.lists; taken = h.taken.lists; claimed = h.claimed.lists; sent = h.sent.lists }
+lists_of h = record { posted = h.work.posted.lists; rows = h.rows.lists; taken = h.taken.lists; claimed = h.work.claimed.lists; sent = h.sent.lists }
 
 -- the turns and the room of a history
 abbrev pub roomy_turns : Inside → RoomyTurns
@@ -15,9 +15,9 @@ roomy_turns h = record { turns = turns_from (lists_of h) 0 h.heads.items; room =
 -- each turn has its five lists, the promised room is allocated, and the two flags say which of the last two turns are quiet
 pub record IsWhole (h : Inside) : Type 0 where
   pub heads : vec_len h.heads + h.room.turns ≤ vec_capacity h.heads
-  pub posted : Fits (length h.heads.items) h.room.turns h.room.posted h.posted
+  pub posted : Fits (length h.heads.items) h.room.turns h.room.posted h.work.posted
   pub rows : Fits (length h.heads.items) h.room.turns h.room.rows h.rows
   pub taken : Fits (length h.heads.items) h.room.turns h.room.taken h.taken
-  pub claimed : Fits (length h.heads.items) h.room.turns h.room.claimed h.claimed
+  pub claimed : Fits (length h.heads.items) h.room.turns h.room.claimed h.work.claimed
   pub sent : Fits (length h.heads.items) h.room.turns h.room.sent h.sent
   pub quiet : TellQuiet (lists_of h) (length h.heads.items) h.last_quiet h.before_quiet

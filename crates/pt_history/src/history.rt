@@ -5,12 +5,15 @@ ghost use Rattle.std.specs.List.{flat_map};
 ghost use Rattle.pt_history.specs.Lists.{on_last};
 ghost use Rattle.pt_semantics.specs.Turn.{is_quiet};
 ghost use Rattle.pt_semantics.specs.Kept.{kept_with, settled};
-ghost use Rattle.pt_history.specs.Turns.{claiming, entering, fresh, larger, posting, quiet, sending, taking};
+ghost use Rattle.pt_history.specs.Turns.{claimed_in, claiming, entering, fresh, larger, posted_in, posting, quiet, sending, taking};
 ghost use Rattle.pt_history.specs.Keeping.{Joins};
+ghost use Rattle.pt_history.specs.Tasks.{mark_of};
 
 use crate::Pieces;
+use crate::claims::Mark;
 use crate::head::Head;
 use crate::room::Room;
+use crate::work_lists::WorkLists;
 use pt_tags::Memory;
 use pt_types::{Done, OnLink, RowAt, Task};
 use std::alloc::Global;
@@ -22,10 +25,10 @@ use std::marker::Model;
 #[derive(Drop)]
 pub struct History {
     heads: Vec<Head>,
-    posted: Pieces<Done>,
+    /// What was claimed and posted.
+    work: WorkLists,
     rows: Pieces<RowAt>,
     taken: Pieces<OnLink>,
-    claimed: Pieces<Task>,
     sent: Pieces<OnLink>,
     room: Room,
     /// Whether the last turn is quiet; means nothing if there is none.
@@ -54,10 +57,9 @@ impl History {
     {
         History {
             heads: Vec::new(alloc),
-            posted: Pieces::new(alloc),
+            work: WorkLists::new(alloc),
             rows: Pieces::new(alloc),
             taken: Pieces::new(alloc),
-            claimed: Pieces::new(alloc),
             sent: Pieces::new(alloc),
             room: Room {
                 turns: 0,
@@ -93,10 +95,9 @@ impl History {
         if self.heads.reserve(room.turns).is_err() {
             return Err(Memory);
         }
-        self.posted.reserve(room.posted, room.turns)?;
+        self.work.reserve(room.claimed, room.posted, room.turns)?;
         self.rows.reserve(room.rows, room.turns)?;
         self.taken.reserve(room.taken, room.turns)?;
-        self.claimed.reserve(room.claimed, room.turns)?;
         self.sent.reserve(room.sent, room.turns)?;
         self.room = room;
         Ok(())
@@ -127,14 +128,11 @@ impl History {
         ensures turns { self.new.turns ≡ self.old.turns ++ quiet head.first head.last head.count ∷ [] }
         ensures room { self.new.room ≡ record self.old.room { turns = self.old.room.turns - 1 } }
     {
-        match self.heads.push(head) {
-            Ok(()) => self.room.turns -= 1,
-            Err(_) => unreachable!(),
-        }
-        self.posted.begin();
+        self.heads.push_reserved(head);
+        self.room.turns -= 1;
+        self.work.begin();
         self.rows.begin();
         self.taken.begin();
-        self.claimed.begin();
         self.sent.begin();
         self.before_quiet = self.last_quiet;
         self.last_quiet = true;
@@ -203,7 +201,7 @@ impl History {
         ensures turns { self.new.turns ≡ on_last (posting dones.now) self.old.turns }
         ensures room { self.new.room ≡ record self.old.room { posted = self.old.room.posted - length dones.now } }
     {
-        self.posted.extend(dones);
+        self.work.post(dones);
         self.room.posted -= dones.len();
         self.last_quiet &= dones.is_empty();
     }
@@ -239,7 +237,7 @@ impl History {
         ensures turns { self.new.turns ≡ on_last (claiming tasks.now) self.old.turns }
         ensures room { self.new.room ≡ record self.old.room { claimed = self.old.room.claimed - length tasks.now } }
     {
-        self.claimed.extend(tasks);
+        self.work.claim(tasks);
         self.room.claimed -= tasks.len();
         self.last_quiet &= tasks.is_empty();
     }
@@ -287,12 +285,28 @@ impl History {
         self.heads[number].count
     }
 
-    /// The results posted in a recorded turn.
-    pub fn posted(&self, number: usize) -> &[Done]
-        requires { number < length self.now.turns }
-        ensures { option_map (λ turn. turn.posted) (slice_get self.now.turns number) ≡ Some result.now }
+    /// How many results were posted in a recorded turn.
+    pub fn posted(&self, turn: usize) -> usize
+        requires { turn < length self.now.turns }
+        ensures { result ≡ length (posted_in self.now.turns turn) }
     {
-        self.posted.get(number)
+        self.work.posted(turn)
+    }
+
+    /// Result `number` of a recorded turn, counted from 0.
+    pub fn done_in(&self, turn: usize, number: usize) -> Done
+        requires { number < length (posted_in self.now.turns turn) }
+        ensures { slice_get (posted_in self.now.turns turn) number ≡ Some result }
+    {
+        self.work.done_in(turn, number)
+    }
+
+    /// The task of result `number` of a recorded turn, counted from 0, without its inputs and its state.
+    pub fn done_mark(&self, turn: usize, number: usize) -> Mark
+        requires { number < length (posted_in self.now.turns turn) }
+        ensures { option_map (λ done. mark_of done.task) (slice_get (posted_in self.now.turns turn) number) ≡ Some result }
+    {
+        self.work.done_mark(turn, number)
     }
 
     /// The rows entered in a recorded turn.
@@ -318,12 +332,20 @@ impl History {
         self.taken.all()
     }
 
-    /// The tasks claimed in a recorded turn.
-    pub fn claimed(&self, number: usize) -> &[Task]
-        requires { number < length self.now.turns }
-        ensures { option_map (λ turn. turn.claimed) (slice_get self.now.turns number) ≡ Some result.now }
+    /// How many tasks were claimed in a recorded turn.
+    pub fn claimed(&self, turn: usize) -> usize
+        requires { turn < length self.now.turns }
+        ensures { result ≡ length (claimed_in self.now.turns turn) }
     {
-        self.claimed.get(number)
+        self.work.claimed(turn)
+    }
+
+    /// Claim `number` of a recorded turn, counted from 0.
+    pub fn task_in(&self, turn: usize, number: usize) -> Task
+        requires { number < length (claimed_in self.now.turns turn) }
+        ensures { slice_get (claimed_in self.now.turns turn) number ≡ Some result }
+    {
+        self.work.task_in(turn, number)
     }
 
     /// The messages sent after a recorded turn and before the next one.
@@ -338,6 +360,22 @@ impl History {
     pub fn claims(&self) -> u64
         ensures { result ≡ length (flat_map (λ turn. turn.claimed) self.now.turns) }
     {
-        self.claimed.total() as u64
+        self.work.claims() as u64
+    }
+
+    /// Claim `number` of all recorded turns, counted from 0.
+    pub fn task(&self, number: usize) -> Task
+        requires { number < length (flat_map (λ turn. turn.claimed) self.now.turns) }
+        ensures { slice_get (flat_map (λ turn. turn.claimed) self.now.turns) number ≡ Some result }
+    {
+        self.work.task(number)
+    }
+
+    /// Claim `number` of all recorded turns, counted from 0, without its inputs and its state.
+    pub fn mark(&self, number: usize) -> Mark
+        requires { number < length (flat_map (λ turn. turn.claimed) self.now.turns) }
+        ensures { option_map mark_of (slice_get (flat_map (λ turn. turn.claimed) self.now.turns) number) ≡ Some result }
+    {
+        self.work.mark(number)
     }
 }

@@ -1,18 +1,25 @@
 //! The history of a platform: what it posted, entered, took, claimed and sent in each turn.
 //!
-//! Each of the five lists is stored flat for all turns, as `Pieces`: one vector of items, and the index at which each turn's
-//! part ends. A run of quiet turns is stored as one turn: `begin` joins the last two as defined in pt_semantics.
+//! Each of the five lists is stored flat for all turns: its items one after another, and the index at which each turn's
+//! part ends. Of claims and results only the values that are there are stored, and a result refers to its claim (`Work`).
+//! A run of quiet turns is stored as one turn: `begin` joins the last two as defined in pt_semantics.
 //! Memory is reserved before a turn, so that a turn allocates nothing.
 //!
 //! Read first: `History`, then `specs/Turns.antt`.
 #![tactic(auto)]
 
+mod cells;
+mod claims;
+mod ends;
 mod head;
 mod history;
 mod miss;
 mod pieces;
 mod room;
+mod work;
+mod work_lists;
 
+pub use claims::Mark;
 pub use history::History;
 pub use miss::Miss;
 pub use pieces::Pieces;

@@ -1,15 +1,16 @@
 //! A list of lists, stored flat.
 
-ghost use Rattle.std.specs.Prelude.{◌≡◌, ◌+◌, ◌<◌, ◌≤◌, ◌++◌, ◌∷◌, [], IsOk, OnOk, OnErr, MatchResult, Some, length, max, slice_get, slice_index, slice_range, vec_len, vec_capacity};
+ghost use Rattle.std.specs.Prelude.{◌≡◌, ◌+◌, ◌<◌, ◌≤◌, ◌++◌, ◌∷◌, [], IsOk, OnOk, OnErr, MatchResult, Some, length, max, slice_get, slice_range, vec_len, vec_capacity};
 ghost use Rattle.std.specs.List.{flat_map};
 ghost use Rattle.pt_history.specs.Lists.{on_last};
 
+use crate::ends::Ends;
 use pt_tags::Memory;
 use std::alloc::Global;
 use std::marker::Model;
 
 /// The number of items is less than this, so that 32 bits hold each end.
-const MOST_ITEMS: usize = 4_294_967_296;
+pub(crate) const MOST_ITEMS: usize = 4_294_967_296;
 
 /// A list of lists, with room reserved for more items and lists. Contracts see `lists`, `spare_items` and `spare_lists`.
 ///
@@ -17,21 +18,19 @@ const MOST_ITEMS: usize = 4_294_967_296;
 #[derive(Drop)]
 pub struct Pieces<T> {
     items: Vec<T>,
-    /// The index in `items` at which each list ends.
-    ends: Vec<u32>,
+    ends: Ends,
     spare_items: usize,
-    spare_lists: usize,
 }
 
 impl<T> Model for Pieces<T> {
-    ghost use Rattle.std.specs.Prelude.{◌+◌, ◌<◌, ◌≤◌, ◌^◌, length, vec_len, vec_capacity};
+    ghost use Rattle.std.specs.Prelude.{◌≡◌, ◌+◌, ◌<◌, ◌≤◌, ◌^◌, length, vec_len, vec_capacity};
     ghost use Rattle.pt_history.specs.Lists.{Rises, RoomyLists, pieces};
 
     ghost Value = { RoomyLists T };
 
-    ghost view = { λ p. record { lists = pieces 0 p.ends.items p.items.items; spare_items = p.spare_items; spare_lists = p.spare_lists } };
+    ghost view = { λ p. record { lists = pieces 0 p.ends.ends p.items.items; spare_items = p.spare_items; spare_lists = p.ends.spare } };
 
-    ghost invariant = { λ p. Rises 0 p.ends.items (length p.items.items) × (vec_len p.items + p.spare_items ≤ vec_capacity p.items) × (vec_len p.ends + p.spare_lists ≤ vec_capacity p.ends) × (length p.items.items + p.spare_items < 2 ^ 32) };
+    ghost invariant = { λ p. Rises 0 p.ends.ends (length p.items.items) × (vec_len p.items + p.spare_items ≤ vec_capacity p.items) × (p.ends.total ≡ length p.items.items) × (length p.items.items + p.spare_items < 2 ^ 32) };
 }
 
 impl<T: Drop> Pieces<T> {
@@ -42,9 +41,8 @@ impl<T: Drop> Pieces<T> {
     {
         Pieces {
             items: Vec::new(alloc),
-            ends: Vec::new(alloc),
+            ends: Ends::new(alloc),
             spare_items: 0,
-            spare_lists: 0,
         }
     }
 
@@ -61,9 +59,8 @@ impl<T: Drop> Pieces<T> {
             return Err(Memory);
         }
         let spare_items = widened(&mut self.items, self.spare_items, items)?;
-        let spare_lists = widened(&mut self.ends, self.spare_lists, lists)?;
+        self.ends.reserve(lists)?;
         self.spare_items = spare_items;
-        self.spare_lists = spare_lists;
         Ok(())
     }
 
@@ -74,10 +71,7 @@ impl<T: Drop> Pieces<T> {
         ensures items { self.new.spare_items ≡ self.old.spare_items }
         ensures room { self.new.spare_lists + 1 ≡ self.old.spare_lists }
     {
-        match self.ends.push(self.items.len() as u32) {
-            Ok(()) => self.spare_lists -= 1,
-            Err(_) => unreachable!(),
-        }
+        self.ends.begin();
     }
 
     /// The number of lists.
@@ -106,9 +100,11 @@ impl<T: Drop> Pieces<T> {
         requires { number < length self.now.lists }
         ensures { slice_get self.now.lists number ≡ Some result.now }
     {
-        let end = self.ends[number] as usize;
-        let start = start_of(self.ends.as_slice(), number);
-        part(self.items.as_slice(), start, end)
+        part(
+            self.items.as_slice(),
+            self.ends.start(number),
+            self.ends.end(number),
+        )
     }
 }
 
@@ -128,20 +124,7 @@ impl<T: Copy> Pieces<T> {
             Ok(()) => self.spare_items -= more.len(),
             Err(_) => unreachable!(),
         }
-        let last = self.ends.len() - 1;
-        self.ends[last] = self.items.len() as u32;
-    }
-}
-
-/// The index at which a list begins: the end of the one before it, or 0.
-fn start_of(ends: &[u32], number: usize) -> usize
-    requires { number < length ends.now }
-    ensures { result ≡ slice_index (0 ∷ ends.now) number }
-{
-    if number == 0 {
-        0
-    } else {
-        ends[number - 1] as usize
+        self.ends.grow(more.len());
     }
 }
 
@@ -155,7 +138,7 @@ fn part<T>(items: &[T], start: usize, end: usize) -> &[T]
 }
 
 /// Makes room for at least `wanted` more items, and returns for how many there is room then.
-fn widened<T>(items: &mut Vec<T>, spare: usize, wanted: usize) -> Result<usize, Memory>
+pub(crate) fn widened<T>(items: &mut Vec<T>, spare: usize, wanted: usize) -> Result<usize, Memory>
     requires { vec_len items.old + spare ≤ vec_capacity items.old }
     ensures items { items.new.items ≡ items.old.items }
     ensures room { MatchResult result (λ room. (room ≡ max spare wanted) × (vec_len items.new + room ≤ vec_capacity items.new)) (λ _. vec_len items.new + spare ≤ vec_capacity items.new) }

@@ -1,11 +1,12 @@
 -- Members of what a function gives along a list.
 use Rattle.std.proofs.Common.{◌≡◌, ℕ, ◌+◌, ◌<◌, ◌⊎◌, List, [], ◌∷◌, ◌++◌, Option, Some, None, length, take, get_or, refl, sym, ap, ap₂, subst, ◌∙◌, inl, inr, ⊎_elim}
-use Rattle.std.specs.Prelude.{flat_map, filter_map, option_to_list}
+use Rattle.std.specs.Prelude.{flat_map, filter_map, option_map, option_to_list, slice_get}
 use Rattle.std.specs.List.{cons_option}
 use Rattle.std.proofs.lemmas.List.{append_assoc, take_more}
 use Rattle.std.proofs.lemmas.List.Elements.{filter_map-append}
 use Rattle.pt_semantics.specs.Lists.{IsIn}
-use Rattle.pt_semantics.proofs.Lookups.{IsIn-append, IsIn-append_left, IsIn-append_right}
+use Rattle.pt_semantics.proofs.Lookups.{IsIn-append, IsIn-append_left, IsIn-append_right, none_some, same_some}
+use Rattle.pt_history.proofs.InTurn.{take_next}
 
 pub in_flat_map : {X Y : Type 0} (f : X → List Y) (xs : List X) (y : Y) → IsIn y (flat_map f xs) → (x : X) × IsIn x xs × IsIn y (f x)
 in_flat_map f [] y m = absurd m
@@ -59,3 +60,17 @@ filter_map_grows h xs n d start old new o lt was is put =
     ∙ ap (λ l. start ++ (filter_map h (take n xs) ++ l)) (sym (only_cons (h (get_or xs n d))))
     ∙ ap (λ l. start ++ l) (sym (filter_map-append h (take n xs) (get_or xs n d ∷ [])))
     ∙ ap (λ l. start ++ filter_map h l) (sym (take_more xs n d lt))
+
+-- the same, where the member is read of the list
+pub filter_map_next : {X Y : Type 0} (h : X → Option Y) (xs : List X) (n : ℕ) (x : X) (start old new : List Y) (o : Option Y) → slice_get xs n ≡ Some x → old ≡ start ++ filter_map h (take n xs)
+    → o ≡ h x → new ≡ old ++ option_to_list o → new ≡ start ++ filter_map h (take (n + 1) xs)
+filter_map_next h xs n x start old new o at was is put =
+    put ∙ ap₂ (λ l p. l ++ option_to_list p) was is ∙ append_assoc start (filter_map h (take n xs)) (option_to_list (h x))
+    ∙ ap (λ l. start ++ (filter_map h (take n xs) ++ l)) (sym (only_cons (h x)))
+    ∙ ap (λ l. start ++ l) (sym (filter_map-append h (take n xs) (x ∷ [])))
+    ∙ ap (λ l. start ++ filter_map h l) (sym (take_next xs n x at))
+
+-- what a function gives of a value that is there
+pub mapped : {X Y : Type 0} (f : X → Y) (o : Option X) (y : Y) → option_map f o ≡ Some y → (x : X) × (o ≡ Some x) × (f x ≡ y)
+mapped f None y is = absurd (none_some y is)
+mapped f (Some x) y is = (x, refl, same_some (f x) y is)

@@ -1,11 +1,12 @@
 -- The list of missed entries has each of them, and nothing else.
-use Rattle.std.proofs.Common.{◌≡◌, ℕ, ℤ, ◌+◌, ◌<◌, List, Option, Some, None, nat_lt, slice_get, refl, sym, ap, subst, ◌∙◌, inl, inr, ⊎_elim, lt-ltb}
-use Rattle.std.specs.Prelude.{filter_map}
+use Rattle.std.proofs.Common.{◌≡◌, ℕ, ℤ, ◌+◌, ◌<◌, ◌++◌, [], append_assoc, ap₂, List, Option, Some, None, nat_lt, slice_get, refl, sym, ap, subst, ◌∙◌, inl, inr, ⊎_elim, lt-ltb}
+use Rattle.std.specs.Prelude.{filter_map, option_map, unwrap_or}
 use Rattle.std.proofs.lemmas.Bool.{ltb-true}
 use Rattle.pt_tags.specs.declared.message.Message.{Message}
 use Rattle.pt_tags.specs.declared.message.Message.TheVariants.{Event, End}
 use Rattle.pt_tags.specs.declared.tag.Tag.{Tag}
 use Rattle.pt_types.specs.declared.firing.Done.{Done}
+use Rattle.pt_types.specs.declared.firing.OnLink.{OnLink}
 use Rattle.pt_types.specs.declared.firing.Task.{Task}
 use Rattle.pt_types.specs.declared.graph.Graph.{Graph}
 use Rattle.pt_types.specs.declared.graph.Link.{Link}
@@ -152,3 +153,15 @@ lists_missed g turns = λ m. (
   λ listed. let found = in_flat_map (missed_at g) turns m listed in let is = in_turn g found.0 m found.2 in (found.0, found.1, is.0, is.1),
   λ is. flat_map_in (missed_at g) turns is.0 m is.1 (of_turn g is.0 m is.2 is.3),
 )
+
+-- what was appended for a turn
+pub missed_here : (g : Graph) (o : Option Turn) (reading : ℕ) (sent : List OnLink) (old mid new : List Miss) → option_map (λ (turn : Turn). turn.last) o ≡ Some reading → option_map (λ (turn : Turn). turn.sent) o ≡ Some sent
+    → mid ≡ old ++ filter_map (miss_of_result g reading) (unwrap_or (option_map (λ (turn : Turn). turn.posted) o) []) → new ≡ mid ++ filter_map (miss_of_message g reading) sent
+    → option_map (λ (turn : Turn). old ++ missed_at g turn) o ≡ Some new
+missed_here g None reading sent old mid new last was results messages = absurd (none_some reading last)
+missed_here g (Some turn) reading sent old mid new last was results messages =
+    ap Some
+    (ap₂ (λ r s. old ++ (filter_map (miss_of_result g r) turn.posted ++ filter_map (miss_of_message g r) s)) (same_some turn.last reading last) (same_some turn.sent sent was)
+    ∙ sym (append_assoc old (filter_map (miss_of_result g reading) turn.posted) (filter_map (miss_of_message g reading) sent))
+    ∙ ap (λ l. l ++ filter_map (miss_of_message g reading) sent) (sym results)
+    ∙ sym messages)

@@ -1,12 +1,15 @@
 //! The misses of a history.
 
 ghost use Rattle.std.specs.Prelude.{◌≡◌, ◌<◌, ◌++◌, OnOk, Some, filter_map, length, option_map, option_to_list, slice_get};
+ghost use Rattle.pt_types.specs.declared.firing.Done.{Done};
 ghost use Rattle.pt_types.specs.Lookups.{slack_of};
+ghost use Rattle.pt_history.specs.Tasks.{mark_of};
+ghost use Rattle.pt_history.specs.Turns.{posted_in};
 ghost use Rattle.pt_monitors.specs.Misses.{ListsMissed, miss_of_message, miss_of_result, miss_past, missed_at, missed_of};
 
-use pt_history::{History, Miss};
+use pt_history::{History, Mark, Miss};
 use pt_tags::{Memory, Message, Tag};
-use pt_types::{Done, Graph, Kind, OnLink};
+use pt_types::{Graph, Kind, OnLink};
 
 /// Appends the misses of a platform's history: turn by turn, and in a turn the results before the messages.
 ///
@@ -33,21 +36,24 @@ fn missed_at(
     ensures { OnOk result (option_map (λ turn. misses.old.items ++ missed_at graph.now turn) (slice_get history.now.turns number) ≡ Some misses.new.items) }
 {
     let reading = history.last(number);
-    missed_results(graph, reading, history.posted(number), misses)?;
+    missed_results(graph, reading, history, number, misses)?;
     missed_messages(graph, reading, history.sent(number), misses)
 }
 
-/// Appends the misses among results posted at a reading.
+/// Appends the misses among the results that a recorded turn posted at a reading.
 fn missed_results(
     graph: &Graph,
     reading: u64,
-    posted: &[Done],
+    history: &History,
+    turn: usize,
     misses: &mut Vec<Miss>,
 ) -> Result<(), Memory>
-    ensures { OnOk result (misses.new.items ≡ misses.old.items ++ filter_map (miss_of_result graph.now reading) posted.now) }
+    requires { turn < length history.now.turns }
+    ensures { OnOk result (misses.new.items ≡ misses.old.items ++ filter_map (miss_of_result graph.now reading) (posted_in history.now.turns turn)) }
 {
-    for done in posted {
-        push(misses, miss_of_result(graph, reading, done))?;
+    for number in 0..history.posted(turn) {
+        let mark = history.done_mark(turn, number);
+        push(misses, miss_of_result(graph, reading, mark))?;
     }
     Ok(())
 }
@@ -78,14 +84,13 @@ fn push(misses: &mut Vec<Miss>, miss: Option<Miss>) -> Result<(), Memory>
     Ok(())
 }
 
-/// The miss of a result: an actuator's, posted past its limit.
-fn miss_of_result(graph: &Graph, reading: u64, done: &Done) -> Option<Miss>
-    ensures { result ≡ miss_of_result graph.now reading done.now }
+/// The miss of the result of a task, which is given without its inputs: an actuator's, posted past its limit.
+fn miss_of_result(graph: &Graph, reading: u64, mark: Mark) -> Option<Miss>
+    ensures { (done : Done) → mark_of done.task ≡ mark → result ≡ miss_of_result graph.now reading done }
 {
-    let Done { task, .. } = *done;
-    let actor = graph.actors.as_slice().get(task.actor as usize)?;
+    let actor = graph.actors.as_slice().get(mark.actor as usize)?;
     match &actor.kind {
-        Kind::Actuator { slack } => miss_past(reading, task.actor, task.tag, *slack),
+        Kind::Actuator { slack } => miss_past(reading, mark.actor, mark.tag, *slack),
         _ => None,
     }
 }

@@ -1,7 +1,7 @@
 -- A turn's lines, written one list after another.
-use Rattle.std.proofs.Common.{◌≡◌, ℕ, List, ◌++◌, Option, Some, None, ap}
+use Rattle.std.proofs.Common.{◌≡◌, ℕ, ◌+◌, ◌≤◌, List, ◌++◌, Option, Some, None, append-nil, drop, length, slice_get, refl, sym, ap, ◌∙◌}
 use Rattle.std.specs.Prelude.{flat_map, option_map}
-use Rattle.std.proofs.lemmas.List.{append_assoc}
+use Rattle.std.proofs.lemmas.List.{append_assoc, drop_all}
 use Rattle.pt_types.specs.declared.firing.Done.{Done}
 use Rattle.pt_types.specs.declared.firing.OnLink.{OnLink}
 use Rattle.pt_types.specs.declared.firing.Task.{Task}
@@ -9,6 +9,7 @@ use Rattle.pt_types.specs.declared.graph.Graph.{Graph}
 use Rattle.pt_types.specs.declared.rows.RowAt.{RowAt}
 use Rattle.pt_semantics.specs.Turn.{Turn}
 use Rattle.pt_semantics.proofs.Lookups.{none_some, same_some}
+use Rattle.pt_history.proofs.InTurn.{drop_next}
 use Rattle.pt_tables.specs.Log.{claim_line, post_line, row_line, sent_line, take_line, turn_line, turn_lines}
 use Rattle.pt_types.specs.Lookups.{platform_name}
 
@@ -42,3 +43,17 @@ turn_written g platform (Some turn) first last count posted rows taken claimed s
     let s : turn.sent ≡ sent = same_some turn.sent sent reads.the_sent in
     ap Some
     (λ i. regroup old (turn_line (platform_name g platform) (f i) (l i) (n i)) (flat_map post_line (p i)) (flat_map (row_line g) (r i)) (flat_map (take_line g) (t i)) (flat_map (claim_line g) (c i)) (flat_map (sent_line g) (s i)) i)
+
+-- the line of an item, and then those of the items after it
+pub next_put : {X : Type 0} (f : X → List ℕ) (xs : List X) (n : ℕ) (x : X) (old new : List ℕ) → slice_get xs n ≡ Some x → new ≡ old ++ f x → new ++ flat_map f (drop (n + 1) xs) ≡ old ++ flat_map f (drop n xs)
+next_put f xs n x old new at put =
+    ap (λ l. l ++ flat_map f (drop (n + 1) xs)) put ∙ append_assoc old (f x) (flat_map f (drop (n + 1) xs)) ∙ ap (λ l. old ++ flat_map f l) (sym (drop_next xs n x at))
+
+-- no items are left
+pub all_put : {X : Type 0} (f : X → List ℕ) (xs : List X) (n : ℕ) (text : List ℕ) → length xs ≤ n → text ++ flat_map f (drop n xs) ≡ text
+all_put f xs n text past = ap (λ l. text ++ flat_map f l) (drop_all n xs past) ∙ append-nil text
+
+-- what a function gives of a value that is there
+pub mapped : {X Y : Type 0} (f : X → Y) (o : Option X) (y : Y) → option_map f o ≡ Some y → (x : X) × (o ≡ Some x) × (f x ≡ y)
+mapped f None y is = absurd (none_some y is)
+mapped f (Some x) y is = (x, refl, same_some (f x) y is)

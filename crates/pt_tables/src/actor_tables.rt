@@ -83,7 +83,7 @@ impl ActorTables {
 }
 
 /// Whether actor `number` is an actuator.
-pub(crate) fn has_table(actors: &[Actor], number: u32) -> bool
+pub fn has_table(actors: &[Actor], number: u32) -> bool
     ensures { result ≡ has_table actors.now number }
 {
     match actors.get(number as usize) {

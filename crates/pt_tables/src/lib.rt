@@ -18,7 +18,7 @@ mod table;
 mod text;
 mod turns;
 
-pub use actor_tables::ActorTables;
+pub use actor_tables::{ActorTables, has_table};
 pub use margin_lines::margins;
 pub use miss::{miss_line, miss_lines};
 pub use platforms::push_log;

@@ -1,11 +1,14 @@
 //! Single lines of the log.
 
 ghost use Rattle.std.specs.Prelude.{◌≡◌, ◌++◌, OnOk, string_bytes};
+ghost use Rattle.pt_types.specs.declared.firing.Done.{Done};
+ghost use Rattle.pt_history.specs.Tasks.{mark_of};
 ghost use Rattle.pt_tables.specs.Log.{claim_line, message_line, post_line, row_line, sent_line, take_line, turn_line};
 
 use crate::names::{receiver_name, sender_name};
+use pt_history::Mark;
 use pt_tags::{Message, Tag};
-use pt_types::{Done, Graph, OnLink, Row, RowAt, Task};
+use pt_types::{Graph, OnLink, Row, RowAt, Task};
 use std::alloc::AllocError;
 
 /// Appends the line of a turn, or of a run of quiet turns: `turn,PLATFORM,FIRST,LAST,COUNT`.
@@ -21,11 +24,11 @@ pub(crate) fn push_turn_line(
     write!(text, "turn,{platform},{first},{last},{count}\n")
 }
 
-/// Appends the line of a posted result: `post,NUMBER`.
-pub(crate) fn push_post(text: &mut String, done: &Done) -> Result<(), AllocError>
-    ensures { OnOk result (string_bytes text.new ≡ string_bytes text.old ++ post_line done.now) }
+/// Appends the line of the posted result of a task, which is given without its inputs: `post,NUMBER`.
+pub(crate) fn push_post(text: &mut String, task: Mark) -> Result<(), AllocError>
+    ensures { (done : Done) → mark_of done.task ≡ task → OnOk result (string_bytes text.new ≡ string_bytes text.old ++ post_line done) }
 {
-    let number = done.task.number;
+    let number = task.number;
     write!(text, "post,{number}\n")
 }
 

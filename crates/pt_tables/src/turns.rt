@@ -3,11 +3,12 @@
 ghost use Rattle.std.specs.Prelude.{◌≡◌, ◌++◌, ◌∷◌, ◌<◌, [], List, OnOk, Some, length, option_map, slice_get, string_bytes};
 ghost use Rattle.std.specs.List.{flat_map};
 ghost use Rattle.pt_semantics.specs.Turn.{Turn};
+ghost use Rattle.pt_history.specs.Turns.{claimed_in, posted_in};
 ghost use Rattle.pt_tables.specs.Log.{claim_line, history_lines, log_head, log_text, post_line, row_line, sent_line, take_line, turn_lines};
 
 use crate::lines::{push_claim, push_post, push_row, push_sent, push_taken, push_turn_line};
 use pt_history::History;
-use pt_types::{Done, Graph, OnLink, RowAt, Task};
+use pt_types::{Graph, OnLink, RowAt};
 use std::alloc::AllocError;
 
 /// Appends the first line of the log, `log`.
@@ -53,19 +54,20 @@ pub fn push_turn(
         history.last(number),
         history.count(number),
     )?;
-    push_posts(text, history.posted(number))?;
+    push_posts(text, history, number)?;
     push_rows(text, graph, history.rows(number))?;
     push_all_taken(text, graph, history.taken(number))?;
-    push_claims(text, graph, history.claimed(number))?;
+    push_claims(text, graph, history, number)?;
     push_all_sent(text, graph, history.sent(number))
 }
 
-/// Appends the lines of posted results.
-fn push_posts(text: &mut String, posted: &[Done]) -> Result<(), AllocError>
-    ensures { OnOk result (string_bytes text.new ≡ string_bytes text.old ++ flat_map post_line posted.now) }
+/// Appends the lines of the results that a recorded turn posted.
+fn push_posts(text: &mut String, history: &History, turn: usize) -> Result<(), AllocError>
+    requires { turn < length history.now.turns }
+    ensures { OnOk result (string_bytes text.new ≡ string_bytes text.old ++ flat_map post_line (posted_in history.now.turns turn)) }
 {
-    for done in posted {
-        push_post(text, done)?;
+    for number in 0..history.posted(turn) {
+        push_post(text, history.done_mark(turn, number))?;
     }
     Ok(())
 }
@@ -90,12 +92,18 @@ fn push_all_taken(text: &mut String, graph: &Graph, taken: &[OnLink]) -> Result<
     Ok(())
 }
 
-/// Appends the lines of claims.
-fn push_claims(text: &mut String, graph: &Graph, claimed: &[Task]) -> Result<(), AllocError>
-    ensures { OnOk result (string_bytes text.new ≡ string_bytes text.old ++ flat_map (claim_line graph.now) claimed.now) }
+/// Appends the lines of the tasks that a recorded turn claimed.
+fn push_claims(
+    text: &mut String,
+    graph: &Graph,
+    history: &History,
+    turn: usize,
+) -> Result<(), AllocError>
+    requires { turn < length history.now.turns }
+    ensures { OnOk result (string_bytes text.new ≡ string_bytes text.old ++ flat_map (claim_line graph.now) (claimed_in history.now.turns turn)) }
 {
-    for task in claimed {
-        push_claim(text, graph, task)?;
+    for number in 0..history.claimed(turn) {
+        push_claim(text, graph, &history.task_in(turn, number))?;
     }
     Ok(())
 }

@@ -50,8 +50,8 @@ fn push_kept(
     if number >= history.turns() {
         return Ok(());
     }
-    for done in history.posted(number) {
-        let number = done.task.number;
+    for posted in 0..history.posted(number) {
+        let number = history.done_mark(number, posted).number;
         write!(text, " post {number}")?;
     }
     for at in history.rows(number) {
@@ -61,8 +61,8 @@ fn push_kept(
     for taken in history.taken(number) {
         push_message(text, "take", end_of(graph, taken, false), taken.message)?;
     }
-    for task in history.claimed(number) {
-        push_task(text, graph, task)?;
+    for claimed in 0..history.claimed(number) {
+        push_task(text, graph, &history.task_in(number, claimed))?;
     }
     for sent in history.sent(number) {
         push_message(text, "send", end_of(graph, sent, true), sent.message)?;

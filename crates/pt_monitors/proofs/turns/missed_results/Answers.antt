@@ -1,9 +1,25 @@
-use Rattle.std.proofs.Common.{ap, ◌∙◌}
+use Rattle.std.proofs.Common.{◌≡◌, ◌<◌, ◌≤◌, ◌++◌, Option, Some, length, filter_map, slice_get, ap, subst, ◌∙◌, arith}
+use Rattle.std.specs.Prelude.{option_map, option_to_list}
+use Rattle.std.proofs.lemmas.List.{take_all}
+use Rattle.pt_types.specs.declared.firing.Done.{Done}
+use Rattle.pt_history.specs.Tasks.{mark_of}
+use Rattle.pt_history.specs.Turns.{posted_in}
 use Rattle.pt_monitors.specs.Misses.{miss_of_result}
-use Rattle.pt_monitors.proofs.Members.{filter_map_grows}
+use Rattle.pt_monitors.proofs.Members.{filter_map_next, mapped}
 use Rattle.pt_monitors.proofs.turns.missed_results.Goals as goal
 
-pub loop-done-preserved : goal.loop-done-preserved
-loop-done-preserved c =
-    filter_map_grows (miss_of_result c.args.graph.now c.args.reading) c.args.posted.now c.loop-done.done-index c.done-item.result c.args.misses.now.items c.loop-done.misses.items c.push.new.misses.items c.miss_of_result.result
-    c.loop-done-test.true c.loop-done.invariant (c.miss_of_result.ensures ∙ ap (miss_of_result c.args.graph.now c.args.reading) c.done-item.is) c.in_ok-push.ensures
+pub done_mark-mark-requires : goal.done_mark-mark-requires
+done_mark-mark-requires c = omega (arith, c.loop-number-test.true, c.posted-number-end.ensures)
+
+pub loop-number-preserved : goal.loop-number-preserved
+loop-number-preserved c =
+    let dones = posted_in c.args.history.now.turns c.args.turn in
+    let (done, at, is) = mapped (λ (done : Done). mark_of done.task) (slice_get dones c.loop-number.number) c.done_mark-mark.result c.done_mark-mark.ensures in
+    filter_map_next (miss_of_result c.args.graph.now c.args.reading) dones c.loop-number.number done c.args.misses.now.items c.loop-number.misses.items c.push.new.misses.items c.miss_of_result.result
+    at c.loop-number.invariant (c.miss_of_result.ensures done is) c.in_ok-push.ensures
+
+pub returns : goal.returns
+returns c =
+    let dones = posted_in c.args.history.now.turns c.args.turn in
+    let past : length dones ≤ c.loop-number.number = omega (arith, c.loop-number-test.false, c.posted-number-end.ensures) in
+    c.loop-number.invariant ∙ ap (λ ds. c.args.misses.now.items ++ filter_map (miss_of_result c.args.graph.now c.args.reading) ds) (take_all c.loop-number.number dones past)

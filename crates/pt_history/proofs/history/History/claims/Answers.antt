@@ -8,6 +8,6 @@ use Rattle.pt_history.proofs.history.History.claims.Goals as goal
 
 pub returns : goal.returns
 returns c =
-    c.total.ensures
+    c.claims.ensures
     ∙ ap length (sym (all_claims (lists_of c.self.inside) c.self.inside.heads.items c.self.invariant.claimed.lists))
     ∙ ap (λ (v : RoomyTurns). length (flat_map (λ (turn : Turn). turn.claimed) v.turns)) c.self.view_is

@@ -4,4 +4,4 @@ use Rattle.pt_history.proofs.Cutting.{length-pieces}
 use Rattle.pt_history.proofs.pieces.Pieces.len.Goals as goal
 
 pub returns : goal.returns
-returns g c = c.len.ensures ∙ c.self.inside.ends.ok.0 ∙ sym (length-pieces 0 c.self.inside.ends.items c.self.inside.items.items) ∙ ap (λ (v : RoomyLists g.row.T.Denot). length v.lists) c.self.view_is
+returns g c = c.len.ensures ∙ sym (length-pieces 0 c.self.inside.ends.ends c.self.inside.items.items) ∙ ap (λ (v : RoomyLists g.row.T.Denot). length v.lists) c.self.view_is

@@ -1,0 +1,29 @@
+use Rattle.std.proofs.Common.{◌≡◌, ◌∷◌, ◌++◌, ◌+◌, [], length, length-append, ap, sym, ◌∙◌, arith, rules}
+use Rattle.pt_history.specs.Cells.{cells_of}
+use Rattle.pt_history.specs.Works.{RoomyWork}
+use Rattle.pt_history.proofs.DoneLists.{dones_post, within_post}
+use Rattle.pt_history.proofs.work.Work.post.Goals as goal
+
+pub invariant_of-self : goal.invariant_of-self
+invariant_of-self c =
+    let stored = c.source_of-source.ensures.stored in
+    let sources : length c.push_reserved.new.self.items ≡ length c.self.inside.sources.items + 1 = ap length c.push_reserved.ensures.items ∙ length-append c.self.inside.sources.items (c.source_of-source.result ∷ []) in
+    let cells : length c.push.new.self.cells ≡ length c.self.inside.fired.cells + 1 = ap length c.push.ensures.cells ∙ length-append c.self.inside.fired.cells (c.cells_of.result ∷ []) in
+    let others : length c.source_of-source.new.others.items ≡ length c.self.inside.others.items + length stored.more = ap length stored.grows ∙ length-append c.self.inside.others.items stored.more in
+    let spare : c.args.self.now.spare_dones ≡ c.self.inside.spare = ap (λ (v : RoomyWork). v.spare_dones) (sym c.self.view_is) in
+    record {
+      same = omega (arith, sources, cells, c.self.invariant.same);
+      within = within_post c.self.inside.claims.tasks c.self.inside.others.items c.source_of-source.new.others.items c.self.inside.sources.items c.push_reserved.new.self.items c.source_of-source.result c.args.done.now.task c.self.invariant.within stored c.push_reserved.ensures.items;
+      sources = omega (arith, c.push_reserved.ensures.len, c.push_reserved.ensures.capacity, c.self.invariant.sources, spare, c.requires);
+      others = omega (arith, others, stored.few, c.source_of-source.new.others.ok.0, c.self.inside.others.ok.0, c.source_of-source.ensures.room, c.self.invariant.others, spare, c.requires);
+      cells = omega (arith, c.push.ensures.room, c.self.invariant.cells, spare, c.requires);
+      fits = omega (arith, others, stored.few, c.self.invariant.fits, spare, c.requires);
+    }
+
+pub returns-clause-dones : goal.returns-clause-dones
+returns-clause-dones c =
+    let cells : c.cells_of.result ≡ cells_of c.args.done.now.fired.outputs c.args.done.now.fired.state = search rules in
+    dones_post c.self.inside.claims.tasks c.self.inside.others.items c.source_of-source.new.others.items c.self.inside.sources.items c.push_reserved.new.self.items c.self.inside.fired.cells c.push.new.self.cells c.source_of-source.result c.args.done.now
+    c.self.invariant.same c.self.invariant.within c.source_of-source.ensures.stored c.cells_of.ensures.eight c.push_reserved.ensures.items
+    (c.push.ensures.cells ∙ ap (λ k. c.self.inside.fired.cells ++ k ∷ []) cells)
+    ∙ ap (λ (v : RoomyWork). v.dones ++ c.args.done.now ∷ []) c.self.view_is

@@ -1,0 +1,28 @@
+use Rattle.std.proofs.Common.{◌≡◌, ◌<◌, [], get_or, length, ap, sym, subst, ◌∙◌, arith}
+use Rattle.pt_history.specs.WorkLists.{RoomyWorkLists}
+use Rattle.pt_history.proofs.Cutting.{length-pieces}
+use Rattle.pt_history.proofs.Ended.{IsCut, cut_at, cut_length}
+use Rattle.pt_history.proofs.work_lists.WorkLists.claimed.Goals as goal
+
+pub end-requires : goal.end-requires
+end-requires c =
+    let lists : length c.args.self.now.claimed.lists ≡ length c.self.inside.claimed.ends = ap (λ (v : RoomyWorkLists). length v.claimed.lists) (sym c.self.view_is) ∙ length-pieces 0 c.self.inside.claimed.ends c.self.inside.work.tasks in
+    omega (arith, lists, c.requires)
+
+pub start-requires : goal.start-requires
+start-requires c =
+    let lists : length c.args.self.now.claimed.lists ≡ length c.self.inside.claimed.ends = ap (λ (v : RoomyWorkLists). length v.claimed.lists) (sym c.self.view_is) ∙ length-pieces 0 c.self.inside.claimed.ends c.self.inside.work.tasks in
+    omega (arith, lists, c.requires)
+
+pub overflow_sub-result : goal.overflow_sub-result
+overflow_sub-result c =
+    let cut : IsCut c.self.inside.claimed.ends c.self.inside.work.tasks c.args.list c.start.result c.end.result = cut_at c.self.inside.claimed c.self.inside.work.tasks c.self.inside.work.spare_tasks c.args.list c.start.result c.end.result c.self.invariant.claimed
+    (subst (λ (v : RoomyWorkLists). c.args.list < length v.claimed.lists) (sym c.self.view_is) c.requires) c.start.ensures c.end.ensures in
+    cut.rises
+
+pub returns : goal.returns
+returns c =
+    let cut : IsCut c.self.inside.claimed.ends c.self.inside.work.tasks c.args.list c.start.result c.end.result = cut_at c.self.inside.claimed c.self.inside.work.tasks c.self.inside.work.spare_tasks c.args.list c.start.result c.end.result c.self.invariant.claimed
+    (subst (λ (v : RoomyWorkLists). c.args.list < length v.claimed.lists) (sym c.self.view_is) c.requires) c.start.ensures c.end.ensures in
+    cut_length c.self.inside.claimed.ends c.self.inside.work.tasks c.args.list c.start.result c.end.result cut
+    ∙ ap (λ (v : RoomyWorkLists). length (get_or v.claimed.lists c.args.list [])) c.self.view_is
