@@ -47,16 +47,16 @@ loop-port-preserved c =
       done = λ k l. subst (λ (ls : List (List Event)). filter keep (line_at ls (8 * unit.actor + k)) ≡ line_at ls (8 * unit.actor + k)) (sym is) (done_more keep c.loop-port.lines (8 * unit.actor) c.loop-port.port c.loop-port.invariant.done k l);
       later = λ k l. ap (λ ls. line_at ls (8 * unit.actor + k)) is ∙ filtered_later keep c.loop-port.lines n (8 * unit.actor + k) (omega (arith, l)) ∙ c.loop-port.invariant.later k (omega (arith, l));
       inputs =
-        c.take_port.ensures.inputs
-        ∙ ap (λ v. slice_set c.loop-port.taken.inputs c.loop-port.port (when (group_in table unit.actor c.loop-port.port == unit.group) v))
+          c.take_port.ensures.inputs
+          ∙ ap (λ v. slice_set c.loop-port.taken.inputs c.loop-port.port (when (group_in table unit.actor c.loop-port.port == unit.group) v))
           (later_waits table c.loop-port.lines c.args.lines.now c.args.loose.now.items unit.actor c.loop-port.port c.args.tag c.loop-port.invariant.in_lines c.requires.in_lines (c.loop-port.invariant.later c.loop-port.port (omega arith)))
-        ∙ ap (λ ports. slice_set ports c.loop-port.port (f c.loop-port.port)) c.loop-port.invariant.inputs
-        ∙ next_put f c.loop-port.port c.loop-port-test.true;
+          ∙ ap (λ ports. slice_set ports c.loop-port.port (f c.loop-port.port)) c.loop-port.invariant.inputs
+          ∙ next_put f c.loop-port.port c.loop-port-test.true;
       least =
-        c.take_port.ensures.least
-        ∙ ap (λ best. least_from table unit best (line_at c.take_port.new.lines n)) (c.loop-port.invariant.least ∙ ap (λ ls. least_from table unit None (all_of ls)) (sym (ap (take n) is ∙ filtered_take keep c.loop-port.lines n)))
-        ∙ sym (least_step table c.take_port.new.lines unit n)
-        ∙ ap (λ m. least_from table unit None (all_of (take m c.take_port.new.lines))) (sym (more (8 * unit.actor) c.loop-port.port));
+          c.take_port.ensures.least
+          ∙ ap (λ best. least_from table unit best (line_at c.take_port.new.lines n)) (c.loop-port.invariant.least ∙ ap (λ ls. least_from table unit None (all_of ls)) (sym (ap (take n) is ∙ filtered_take keep c.loop-port.lines n)))
+          ∙ sym (least_step table c.take_port.new.lines unit n)
+          ∙ ap (λ m. least_from table unit None (all_of (take m c.take_port.new.lines))) (sym (more (8 * unit.actor) c.loop-port.port));
     }
 
 pub returns-clause-lines : goal.returns-clause-lines

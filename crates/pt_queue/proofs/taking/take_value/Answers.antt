@@ -23,10 +23,10 @@ returns-then-is_some-clause-value c =
     let line = line_at c.args.lines.now (8 * c.args.actor + c.args.port) in
     stays c.take-value.result loose (sym c.is_some.ensures ∙ c.if-is_some.true)
     ∙ ap (λ o. or_else o loose) (
-        c.take-value.ensures.value
-        ∙ ap (λ n. value_on (line_at c.args.lines.now n) c.args.tag) c.line_number.ensures
-        ∙ value_line c.args.table.now c.args.actor c.args.port c.args.tag line c.requires.port (c.requires.in_lines (8 * c.args.actor + c.args.port))
-        ∙ sym (lines_wait c.args.table.now c.args.lines.now c.args.actor c.args.port c.args.tag c.requires.in_lines))
+    c.take-value.ensures.value
+    ∙ ap (λ n. value_on (line_at c.args.lines.now n) c.args.tag) c.line_number.ensures
+    ∙ value_line c.args.table.now c.args.actor c.args.port c.args.tag line c.requires.port (c.requires.in_lines (8 * c.args.actor + c.args.port))
+    ∙ sym (lines_wait c.args.table.now c.args.lines.now c.args.actor c.args.port c.args.tag c.requires.in_lines))
     ∙ sym (waiting_append (all_of c.args.lines.now) c.args.loose.now.items c.args.actor c.args.port c.args.tag)
 
 pub returns-clause-value : goal.returns-clause-value
@@ -36,8 +36,8 @@ returns-clause-value c =
     c.value_at.ensures
     ∙ passes c.take-value.result loose (sym c.is_some.ensures ∙ c.if-is_some.false)
     ∙ ap (λ o. or_else o loose) (
-        c.take-value.ensures.value
-        ∙ ap (λ n. value_on (line_at c.args.lines.now n) c.args.tag) c.line_number.ensures
-        ∙ value_line c.args.table.now c.args.actor c.args.port c.args.tag line c.requires.port (c.requires.in_lines (8 * c.args.actor + c.args.port))
-        ∙ sym (lines_wait c.args.table.now c.args.lines.now c.args.actor c.args.port c.args.tag c.requires.in_lines))
+    c.take-value.ensures.value
+    ∙ ap (λ n. value_on (line_at c.args.lines.now n) c.args.tag) c.line_number.ensures
+    ∙ value_line c.args.table.now c.args.actor c.args.port c.args.tag line c.requires.port (c.requires.in_lines (8 * c.args.actor + c.args.port))
+    ∙ sym (lines_wait c.args.table.now c.args.lines.now c.args.actor c.args.port c.args.tag c.requires.in_lines))
     ∙ sym (waiting_append (all_of c.args.lines.now) c.args.loose.now.items c.args.actor c.args.port c.args.tag)

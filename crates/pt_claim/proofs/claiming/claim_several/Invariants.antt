@@ -4,7 +4,7 @@ use Rattle.pt_state.specs.State.{IsSound, busy_in}
 use Rattle.pt_claim.specs.Claimed.{OthersStay}
 use Rattle.pt_claim.specs.Fronts.{AreFront}
 use Rattle.pt_claim.proofs.Making.{SoFar}
-use Rattle.pt_claim.proofs.claiming.claims.Given as goal
+use Rattle.pt_claim.proofs.claiming.claim_several.Given as goal
 use Rattle.pt_types.specs.Limits.{most_claims}
 
 abbrev pub invariant-loop : goal.invariant-loop
