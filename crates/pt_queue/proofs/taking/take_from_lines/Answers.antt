@@ -1,4 +1,4 @@
-use Rattle.std.proofs.Common.{◌≡◌, ℕ, ℤ, suc, ◌+◌, ◌*◌, ◌<◌, ◌≤◌, ◌==◌, ◌++◌, None, Option, not, map, filter, take, slice_set, List, refl, sym, subst, ap, ◌∙◌, arith, rules}
+use Rattle.std.proofs.Common.{◌≡◌, ℕ, ℤ, suc, ◌+◌, ◌*◌, ◌≤◌, ◌==◌, ◌++◌, None, Option, not, map, filter, take, slice_set, List, refl, sym, subst, ap, ◌∙◌, arith, rules}
 use Rattle.pt_types.specs.Ports.{at_port, when}
 use Rattle.pt_types.specs.declared.firing.Event.{Event}
 use Rattle.pt_queue.specs.Groups.{group_in}

@@ -1,7 +1,5 @@
-use Rattle.std.proofs.Common.{◌≡◌, ◌+◌, ◌*◌, not, filter, slice_set, Option, Some, None, ℤ, true, false, is_some, refl, sym, ap, ◌∙◌}
+use Rattle.std.proofs.Common.{◌≡◌, ◌+◌, ◌*◌, Option, Some, None, ℤ, true, false, is_some, refl, sym, ap, ◌∙◌}
 use Rattle.std.proofs.lemmas.Bool.{false≢true}
-use Rattle.pt_tags.specs.Tags.{same_tag}
-use Rattle.pt_types.specs.declared.firing.Event.{Event}
 use Rattle.pt_semantics.specs.Lists.{or_else}
 use Rattle.pt_queue.specs.Events.{waiting_in}
 use Rattle.pt_queue.specs.Lines.{all_of, line_at, value_on}

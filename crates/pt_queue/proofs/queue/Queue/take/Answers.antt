@@ -8,7 +8,7 @@ use Rattle.pt_types.specs.declared.graph.Unit.{Unit as Part}
 use Rattle.pt_queue.specs.declared.groups.Groups.{Groups}
 use Rattle.pt_queue.specs.Groups.{AreGroups, group_in}
 use Rattle.pt_queue.specs.Events.{waiting_in, Queued}
-use Rattle.pt_queue.specs.Lines.{AreInLines, all_of, settled}
+use Rattle.pt_queue.specs.Lines.{all_of, settled}
 use Rattle.pt_queue.specs.Scans.{is_at, least_from}
 use Rattle.pt_queue.proofs.Changing.{known_fit, left_fits, left_kept, left_known, roomy}
 use Rattle.pt_queue.proofs.Soonest.{least_append}
