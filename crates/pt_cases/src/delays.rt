@@ -71,10 +71,14 @@ fn write_pair(table: &mut String, least: &Least, from: Unit, to: Unit) -> Result
     Ok(())
 }
 
-/// Whether `from` is among the units before `to`.
+/// Whether the bit of `from` is set among the units before `to`.
 fn is_before(least: &Least, from: Unit, to: Unit) -> bool {
-    match least.before(to) {
-        Some(units) => units.contains(&from),
+    let Some(words) = least.before(to) else {
+        return false;
+    };
+    let place = 8 * from.actor as usize + from.group as usize;
+    match words.get(place / 64) {
+        Some(word) => (*word >> (place % 64)) & 1 == 1,
         None => false,
     }
 }

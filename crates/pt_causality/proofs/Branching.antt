@@ -1,5 +1,5 @@
 -- The wires of each actor, from the last wire to the first.
-use Rattle.std.proofs.Common.{◌≡◌, ℕ, zero, suc, refl, inl, inr, [], ◌∷◌, ◌++◌, map, ◌+◌, ◌-◌, ◌<◌, ◌≤◌, List, Some, length, set, get_or, sym, ap, subst, ◌∙◌, ⊎_elim, arith, replicate}
+use Rattle.std.proofs.Common.{◌≡◌, ℕ, zero, suc, refl, inl, inr, [], ◌∷◌, ◌++◌, map, ◌+◌, ◌<◌, ◌≤◌, List, Some, length, set, get_or, sym, ap, subst, ◌∙◌, ⊎_elim, arith, replicate}
 use Rattle.std.specs.Prelude.{slice_get}
 use Rattle.std.proofs.lemmas.Bool.{cases_eq}
 use Rattle.std.proofs.lemmas.List.{length-set, length-replicate, get_or-replicate, get_or-set_same, get_or-set_other}

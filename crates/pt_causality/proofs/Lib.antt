@@ -16,3 +16,4 @@ pub mod Highest
 pub mod Settles
 pub mod Steps
 pub mod Branching
+pub mod Marks

@@ -1,20 +1,18 @@
 -- Lists grow unit by unit, and what is no unit has no row.
-use Rattle.std.proofs.Common.{◌≡◌, ◌+◌, ◌≤◌, ℕ, [], List, Option, Some, None, true, false, nat_lt, length, slice_index_or, refl, sym, ap, subst, ◌∙◌, arith}
+use Rattle.std.proofs.Common.{◌≡◌, ◌+◌, ◌≤◌, ℕ, [], List, Option, true, false, nat_lt, length, slice_index_or, refl, sym, ap, subst, ◌∙◌, arith}
 use Rattle.std.specs.Option.{is_some}
 use Rattle.std.proofs.lemmas.Bool.{false≢true}
 use Rattle.std.proofs.lemmas.Bool.Decides.{nat_tests}
 use Rattle.std.proofs.lemmas.List.{get_or_past}
-use Rattle.std.proofs.lemmas.Map.Views.{Contains-from_any}
 use Rattle.pt_tags.specs.declared.tag.Delay.{Delay}
 use Rattle.pt_types.specs.declared.graph.Unit.{Unit as Part}
-use Rattle.pt_semantics.proofs.Lookups.{same_part-true}
 use Rattle.pt_causality.specs.declared.least.Least.{Least}
-use Rattle.pt_causality.specs.Before.{list_at, may_have, HaveMore, IsListed}
+use Rattle.pt_causality.specs.Before.{list_at, HaveMore, IsListed, MayHave}
 use Rattle.pt_causality.specs.Cells.{delay_at, first_in, number_in, row_at}
 use Rattle.pt_causality.specs.Delays.{HasAllBefore}
 use Rattle.pt_causality.proofs.Members.{same_default}
 
-pub still_listed : (row : List (Option Delay)) (old new : List (Option (List Part))) (x : Part) → HaveMore old new → IsListed row old x → IsListed row new x
+pub still_listed : (row : List (Option Delay)) (old new : List (List ℕ)) (x : Part) → HaveMore old new → IsListed row old x → IsListed row new x
 still_listed row old new x more h k some = more k x (h k some)
 
 -- a group past those of the actor has no number that a unit has
@@ -25,21 +23,18 @@ past_number firsts x past =
     rw no refl
 
 -- so no path leads from it
-pub past_listed : (firsts : List ℕ) (rows : List (List (Option Delay))) (lists : List (Option (List Part))) (x : Part) → length rows ≤ 2048
+pub past_listed : (firsts : List ℕ) (rows : List (List (Option Delay))) (lists : List (List ℕ)) (x : Part) → length rows ≤ 2048
     → first_in firsts (x.actor + 1) ≤ first_in firsts x.actor + x.group → IsListed (row_at rows (number_in firsts x)) lists x
 past_listed firsts rows lists x few past k some =
     let none : row_at rows (number_in firsts x) ≡ [] = ap (row_at rows) (past_number firsts x past) ∙ get_or_past rows 4294967295 [] (omega arith) in
     absurd (false≢true (sym (ap (λ row. is_some (delay_at row k)) none) ∙ some))
 
--- a list that is known has all units from which a path leads to its unit
+-- the words of a unit have all units from which a path leads to it
 module _ (l : Least) (a : Part) where
-  known_before : (units : List Part) → list_at l.before.items (number_in l.numbers.firsts.items a) ≡ Some units → HasAllBefore l a units
-  known_before units is x some =
-      Contains-from_any same_part-true x units (subst (λ list. may_have list x ≡ true) is (l.listed x (number_in l.numbers.firsts.items a) some))
-
-  pub found_before : (lists : List (Option (List Part))) (k : ℕ) (here : Option (List Part)) (units : List Part) → lists ≡ l.before.items → k ≡ number_in l.numbers.firsts.items a
-      → true ≡ nat_lt k (length lists) → here ≡ slice_index_or lists k here → here ≡ Some units → HasAllBefore l a units
-  found_before lists k here units all number less at is =
-      known_before units
+  pub found_before : (lists : List (List ℕ)) (k : ℕ) (here words : List ℕ) → lists ≡ l.before.items → k ≡ number_in l.numbers.firsts.items a
+      → true ≡ nat_lt k (length lists) → here ≡ slice_index_or lists k here → words ≡ here → HasAllBefore l a words
+  found_before lists k here words all number less at is x some =
+      subst (λ list. MayHave list x)
       (sym (ap (λ z. list_at z k) all ∙ ap (list_at l.before.items) number)
-      ∙ sym (at ∙ same_default lists k here None (grind (arith, nat_tests))) ∙ is)
+      ∙ sym (at ∙ same_default lists k here [] (grind (arith, nat_tests))) ∙ sym is)
+      (l.listed x (number_in l.numbers.firsts.items a) some)

@@ -1,29 +1,31 @@
--- Lists of the units from which a path leads to a unit.
-use Rattle.std.specs.Prelude.{◌≡◌, ℕ, Bool, true, List, None, Option, Some, slice_index_or}
-use Rattle.std.specs.List.{list_any}
+-- The units from which a path leads to a unit, as bits: eight for each actor, 64 in a word.
+use Rattle.std.specs.Prelude.{◌≡◌, ℕ, ◌+◌, ◌*◌, ◌/◌, ◌%◌, ◌<◌, true, List, [], Option, length, slice_index_or}
+use Rattle.std.specs.Int.{bit_at}
 use Rattle.std.specs.Option.{is_some}
 use Rattle.pt_tags.specs.declared.tag.Delay.{Delay}
 use Rattle.pt_types.specs.declared.graph.Unit.{Unit as Part}
-use Rattle.pt_semantics.specs.Units.{same_part}
 use Rattle.pt_causality.specs.Cells.{delay_at, number_in, row_at}
 
--- the unit may be in the list: it is in it, or the list is not known
-abbrev pub may_have : Option (List Part) → Part → Bool
-may_have None x = true
-may_have (Some units) x = list_any (same_part x) units
+-- bit n of these words
+abbrev pub bit_of : List ℕ → ℕ → ℕ
+bit_of words n = bit_at (slice_index_or words (n / 64) 0) (n % 64)
 
--- the list at a place
-abbrev pub list_at : List (Option (List Part)) → ℕ → Option (List Part)
-list_at lists k = slice_index_or lists k None
+-- the unit may be among these: its bit is set, or it has none
+abbrev pub MayHave : List ℕ → Part → Type 0
+MayHave words x = x.group < 8 → 8 * x.actor + x.group < 64 * length words → bit_of words (8 * x.actor + x.group) ≡ 1
+
+-- the words at a place
+abbrev pub list_at : List (List ℕ) → ℕ → List ℕ
+list_at lists k = slice_index_or lists k []
 
 -- x may be in the list of each place at which this row has a delay
-abbrev pub IsListed : List (Option Delay) → List (Option (List Part)) → Part → Type 0
-IsListed row lists x = (k : ℕ) → is_some (delay_at row k) ≡ true → may_have (list_at lists k) x ≡ true
+abbrev pub IsListed : List (Option Delay) → List (List ℕ) → Part → Type 0
+IsListed row lists x = (k : ℕ) → is_some (delay_at row k) ≡ true → MayHave (list_at lists k) x
 
 -- this holds for each unit and the row with its number
-abbrev pub AreListed : List ℕ → List (List (Option Delay)) → List (Option (List Part)) → Type 0
+abbrev pub AreListed : List ℕ → List (List (Option Delay)) → List (List ℕ) → Type 0
 AreListed firsts rows lists = (x : Part) → IsListed (row_at rows (number_in firsts x)) lists x
 
 -- each unit that may be in an old list may be in the new one
-abbrev pub HaveMore : List (Option (List Part)) → List (Option (List Part)) → Type 0
-HaveMore old new = (k : ℕ) (x : Part) → may_have (list_at old k) x ≡ true → may_have (list_at new k) x ≡ true
+abbrev pub HaveMore : List (List ℕ) → List (List ℕ) → Type 0
+HaveMore old new = (k : ℕ) (x : Part) → MayHave (list_at old k) x → MayHave (list_at new k) x

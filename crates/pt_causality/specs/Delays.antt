@@ -1,13 +1,13 @@
 -- The least delays between the units of a graph.
 pub use Rattle.pt_causality.specs.Units.{IsUnit}
-use Rattle.std.specs.Prelude.{◌<◌, ◌^◌, IfSome, IsSome, List, None, Option, Some}
-use Rattle.std.specs.List.{Contains}
+use Rattle.std.specs.Prelude.{ℕ, ◌<◌, ◌^◌, IfSome, IsSome, List, None, Option, Some}
 use Rattle.pt_tags.specs.declared.tag.Delay.{Delay}
 use Rattle.pt_types.specs.declared.graph.Graph.{Graph}
 use Rattle.pt_types.specs.declared.graph.Unit.{Unit as Part}
 use Rattle.pt_semantics.specs.Edges.{Edge}
 use Rattle.pt_semantics.specs.Paths.{Goes, IsLeast}
 use Rattle.pt_causality.specs.declared.least.Least.{Least}
+use Rattle.pt_causality.specs.Before.{MayHave}
 use Rattle.pt_causality.specs.Cells.{number_in, delay_at, row_at}
 
 -- the least delay from x to a; none exactly if no path leads from x to a
@@ -27,6 +27,6 @@ AreSmall least = (x a : Part) → IfSome (least x a) (λ (d : Delay). (d.time < 
 abbrev pub least_of : Least → Part → Part → Option Delay
 least_of l x a = delay_at (row_at l.rows.items (number_in l.numbers.firsts.items x)) (number_in l.numbers.firsts.items a)
 
--- each unit from which a path leads to a is in the list
-abbrev pub HasAllBefore : Least → Part → List Part → Type 0
-HasAllBefore l a units = (x : Part) → IsSome (least_of l x a) → Contains units x
+-- of each unit from which a path leads to a the bit is set, if it has one in these words
+abbrev pub HasAllBefore : Least → Part → List ℕ → Type 0
+HasAllBefore l a words = (x : Part) → IsSome (least_of l x a) → MayHave words x

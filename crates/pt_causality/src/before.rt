@@ -1,8 +1,8 @@
-//! The units from which a path leads to each unit.
+//! The units from which a path leads to each unit, as bits.
 
-ghost use Rattle.std.specs.Prelude.{◌≡◌, ◌≤◌, ◌∷◌, ◌++◌, [], IfOk, IfSome, Some, length, true};
+ghost use Rattle.std.specs.Prelude.{◌≡◌, ◌≤◌, IfOk, length};
 ghost use Rattle.pt_types.specs.declared.graph.Unit.{Unit as Part};
-ghost use Rattle.pt_causality.specs.Before.{may_have, AreListed, HaveMore, IsListed};
+ghost use Rattle.pt_causality.specs.Before.{AreListed, HaveMore, IsListed, MayHave};
 ghost use Rattle.pt_causality.specs.Cells.{number_in, row_at};
 
 use crate::row::Row;
@@ -11,74 +11,54 @@ use pt_types::Unit;
 use std::alloc::{AllocError, Global};
 use std::marker::Model;
 
-/// The most units in a list.
-const MOST_LISTED: usize = 256;
-
-/// The units from which a path leads to one unit. Contracts see the list, or `None` if it is not known.
+/// The units from which a path leads to one unit: a bit for each unit, eight for each actor. Unit `8 * actor + group` has bit
+/// `n % 64` of word `n / 64`. Contracts see the words.
 #[derive(Drop)]
 pub struct Before {
-    units: Option<Vec<Unit>>,
+    words: Vec<u64>,
 }
 
 impl Model for Before {
-    ghost use Rattle.std.specs.Prelude.{List as Items, Option as Maybe, option_map};
-    ghost use Rattle.pt_types.specs.declared.graph.Unit.{Unit as Item};
+    ghost use Rattle.std.specs.Prelude.{List, ℕ};
 
-    ghost Value = { Maybe (Items Item) };
+    ghost Value = { List ℕ };
 
-    ghost view = { λ b. option_map (λ units. units.items) b.units };
+    ghost view = { λ b. b.words.items };
 }
 
 impl Before {
-    /// An empty list.
-    fn new(alloc: Global) -> Before
-        ensures { result ≡ Some [] }
-    {
-        Before {
-            units: Some(Vec::new(alloc)),
-        }
+    /// No units, with room for those of `actors` actors.
+    fn new(alloc: Global, actors: usize) -> Result<Before, AllocError> {
+        let words = vec![in alloc; 0u64; actors / 8 + 1]?;
+        Ok(Before { words })
     }
 
-    /// The units; `None` if they are not known.
-    pub fn units(&self) -> Option<&[Unit]>
-        ensures { IfSome result (λ units. self.now ≡ Some units.now) }
+    /// The words.
+    pub fn words(&self) -> &[u64]
+        ensures { result.now ≡ self.now }
     {
-        match &self.units {
-            Some(units) => Some(units.as_slice()),
-            None => None,
-        }
+        self.words.as_slice()
     }
 
-    /// Adds a unit. If the list is full or memory runs out, it is not known from then on.
-    fn push(&mut self, unit: Unit)
-        ensures listed { may_have self.new unit ≡ true }
-        ensures others { (x : Part) → may_have self.old x ≡ true → may_have self.new x ≡ true }
+    /// Adds a unit, if there is room for it.
+    fn add(&mut self, unit: Unit)
+        ensures listed { MayHave self.new unit }
+        ensures others { (x : Part) → MayHave self.old x → MayHave self.new x }
     {
-        self.units = match self.units.take() {
-            Some(units) => with_one_more(units, unit),
-            None => None,
-        };
+        let place = 8 * unit.actor as usize + unit.group as usize;
+        let word = place / 64;
+        if word >= self.words.len() {
+            return;
+        }
+        self.words[word] |= 1 << (place % 64);
     }
 }
 
-/// The units with one more; `None` if they are too many, or memory runs out.
-fn with_one_more(mut units: Vec<Unit>, unit: Unit) -> Option<Vec<Unit>>
-    ensures { IfSome result (λ more. more.items ≡ units.items ++ unit ∷ []) }
-{
-    if units.len() >= MOST_LISTED {
-        return None;
-    }
-    match units.push(unit) {
-        Ok(()) => Some(units),
-        Err(_) => None,
-    }
-}
-
-/// As many empty lists as `count`.
-fn none_listed(alloc: Global, count: usize) -> Result<Vec<Before>, AllocError> {
+/// As many empty lists as `count`, each with room for the units of `actors` actors.
+fn none_listed(alloc: Global, count: usize, actors: usize) -> Result<Vec<Before>, AllocError> {
     let mut lists = Vec::new(alloc);
     for _ in 0..count {
-        lists.push(Before::new(alloc))?;
+        lists.push(Before::new(alloc, actors)?)?;
     }
     Ok(lists)
 }
@@ -91,7 +71,7 @@ fn list_by_row(lists: &mut [Before], row: &Row, unit: Unit)
     for place in 0..lists.len() {
         if row.get(place).is_some() {
             let list = &mut lists[place];
-            list.push(unit);
+            list.add(unit);
         }
     }
 }
@@ -119,14 +99,12 @@ fn list_actor(lists: &mut [Before], numbers: &Numbers, rows: &[Row], actor: u32)
 }
 
 /// The units from which a path leads to each unit; lists are by the numbers of the units.
-///
-/// If memory runs out for one list, only that list is not known.
 pub fn all_before(alloc: Global, numbers: &Numbers, rows: &[Row]) -> Result<Vec<Before>, AllocError>
     requires actors { length numbers.now.firsts.items ≤ 2048 }
     requires few { length rows.now ≤ 2048 }
     ensures { IfOk result (λ lists. AreListed numbers.now.firsts.items rows.now lists.items) }
 {
-    let mut lists = none_listed(alloc, rows.len())?;
+    let mut lists = none_listed(alloc, rows.len(), numbers.firsts.len())?;
     for actor in 0..numbers.firsts.len() {
         list_actor(&mut lists, numbers, rows, actor as u32);
     }

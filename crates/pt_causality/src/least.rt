@@ -46,7 +46,7 @@ impl Least {
         })
     }
 
-    /// The same delays, with lists of the units from which a path leads to each unit, as far as memory suffices.
+    /// The same delays, with the units from which a path leads to each unit, if memory suffices for these.
     pub fn with_before(self, alloc: Global) -> Least
         ensures { least_of result ≡ least_of self }
     {
@@ -71,11 +71,14 @@ impl Least {
         row.get(self.numbers.of(a))
     }
 
-    /// The units from which a path leads to `a`, perhaps with others. `None` if they are not known: there are no lists, the
-    /// units are more than 256, or memory ran out for the list.
-    pub fn before(&self, a: Unit) -> Option<&[Unit]>
-        ensures { IfSome result (λ units. HasAllBefore self.now a units.now) }
+    /// The units from which a path leads to `a`, perhaps with others, as bits: the unit with `8 * actor + group = n` has bit
+    /// `n % 64` of word `n / 64`. `None` if they are not known: there are no lists.
+    pub fn before(&self, a: Unit) -> Option<&[u64]>
+        ensures { IfSome result (λ words. HasAllBefore self.now a words.now) }
     {
-        self.before.get(self.numbers.of(a))?.units()
+        match self.before.get(self.numbers.of(a)) {
+            Some(before) => Some(before.words()),
+            None => None,
+        }
     }
 }

@@ -22,7 +22,7 @@ use Rattle.pt_state.specs.declared.fields.Fields.{Fields}
 use Rattle.pt_state.specs.State.{IsSound, busy_in}
 use Rattle.pt_queue.specs.Events.{waiting_in}
 use Rattle.pt_queue.specs.declared.waiting.Waiting.{Waiting}
-use Rattle.pt_claim.specs.Fronts.{AreFirst, AreFront, IsAhead, IsAmong, IsInOrder, IsPut, IsSafeUnit, IsTaken, IsNextSafe, StandsBefore}
+use Rattle.pt_claim.specs.Fronts.{AreFirst, AreFront, IsAhead, IsAmong, IsInOrder, IsPut, IsSafeUnit, IsTaken, IsNextSafe, StandsBefore, one_of}
 use Rattle.pt_claim.proofs.Ordering.{ahead_or, ahead_trans, cut_off, each_drop, each_insert, each_map, each_take, in_drop, in_insert, itself_in, order_insert, order_take, some_behind, take_insert}
 use Rattle.pt_claim.proofs.SafeTags.{same_tags}
 
@@ -192,6 +192,16 @@ front_found g f r more cs sound few is first = record {
       (λ (full : (64 ≤ length cs) × Each (λ (c : Waiting). IsAhead c (record { unit = u; tag = t })) cs). inr (is ∙ eq-eqb (length cs) 64 (omega (arith, full.0, few)), full.1))
       (first.among u t unit (inl unit.0) safe);
 }
+
+-- at most one unit was found
+pub front_alone : (g : Graph) (f : Fields) (r : ℕ) (alone : Option Waiting) → IsSound g f → AreFirst g (waiting_in f.queue.events) (busy_in f.open_claims.items) r (length g.actors) 0 (one_of alone) → AreFront g (waiting_in f.queue.events) (busy_in f.open_claims.items) r false (one_of alone)
+front_alone g f r None sound first = front_found g f r false [] sound (omega arith) refl first
+front_alone g f r (Some c) sound first = front_found g f r false (c ∷ []) sound (omega arith) refl first
+
+-- the first safe unit is put before none
+pub put_first : (alone : Option Waiting) (c : Waiting) → alone ≡ None → IsPut c (one_of alone) (c ∷ [])
+put_first None c h = record { place = 0; is_place = record { within = omega arith; before = tt; behind = tt }; is = refl }
+put_first (Some d) c h = absurd (none_some d (sym h))
 
 -- nothing was found yet
 pub front_unknown : (g : Graph) (waits : Values) (busy : Part → Option Task) (r : ℕ) (more : Bool) (cs : List Waiting) → cs ≡ [] → more ≡ true → AreFront g waits busy r more cs

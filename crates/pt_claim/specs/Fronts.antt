@@ -59,6 +59,11 @@ pub record AreFront (g : Graph) (waits : Values) (busy : Part → Option Task) (
   pub safe : Each (IsSafeUnit g waits busy r) cs
   pub others : (u : Part) (t : Tag) → IsSafe g waits busy r u t → IsIn (record { unit = u; tag = t }) cs ⊎ ((more ≡ true) × Each (λ (c : Waiting). IsAhead c (record { unit = u; tag = t })) cs)
 
+-- the list of one unit, or of none
+abbrev pub one_of : Option Waiting → List Waiting
+one_of None = []
+one_of (Some c) = c ∷ []
+
 -- the safe unit with the least tag, actor and group; or, for None, no unit is safe
 abbrev pub IsNextSafe : Graph → Values → (Part → Option Task) → ℕ → Option Waiting → Type 0
 IsNextSafe g waits busy r None = NothingSafe g waits busy r

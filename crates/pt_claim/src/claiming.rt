@@ -1,6 +1,6 @@
 //! Claiming one unit, and all the claims of a turn.
 
-ghost use Rattle.std.specs.Prelude.{◌≡◌, ◌+◌, ◌<◌, ◌≤◌, None, List as Sequence, length, vec_len, vec_capacity};
+ghost use Rattle.std.specs.Prelude.{◌≡◌, ◌+◌, ◌<◌, ◌≤◌, ◌∷◌, [], None, false, List as Sequence, length, vec_len, vec_capacity};
 ghost use Rattle.pt_types.specs.declared.firing.OnLink.{OnLink};
 ghost use Rattle.pt_types.specs.Lawful.{IsLawful};
 ghost use Rattle.pt_semantics.specs.Claiming.{after_claim};
@@ -10,9 +10,10 @@ ghost use Rattle.pt_offsets.specs.Plans.{AreOffsets};
 ghost use Rattle.pt_queue.specs.Events.{waiting_in};
 ghost use Rattle.pt_state.specs.State.{busy_in, state_of, states_in, IsSound};
 ghost use Rattle.pt_claim.specs.Claimed.{AreClaimed, IsTaskOf, OthersStay};
+ghost use Rattle.pt_claim.specs.Fronts.{AreFront};
 ghost use Rattle.pt_types.specs.Limits.{most_claims};
 
-use crate::front::Front;
+use crate::front::{Front, Several, alone};
 use pt_causality::Least;
 use pt_offsets::Offsets;
 use pt_queue::Waiting;
@@ -90,6 +91,64 @@ pub fn claims(
     if fields.queue.is_empty() {
         return;
     }
+    match alone(fields, graph, least, offsets, reading) {
+        Ok(None) => (),
+        Ok(Some(next)) => claim_alone(fields, graph, reading, most, next, tasks),
+        Err(Several) => claim_several(fields, graph, least, offsets, reading, most, tasks),
+    }
+}
+
+/// Claims the only safe unit, unless `most` is 0 or the platform has made 200,000 claims.
+fn claim_alone(
+    fields: &mut Fields,
+    graph: &Graph,
+    reading: u64,
+    most: usize,
+    next: Waiting,
+    tasks: &mut Vec<Task>,
+)
+    requires sound { IsSound graph.now fields.old }
+    requires claims { fields.old.claims ≤ most_claims }
+    requires room { most ≤ fields.old.open_claims.spare }
+    requires tasks { vec_len tasks.old + most ≤ vec_capacity tasks.old }
+    requires front { AreFront graph.now (waiting_in fields.old.queue.events) (busy_in fields.old.open_claims.items) reading false (next ∷ []) }
+    ensures claimed { AreClaimed graph.now reading most fields.old fields.new tasks.old.items tasks.new.items }
+    ensures sound { IsSound graph.now fields.new }
+    ensures others { OthersStay fields.old fields.new }
+    ensures tasks { vec_capacity tasks.old ≤ vec_capacity tasks.new }
+{
+    if most == 0 || fields.claims >= MOST_CLAIMS {
+        return;
+    }
+    let task = claim(fields, graph, next);
+    match tasks.push(task) {
+        Ok(()) => (),
+        Err(_) => unreachable!(),
+    }
+}
+
+/// Claims safe units in order, as `claims` does, however many they are.
+fn claim_several(
+    fields: &mut Fields,
+    graph: &Graph,
+    least: &Least,
+    offsets: &Offsets,
+    reading: u64,
+    most: usize,
+    tasks: &mut Vec<Task>,
+)
+    requires lawful { IsLawful graph.now }
+    requires sound { IsSound graph.now fields.old }
+    requires least { AreLeast graph.now (least_of least.now) }
+    requires offsets { AreOffsets graph.now offsets.now }
+    requires claims { fields.old.claims ≤ most_claims }
+    requires room { most ≤ fields.old.open_claims.spare }
+    requires tasks { vec_len tasks.old + most ≤ vec_capacity tasks.old }
+    ensures claimed { AreClaimed graph.now reading most fields.old fields.new tasks.old.items tasks.new.items }
+    ensures sound { IsSound graph.now fields.new }
+    ensures others { OthersStay fields.old fields.new }
+    ensures tasks { vec_capacity tasks.old ≤ vec_capacity tasks.new }
+{
     let mut front = Front::new();
     for _ in 0..most {
         if fields.claims >= MOST_CLAIMS {

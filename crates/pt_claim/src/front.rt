@@ -1,12 +1,12 @@
 //! The safe units to claim next.
 
-ghost use Rattle.std.specs.Prelude.{◌≡◌, ◌<◌, ◌+◌, ◌⊎◌, [], Some, true, false, drop, length};
+ghost use Rattle.std.specs.Prelude.{◌≡◌, ◌<◌, ◌+◌, ◌⊎◌, [], Some, IfOk, true, false, drop, length};
 ghost use Rattle.pt_types.specs.Lawful.{IsLawful};
 ghost use Rattle.pt_causality.specs.Delays.{AreLeast, IsUnit, least_of};
 ghost use Rattle.pt_offsets.specs.Plans.{AreOffsets};
 ghost use Rattle.pt_queue.specs.Events.{waiting_in, IsLeastTag};
 ghost use Rattle.pt_state.specs.State.{busy_in, IsSound};
-ghost use Rattle.pt_claim.specs.Fronts.{AreFirst, AreFront, IsNextSafe, IsTaken};
+ghost use Rattle.pt_claim.specs.Fronts.{AreFirst, AreFront, IsNextSafe, IsTaken, one_of};
 
 use crate::order::put;
 use crate::safe::is_safe;
@@ -70,6 +70,62 @@ fn fill(
     for waiting in fields.queue.waiting() {
         add_unit(fields, graph, least, offsets, reading, *waiting, units);
     }
+}
+
+/// Says that at least two units are safe.
+#[derive(Clone, Copy, Debug, PartialEq, Eq)]
+pub struct Several;
+
+/// The safe unit so far, after one more unit that has events.
+fn alone_with(
+    fields: &Fields,
+    graph: &Graph,
+    least: &Least,
+    offsets: &Offsets,
+    reading: u64,
+    waiting: Waiting,
+    alone: Option<Waiting>,
+) -> Result<Option<Waiting>, Several>
+    requires lawful { IsLawful graph.now }
+    requires sound { IsSound graph.now fields.now }
+    requires least { AreLeast graph.now (least_of least.now) }
+    requires offsets { AreOffsets graph.now offsets.now }
+    requires unit { IsUnit graph.now waiting.unit }
+    requires tag { IsLeastTag graph.now (waiting_in fields.now.queue.events) waiting.unit (Some waiting.tag) }
+    requires first { AreFirst graph.now (waiting_in fields.now.queue.events) (busy_in fields.now.open_claims.items) reading waiting.unit.actor waiting.unit.group (one_of alone) }
+    ensures { IfOk result (λ alone. AreFirst graph.now (waiting_in fields.now.queue.events) (busy_in fields.now.open_claims.items) reading waiting.unit.actor (waiting.unit.group + 1) (one_of alone)) }
+{
+    let Waiting { unit, tag } = waiting;
+    if !is_safe(fields, graph, least, offsets, reading, unit, tag) {
+        return Ok(alone);
+    }
+    match alone {
+        None => Ok(Some(Waiting { unit, tag })),
+        Some(_) => Err(Several),
+    }
+}
+
+/// The only safe unit, or `None` if no unit is safe. Stops at the second safe one.
+///
+/// Mostly at most one unit is safe, and then no front is needed.
+pub fn alone(
+    fields: &Fields,
+    graph: &Graph,
+    least: &Least,
+    offsets: &Offsets,
+    reading: u64,
+) -> Result<Option<Waiting>, Several>
+    requires lawful { IsLawful graph.now }
+    requires sound { IsSound graph.now fields.now }
+    requires least { AreLeast graph.now (least_of least.now) }
+    requires offsets { AreOffsets graph.now offsets.now }
+    ensures { IfOk result (λ alone. AreFront graph.now (waiting_in fields.now.queue.events) (busy_in fields.now.open_claims.items) reading false (one_of alone)) }
+{
+    let mut alone = None;
+    for waiting in fields.queue.waiting() {
+        alone = alone_with(fields, graph, least, offsets, reading, *waiting, alone)?;
+    }
+    Ok(alone)
 }
 
 impl Front {

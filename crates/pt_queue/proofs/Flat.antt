@@ -70,6 +70,13 @@ lines_wait table lines a p t h = flat_at table 0 lines (8 * a + p) a p t (λ n. 
     none : (n : ℕ) → n ≡ 0 + n
     none n = omega arith
 
+-- what waits at an input is the same while its line is
+pub later_waits : (table : List Groups) (now before : List (List Event)) (loose : List Event) (a p : ℕ) (t : Tag) → AreInLines table now → AreInLines table before → line_at now (8 * a + p) ≡ line_at before (8 * a + p) → waiting_in (all_of now ++ loose) a p t ≡ waiting_in (all_of before ++ loose) a p t
+later_waits table now before loose a p t h k e =
+    waiting_append (all_of now) loose a p t
+    ∙ ap (λ o. or_else o (waiting_in loose a p t)) (lines_wait table now a p t h ∙ ap (λ (line : List Event). waiting_in line a p t) e ∙ sym (lines_wait table before a p t k))
+    ∙ sym (waiting_append (all_of before) loose a p t)
+
 -- the members of all lines
 pub each_all : (P : Event → Type 0) (lines : List (List Event)) → ((n : ℕ) → Each P (line_at lines n)) → Each P (all_of lines)
 each_all P [] h = tt

@@ -1,6 +1,6 @@
 -- Listed units that lead to another in time.
-use Rattle.std.proofs.Common.{◌≡◌, ◌≢◌, ◌↔◌, ℕ, ◌+◌, ◌<◌, ◌≤◌, ◌==◌, ◌&&◌, ◌||◌, ◌⊎◌, not, nat_lt, Bool, true, false, List, [], ◌∷◌, Option, Some, None, length, refl, sym, ap, subst, ◌∙◌, inl, inr, ⊎_elim, arith, zero, suc, get_or, IsSome}
-use Rattle.std.specs.List.{Contains, list_any}
+use Rattle.std.proofs.Common.{◌≡◌, ◌≢◌, ◌↔◌, ℕ, ◌+◌, ◌<◌, ◌≤◌, ◌==◌, ◌&&◌, ◌||◌, ◌⊎◌, not, nat_lt, Bool, true, false, List, [], ◌∷◌, Option, Some, None, length, refl, sym, ap, subst, ◌∙◌, inl, inr, ⊎_elim, arith, IsSome}
+use Rattle.std.specs.List.{list_any}
 use Rattle.std.proofs.lemmas.Bool.{cases_Bool, and_parts, and_from, false≢true, ltb-true, lt-ltb}
 use Rattle.pt_tags.specs.declared.tag.Tag.{Tag}
 use Rattle.pt_tags.specs.declared.tag.Delay.{Delay}
@@ -20,11 +20,11 @@ use Rattle.pt_causality.specs.Delays.{AreLeast, HasLeast, IsUnit}
 use Rattle.pt_queue.specs.declared.groups.Groups.{Groups}
 use Rattle.pt_queue.specs.declared.waiting.Waiting.{Waiting}
 use Rattle.pt_queue.specs.Groups.{AreGroups, groups_at}
-use Rattle.pt_queue.specs.Events.{AreWaiting, IsBlocked, IsClear, IsLeastTag, IsPlaced, waiting_in, IsRising}
-use Rattle.pt_queue.specs.Listed.{AreListed, AreTags, SomeHoldsUp, holds_up, tag_holds_up, tag_in, tag_of, unit_holds_up}
+use Rattle.pt_queue.specs.Events.{AreWaiting, IsBlocked, IsClear, IsLeastTag, IsPlaced, waiting_in}
+use Rattle.pt_queue.specs.Listed.{AreListed, AreTags, SomeHoldsUp, holds_up, tag_holds_up, tag_in, tag_of}
 use Rattle.pt_queue.specs.Scans.{reaches}
 use Rattle.pt_queue.proofs.Found.{blocked_by, from_unit, not_both_ways}
-use Rattle.pt_queue.proofs.Listing.{in_tag, tag_in as listed_tag}
+use Rattle.pt_queue.proofs.Listing.{in_tag}
 use Rattle.pt_queue.proofs.Known.{event_in, waiting_is}
 use Rattle.pt_queue.proofs.Waits.{placed_actor}
 
@@ -131,24 +131,20 @@ module _ (g : Graph) (table : List Groups) (least : Part → Part → Option Del
         (cases_Bool (list_any (holds_up table least u t) ws))),
   )
 
--- the units from which a path leads there are enough
-
-contains_in : (units : List Part) (x : Part) → Contains units x → IsIn x units
-contains_in units x c = at units c.0 c.1 c.2
-  where
-    at : (units : List Part) (k : ℕ) → k < length units → get_or units k x ≡ x → IsIn x units
-    at [] k l e = absurd (omega (arith, l))
-    at (y ∷ units) zero l e = inl (sym e)
-    at (y ∷ units) (suc k) l e = inr (at units k (omega (arith, l)) e)
-
-both_ways : (b c : Bool) → (b ≡ true → c ≡ true) → (c ≡ true → b ≡ true) → b ≡ c
-both_ways true c f g = sym (f refl)
-both_ways false true f g = g refl
-both_ways false false f g = refl
+-- what has no path there does not hold up
 
 reaches_some : (d : Option Delay) (w t : Tag) → reaches d w t ≡ true → IsSome d
 reaches_some None w t h = absurd (false≢true h)
 reaches_some (Some d) w t h = refl
+
+pub no_path : (table : List Groups) (least : Part → Part → Option Delay) (u : Part) (t : Tag) (w : Waiting) (b : Bool) → b ≡ false → (IsSome (least w.unit u) → b ≡ true) → false ≡ holds_up table least u t w
+no_path table least u t w b none has = ⊎_elim
+    (λ (y : holds_up table least u t w ≡ true).
+    let one = and_parts (not (same_part w.unit u)) (reaches (least w.unit u) w.tag t && nat_lt w.unit.group (groups_at table w.unit.actor).count) y in
+    let two = and_parts (reaches (least w.unit u) w.tag t) (nat_lt w.unit.group (groups_at table w.unit.actor).count) one.1 in
+    absurd (false≢true (sym none ∙ has (reaches_some (least w.unit u) w.tag t two.0))))
+    (λ (n : holds_up table least u t w ≡ false). sym n)
+    (cases_Bool (holds_up table least u t w))
 
 pub listed_holds : (table : List Groups) (least : Part → Part → Option Delay) (u : Part) (t : Tag) (ws : List Waiting) (x : Part) (o : Option Tag) → tag_of ws x ≡ o → tag_holds_up table least u t x o ≡ true → list_any (holds_up table least u t) ws ≡ true
 listed_holds table least u t ws x None is h = absurd (false≢true h)
@@ -159,13 +155,3 @@ listed_holds table least u t ws x (Some s) is h =
 -- one of all units
 pub some_holds : (table : List Groups) (least : Part → Part → Option Delay) (u : Part) (t : Tag) (ws : List Waiting) (tags : List (Option Tag)) → AreTags table ws tags → SomeHoldsUp table least u t tags → list_any (holds_up table least u t) ws ≡ true
 some_holds table least u t ws tags are some = listed_holds table least u t ws some.0 (tag_in tags some.0) (sym (are.same some.0)) some.1
-
-pub any_before : (table : List Groups) (least : Part → Part → Option Delay) (u : Part) (t : Tag) (ws : List Waiting) (tags : List (Option Tag)) (units : List Part) → IsRising ws → AreTags table ws tags → ((x : Part) → IsSome (least x u) → Contains units x) → list_any (unit_holds_up table least u t tags) units ≡ list_any (holds_up table least u t) ws
-any_before table least u t ws tags units rises are all = both_ways (list_any (unit_holds_up table least u t tags) units) (list_any (holds_up table least u t) ws)
-    (λ h. let x = one_holds (unit_holds_up table least u t tags) units h in some_holds table least u t ws tags are (x.0, x.2))
-    (λ h.
-    let w = one_holds (holds_up table least u t) ws h in
-    let one = and_parts (not (same_part w.0.unit u)) (reaches (least w.0.unit u) w.0.tag t && nat_lt w.0.unit.group (groups_at table w.0.unit.actor).count) w.2 in
-    let two = and_parts (reaches (least w.0.unit u) w.0.tag t) (nat_lt w.0.unit.group (groups_at table w.0.unit.actor).count) one.1 in
-    holds_one (unit_holds_up table least u t tags) units w.0.unit (contains_in units w.0.unit (all w.0.unit (reaches_some (least w.0.unit u) w.0.tag t two.0)))
-    (ap (tag_holds_up table least u t w.0.unit) (are.same w.0.unit ∙ listed_tag ws w.0 rises w.1) ∙ w.2))

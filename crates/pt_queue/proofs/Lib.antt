@@ -15,3 +15,4 @@ pub mod Quiet
 pub mod Ports
 pub mod Changing
 pub mod ByUnit
+pub mod Bits

@@ -1,5 +1,5 @@
 -- Lines after the events of a unit at a tag were removed.
-use Rattle.std.proofs.Common.{◌≡◌, ◌≢◌, ℕ, zero, suc, ◌+◌, ◌*◌, ◌-◌, ◌<◌, ◌≤◌, ◌==◌, ◌&&◌, ◌⊎◌, not, cond, Bool, true, false, List, [], ◌∷◌, ◌++◌, length, map, filter, slice_set, refl, sym, ap, ap₂, subst, ◌∙◌, inl, inr, ⊎_elim, arith}
+use Rattle.std.proofs.Common.{◌≡◌, ◌≢◌, ℕ, zero, suc, ◌+◌, ◌*◌, ◌-◌, ◌<◌, ◌≤◌, ◌==◌, ◌&&◌, ◌⊎◌, not, cond, Bool, true, false, List, [], ◌∷◌, ◌++◌, length, map, filter, take, slice_set, refl, sym, ap, ap₂, subst, ◌∙◌, inl, inr, ⊎_elim, arith}
 use Rattle.std.proofs.lemmas.List.{get_or-set_same, get_or-set_other, get_or_past, length-set, map-set, set-get_or, length-map}
 use Rattle.pt_tags.specs.declared.tag.Tag.{Tag}
 use Rattle.pt_tags.specs.Tags.{same_tag}
@@ -86,6 +86,18 @@ map_same f lines i =
     map-set (filter f) lines i (filter f (line_at lines i))
     ∙ ap (slice_set (map (filter f) lines) i) (filter_twice f (line_at lines i) ∙ sym (map_at f lines i))
     ∙ set-get_or (map (filter f) lines) i []
+
+-- the other lines
+pub filtered_later : (f : Event → Bool) (lines : List (List Event)) (i n : ℕ) → i < n → line_at (slice_set lines i (filter f (line_at lines i))) n ≡ line_at lines n
+filtered_later f lines i n l = get_or-set_other lines i n (filter f (line_at lines i)) [] (λ e. omega (arith, e, l))
+
+set_take : (lines : List (List Event)) (i : ℕ) (line : List Event) → take i (slice_set lines i line) ≡ take i lines
+set_take [] i line = refl
+set_take (x ∷ lines) zero line = refl
+set_take (x ∷ lines) (suc i) line = ap (λ ls. x ∷ ls) (set_take lines i line)
+
+pub filtered_take : (f : Event → Bool) (lines : List (List Event)) (i : ℕ) → take i (slice_set lines i (filter f (line_at lines i))) ≡ take i lines
+filtered_take f lines i = set_take lines i (filter f (line_at lines i))
 
 -- one port more is done
 pub done_more : (f : Event → Bool) (lines : List (List Event)) (first p : ℕ) → ((k : ℕ) → k < p → filter f (line_at lines (first + k)) ≡ line_at lines (first + k)) → (k : ℕ) → k < p + 1 → filter f (line_at (slice_set lines (first + p) (filter f (line_at lines (first + p)))) (first + k)) ≡ line_at (slice_set lines (first + p) (filter f (line_at lines (first + p)))) (first + k)

@@ -2,14 +2,14 @@
 
 ghost use Rattle.std.specs.Prelude.{◌≡◌, true, is_some};
 ghost use Rattle.std.specs.List.{list_any};
-ghost use Rattle.pt_causality.specs.Delays.{least_of};
-ghost use Rattle.pt_queue.specs.Events.{IsRising};
+ghost use Rattle.pt_causality.specs.Before.{MayHave};
+ghost use Rattle.pt_causality.specs.Delays.{HasAllBefore, least_of};
 ghost use Rattle.pt_queue.specs.Listed.{AreTags, SomeHoldsUp, holds_up, unit_holds_up};
 
 use crate::events::reaches;
 use crate::groups::{Groups, count_at};
 use crate::holders::Holders;
-use crate::least_tags::tag_in;
+use crate::least_tags::{place_of, tag_in};
 use crate::waiting::Waiting;
 use pt_causality::Least;
 use pt_tags::Tag;
@@ -50,6 +50,69 @@ fn holder_listed(
     None
 }
 
+/// Whether a unit may be among those with a bit in `before`: its bit is set, or it has none.
+fn may_lead(before: &[u64], unit: Unit) -> bool
+    ensures { MayHave before.now unit → result ≡ true }
+{
+    if unit.group >= 8 {
+        return true;
+    }
+    let place = place_of(unit);
+    match before.get(place / 64) {
+        None => true,
+        Some(word) => (*word >> (place % 64)) & 1 == 1,
+    }
+}
+
+/// As `holds_up`, where `before` has all units from which a path leads here: most units are told apart by one bit.
+fn holds_up_before(
+    table: &[Groups],
+    least: &Least,
+    before: &[u64],
+    unit: Unit,
+    tag: Tag,
+    other: &Waiting,
+) -> bool
+    requires { HasAllBefore least.now unit before.now }
+    ensures { result ≡ holds_up table.now (least_of least.now) unit tag other.now }
+{
+    if !may_lead(before, other.unit) {
+        return false;
+    }
+    holds_up(table, least, unit, tag, other)
+}
+
+/// As `holder_listed`, where `before` has all units from which a path leads here.
+fn holder_before(
+    table: &[Groups],
+    listed: &[Waiting],
+    unit: Unit,
+    tag: Tag,
+    least: &Least,
+    before: &[u64],
+) -> Option<Unit>
+    requires { HasAllBefore least.now unit before.now }
+    ensures { is_some result ≡ list_any (holds_up table.now (least_of least.now) unit tag) listed.now }
+{
+    for behind in 0..listed.len() {
+        let other = listed[listed.len() - behind - 1];
+        if holds_up_before(table, least, before, unit, tag, &other) {
+            return Some(other.unit);
+        }
+    }
+    None
+}
+
+/// A listed unit that holds up this one; `None` if there is none.
+fn holder(table: &[Groups], listed: &[Waiting], unit: Unit, tag: Tag, least: &Least) -> Option<Unit>
+    ensures { is_some result ≡ list_any (holds_up table.now (least_of least.now) unit tag) listed.now }
+{
+    match least.before(unit) {
+        None => holder_listed(table, listed, unit, tag, least),
+        Some(before) => holder_before(table, listed, unit, tag, least, before),
+    }
+}
+
 /// Whether `other` has events and holds up this unit.
 fn unit_holds_up(
     table: &[Groups],
@@ -74,49 +137,6 @@ fn unit_holds_up(
             },
         ),
     }
-}
-
-/// The last unit of `others` that holds up this one; `None` if there is none.
-fn holder_among(
-    table: &[Groups],
-    tags: &[Option<Tag>],
-    unit: Unit,
-    tag: Tag,
-    least: &Least,
-    others: &[Unit],
-) -> Option<Unit>
-    ensures { is_some result ≡ list_any (unit_holds_up table.now (least_of least.now) unit tag tags.now) others.now }
-{
-    for behind in 0..others.len() {
-        let other = others[others.len() - behind - 1];
-        if unit_holds_up(table, tags, unit, tag, least, other) {
-            return Some(other);
-        }
-    }
-    None
-}
-
-/// A listed unit that holds up this one; `None` if there is none.
-///
-/// Searches the units from which a path leads here, if these are known and fewer than the listed ones.
-fn holder(
-    table: &[Groups],
-    listed: &[Waiting],
-    tags: &[Option<Tag>],
-    unit: Unit,
-    tag: Tag,
-    least: &Least,
-) -> Option<Unit>
-    requires rises { IsRising listed.now }
-    requires tags { AreTags table.now listed.now tags.now }
-    ensures { is_some result ≡ list_any (holds_up table.now (least_of least.now) unit tag) listed.now }
-{
-    if let Some(others) = least.before(unit) {
-        if others.len() < listed.len() {
-            return holder_among(table, tags, unit, tag, least, others);
-        }
-    }
-    holder_listed(table, listed, unit, tag, least)
 }
 
 /// Whether the unit that took the place of this one's last holder holds it up. If so, that is remembered.
@@ -177,14 +197,13 @@ pub fn is_blocked(
     tag: Tag,
     least: &Least,
 ) -> bool
-    requires rises { IsRising listed.now }
     requires tags { AreTags table.now listed.now tags.now }
     ensures { result ≡ list_any (holds_up table.now (least_of least.now) unit tag) listed.now }
 {
     if is_held_still(table, tags, holders, unit, tag, least) {
         return true;
     }
-    match holder(table, listed, tags, unit, tag, least) {
+    match holder(table, listed, unit, tag, least) {
         None => false,
         Some(holder) => {
             holders.keep(unit, holder);

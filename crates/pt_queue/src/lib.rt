@@ -16,9 +16,8 @@ mod line;
 mod lines;
 mod loose;
 mod queue;
-mod scan;
+mod taking;
 mod waiting;
-mod whole;
 
 pub use events::reaches;
 pub use queue::Queue;

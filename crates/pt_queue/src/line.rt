@@ -54,24 +54,6 @@ impl Line {
         self.events.is_empty()
     }
 
-    /// The value of the event at a tag, if there is one.
-    pub fn value(&self, tag: Tag) -> Option<i64>
-        ensures { result ≡ value_on self.now tag }
-    {
-        match self.first() {
-            None => None,
-            Some(event) => {
-                if event.tag == tag {
-                    return Some(event.value);
-                }
-                if tag.is_before(event.tag) {
-                    return None;
-                }
-                value_among(&self.events, tag)
-            }
-        }
-    }
-
     /// Appends an event, and returns whether it did. It does only if the event's tag is the greatest and there is room.
     /// Allocates nothing.
     pub fn push(&mut self, event: Event) -> bool
@@ -93,20 +75,22 @@ impl Line {
         let _ = self.events.reserve(1);
     }
 
-    /// Removes the event at a tag, if there is one.
-    pub fn take(&mut self, tag: Tag)
-        ensures { self.new ≡ filter (λ e. not (same_tag tag e.tag)) self.old }
+    /// Takes the event at a tag, if there is one, and returns its value.
+    pub fn take(&mut self, tag: Tag) -> Option<i64>
+        ensures value { result ≡ value_on self.old tag }
+        ensures left { self.new ≡ filter (λ e. not (same_tag tag e.tag)) self.old }
     {
-        match self.first() {
-            None => (),
-            Some(event) => {
-                if event.tag == tag {
-                    self.events.pop_front();
-                } else if event.tag.is_before(tag) {
-                    self.events.retain(|event| tag != event.tag);
-                }
-            }
+        let event = self.first()?;
+        if event.tag == tag {
+            self.events.pop_front();
+            return Some(event.value);
         }
+        if tag.is_before(event.tag) {
+            return None;
+        }
+        let value = value_among(&self.events, tag);
+        self.events.retain(|event| tag != event.tag);
+        value
     }
 }
 

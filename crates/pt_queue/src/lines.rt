@@ -1,6 +1,6 @@
 //! The lines of all inputs.
 
-ghost use Rattle.std.specs.Prelude.{◌≡◌, ◌<◌, ◌==◌, [], not, filter, IfOk, length, replicate, slice_set, if◌then◌else◌};
+ghost use Rattle.std.specs.Prelude.{◌≡◌, ◌+◌, ◌*◌, ◌<◌, ◌==◌, [], not, filter, IfOk, length, replicate, slice_set, if◌then◌else◌};
 ghost use Rattle.pt_tags.specs.Tags.{same_tag};
 ghost use Rattle.pt_queue.specs.Lines.{InOrder, first, joined_by, line_at, line_of, value_on};
 
@@ -9,6 +9,13 @@ use pt_tags::Tag;
 use pt_types::Event;
 use std::alloc::{AllocError, Global};
 use std::marker::Model;
+
+/// The line of an input: `8 * actor + port`.
+pub fn line_number(actor: u32, port: u32) -> usize
+    ensures { result ≡ 8 * actor + port }
+{
+    8 * actor as usize + port as usize
+}
 
 /// The lines of all inputs of all actors: input `p` of actor `a` has line `8 a + p`.
 #[derive(Drop)]
@@ -58,16 +65,6 @@ impl Lines {
         }
     }
 
-    /// The value of the event at a tag in a line, if there is one.
-    pub fn value(&self, line: usize, tag: Tag) -> Option<i64>
-        ensures { result ≡ value_on (line_at self.now line) tag }
-    {
-        match self.lines.get(line) {
-            None => None,
-            Some(line) => line.value(tag),
-        }
-    }
-
     /// Appends an event to its line, and returns whether it did. It does only if its tag is the greatest there and there is
     /// room. Allocates nothing.
     pub fn push(&mut self, line: usize, event: Event) -> bool
@@ -95,13 +92,14 @@ impl Lines {
         }
     }
 
-    /// Removes the event at a tag from a line; does nothing if there is no such line.
-    pub fn take(&mut self, line: usize, tag: Tag)
-        ensures { self.new ≡ slice_set self.old line (filter (λ e. not (same_tag tag e.tag)) (line_at self.old line)) }
+    /// Takes the event at a tag from a line, if there is one, and returns its value.
+    pub fn take(&mut self, line: usize, tag: Tag) -> Option<i64>
+        ensures value { result ≡ value_on (line_at self.old line) tag }
+        ensures left { self.new ≡ slice_set self.old line (filter (λ e. not (same_tag tag e.tag)) (line_at self.old line)) }
     {
         if line >= self.lines.len() {
-            return;
+            return None;
         }
-        self.lines[line].take(tag);
+        self.lines[line].take(tag)
     }
 }

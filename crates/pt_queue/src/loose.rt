@@ -6,8 +6,7 @@ ghost use Rattle.pt_semantics.specs.Lists.{Each};
 ghost use Rattle.pt_queue.specs.declared.groups.Groups.{Groups};
 ghost use Rattle.pt_queue.specs.Lines.{AreKept, first, joined_by, line_of, settled};
 
-use crate::lines::Lines;
-use crate::scan::line_number;
+use crate::lines::{Lines, line_number};
 use pt_types::Event;
 use std::collections::VecDeque;
 

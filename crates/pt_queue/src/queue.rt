@@ -13,15 +13,14 @@ ghost use Rattle.pt_queue.specs.Groups.{AreGroups};
 ghost use Rattle.pt_queue.specs.Events.{waiting_in, value_in, AreWaiting, IsPlaced, IsLeastTag, IsBlocked, IsClear};
 
 use crate::blocked::is_blocked;
-use crate::events::{remove, unit_of};
+use crate::events::{least_tag, remove, unit_of};
 use crate::groups::{Groups, all_groups};
 use crate::holders::Holders;
 use crate::least_tags::{lower_tag, no_tags, set_tag, tag_in};
-use crate::lines::Lines;
+use crate::lines::{Lines, line_number};
 use crate::loose::settle;
-use crate::scan::{line_number, remove_from_lines};
+use crate::taking::take_from_lines;
 use crate::waiting::{Waiting, lower, set};
-use crate::whole::{least_of_unit, values_of};
 use pt_causality::Least;
 use pt_tags::{Memory, Tag};
 use pt_types::{Event, Graph, Ports, Unit};
@@ -156,13 +155,12 @@ impl Queue {
         ensures groups { self.new.groups ≡ self.old.groups }
     {
         let table = self.groups.as_slice();
-        let inputs = values_of(table, &self.lines, &self.loose, unit, tag);
-        remove_from_lines(&mut self.lines, table, unit, tag);
+        let taken = take_from_lines(&mut self.lines, table, &self.loose, unit, tag);
         remove(&mut self.loose, table, unit, tag);
-        let least = least_of_unit(table, &self.lines, &self.loose, unit);
+        let least = least_tag(table, &self.loose, unit, taken.least);
         set(&mut self.waiting, unit, least);
         set_tag(&mut self.tags, unit, least);
-        inputs
+        taken.inputs
     }
 
     /// Whether an event that waits for another unit can lead to this one at the tag or before.

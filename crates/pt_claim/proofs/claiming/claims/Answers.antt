@@ -1,12 +1,9 @@
-use Rattle.std.proofs.Common.{◌≡◌, ◌+◌, ◌++◌, ◌∷◌, [], drop, refl, ap, sym, subst, inl, ◌∙◌, arith, append_assoc, length-append, rules}
+use Rattle.std.proofs.Common.{[], false, refl, sym, subst, inl, arith}
 use Rattle.std.proofs.lemmas.List.{append-nil}
-use Rattle.pt_semantics.specs.Claiming.{Claims, after_claim}
-use Rattle.pt_semantics.specs.Platform.{State}
 use Rattle.pt_queue.specs.Events.{waiting_in}
-use Rattle.pt_state.specs.State.{busy_in, state_of}
-use Rattle.pt_claim.specs.Fronts.{AreFront}
-use Rattle.pt_claim.proofs.Fronts.{front_claimed, front_first, not_safe}
-use Rattle.pt_claim.proofs.Making.{SoFar, claims_push, is_next, others_on}
+use Rattle.pt_state.specs.State.{busy_in}
+use Rattle.pt_claim.specs.Fronts.{AreFront, one_of}
+use Rattle.pt_claim.proofs.Fronts.{nothing_left, not_safe}
 use Rattle.pt_claim.proofs.claiming.claims.Goals as goal
 
 pub returns-then-is_empty-clause-claimed : goal.returns-then-is_empty-clause-claimed
@@ -21,31 +18,14 @@ returns-then-is_empty-clause-claimed c = record {
   all_or = inl (λ u t safe. not_safe c.args.graph.now (waiting_in c.args.fields.now.queue.events) (busy_in c.args.fields.now.open_claims.items) c.args.reading u t (λ p w. c.is_empty.ensures.0 c.if-is_empty.true u.actor p w) safe);
 }
 
-pub loop-preserved : goal.loop-preserved
-loop-preserved c =
-    let items : c.push.new.self.items ≡ c.loop.tasks.items ++ c.claim-task.result ∷ [] = search rules in
-    let s : SoFar c.args.graph.now c.args.fields.now c.loop.fields c.args.reading c.loop.counter c.args.tasks.now.items c.loop.tasks.items = c.loop.invariant.so_far in
-    let front : AreFront c.args.graph.now (waiting_in c.loop.fields.queue.events) (busy_in c.loop.fields.open_claims.items) c.args.reading c.take.new.self.more (c.in-Some.next ∷ drop c.take.new.self.taken c.take.new.self.units.items) = c.in-Some.ensures in
-    record {
-      sound = c.claim-task.ensures.sound;
-      opens = omega (arith, c.claim-task.ensures.open_claims, c.loop.invariant.opens);
-      tasks = omega (arith, c.push.ensures.upper_bound, c.loop.invariant.tasks);
-      tasks_room = omega (arith, c.push.ensures.capacity, c.loop.invariant.tasks_room);
-      bound = omega (arith, c.claim-task.ensures.claims, c.if-fields-ge-MOST_CLAIMS.false);
-      others = others_on c.args.fields.now c.loop.fields c.claim-task.new.fields c.loop.invariant.others c.claim-task.ensures.others;
-      count = omega (arith, c.claim-task.ensures.claims, c.loop.invariant.count);
-      so_far = record {
-        claimed = s.claimed ++ c.claim-task.result ∷ [];
-        appended = items ∙ ap (λ xs. xs ++ c.claim-task.result ∷ []) s.appended ∙ append_assoc c.args.tasks.now.items s.claimed (c.claim-task.result ∷ []);
-        claims = λ taken.
-            subst (Claims c.args.graph.now c.args.reading (state_of c.args.fields.now taken) (s.claimed ++ c.claim-task.result ∷ []))
-            (ap (λ u. after_claim c.args.graph.now (state_of c.loop.fields taken) u c.claim-task.result) c.claim-task.ensures.task.unit ∙ sym (c.claim-task.ensures.after taken))
-            (claims_push c.args.graph.now c.args.reading (state_of c.args.fields.now taken) (state_of c.loop.fields taken) s.claimed c.claim-task.result (s.claims taken)
-            (is_next c.args.graph.now c.loop.fields taken c.args.reading c.in-Some.next.unit c.in-Some.next.tag c.claim-task.result front.safe.0.safe
-            (front_first c.args.graph.now (waiting_in c.loop.fields.queue.events) (busy_in c.loop.fields.open_claims.items) c.args.reading c.take.new.self.more c.in-Some.next (drop c.take.new.self.taken c.take.new.self.units.items) front)
-            c.claim-task.ensures.task));
-        len = length-append s.claimed (c.claim-task.result ∷ []) ∙ ap (λ n. n + 1) s.len;
-      };
-      front = subst (λ (new : State). AreFront c.args.graph.now new.waits new.busy c.args.reading c.take.new.self.more (drop c.take.new.self.taken c.take.new.self.units.items)) (sym (c.claim-task.ensures.after []))
-          (front_claimed c.args.graph.now (state_of c.loop.fields []) c.args.reading c.take.new.self.more c.in-Some.next (drop c.take.new.self.taken c.take.new.self.units.items) c.claim-task.result c.claim-task.ensures.task.tag front);
-    }
+pub returns-in-Ok-None-clause-claimed : goal.returns-in-Ok-None-clause-claimed
+returns-in-Ok-None-clause-claimed c = record {
+  claimed = [];
+  appended = sym (append-nil c.args.tasks.now.items);
+  claims = λ taken. refl;
+  at_most = omega arith;
+  count = omega arith;
+  open_claims = omega arith;
+  in_all = c.requires.claims;
+  all_or = inl (nothing_left c.args.graph.now (waiting_in c.args.fields.now.queue.events) (busy_in c.args.fields.now.open_claims.items) c.args.reading false [] (subst (λ o. AreFront c.args.graph.now (waiting_in c.args.fields.now.queue.events) (busy_in c.args.fields.now.open_claims.items) c.args.reading false (one_of o)) c.in-Ok-None.field-0-is c.in-Ok-None.ensures) refl refl);
+}

@@ -3,25 +3,27 @@ use Rattle.std.proofs.lemmas.Fn.{filter_same}
 use Rattle.pt_tags.specs.Tags.{same_tag}
 use Rattle.pt_types.specs.declared.firing.Event.{Event}
 use Rattle.pt_queue.specs.Lines.{InOrder}
-use Rattle.pt_queue.proofs.Rising.{in_order_filter, first_taken, not_before}
+use Rattle.pt_queue.proofs.Rising.{ahead, first_taken, in_order_filter, no_value, none_taken}
 use Rattle.pt_queue.proofs.line.Line.take.Goals as goal
 
-pub invariant_of-self-then-is_before : goal.invariant_of-self-then-is_before
-invariant_of-self-then-is_before c =
+pub invariant_of-self-2 : goal.invariant_of-self-2
+invariant_of-self-2 c =
     let left : c.retain.new.self.items ≡ filter (λ (e : Event). not (same_tag c.args.tag e.tag)) c.self.inside.events.items = filter_same _ (λ (e : Event). not (same_tag c.args.tag e.tag)) _ (λ x b f' k. search rules) _ _ c.retain.ensures.filtered in
     subst InOrder (sym left) (in_order_filter (λ (e : Event). not (same_tag c.args.tag e.tag)) c.self.inside.events.items c.self.invariant)
 
-pub returns-then-is_before : goal.returns-then-is_before
-returns-then-is_before c =
+pub returns-clause-left : goal.returns-clause-left
+returns-clause-left c =
     filter_same _ (λ (e : Event). not (same_tag c.args.tag e.tag)) _ (λ x b f' k. search rules) _ _ c.retain.ensures.filtered
     ∙ ap (filter (λ (e : Event). not (same_tag c.args.tag e.tag))) c.self.view_is
 
-pub returns-then-eq : goal.returns-then-eq
-returns-then-eq c =
+pub returns-then-eq-clause-left : goal.returns-then-eq-clause-left
+returns-then-eq-clause-left c =
     c.pop_front.ensures.rest
     ∙ ap (drop 1) c.self.view_is
-    ∙ sym (first_taken c.args.tag c.args.self.now c.in-Some.event c.first.ensures.in_order (sym c.in-Some.is ∙ c.first.ensures.first) (sym c.eq.ensures ∙ c.if-eq.true))
+    ∙ sym (first_taken c.args.tag c.args.self.now c.in_ok-event.event c.first.ensures.in_order (sym c.in_ok-event.was ∙ c.first.ensures.first) (sym c.eq.ensures ∙ c.if-eq.true))
 
-pub returns-else-is_before : goal.returns-else-is_before
-returns-else-is_before c =
-    sym (not_before c.args.tag c.args.self.now c.in-Some.event c.first.ensures.in_order (sym c.in-Some.is ∙ c.first.ensures.first) (sym c.eq.ensures ∙ c.if-eq.false) (sym c.is_before.ensures.test ∙ c.if-is_before.false))
+pub returns-then-is_before-clause-value : goal.returns-then-is_before-clause-value
+returns-then-is_before-clause-value c = no_value c.args.tag c.args.self.now c.in_ok-event.event c.first.ensures.in_order (sym c.in_ok-event.was ∙ c.first.ensures.first) (sym c.is_before.ensures.test ∙ c.if-is_before.true)
+
+pub returns-then-is_before-clause-left : goal.returns-then-is_before-clause-left
+returns-then-is_before-clause-left c = sym (none_taken c.args.tag c.args.self.now c.in_ok-event.event c.first.ensures.in_order (sym c.in_ok-event.was ∙ c.first.ensures.first) (ahead c.args.tag c.in_ok-event.event.tag (sym c.is_before.ensures.test ∙ c.if-is_before.true)))

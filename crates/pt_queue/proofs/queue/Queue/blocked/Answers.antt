@@ -31,8 +31,10 @@ returns-clause-clear c = λ g lawful are is unit.
     (sym (c.is_blocked.ensures ∙ ap (λ gs. list_any (holds_up gs (least_of c.args.least.now) c.args.unit c.args.tag) c.as_slice-2.result.now) c.as_slice.ensures.value ∙ ap (list_any (holds_up table (least_of c.args.least.now) c.args.unit c.args.tag)) c.as_slice-2.ensures.value))
     (free_is g table (least_of c.args.least.now) events listed c.args.unit c.args.tag lawful (subst (AreGroups g) (sym groups) are) (placed_settled table c.self.inside.lines c.self.inside.loose.items c.self.invariant.0) c.self.invariant.2.units is unit))
 
-pub is_blocked-requires-clause-tags : goal.is_blocked-requires-clause-tags
-is_blocked-requires-clause-tags c =
-    subst (λ gs. AreTags gs c.as_slice-2.result.now c.as_slice-3.result.now) (sym c.as_slice.ensures.value)
-    (subst (λ ws. AreTags c.self.inside.groups.items ws c.as_slice-3.result.now) (sym c.as_slice-2.ensures.value)
-    (subst (AreTags c.self.inside.groups.items c.self.inside.waiting.items) (sym c.as_slice-3.ensures.value) c.self.invariant.3))
+pub is_blocked-requires : goal.is_blocked-requires
+is_blocked-requires c = record {
+  tags =
+      subst (λ gs. AreTags gs c.as_slice-2.result.now c.as_slice-3.result.now) (sym c.as_slice.ensures.value)
+      (subst (λ ws. AreTags c.self.inside.groups.items ws c.as_slice-3.result.now) (sym c.as_slice-2.ensures.value)
+      (subst (AreTags c.self.inside.groups.items c.self.inside.waiting.items) (sym c.as_slice-3.ensures.value) c.self.invariant.3));
+}

@@ -1,0 +1,8 @@
+use Rattle.pt_queue.specs.Events.{waiting_in}
+use Rattle.pt_state.specs.State.{busy_in}
+use Rattle.pt_claim.specs.Fronts.{AreFirst, one_of}
+use Rattle.pt_claim.proofs.Passing.{stop_at}
+use Rattle.pt_claim.proofs.front.alone.Given as goal
+
+abbrev pub invariant-loop-waiting : goal.invariant-loop-waiting
+invariant-loop-waiting l = AreFirst l.graph (waiting_in l.fields.queue.events) (busy_in l.fields.open_claims.items) l.reading (stop_at l.waiting-items l.waiting-index).actor (stop_at l.waiting-items l.waiting-index).group (one_of l.alone)

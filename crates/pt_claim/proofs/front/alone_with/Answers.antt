@@ -1,0 +1,19 @@
+use Rattle.std.proofs.Common.{[], ◌∷◌, sym, subst, ◌∙◌}
+use Rattle.std.proofs.lemmas.Bool.{false≢true}
+use Rattle.pt_queue.specs.Events.{waiting_in}
+use Rattle.pt_state.specs.State.{busy_in}
+use Rattle.pt_semantics.specs.Safe.{IsSafe}
+use Rattle.pt_claim.specs.Fronts.{one_of}
+use Rattle.pt_claim.proofs.SafeTags.{only_tag}
+use Rattle.pt_claim.proofs.Fronts.{first_put, first_skip, put_first}
+use Rattle.pt_claim.proofs.front.alone_with.Goals as goal
+
+pub returns-then-not-is_safe : goal.returns-then-not-is_safe
+returns-then-not-is_safe c = first_skip c.args.graph.now (waiting_in c.args.fields.now.queue.events) (busy_in c.args.fields.now.open_claims.items) c.args.reading c.args.waiting.unit.actor c.args.waiting.unit.group (one_of c.args.alone) c.requires.first
+    (λ t safe.
+    let same = only_tag c.args.graph.now (waiting_in c.args.fields.now.queue.events) (busy_in c.args.fields.now.open_claims.items) c.args.reading c.args.waiting.unit t c.args.waiting.tag safe c.requires.tag in
+    false≢true (sym c.if-not-is_safe.true ∙ c.is_safe.ensures.1 (subst (IsSafe c.args.graph.now (waiting_in c.args.fields.now.queue.events) (busy_in c.args.fields.now.open_claims.items) c.args.reading c.args.waiting.unit) same safe)))
+
+pub returns-in-None : goal.returns-in-None
+returns-in-None c = first_put c.args.graph.now (waiting_in c.args.fields.now.queue.events) (busy_in c.args.fields.now.open_claims.items) c.args.reading c.args.waiting.unit.actor c.args.waiting.unit.group c.args.waiting.tag (one_of c.args.alone) (c.args.waiting ∷ [])
+    c.requires.first c.requires.unit (c.is_safe.ensures.0 c.if-not-is_safe.false) (put_first c.args.alone c.args.waiting (c.in-None.is))
