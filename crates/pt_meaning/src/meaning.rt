@@ -67,8 +67,8 @@ pub fn fire_all<R: Receiver>(
 ) -> Result<(), MeaningFault>
     requires lawful { IsLawful graph.now }
     requires sensors { Each (IsOfActors (length graph.now.actors)) sensors.now }
-    requires nothing { R.took receiver.old [] }
-    ensures meaning { OnOk result (Handed graph.now (rank_in ranks.now) (λ a. rows_until graph.now.until (rows_for sensors.now a)) most (R.took receiver.new)) }
+    requires nothing { R.took receiver.old receiver.old [] }
+    ensures meaning { OnOk result (Handed graph.now (rank_in ranks.now) (λ a. rows_until graph.now.until (rows_for sensors.now a)) most (R.took receiver.old receiver.new)) }
     ensures long { IsErrOf result MeaningFault.Long → IsLonger graph.now (rank_in ranks.now) (λ a. rows_until graph.now.until (rows_for sensors.now a)) most }
 {
     let Ok(edges) = all_edges(alloc, graph) else {
@@ -102,8 +102,8 @@ fn run<R: Receiver>(
     requires sensors { Each (IsOfActors (length graph.now.actors)) sensors.now }
     requires wiring { IsWiring graph.now outgoing.now }
     requires len { length outgoing.now ≡ length graph.now.actors }
-    requires nothing { R.took receiver.old [] }
-    ensures meaning { OnOk result (Handed graph.now (rank_in ranks.now) (λ a. rows_until graph.now.until (rows_for sensors.now a)) most (R.took receiver.new)) }
+    requires nothing { R.took receiver.old receiver.old [] }
+    ensures meaning { OnOk result (Handed graph.now (rank_in ranks.now) (λ a. rows_until graph.now.until (rows_for sensors.now a)) most (R.took receiver.old receiver.new)) }
     ensures long { IsErrOf result MeaningFault.Long → IsLonger graph.now (rank_in ranks.now) (λ a. rows_until graph.now.until (rows_for sensors.now a)) most }
 {
     let Ok(mut list) = begin(alloc, graph, ranks, sensors) else {

@@ -11,12 +11,12 @@ use std::mem;
 
 /// Takes firings, one after another.
 pub trait Receiver {
-    /// Whether it took these firings, in order, and no others.
-    ghost took: { Self → List ActorFiring → Type 0 };
+    /// Whether one receiver became the other when it took these firings, in order, and no others.
+    ghost took: { Self → Self → List ActorFiring → Type 0 };
 
     /// Takes the next firing. Fails if memory runs out.
     fn take(&mut self, firing: &ActorFiring) -> Result<(), Memory>
-        ensures { (xs : List ActorFiring) → took self.old xs → OnOk result (took self.new (xs ++ firing.now ∷ [])) };
+        ensures { (start : Self) (xs : List ActorFiring) → took start self.old xs → OnOk result (took start self.new (xs ++ firing.now ∷ [])) };
 }
 
 /// A receiver that makes a list of the firings.
@@ -27,11 +27,9 @@ pub(crate) struct Gathered {
 }
 
 impl Receiver for Gathered {
-    ghost took = { λ g xs. g.firings ≡ xs };
+    ghost took = { λ start now xs. now.firings ≡ xs };
 
-    fn take(&mut self, firing: &ActorFiring) -> Result<(), Memory>
-        ensures { (xs : List ActorFiring) → self.old.firings ≡ xs → OnOk result (self.new.firings ≡ xs ++ firing.now ∷ []) }
-    {
+    fn take(&mut self, firing: &ActorFiring) -> Result<(), Memory> {
         let firings = mem::replace(&mut self.firings, Firings::new(self.alloc));
         self.firings = firings.with(firing)?;
         Ok(())

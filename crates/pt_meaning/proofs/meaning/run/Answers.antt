@@ -55,7 +55,7 @@ loop-next-preserved g c =
         firings = went.firings ++ c.in-Ok-fire_next.firing ∷ [];
         len = length_push went.firings c.in-Ok-fire_next.firing ∙ ap (λ n. n + 1) went.len;
         steps = steps_push graph rank start went.firings before c.in-Ok-fire_next.firing after went.steps c.in-Ok-fire_next.ensures.fires c.in-Ok-fire_next.ensures.after;
-        took = c.in-Ok-take.ensures went.firings went.took;
+        took = c.in-Ok-take.ensures c.args.receiver.now went.firings went.took;
       };
       states = c.in-Ok-fire_next.ensures.states;
       sound = c.in-Ok-fire_next.ensures.sound (c.loop-next.count + 1) later was;

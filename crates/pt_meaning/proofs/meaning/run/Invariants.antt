@@ -17,7 +17,7 @@ pub record Went (g : Graph) (rank : ℕ → ℕ) (start now : World) (count : �
 
 abbrev pub invariant-loop-next : goal.invariant-loop-next
 invariant-loop-next g l = record {
-  went : Went l.graph (rank_in l.ranks) (at_start l.graph (λ a. rows_until l.graph.until (rows_for l.sensors a))) (world_in l.ranks l.list.waiting l.list.states.items) l.count (g.R.Receiver.took l.receiver);
+  went : Went l.graph (rank_in l.ranks) (at_start l.graph (λ a. rows_until l.graph.until (rows_for l.sensors a))) (world_in l.ranks l.list.waiting l.list.states.items) l.count (g.R.Receiver.took l.fn.receiver l.receiver);
   states : length l.list.states.items ≡ length l.graph.actors;
   sound : AreSound (rank_in l.ranks) (length l.graph.actors) l.count l.list.waiting;
   most : l.count ≤ l.most;
