@@ -2,13 +2,13 @@
 use Rattle.std.proofs.Common.{◌≡◌, ℕ, ◌≤◌, ◌==◌, ◌&&◌, ◌⊎◌, ⊎_elim, inl, inr, not, Bool, true, false, Some, None, Option, ℤ, List, [], ◌∷◌, refl, ap, ap₂, ◌∙◌, arith}
 use Rattle.pt_tags.specs.declared.tag.Tag.{Tag}
 use Rattle.pt_tags.specs.Tags.{same_tag}
-use Rattle.pt_types.specs.Ports.{when, at_port, eight}
+use Rattle.pt_types.specs.Ports.{when, at_port, eight, only}
 use Rattle.pt_semantics.specs.Firing.{any_present}
 use Rattle.pt_semantics.specs.Lists.{or_else}
 use Rattle.pt_semantics.specs.Meaning.{Values, IsFirst, NotAfter, added, waiting, without}
 use Rattle.pt_meaning.specs.declared.pending.Place.{Place}
 use Rattle.pt_meaning.specs.declared.world.Waiting.{Waiting}
-use Rattle.pt_meaning.specs.Both.{AreSound, IsUpTo}
+use Rattle.pt_meaning.specs.Both.{with_first, AreSound, IsUpTo}
 use Rattle.pt_meaning.proofs.Places.{sound_more}
 
 -- what is first of all is first of a part
@@ -112,8 +112,10 @@ or_assoc (Some v) y z = refl
 pub added_late : (e l new : Values) → added e (added l new) ≡ added (added e l) new
 added_late e l new = λ i a p t. or_assoc (e a p t) (l a p t) (new a p t) i
 
-pub taken_both : (e l : Values) (a : ℕ) (t : Tag) (x y r : List (Option ℤ)) → x ≡ waiting e a t → y ≡ waiting l a t → r ≡ eight (λ p. or_else (at_port x p) (at_port y p)) → r ≡ waiting (added e l) a t
-taken_both e l a t x y r early late is = is ∙ ap₂ (λ (m n : List (Option ℤ)). eight (λ p. or_else (at_port m p) (at_port n p))) early late
+-- the early value at input 0 and the late values
+pub taken_both : (e l : Values) (a : ℕ) (t : Tag) (first : Option ℤ) (late : List (Option ℤ)) → eight (only 0 first) ≡ waiting e a t → late ≡ waiting l a t → with_first first late ≡ waiting (added e l) a t
+taken_both e l a t None late early is = is ∙ ap (λ m. eight (λ p. or_else (at_port m p) (l a p t))) early
+taken_both e l a t (Some v) late early is = ap (with_first (Some v)) is ∙ ap (λ m. eight (λ p. or_else (at_port m p) (l a p t))) early
 
 pub are_sound_more : (rank : ℕ → ℕ) (actors steps more : ℕ) (w : Waiting) → steps ≤ more → AreSound rank actors steps w → AreSound rank actors more w
 are_sound_more rank actors steps more w grows sound = record {

@@ -1,8 +1,8 @@
 -- What waits after the events of an actor and a tag are taken from the front, one by one.
-use Rattle.std.proofs.Common.{◌≡◌, ℕ, zero, suc, ◌<◌, ◌≤◌, ◌==◌, ◌&&◌, not, Bool, true, false, cond, Some, None, Option, ℤ, refl, sym, ap, subst, ◌∙◌, arith, IsSome, List, length, slice_index_or, slice_set, ⊎_elim, ◌⊎◌, inl, inr, eqb-true, ◌≢◌}
+use Rattle.std.proofs.Common.{◌≡◌, ℕ, zero, suc, ◌<◌, ◌≤◌, ◌==◌, ◌&&◌, not, Bool, true, false, cond, Some, None, Option, ℤ, refl, sym, ap, subst, ◌∙◌, arith, IsSome, List, length, nat_lt, lt-ltb, if◌then◌else◌, slice_index_or, slice_set, ⊎_elim, ◌⊎◌, inl, inr, eqb-true, ◌≢◌}
 use Rattle.std.proofs.lemmas.Bool.Decides.{nat_tests}
 use Rattle.std.proofs.lemmas.Grind.{common_steps}
-use Rattle.std.proofs.lemmas.List.{ext_get_or, get_or-set_same, get_or-set_other}
+use Rattle.std.proofs.lemmas.List.{ext_get_or, get_or-set_same, get_or-set_other, length-set}
 use Rattle.std.specs.Ordering.{is_eq}
 use Rattle.std.specs.BTreeMap as tree
 use Rattle.std.specs.BTreeMap.{BTreeMap}
@@ -80,6 +80,22 @@ values_more rank actors steps t a port v all before now values len sound leaves 
 
     within : port < length values
     within = let low : leaves.place.port < 8 = placed.port in omega (arith, len, leaves.port_is, low)
+
+-- an event that was taken is at one of eight ports
+pub port_low : (rank : ℕ → ℕ) (actors steps : ℕ) (t : Tag) (a port : ℕ) (v : ℤ) (all before now : BTreeMap Place ℤ) → IsSound rank actors steps all → Leaves t a port v before now → IsPart before all → nat_lt port 8 ≡ true
+port_low rank actors steps t a port v all before now sound leaves part =
+    let placed = sound leaves.place (subst IsSome (sym (part leaves.place v leaves.was)) refl) in
+    let low : leaves.place.port < 8 = placed.port in
+    let same : leaves.place.port ≡ port = leaves.port_is in
+    lt-ltb port 8 (omega (arith, low, same))
+
+length_by : (b : Bool) (values : List (Option ℤ)) (port : ℕ) (v : ℤ) → length values ≡ 8 → length (cond b (slice_set values port (Some v)) values) ≡ 8
+length_by true values port v len = length-set values port (Some v) ∙ len
+length_by false values port v len = len
+
+-- eight values are eight after one was written
+pub length_put : (values : List (Option ℤ)) (port : ℕ) (v : ℤ) → length values ≡ 8 → length (if nat_lt port 8 then slice_set values port (Some v) else values) ≡ 8
+length_put values port v len = length_by (nat_lt port 8) values port v len
 
 at_eight : (f : ℕ → Option ℤ) (i : ℕ) → i < 8 → slice_index_or (eight f) i None ≡ f i
 at_eight f zero h = refl

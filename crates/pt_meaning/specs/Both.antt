@@ -1,5 +1,5 @@
 -- The events known at the start and those sent since, together.
-use Rattle.std.specs.Prelude.{ℕ, ◌≤◌}
+use Rattle.std.specs.Prelude.{ℕ, ◌≤◌, List, Option, None, Some, ℤ, slice_set}
 use Rattle.pt_semantics.specs.Meaning.{Values, added}
 use Rattle.pt_meaning.specs.declared.pending.Place.{Place}
 use Rattle.pt_meaning.specs.declared.world.Waiting.{Waiting}
@@ -18,3 +18,8 @@ pub record AreSound (rank : ℕ → ℕ) (actors steps : ℕ) (w : Waiting) : Ty
 -- place x does not come after place y, by tag, rank and actor
 abbrev pub IsUpTo : Place → Place → Type 0
 IsUpTo x y = (x.tag.time ≤ y.tag.time) × (y.tag.time ≤ x.tag.time → (x.tag.step ≤ y.tag.step) × (y.tag.step ≤ x.tag.step → (x.rank ≤ y.rank) × (y.rank ≤ x.rank → x.actor ≤ y.actor)))
+
+-- the ports with this value at port 0, if it is one
+abbrev pub with_first : Option ℤ → List (Option ℤ) → List (Option ℤ)
+with_first None ports = ports
+with_first (Some v) ports = slice_set ports 0 (Some v)

@@ -1,5 +1,5 @@
 -- The program's view of the global list, and the graphs that it can run.
-use Rattle.std.specs.Prelude.{◌≡◌, ℕ, ◌<◌, ◌^◌, true, List, Option, length, slice_index_or, ℤ, pos}
+use Rattle.std.specs.Prelude.{◌≡◌, ℕ, ◌<◌, ◌≤◌, ◌^◌, true, List, Option, length, slice_index_or, ℤ, pos}
 use Rattle.std.specs.List.{list_all}
 use Rattle.pt_types.specs.declared.graph.Graph.{Graph}
 use Rattle.pt_types.specs.declared.graph.Actor.{Actor}
@@ -9,7 +9,8 @@ use Rattle.pt_semantics.specs.Lists.{Each}
 use Rattle.pt_semantics.specs.Firing.{fired}
 use Rattle.pt_semantics.specs.Edges.{edges, first_state}
 use Rattle.pt_types.specs.Lookups.{kind_of}
-use Rattle.pt_semantics.specs.Meaning.{World, ActorFiring}
+use Rattle.pt_types.specs.declared.rows.Row.{Row}
+use Rattle.pt_semantics.specs.Meaning.{World, ActorFiring, IsMeaning}
 use Rattle.pt_meaning.specs.declared.world.Waiting.{Waiting}
 use Rattle.pt_meaning.specs.Both.{all_waits}
 use Rattle.pt_meaning.specs.Waiting.{rank_in}
@@ -43,3 +44,10 @@ firing_of g states a t inputs = record {
   after = (fired (kind_of g a) (states a) inputs).state;
   outputs = (fired (kind_of g a) (states a) inputs).outputs;
 }
+
+-- firings that are the meaning of a graph with these rows, at most that many, are those that were taken
+pub record Handed (g : Graph) (rank : ℕ → ℕ) (rows : ℕ → List Row) (most : ℕ) (Took : List ActorFiring → Type 0) : Type 0 where
+  pub firings : List ActorFiring
+  pub meaning : IsMeaning g rank rows firings
+  pub few : length firings ≤ most
+  pub took : Took firings

@@ -2,6 +2,7 @@
 
 ghost use Rattle.std.specs.Prelude.{◌≡◌, ◌<◌, ℕ, IfOk, IfSome, IfNone, MatchOption, OnOk, Some, [], ◌∷◌, List};
 ghost use Rattle.std.specs.List.Sorted.{IsPermutation, IsSortedByKey, IsStableByKey};
+ghost use Rattle.pt_types.specs.Ports.{eight, only};
 ghost use Rattle.pt_semantics.specs.Lists.{or_else};
 ghost use Rattle.pt_meaning.specs.declared.early.Early.{Early};
 ghost use Rattle.pt_semantics.specs.Meaning.{IsFirst, waiting, without};
@@ -9,7 +10,6 @@ ghost use Rattle.pt_meaning.specs.Early.{moment_of, moment_cmp, early_waits, is_
 
 use crate::pending::Place;
 use pt_tags::{Memory, Tag};
-use pt_types::Ports;
 
 /// When a starting event fires: moments are ordered by time, rank and actor, as the events fire.
 #[derive(Clone, Copy, Debug, PartialEq, Eq, PartialOrd, Ord)]
@@ -94,9 +94,9 @@ impl EarlyList {
         Some(event.value)
     }
 
-    /// Takes an actor's events of a tag, which must be the first, and returns the values at its inputs.
-    pub fn take(&mut self, tag: Tag, actor: u32) -> Ports
-        ensures inputs { (rank : ℕ → ℕ) (actors : ℕ) → IsOrderly rank actors (left self.old) → IsFirst rank (early_waits (left self.old)) actor tag → result ≡ waiting (early_waits (left self.old)) actor tag }
+    /// Takes an actor's events of a tag, which must be the first, and returns the value at its input 0.
+    pub fn take(&mut self, tag: Tag, actor: u32) -> Option<i64>
+        ensures inputs { (rank : ℕ → ℕ) (actors : ℕ) → IsOrderly rank actors (left self.old) → IsFirst rank (early_waits (left self.old)) actor tag → eight (only 0 result) ≡ waiting (early_waits (left self.old)) actor tag }
         ensures waits { (rank : ℕ → ℕ) (actors : ℕ) → IsOrderly rank actors (left self.old) → IsFirst rank (early_waits (left self.old)) actor tag → early_waits (left self.new) ≡ without (early_waits (left self.old)) actor tag }
         ensures orderly { (rank : ℕ → ℕ) (actors : ℕ) → IsOrderly rank actors (left self.old) → IsOrderly rank actors (left self.new) }
     {
@@ -104,7 +104,7 @@ impl EarlyList {
         while let Some(value) = self.take_first(tag, actor) {
             first = kept(first, value);
         }
-        Ports::first(first)
+        first
     }
 }
 

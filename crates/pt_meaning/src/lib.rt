@@ -4,10 +4,10 @@
 //! tag, rank, actor and port. The first of both parts fires next. The definition is `IsMeaning` in `specs/Meaning.antt` of
 //! pt_semantics.
 //!
-//! The resulting list of firings is compact: only values that are present are stored, one after another, and consecutive
-//! firings at one tag share it. Contracts see the list of whole firings.
+//! A receiver takes the firings as they happen. `Firings` is a compact list of them: only values that are present are stored,
+//! one after another, and consecutive firings at one tag share it. Contracts see the list of whole firings.
 //!
-//! Read first: `reference`, then `engine.rt`, `world.rt` and `Firings`.
+//! Read first: `fire_all` and `Receiver`, then `engine.rt`, `world.rt` and `Firings`.
 #![tactic(auto)]
 
 mod cells;
@@ -19,7 +19,9 @@ mod meaning;
 mod moments;
 mod opening;
 mod pending;
+mod receiver;
 mod world;
 
 pub use firings::Firings;
-pub use meaning::{MeaningFault, reference};
+pub use meaning::{MeaningFault, fire_all, reference};
+pub use receiver::Receiver;

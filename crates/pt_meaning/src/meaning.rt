@@ -1,16 +1,17 @@
 //! The meaning of a graph and its rows.
 
-ghost use Rattle.std.specs.Prelude.{◌≡◌, ◌≤◌, IfOk, IsErrOf, length};
+ghost use Rattle.std.specs.Prelude.{◌≡◌, ◌≤◌, [], IfOk, OnOk, IsErrOf, length};
 ghost use Rattle.pt_types.specs.Lawful.{IsLawful};
 ghost use Rattle.pt_semantics.specs.Lists.{Each};
 ghost use Rattle.pt_semantics.specs.Meaning.{IsMeaning, IsLonger, rows_until};
 ghost use Rattle.pt_meaning.specs.Waiting.{rank_in};
 ghost use Rattle.pt_sensors.specs.Listed.{rows_for, IsOfActors};
-ghost use Rattle.pt_meaning.specs.Running.{IsRunnable};
+ghost use Rattle.pt_meaning.specs.Running.{IsRunnable, Handed};
 ghost use Rattle.pt_causality.specs.Wiring.{IsWiring};
 
-use crate::Firings;
 use crate::engine::{begin, fire_next};
+use crate::receiver::Gathered;
+use crate::{Firings, Receiver};
 use pt_causality::{all_edges, outgoing};
 use pt_sensors::SensorRows;
 use pt_tags::List;
@@ -43,48 +44,84 @@ pub fn reference(
     ensures most { IfOk result (λ firings. length firings ≤ most) }
     ensures long { IsErrOf result MeaningFault.Long → IsLonger graph.now (rank_in ranks.now) (λ a. rows_until graph.now.until (rows_for sensors.now a)) most }
 {
+    let firings = Firings::new(alloc);
+    let mut gathered = Gathered { alloc, firings };
+    match fire_all(alloc, graph, ranks, sensors, most, &mut gathered) {
+        Ok(()) => Ok(gathered.firings),
+        Err(fault) => Err(fault),
+    }
+}
+
+/// Gives a receiver the firings that are the meaning of a graph with these rows, one after another: by tag, then rank, then
+/// actor.
+///
+/// `ranks` has the rank of each actor of the graph. Rows past the horizon are left out. Fails with `Long` if there are more
+/// than `most` firings, and with `Memory` if memory runs out, here or in the receiver.
+pub fn fire_all<R: Receiver>(
+    alloc: Global,
+    graph: &Graph,
+    ranks: &[u32],
+    sensors: &[SensorRows],
+    most: usize,
+    receiver: &mut R,
+) -> Result<(), MeaningFault>
+    requires lawful { IsLawful graph.now }
+    requires sensors { Each (IsOfActors (length graph.now.actors)) sensors.now }
+    requires nothing { R.took receiver.old receiver.old [] }
+    ensures meaning { OnOk result (Handed graph.now (rank_in ranks.now) (λ a. rows_until graph.now.until (rows_for sensors.now a)) most (R.took receiver.old receiver.new)) }
+    ensures long { IsErrOf result MeaningFault.Long → IsLonger graph.now (rank_in ranks.now) (λ a. rows_until graph.now.until (rows_for sensors.now a)) most }
+{
     let Ok(edges) = all_edges(alloc, graph) else {
         return Err(MeaningFault::Memory);
     };
     let Ok(outgoing) = outgoing(alloc, graph, edges.as_slice()) else {
         return Err(MeaningFault::Memory);
     };
-    run(alloc, graph, ranks, sensors, outgoing.as_slice(), most)
+    run(
+        alloc,
+        graph,
+        ranks,
+        sensors,
+        outgoing.as_slice(),
+        most,
+        receiver,
+    )
 }
 
 /// Fires one actor after another until nothing waits.
-fn run(
+fn run<R: Receiver>(
     alloc: Global,
     graph: &Graph,
     ranks: &[u32],
     sensors: &[SensorRows],
     outgoing: &[List<Edge>],
     most: usize,
-) -> Result<Firings, MeaningFault>
+    receiver: &mut R,
+) -> Result<(), MeaningFault>
     requires runnable { IsRunnable graph.now }
     requires sensors { Each (IsOfActors (length graph.now.actors)) sensors.now }
     requires wiring { IsWiring graph.now outgoing.now }
     requires len { length outgoing.now ≡ length graph.now.actors }
-    ensures meaning { IfOk result (λ firings. IsMeaning graph.now (rank_in ranks.now) (λ a. rows_until graph.now.until (rows_for sensors.now a)) firings) }
-    ensures most { IfOk result (λ firings. length firings ≤ most) }
+    requires nothing { R.took receiver.old receiver.old [] }
+    ensures meaning { OnOk result (Handed graph.now (rank_in ranks.now) (λ a. rows_until graph.now.until (rows_for sensors.now a)) most (R.took receiver.old receiver.new)) }
     ensures long { IsErrOf result MeaningFault.Long → IsLonger graph.now (rank_in ranks.now) (λ a. rows_until graph.now.until (rows_for sensors.now a)) most }
 {
     let Ok(mut list) = begin(alloc, graph, ranks, sensors) else {
         return Err(MeaningFault::Memory);
     };
-    let mut firings = Firings::new(alloc);
+    let mut count = 0;
     while let Some(next) = list.waiting.first() {
-        if firings.len() >= most {
+        if count >= most {
             return Err(MeaningFault::Long);
         }
         let leaving = outgoing[next.actor as usize].as_slice();
         let Ok(firing) = fire_next(&mut list, graph, ranks, leaving, next.tag, next.actor) else {
             return Err(MeaningFault::Memory);
         };
-        let Ok(more) = firings.with(&firing) else {
+        let Ok(()) = receiver.take(&firing) else {
             return Err(MeaningFault::Memory);
         };
-        firings = more;
+        count += 1;
     }
-    Ok(firings)
+    Ok(())
 }

@@ -1,6 +1,6 @@
 //! The events sent since the start, in the order in which they fire.
 
-ghost use Rattle.std.specs.Prelude.{◌≡◌, ◌<◌, ◌≤◌, ℕ, IfSome, IfNone, OnOk, Some, None, true, slice_set};
+ghost use Rattle.std.specs.Prelude.{◌≡◌, ◌<◌, ◌≤◌, ℕ, IfSome, IfNone, OnOk, Some, None, true, nat_lt, slice_set, if◌then◌else◌};
 ghost use Rattle.std.specs.BTreeMap as tree;
 ghost use Rattle.pt_tags.specs.declared.tag.Tag.{Tag};
 ghost use Rattle.pt_semantics.specs.Meaning.{IsFirst, added, waiting, without};
@@ -98,11 +98,11 @@ impl Pending {
         ensures waits { (rank : ℕ → ℕ) (actors steps : ℕ) → IsSound rank actors steps self.old.events → IsFirst rank (waits_in rank self.old.events) actor tag → waits_in rank self.new.events ≡ without (waits_in rank self.old.events) actor tag }
         ensures sound { (rank : ℕ → ℕ) (actors steps : ℕ) → IsSound rank actors steps self.old.events → IsSound rank actors steps self.new.events }
     {
-        let mut values = [None; 8];
+        let mut values = Ports::new();
         while let Some((port, value)) = self.take_first(tag, actor) {
             put_at(&mut values, port, value);
         }
-        Ports::from_values(values)
+        values
     }
 }
 
@@ -114,10 +114,10 @@ fn is_of(tag: Tag, actor: u32, place: &Place) -> bool
 }
 
 /// Writes a value at a port; does nothing if there is no such port.
-fn put_at(values: &mut [Option<i64>; 8], port: u32, value: i64)
-    ensures { values.new ≡ slice_set values.old port (Some value) }
+fn put_at(values: &mut Ports, port: u32, value: i64)
+    ensures { values.new ≡ (if nat_lt port 8 then slice_set values.old port (Some value) else values.old) }
 {
     if port < 8 {
-        values[port as usize] = Some(value);
+        values.put(port, value);
     }
 }

@@ -2,12 +2,10 @@
 
 ghost use Rattle.std.specs.Prelude.{◌≡◌, ◌<◌, ◌⊎◌, ℕ, IfSome, IfNone, None, true};
 ghost use Rattle.pt_tags.specs.declared.tag.Tag.{Tag};
-ghost use Rattle.pt_types.specs.Ports.{at_port, eight};
 ghost use Rattle.pt_semantics.specs.Firing.{any_present};
-ghost use Rattle.pt_semantics.specs.Lists.{or_else};
 ghost use Rattle.pt_semantics.specs.Meaning.{IsFirst, waiting, without};
 ghost use Rattle.pt_meaning.specs.Waiting.{IsPlaced};
-ghost use Rattle.pt_meaning.specs.Both.{all_waits, AreSound, IsUpTo};
+ghost use Rattle.pt_meaning.specs.Both.{all_waits, with_first, AreSound, IsUpTo};
 
 use crate::early::EarlyList;
 use crate::pending::{Pending, Place};
@@ -46,8 +44,9 @@ impl Waiting {
         ensures sound { (rank : ℕ → ℕ) (actors steps : ℕ) → AreSound rank actors steps self.old → AreSound rank actors steps self.new }
     {
         let early = self.early.take(tag, actor);
-        let late = self.late.take(tag, actor);
-        both(&early, &late)
+        let mut inputs = self.late.take(tag, actor);
+        put_first(&mut inputs, early);
+        inputs
     }
 }
 
@@ -59,28 +58,12 @@ fn sooner(x: Place, y: Place) -> Place
     if x <= y { x } else { y }
 }
 
-/// The values at the ports; if both have one at a port, that of `x`.
-fn both(x: &Ports, y: &Ports) -> Ports
-    ensures { result ≡ eight (λ p. or_else (at_port x.now p) (at_port y.now p)) }
+/// Puts a value, if it is one, at port 0.
+fn put_first(ports: &mut Ports, value: Option<i64>)
+    ensures { ports.new ≡ with_first value ports.old }
 {
-    Ports::from_values([
-        one_of(x.get(0), y.get(0)),
-        one_of(x.get(1), y.get(1)),
-        one_of(x.get(2), y.get(2)),
-        one_of(x.get(3), y.get(3)),
-        one_of(x.get(4), y.get(4)),
-        one_of(x.get(5), y.get(5)),
-        one_of(x.get(6), y.get(6)),
-        one_of(x.get(7), y.get(7)),
-    ])
-}
-
-/// `x` if it is a value, else `y`.
-fn one_of(x: Option<i64>, y: Option<i64>) -> Option<i64>
-    ensures { result ≡ or_else x y }
-{
-    match x {
-        Some(_) => x,
-        None => y,
+    match value {
+        Some(value) => ports.put(0, value),
+        None => (),
     }
 }

@@ -15,9 +15,9 @@ ghost use Rattle.pt_run.specs.Texts.{AsksFor, MeaningFails, MeaningTablesFail, f
 use crate::fault::{Fault, fault_of_cycle, fault_of_rows};
 use pt_causality::{Ranks, ranks_of};
 use pt_io::Source;
-use pt_meaning::{MeaningFault, reference};
+use pt_meaning::MeaningFault;
 use pt_sensors::{LateRows, SensorRows, recorded};
-use pt_tables::tables;
+use pt_tables::tables_of_meaning;
 use pt_types::{Graph, MOST_CLAIMS};
 use std::alloc::Global;
 
@@ -74,13 +74,9 @@ fn meaning_tables(
     ensures fault { IfErr result (λ f. MeaningTablesFail f graph.now (rows_for sensors.now)) }
 {
     let most = MOST_CLAIMS as usize * graph.platforms.as_slice().len();
-    let firings = match reference(alloc, graph, ranks.ranks(), sensors, most) {
-        Ok(firings) => firings,
-        Err(MeaningFault::Long) => return Err(Fault::Long { platform: None }),
-        Err(MeaningFault::Memory) => return Err(Fault::Memory),
-    };
-    match tables(alloc, graph, &firings) {
+    match tables_of_meaning(alloc, graph, ranks.ranks(), sensors, most) {
         Ok(text) => Ok(text),
-        Err(_) => Err(Fault::Memory),
+        Err(MeaningFault::Long) => Err(Fault::Long { platform: None }),
+        Err(MeaningFault::Memory) => Err(Fault::Memory),
     }
 }

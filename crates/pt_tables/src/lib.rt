@@ -5,12 +5,13 @@
 //! pt_semantics, the log in `specs/Log.antt` and `specs/Platforms.antt`, misses in `specs/Misses.antt`, margins in
 //! `specs/Margins.antt`.
 //!
-//! Read first: `tables` and `ActorTables`, then `push_log`, `miss_lines` and `margins`.
+//! Read first: `tables`, `tables_of_meaning` and `ActorTables`, then `push_log`, `miss_lines` and `margins`.
 #![tactic(auto)]
 
 mod actor_tables;
 mod lines;
 mod margin_lines;
+mod meaning;
 mod miss;
 mod names;
 mod platforms;
@@ -20,6 +21,7 @@ mod turns;
 
 pub use actor_tables::{ActorTables, has_table};
 pub use margin_lines::margins;
+pub use meaning::tables_of_meaning;
 pub use miss::{miss_line, miss_lines};
 pub use platforms::push_log;
 pub use text::tables;

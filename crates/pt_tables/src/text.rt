@@ -51,7 +51,7 @@ fn push_firing(
 }
 
 /// The value at input 0; 0 if there is none.
-fn input_value(firing: &ActorFiring) -> i64
+pub(crate) fn input_value(firing: &ActorFiring) -> i64
     ensures { result ≡ or_zero (at_port firing.now.inputs 0) }
 {
     let inputs = &firing.inputs;

@@ -1,7 +1,7 @@
-use Rattle.std.proofs.Common.{◌≡◌, ◌≤◌, ◌+◌, ◌∙◌, ◌++◌, ◌∷◌, [], ap, sym, subst, arith, length}
+use Rattle.std.proofs.Common.{◌≡◌, ◌≤◌, ◌<◌, ◌+◌, ◌∙◌, ◌++◌, ◌∷◌, [], ap, sym, refl, arith, length}
 use Rattle.std.proofs.lemmas.List.{length_push}
 use Rattle.std.proofs.lemmas.Grind.{common_steps}
-use Rattle.pt_semantics.specs.Meaning.{Steps, at_start, rows_until}
+use Rattle.pt_semantics.specs.Meaning.{at_start, rows_until}
 use Rattle.pt_meaning.specs.Waiting.{rank_in}
 use Rattle.pt_meaning.specs.Both.{all_waits}
 use Rattle.pt_sensors.specs.Listed.{rows_for}
@@ -11,67 +11,85 @@ use Rattle.pt_meaning.proofs.Both.{are_sound_more}
 use Rattle.pt_meaning.proofs.Runnable.{present_at}
 use Rattle.pt_meaning.proofs.meaning.run.Goals as goal
 
-pub returns-then-len-most-clause-long : goal.returns-then-len-most-clause-long
-returns-then-len-most-clause-long c = λ _.
+pub loop-next-init : goal.loop-next-init
+loop-next-init g c = record {
+  went = record { firings = []; len = refl; steps = sym c.in-Ok.ensures.world; took = c.requires.nothing };
+  states = c.in-Ok.ensures.states;
+  sound = c.in-Ok.ensures.sound;
+  most = omega arith;
+}
+
+pub returns-then-count-most-clause-long : goal.returns-then-count-most-clause-long
+returns-then-count-most-clause-long g c = λ _.
     let rank = rank_in c.args.ranks.now in
     let n = length c.args.graph.now.actors in
-    let there = present_at (λ p. all_waits rank c.loop-next.list.waiting c.in-Some.next.actor p c.in-Some.next.tag) (c.in-Some.ensures.present rank n (length c.loop-next.firings) c.loop-next.invariant.sound) in
+    let went = c.loop-next.invariant.went in
+    let there = present_at (λ p. all_waits rank c.loop-next.list.waiting c.in-Some.next.actor p c.in-Some.next.tag) (c.in-Some.ensures.present rank n c.loop-next.count c.loop-next.invariant.sound) in
     record {
-      firings = c.loop-next.firings;
-      count = let full : length c.loop-next.firings ≡ c.args.most = omega (arith, c.loop-next.invariant.most, c.len.ensures, c.if-len-most.true) in full;
+      firings = went.firings;
+      count = let full : c.loop-next.count ≡ c.args.most = omega (arith, c.loop-next.invariant.most, c.if-count-most.true) in went.len ∙ full;
       world = world_in c.args.ranks.now c.loop-next.list.waiting c.loop-next.list.states.items;
-      steps = c.loop-next.invariant.steps;
+      steps = went.steps;
       more = (c.in-Some.next.actor, there.0, c.in-Some.next.tag, there.1, there.2);
     }
 
 pub fire_next-requires-clause-first : goal.fire_next-requires-clause-first
-fire_next-requires-clause-first c = c.in-Some.ensures.first (rank_in c.args.ranks.now) (length c.args.graph.now.actors) (length c.loop-next.firings) c.loop-next.invariant.sound
+fire_next-requires-clause-first g c = c.in-Some.ensures.first (rank_in c.args.ranks.now) (length c.args.graph.now.actors) c.loop-next.count c.loop-next.invariant.sound
 
 pub fire_next-requires-clause-present : goal.fire_next-requires-clause-present
-fire_next-requires-clause-present c = c.in-Some.ensures.present (rank_in c.args.ranks.now) (length c.args.graph.now.actors) (length c.loop-next.firings) c.loop-next.invariant.sound
+fire_next-requires-clause-present g c = c.in-Some.ensures.present (rank_in c.args.ranks.now) (length c.args.graph.now.actors) c.loop-next.count c.loop-next.invariant.sound
 
 pub loop-next-preserved : goal.loop-next-preserved
-loop-next-preserved c =
-    let g = c.args.graph.now in let rank = rank_in c.args.ranks.now in let n = length c.args.graph.now.actors in
-    let start = at_start g (λ a. rows_until g.until (rows_for c.args.sensors.now a)) in
+loop-next-preserved g c =
+    let graph = c.args.graph.now in let rank = rank_in c.args.ranks.now in let n = length c.args.graph.now.actors in
+    let start = at_start graph (λ a. rows_until graph.until (rows_for c.args.sensors.now a)) in
     let before = world_in c.args.ranks.now c.loop-next.list.waiting c.loop-next.list.states.items in
     let after = world_in c.args.ranks.now c.fire_next.new.list.waiting c.fire_next.new.list.states.items in
-    let items : c.in-Ok-with.more ≡ c.loop-next.firings ++ c.in-Ok-fire_next.firing ∷ [] = c.in-Ok-with.ensures in
-    let longer : length c.in-Ok-with.more ≡ length c.loop-next.firings + 1 = ap length items ∙ length_push c.loop-next.firings c.in-Ok-fire_next.firing in
-    let here = c.in-Some.ensures.within rank n (length c.loop-next.firings) c.loop-next.invariant.sound in
-    let was = are_sound_more rank n (length c.loop-next.firings) (length c.in-Ok-with.more) c.loop-next.list.waiting (omega (arith, longer)) c.loop-next.invariant.sound in
-    let later : c.in-Some.next.tag.step + 1 ≤ length c.in-Ok-with.more = omega (arith, here.step, longer) in
-    let room : length c.in-Ok-with.more ≤ c.args.most = omega (arith, longer, c.len.ensures, c.if-len-most.false) in
+    let went = c.loop-next.invariant.went in
+    let below : c.loop-next.count < c.args.most = omega (arith, c.if-count-most.false) in
+    let here = c.in-Some.ensures.within rank n c.loop-next.count c.loop-next.invariant.sound in
+    let was = are_sound_more rank n c.loop-next.count (c.loop-next.count + 1) c.loop-next.list.waiting (omega arith) c.loop-next.invariant.sound in
+    let later : c.in-Some.next.tag.step + 1 ≤ c.loop-next.count + 1 = omega (arith, here.step) in
     record {
-      steps = subst (λ xs. Steps g rank start xs after) (sym items)
-          (steps_push g rank start c.loop-next.firings before c.in-Ok-fire_next.firing after c.loop-next.invariant.steps c.in-Ok-fire_next.ensures.fires c.in-Ok-fire_next.ensures.after);
+      went = record {
+        firings = went.firings ++ c.in-Ok-fire_next.firing ∷ [];
+        len = length_push went.firings c.in-Ok-fire_next.firing ∙ ap (λ n. n + 1) went.len;
+        steps = steps_push graph rank start went.firings before c.in-Ok-fire_next.firing after went.steps c.in-Ok-fire_next.ensures.fires c.in-Ok-fire_next.ensures.after;
+        took = c.in-Ok-take.ensures c.args.receiver.now went.firings went.took;
+      };
       states = c.in-Ok-fire_next.ensures.states;
-      sound = c.in-Ok-fire_next.ensures.sound (length c.in-Ok-with.more) later was;
-      most = room;
+      sound = c.in-Ok-fire_next.ensures.sound (c.loop-next.count + 1) later was;
+      most = omega (arith, below);
     }
 
 pub returns-clause-meaning : goal.returns-clause-meaning
-returns-clause-meaning c =
-    let g = c.args.graph.now in let rank = rank_in c.args.ranks.now in
-    steps_end g rank (at_start g (λ a. rows_until g.until (rows_for c.args.sensors.now a))) c.loop-next.firings (world_in c.args.ranks.now c.loop-next.list.waiting c.loop-next.list.states.items) c.loop-next.invariant.steps (c.in_default-first.ensures.empty rank)
+returns-clause-meaning g c =
+    let graph = c.args.graph.now in let rank = rank_in c.args.ranks.now in
+    let went = c.loop-next.invariant.went in
+    record {
+      firings = went.firings;
+      meaning = steps_end graph rank (at_start graph (λ a. rows_until graph.until (rows_for c.args.sensors.now a))) went.firings (world_in c.args.ranks.now c.loop-next.list.waiting c.loop-next.list.states.items) went.steps (c.in_default-first.ensures.empty rank);
+      few = let low : length went.firings ≤ c.args.most = omega (arith, went.len, c.loop-next.invariant.most) in low;
+      took = went.took;
+    }
 
 pub bounds-outgoing-next : goal.bounds-outgoing-next
-bounds-outgoing-next c =
-    let here = c.in-Some.ensures.within (rank_in c.args.ranks.now) (length c.args.graph.now.actors) (length c.loop-next.firings) c.loop-next.invariant.sound in
+bounds-outgoing-next g c =
+    let here = c.in-Some.ensures.within (rank_in c.args.ranks.now) (length c.args.graph.now.actors) c.loop-next.count c.loop-next.invariant.sound in
     omega (arith, here.actor, c.requires.len)
 
 pub fire_next-requires-clause-leaving : goal.fire_next-requires-clause-leaving
-fire_next-requires-clause-leaving c =
-    let here = c.in-Some.ensures.within (rank_in c.args.ranks.now) (length c.args.graph.now.actors) (length c.loop-next.firings) c.loop-next.invariant.sound in
+fire_next-requires-clause-leaving g c =
+    let here = c.in-Some.ensures.within (rank_in c.args.ranks.now) (length c.args.graph.now.actors) c.loop-next.count c.loop-next.invariant.sound in
     let is = c.requires.wiring c.in-Some.next.actor here.actor in
     grind (arith, common_steps, is)
 
 pub fire_next-requires-clause-actor : goal.fire_next-requires-clause-actor
-fire_next-requires-clause-actor c =
-    let here = c.in-Some.ensures.within (rank_in c.args.ranks.now) (length c.args.graph.now.actors) (length c.loop-next.firings) c.loop-next.invariant.sound in
+fire_next-requires-clause-actor g c =
+    let here = c.in-Some.ensures.within (rank_in c.args.ranks.now) (length c.args.graph.now.actors) c.loop-next.count c.loop-next.invariant.sound in
     here.actor
 
 pub fire_next-requires-clause-step : goal.fire_next-requires-clause-step
-fire_next-requires-clause-step c =
-    let here = c.in-Some.ensures.within (rank_in c.args.ranks.now) (length c.args.graph.now.actors) (length c.loop-next.firings) c.loop-next.invariant.sound in
-    omega (arith, here.step, c.len.ensures, c.if-len-most.false)
+fire_next-requires-clause-step g c =
+    let here = c.in-Some.ensures.within (rank_in c.args.ranks.now) (length c.args.graph.now.actors) c.loop-next.count c.loop-next.invariant.sound in
+    omega (arith, here.step, c.if-count-most.false)

@@ -1,5 +1,5 @@
 use Rattle.std.proofs.Common.{◌≡◌, ◌∙◌, ap, sym, subst, rules, arith, suc, length, ℕ, ◌==◌, Some, None}
-use Rattle.pt_types.specs.Ports.{when, eight, only}
+use Rattle.pt_types.specs.Ports.{when}
 use Rattle.pt_semantics.specs.Lists.{or_else}
 use Rattle.pt_meaning.specs.Early.{early_waits, left, Heads, IsOrderly}
 use Rattle.pt_meaning.proofs.Earlies.{others_on, here_on, orderly_on, none_left, all_taken, waits_without}
@@ -26,8 +26,7 @@ pub returns-clause-inputs : goal.returns-clause-inputs
 returns-clause-inputs c = λ rank actors orderly first.
     let none : (p : ℕ) → early_waits (left c.loop-value.self) c.args.actor p c.args.tag ≡ None =
     none_left rank actors c.args.tag c.args.actor (left c.args.self.now) (left c.loop-value.self) first (c.loop-value.invariant.orderly rank actors orderly) c.loop-value.invariant.others c.in_default.ensures.none.0 in
-    let shown : c.first.result ≡ eight (only 0 c.loop-value.first) = search rules in
-    shown ∙ all_taken c.args.tag c.args.actor (left c.args.self.now) (left c.loop-value.self) c.loop-value.first c.loop-value.invariant.here none
+    all_taken c.args.tag c.args.actor (left c.args.self.now) (left c.loop-value.self) c.loop-value.first c.loop-value.invariant.here none
 
 pub returns-clause-waits : goal.returns-clause-waits
 returns-clause-waits c = λ rank actors orderly first.

@@ -1,0 +1,69 @@
+//! The tables of a meaning, filled as its firings happen.
+
+ghost use Rattle.std.specs.Prelude.{◌≡◌, ◌++◌, ◌∷◌, [], List, IfOk, IsErrOf, OnOk, length, string_bytes};
+ghost use Rattle.pt_types.specs.declared.firing.ActorFiring.{ActorFiring};
+ghost use Rattle.pt_types.specs.Lawful.{IsLawful};
+ghost use Rattle.pt_semantics.specs.Lists.{Each};
+ghost use Rattle.pt_semantics.specs.Meaning.{IsLonger, rows_until};
+ghost use Rattle.pt_semantics.specs.Tables.{tables_text};
+ghost use Rattle.pt_sensors.specs.Listed.{rows_for, IsOfActors};
+ghost use Rattle.pt_meaning.specs.Waiting.{rank_in};
+ghost use Rattle.pt_meaning.specs.Running.{Handed};
+ghost use Rattle.pt_tables.specs.Gathered.{texts_from};
+
+use crate::actor_tables::ActorTables;
+use crate::text::input_value;
+use pt_meaning::{MeaningFault, Receiver, fire_all};
+use pt_sensors::SensorRows;
+use pt_tags::Memory;
+use pt_types::{Actor, ActorFiring, Graph};
+use std::alloc::Global;
+
+/// The tables of the firings so far.
+#[derive(Drop)]
+struct Filling<'a> {
+    actors: &'a [Actor],
+    tables: ActorTables,
+}
+
+impl<'a> Receiver for Filling<'a> {
+    ghost took = { λ start now xs. (now.actors.now ≡ start.actors.now) × (now.tables ≡ texts_from 0 start.actors.now xs) };
+
+    fn take(&mut self, firing: &ActorFiring) -> Result<(), Memory> {
+        let value = input_value(firing);
+        self.tables
+            .push(self.actors, firing.actor, firing.tag, value)?;
+        Ok(())
+    }
+}
+
+/// The tables of a graph's actuators as text, in graph order, from the firings that are the meaning of the graph with these
+/// rows. No list of the firings is made.
+///
+/// `ranks` has the rank of each actor of the graph. Rows past the horizon are left out. Fails with `Long` if there are more
+/// than `most` firings.
+pub fn tables_of_meaning(
+    alloc: Global,
+    graph: &Graph,
+    ranks: &[u32],
+    sensors: &[SensorRows],
+    most: usize,
+) -> Result<String, MeaningFault>
+    requires lawful { IsLawful graph.now }
+    requires sensors { Each (IsOfActors (length graph.now.actors)) sensors.now }
+    ensures text { IfOk result (λ text. Handed graph.now (rank_in ranks.now) (λ a. rows_until graph.now.until (rows_for sensors.now a)) most (λ xs. string_bytes text ≡ tables_text graph.now xs)) }
+    ensures long { IsErrOf result MeaningFault.Long → IsLonger graph.now (rank_in ranks.now) (λ a. rows_until graph.now.until (rows_for sensors.now a)) most }
+{
+    let actors = graph.actors.as_slice();
+    let Ok(tables) = ActorTables::new(alloc, actors) else {
+        return Err(MeaningFault::Memory);
+    };
+    let mut filling = Filling { actors, tables };
+    match fire_all(alloc, graph, ranks, sensors, most, &mut filling) {
+        Err(fault) => Err(fault),
+        Ok(()) => match filling.tables.text(alloc) {
+            Ok(text) => Ok(text),
+            Err(_) => Err(MeaningFault::Memory),
+        },
+    }
+}
