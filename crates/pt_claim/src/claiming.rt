@@ -20,7 +20,7 @@ use pt_queue::Waiting;
 use pt_state::{Fields, OpenClaim};
 use pt_types::{Graph, MOST_CLAIMS, Task, Unit};
 
-/// The most units with events for which it is first tried whether only one is safe: a front costs as much as a search of so many.
+/// Up to this many units with events it is first tried whether only one of them is safe: to clear a front takes longer.
 const FEW: usize = 8;
 
 /// The state of an actor.
