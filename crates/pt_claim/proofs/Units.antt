@@ -1,5 +1,5 @@
 -- The paced reading of a unit.
-use Rattle.std.proofs.Common.{◌≡◌, ℕ, ◌≤◌, Option, Some, None, ℤ, pos, negsuc, min, refl, subst, ◌∙◌, arith}
+use Rattle.std.proofs.Common.{◌≡◌, ℕ, ◌≤◌, Option, Some, None, ℤ, pos, negsuc, min, refl, subst, arith}
 use Rattle.std.specs.Int.{int_max, int_min}
 use Rattle.std.proofs.lemmas.Int.{ints, clamps}
 use Rattle.pt_tags.specs.declared.tag.Tag.{Tag}

@@ -20,6 +20,9 @@ use pt_queue::Waiting;
 use pt_state::{Fields, OpenClaim};
 use pt_types::{Graph, MOST_CLAIMS, Task, Unit};
 
+/// Up to this many units with events it is first tried whether only one of them is safe: to clear a front takes longer.
+const FEW: usize = 8;
+
 /// The state of an actor.
 fn state_at(states: &[i64], actor: u32) -> i64
     requires there { actor < length states.now }
@@ -89,6 +92,10 @@ pub fn claims(
     ensures tasks { vec_capacity tasks.old ≤ vec_capacity tasks.new }
 {
     if fields.queue.is_empty() {
+        return;
+    }
+    if fields.queue.waiting().len() > FEW {
+        claim_several(fields, graph, least, offsets, reading, most, tasks);
         return;
     }
     match alone(fields, graph, least, offsets, reading) {

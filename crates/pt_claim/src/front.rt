@@ -107,7 +107,7 @@ fn alone_with(
 
 /// The only safe unit, or `None` if no unit is safe. Stops at the second safe one.
 ///
-/// Mostly at most one unit is safe, and then no front is needed.
+/// Where few units have events mostly at most one is safe, and then no front is needed.
 pub fn alone(
     fields: &Fields,
     graph: &Graph,

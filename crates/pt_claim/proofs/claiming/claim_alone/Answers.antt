@@ -1,8 +1,7 @@
-use Rattle.std.proofs.Common.{◌≡◌, ◌+◌, ◌++◌, ◌∷◌, [], false, refl, ap, sym, subst, inl, inr, ◌∙◌, arith, append_assoc, rules}
+use Rattle.std.proofs.Common.{◌≡◌, ◌++◌, ◌∷◌, [], false, refl, ap, sym, subst, inl, inr, ◌∙◌, arith, rules}
 use Rattle.std.proofs.lemmas.List.{append-nil}
 use Rattle.pt_semantics.specs.Claiming.{Claims, after_claim}
 use Rattle.pt_semantics.specs.Platform.{State}
-use Rattle.pt_semantics.specs.Safe.{NothingSafe}
 use Rattle.pt_queue.specs.Events.{waiting_in}
 use Rattle.pt_state.specs.State.{busy_in, state_of}
 use Rattle.pt_claim.specs.Fronts.{AreFront}

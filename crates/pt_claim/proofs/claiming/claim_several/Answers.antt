@@ -1,11 +1,10 @@
-use Rattle.std.proofs.Common.{◌≡◌, ◌+◌, ◌++◌, ◌∷◌, [], drop, refl, ap, sym, subst, inl, ◌∙◌, arith, append_assoc, length-append, rules}
-use Rattle.std.proofs.lemmas.List.{append-nil}
+use Rattle.std.proofs.Common.{◌≡◌, ◌+◌, ◌++◌, ◌∷◌, [], drop, ap, sym, subst, ◌∙◌, arith, append_assoc, length-append, rules}
 use Rattle.pt_semantics.specs.Claiming.{Claims, after_claim}
 use Rattle.pt_semantics.specs.Platform.{State}
 use Rattle.pt_queue.specs.Events.{waiting_in}
 use Rattle.pt_state.specs.State.{busy_in, state_of}
 use Rattle.pt_claim.specs.Fronts.{AreFront}
-use Rattle.pt_claim.proofs.Fronts.{front_claimed, front_first, not_safe}
+use Rattle.pt_claim.proofs.Fronts.{front_claimed, front_first}
 use Rattle.pt_claim.proofs.Making.{SoFar, claims_push, is_next, others_on}
 use Rattle.pt_claim.proofs.claiming.claim_several.Goals as goal
 

@@ -1,4 +1,4 @@
-use Rattle.std.proofs.Common.{◌≡◌, ◌<◌, [], None, false, length, refl, subst, sym, add-one, arith}
+use Rattle.std.proofs.Common.{◌≡◌, [], length, refl, subst, sym, add-one, arith}
 use Rattle.pt_queue.specs.Events.{waiting_in, AreWaiting}
 use Rattle.pt_state.specs.State.{busy_in}
 use Rattle.pt_claim.specs.Fronts.{AreFirst, one_of}
