@@ -1,5 +1,5 @@
 -- Two maps of events, of which the earlier one's events count first.
-use Rattle.std.proofs.Common.{◌≡◌, ℕ, ◌≤◌, ◌==◌, ◌&&◌, ◌⊎◌, ⊎_elim, inl, inr, not, Bool, true, false, Some, None, Option, ℤ, List, [], ◌∷◌, refl, ap, ap₂, ◌∙◌, arith}
+use Rattle.std.proofs.Common.{◌≡◌, ℕ, ◌≤◌, ◌==◌, ◌&&◌, ◌⊎◌, ⊎_elim, inl, inr, not, Bool, true, false, Some, None, Option, ℤ, List, [], ◌∷◌, refl, ap, ◌∙◌, arith}
 use Rattle.pt_tags.specs.declared.tag.Tag.{Tag}
 use Rattle.pt_tags.specs.Tags.{same_tag}
 use Rattle.pt_types.specs.Ports.{when, at_port, eight, only}

@@ -1,4 +1,4 @@
-use Rattle.std.proofs.Common.{◌≡◌, ◌∙◌, ap}
+use Rattle.std.proofs.Common.{◌∙◌, ap}
 use Rattle.pt_tables.specs.Gathered.{texts_from}
 use Rattle.pt_tables.proofs.meaning.tables_of_meaning.Goals as goal
 
