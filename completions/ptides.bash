@@ -48,7 +48,7 @@ _ptides() {
     done
     command=${COMP_WORDS[first]}
     if ((COMP_CWORD == first)); then
-        mapfile -t COMPREPLY < <(compgen -W "run check meaning make migrate help $(_ptides_companions "${COMP_WORDS[0]}")" -- "$current")
+        mapfile -t COMPREPLY < <(compgen -W "run check meaning make migrate slacks help $(_ptides_companions "${COMP_WORDS[0]}")" -- "$current")
         [[ $current != -* ]] || mapfile -t COMPREPLY < <(compgen -W '-C --help --version' -- "$current")
     elif [[ $before == -C && $command == -C ]]; then
         mapfile -t COMPREPLY < <(
@@ -67,7 +67,7 @@ _ptides() {
         case $command in
             run) options='--workers --clock --log' ;;
             make) options=--workers ;;
-            check | meaning | migrate) ;;
+            check | meaning | migrate | slacks) ;;
             *) options=-h ;;
         esac
         for option in $options; do

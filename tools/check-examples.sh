@@ -12,6 +12,7 @@
 #   expected.log     what `run --log` writes after the table
 #   expected.check   what `check` writes
 #   expected.migrate   what `migrate` writes
+#   expected.slacks  what `slacks` writes
 #   rows.py, make.py   write the sensor files that are stored, or a file that is too large to be stored
 #
 # It also checks the commands and outputs in the READMEs, the schema, the manual page and the completion. What isn't
@@ -118,6 +119,11 @@ check_example() { # NAME FOLDER
         start migrate graph.json
         compare_status "$name: migrate" 0
         compare "$name: expected.migrate" "$folder/expected.migrate" "$work/output"
+    fi
+    if [ -e "$folder/expected.slacks" ]; then
+        start slacks graph.json
+        compare_status "$name: slacks" 0
+        compare "$name: expected.slacks" "$folder/expected.slacks" "$work/output"
     fi
     if [ -e "$folder/expected.csv" ]; then
         check_text "$name" "$folder/expected.csv"

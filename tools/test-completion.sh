@@ -35,7 +35,7 @@ offers() {
     fi
 }
 
-offers 'ptides ' 'check dot help lint make meaning migrate run'
+offers 'ptides ' 'check dot help lint make meaning migrate run slacks'
 offers 'ptides me' 'meaning'
 offers 'ptides -' '-C --help --version'
 offers 'ptides l' 'lint'
@@ -43,7 +43,7 @@ offers 'ptides help ' 'dot lint'
 offers 'ptides lint ' 'graph.json'
 offers 'ptides lint -' '-h'
 offers 'ptides lint READ' 'README.md'
-offers 'no-launcher ' 'check help make meaning migrate run'
+offers 'no-launcher ' 'check help make meaning migrate run slacks'
 offers 'ptides -C ../gov' '../governor'
 offers 'ptides -C .. r' 'run'
 offers 'ptides -C .. -C li' 'line'

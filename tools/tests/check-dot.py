@@ -51,14 +51,14 @@ class Dot(Case):
                     self.assertIn(label, done.output)
 
     def test_refused(self) -> None:
-        """Refused graphs are drawn too if they are JSON, with the line, and with its status."""
+        """Refused graphs are drawn too if they are JSON, with the line of `check`, and with its status."""
         self.need("dot")
         for example in REFUSED:
             line = (example / "expected.notes").read_text()
             folder = copied(example, Path(tempfile.mkdtemp()))
             self.addCleanup(shutil.rmtree, folder)
             make_files(folder)
-            if not line.startswith("graph: ") or line.startswith("graph: too") or not (folder / "graph.json").exists():
+            if not line.startswith("graph: ") or line.startswith(("graph: too", "graph: ring")) or not (folder / "graph.json").exists():
                 continue
             with self.subTest(example=example.name):
                 done = companion("dot", "graph.json", folder=folder)
