@@ -4,7 +4,7 @@ use Rattle.std.specs.List.{cons_option, filter_map, flat_map}
 use Rattle.std.proofs.lemmas.List.{map-append, take_more}
 use Rattle.std.proofs.lemmas.List.Concat.{flat_map-append}
 use Rattle.std.proofs.lemmas.Bool.{cases_Bool, cond-false, cond-true, and_from}
-use Rattle.std.proofs.lemmas.Option.{get_or_from_slice_get, slice_get_within}
+use Rattle.std.proofs.lemmas.Option.{get_or_from_slice_get, slice_get-get_or}
 use Rattle.pt_types.specs.Ports.{at_port, eight}
 use Rattle.pt_types.specs.declared.firing.ActorFiring.{ActorFiring}
 use Rattle.pt_types.specs.declared.firing.Task.{Task}
@@ -27,6 +27,7 @@ use Rattle.pt_types.specs.Groups.{input_group}
 use Rattle.pt_semantics.specs.Turn.{Turn}
 use Rattle.pt_semantics.proofs.Lookups.{same_some}
 use Rattle.pt_semantics.proofs.Words.{when-false, when-true}
+use Rattle.pt_history.specs.Tasks.{no_task}
 use Rattle.pt_tables.specs.Gathered.{texts_from}
 use Rattle.pt_confluence.specs.Gathered.{by_task}
 
@@ -124,13 +125,13 @@ module _ (g : Graph) (tasks : List Task) (xs : List ActorFiring) (inputs : Each 
   same_texts = same_from 0 g.actors (λ i actor h. ap (kind_of g) (omega arith) ∙ ap (λ (y : Actor). y.kind) (get_or_from_slice_get g.actors i actor no_actor h))
 
 -- one task more
-pub one_more : (xs : List ActorFiring) (tasks : List Task) (i : ℕ) (task : Task) → i < length tasks → task ≡ slice_index_or tasks i task → (xs ++ map by_task (take i tasks)) ++ by_task task ∷ [] ≡ xs ++ map by_task (take (i + 1) tasks)
-one_more xs tasks i task lt is =
+pub next_task : (tasks : List Task) (i : ℕ) → i < length tasks → (task : Task) × (slice_get tasks i ≡ Some task) × ((xs : List ActorFiring) → (xs ++ map by_task (take i tasks)) ++ by_task task ∷ [] ≡ xs ++ map by_task (take (i + 1) tasks))
+next_task tasks i lt =
+    let task : Task = slice_index_or tasks i no_task in
+    let at : slice_get tasks i ≡ Some task = slice_get-get_or tasks i no_task lt in
+    (task, at, λ xs.
     append_assoc xs (map by_task (take i tasks)) (by_task task ∷ [])
-    ∙ ap (λ ys. xs ++ ys)
-    (ap (λ (y : Task). map by_task (take i tasks) ++ by_task y ∷ []) is
-    ∙ sym (map-append by_task (take i tasks) (slice_index_or tasks i task ∷ []))
-    ∙ ap (map by_task) (sym (take_more tasks i task lt)))
+    ∙ ap (λ ys. xs ++ ys) (sym (map-append by_task (take i tasks) (task ∷ [])) ∙ ap (map by_task) (sym (take_more tasks i no_task lt))))
 
 -- the tasks of one more of some others
 pub more_tasks : {X : Type 0} (f : X → List Task) (ys : List X) (i : ℕ) (y : X) → i < length ys → y ≡ slice_index_or ys i y → flat_map f (take i ys) ++ f y ≡ flat_map f (take (i + 1) ys)
@@ -143,11 +144,3 @@ pub more_of : {X : Type 0} (f : X → List Task) (xs : List ActorFiring) (ys : L
 more_of f xs ys i y lt is =
     append_assoc xs (map by_task (flat_map f (take i ys))) (map by_task (f y))
     ∙ ap (λ zs. xs ++ zs) (sym (map-append by_task (flat_map f (take i ys)) (f y)) ∙ ap (map by_task) (more_tasks f ys i y lt is))
-
--- a turn by what it claimed
-pub turn_at : (turns : List Turn) (i : ℕ) (tasks : List Task) → option_map (λ (turn : Turn). turn.claimed) (slice_get turns i) ≡ Some tasks → (turn : Turn) × (turn ≡ slice_index_or turns i turn) × (i < length turns) × (turn.claimed ≡ tasks)
-turn_at turns i tasks h = found (slice_get turns i) refl h
-  where
-    found : (o : Option Turn) → slice_get turns i ≡ o → option_map (λ (turn : Turn). turn.claimed) o ≡ Some tasks → (turn : Turn) × (turn ≡ slice_index_or turns i turn) × (i < length turns) × (turn.claimed ≡ tasks)
-    found None at h = cc
-    found (Some turn) at h = (turn, sym (get_or_from_slice_get turns i turn turn at), slice_get_within turns i turn at, same_some turn.claimed tasks h)

@@ -1,7 +1,8 @@
 //! The tables of the actuators, directly from the recorded turns.
 
-ghost use Rattle.std.specs.Prelude.{◌≡◌, ◌++◌, ℕ, IfOk, List, OnOk, flat_map, map, string_bytes};
+ghost use Rattle.std.specs.Prelude.{◌≡◌, ◌<◌, ◌++◌, ◌∷◌, [], ℕ, IfOk, List, OnOk, Some, flat_map, length, map, slice_get, string_bytes};
 ghost use Rattle.pt_types.specs.declared.firing.ActorFiring.{ActorFiring};
+ghost use Rattle.pt_types.specs.declared.firing.Task.{Task};
 ghost use Rattle.pt_types.specs.declared.rows.Row.{Row};
 ghost use Rattle.pt_types.specs.Ports.{at_port};
 ghost use Rattle.pt_semantics.specs.Firing.{or_zero};
@@ -10,9 +11,9 @@ ghost use Rattle.pt_confluence.specs.Gathered.{AreTables, HaveFinished, by_task}
 
 use pt_history::History;
 use pt_offsets::Plan;
-use pt_tables::ActorTables;
+use pt_tables::{ActorTables, has_table};
 use pt_turn::Platform;
-use pt_types::{Actor, Ports, Task};
+use pt_types::{Actor, Ports};
 use std::alloc::{AllocError, Global};
 
 /// The tables of a plan's actuators as text, from the claims of its finished platforms. They are those of the meaning.
@@ -38,20 +39,27 @@ fn push_history(
 ) -> Result<(), AllocError>
     ensures { (xs : List ActorFiring) → tables.old ≡ texts_from 0 actors.now xs → OnOk result (tables.new ≡ texts_from 0 actors.now (xs ++ map by_task (flat_map (λ turn. turn.claimed) history.now.turns))) }
 {
-    for turn in 0..history.turns() {
-        push_tasks(tables, actors, history.claimed(turn))?;
+    for number in 0..history.claims() as usize {
+        push_claim(tables, actors, history, number)?;
     }
     Ok(())
 }
 
-/// Appends the lines of tasks.
-fn push_tasks(tables: &mut ActorTables, actors: &[Actor], tasks: &[Task]) -> Result<(), AllocError>
-    ensures { (xs : List ActorFiring) → tables.old ≡ texts_from 0 actors.now xs → OnOk result (tables.new ≡ texts_from 0 actors.now (xs ++ map by_task tasks.now)) }
+/// Appends the line of a claim. Its inputs are read only if it is an actuator's, since no other has a line.
+fn push_claim(
+    tables: &mut ActorTables,
+    actors: &[Actor],
+    history: &History,
+    number: usize,
+) -> Result<(), AllocError>
+    requires { number < length (flat_map (λ turn. turn.claimed) history.now.turns) }
+    ensures { (xs : List ActorFiring) (task : Task) → slice_get (flat_map (λ turn. turn.claimed) history.now.turns) number ≡ Some task → tables.old ≡ texts_from 0 actors.now xs → OnOk result (tables.new ≡ texts_from 0 actors.now (xs ++ by_task task ∷ [])) }
 {
-    for task in tasks {
-        tables.push(actors, task.actor, task.tag, first_value(&task.inputs))?;
+    if !has_table(actors, history.mark(number).actor) {
+        return Ok(());
     }
-    Ok(())
+    let task = history.task(number);
+    tables.push(actors, task.actor, task.tag, first_value(&task.inputs))
 }
 
 /// The value at input 0; 0 if there is none.

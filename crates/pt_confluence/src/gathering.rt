@@ -29,14 +29,15 @@ pub fn gather(alloc: Global, plan: &Plan, platforms: &[Platform]) -> Result<Firi
     ensures meaning { IfOk result (λ firings. (rows : ℕ → List Row) → HaveFinished plan.now rows platforms.now → IsMeaning plan.now.graph (rank_of plan.now.ranks) rows firings) }
     ensures claimed { IfOk result (λ firings. (rows : ℕ → List Row) → HaveFinished plan.now rows platforms.now → AreClaimed plan.now platforms.now firings) }
 {
-    let mut tasks = all_tasks(alloc, platforms)?;
-    sort(plan.ranks(), &mut tasks);
-    join(alloc, plan.graph(), tasks.as_slice())
+    let tasks = all_tasks(alloc, platforms)?;
+    let mut sorted = references(alloc, tasks.as_slice())?;
+    sort(plan.ranks(), &mut sorted);
+    join(alloc, plan.graph(), sorted.as_slice())
 }
 
 /// All tasks claimed by platforms, platform by platform.
-fn all_tasks(alloc: Global, platforms: &[Platform]) -> Result<Vec<&Task>, Memory>
-    ensures tasks { IfOk result (λ tasks. map (λ task. task.now) tasks.items ≡ flat_map tasks_of platforms.now) }
+fn all_tasks(alloc: Global, platforms: &[Platform]) -> Result<Vec<Task>, Memory>
+    ensures tasks { IfOk result (λ tasks. tasks.items ≡ flat_map tasks_of platforms.now) }
     ensures legal { IfOk result (λ tasks. AreLegal platforms.now) }
 {
     let mut tasks = Vec::new(alloc);
@@ -47,25 +48,26 @@ fn all_tasks(alloc: Global, platforms: &[Platform]) -> Result<Vec<&Task>, Memory
 }
 
 /// Appends the tasks claimed in recorded turns.
-fn push_history<'a>(tasks: &mut Vec<&'a Task>, history: &'a History) -> Result<(), Memory>
-    ensures { OnOk result (map (λ task. task.now) tasks.new.items ≡ map (λ task. task.now) tasks.old.items ++ flat_map (λ turn. turn.claimed) history.now.turns) }
+fn push_history(tasks: &mut Vec<Task>, history: &History) -> Result<(), Memory>
+    ensures { OnOk result (tasks.new.items ≡ tasks.old.items ++ flat_map (λ turn. turn.claimed) history.now.turns) }
 {
-    for turn in 0..history.turns() {
-        push_tasks(tasks, history.claimed(turn))?;
+    for number in 0..history.claims() as usize {
+        tasks.push(history.task(number))?;
     }
     Ok(())
 }
 
-/// Appends tasks.
-fn push_tasks<'a>(tasks: &mut Vec<&'a Task>, claimed: &'a [Task]) -> Result<(), Memory>
-    ensures { OnOk result (map (λ task. task.now) tasks.new.items ≡ map (λ task. task.now) tasks.old.items ++ claimed.now) }
+/// References to tasks, which are cheaper to sort.
+fn references(alloc: Global, tasks: &[Task]) -> Result<Vec<&Task>, Memory>
+    ensures { IfOk result (λ references. map (λ task. task.now) references.items ≡ tasks.now) }
 {
-    for task in claimed {
-        if tasks.push(task).is_err() {
+    let mut references = Vec::new(alloc);
+    for task in tasks {
+        if references.push(task).is_err() {
             return Err(Memory);
         }
     }
-    Ok(())
+    Ok(references)
 }
 
 /// Sorts tasks by tag, rank and actor. Allocates nothing.

@@ -1,14 +1,28 @@
-use Rattle.std.proofs.Common.{◌++◌, map, take, sym, ap, ◌∙◌}
+use Rattle.std.proofs.Common.{◌≡◌, ◌<◌, ◌≤◌, ◌++◌, List, length, map, take, ap, ◌∙◌, arith}
 use Rattle.std.specs.List.{flat_map}
+use Rattle.std.proofs.lemmas.List.{take_all}
+use Rattle.std.proofs.lemmas.Option.{slice_get-get_or}
+use Rattle.pt_types.specs.declared.firing.Task.{Task}
 use Rattle.pt_semantics.specs.Turn.{Turn}
+use Rattle.pt_history.specs.Tasks.{no_task}
 use Rattle.pt_tables.specs.Gathered.{texts_from}
 use Rattle.pt_confluence.specs.Gathered.{by_task}
-use Rattle.pt_confluence.proofs.Lines.{more_of, turn_at}
+use Rattle.pt_confluence.proofs.Lines.{next_task}
 use Rattle.pt_confluence.proofs.actuators.push_history.Goals as goal
 
-pub loop-turn-preserved : goal.loop-turn-preserved
-loop-turn-preserved c = λ xs were.
-    let (turn, at, within, claimed) = turn_at c.args.history.now.turns c.loop-turn.turn c.claimed.result.now c.claimed.ensures in
-    c.in_ok-push_tasks.ensures (xs ++ map by_task (flat_map (λ (t : Turn). t.claimed) (take c.loop-turn.turn c.args.history.now.turns))) (c.loop-turn.invariant xs were)
-    ∙ ap (λ ts. texts_from 0 c.args.actors.now ((xs ++ map by_task (flat_map (λ (t : Turn). t.claimed) (take c.loop-turn.turn c.args.history.now.turns))) ++ map by_task ts)) (sym claimed)
-    ∙ ap (texts_from 0 c.args.actors.now) (more_of (λ (t : Turn). t.claimed) xs c.args.history.now.turns c.loop-turn.turn turn within at)
+pub push_claim-requires : goal.push_claim-requires
+push_claim-requires c = omega (arith, c.loop-number-test.true, c.claims-number-end.ensures)
+
+pub loop-number-preserved : goal.loop-number-preserved
+loop-number-preserved c = λ xs were.
+    let tasks : List Task = flat_map (λ (turn : Turn). turn.claimed) c.args.history.now.turns in
+    let within : c.loop-number.number < length tasks = omega (arith, c.loop-number-test.true, c.claims-number-end.ensures) in
+    let (task, at, puts) = next_task tasks c.loop-number.number within in
+    c.in_ok-push_claim.ensures (xs ++ map by_task (take c.loop-number.number tasks)) task at (c.loop-number.invariant xs were)
+    ∙ ap (texts_from 0 c.args.actors.now) (puts xs)
+
+pub returns : goal.returns
+returns c = λ xs were.
+    let tasks : List Task = flat_map (λ (turn : Turn). turn.claimed) c.args.history.now.turns in
+    let past : length tasks ≤ c.loop-number.number = omega (arith, c.loop-number-test.false, c.claims-number-end.ensures) in
+    c.loop-number.invariant xs were ∙ ap (λ ts. texts_from 0 c.args.actors.now (xs ++ map by_task ts)) (take_all c.loop-number.number tasks past)

@@ -6,5 +6,5 @@ use Rattle.pt_tables.specs.Gathered.{texts_from}
 use Rattle.pt_confluence.specs.Gathered.{by_task}
 use Rattle.pt_confluence.proofs.actuators.push_history.Given as goal
 
-abbrev pub invariant-loop-turn : goal.invariant-loop-turn
-invariant-loop-turn l = (xs : List ActorFiring) → l.fn.tables ≡ texts_from 0 l.actors xs → l.tables ≡ texts_from 0 l.actors (xs ++ map by_task (flat_map (λ (turn : Turn). turn.claimed) (take l.turn l.history.turns)))
+abbrev pub invariant-loop-number : goal.invariant-loop-number
+invariant-loop-number l = (xs : List ActorFiring) → l.fn.tables ≡ texts_from 0 l.actors xs → l.tables ≡ texts_from 0 l.actors (xs ++ map by_task (take l.number (flat_map (λ (turn : Turn). turn.claimed) l.history.turns)))

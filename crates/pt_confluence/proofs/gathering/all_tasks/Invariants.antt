@@ -1,11 +1,10 @@
-use Rattle.std.proofs.Common.{◌≡◌, map, take, Bor}
+use Rattle.std.proofs.Common.{◌≡◌, take}
 use Rattle.std.specs.List.{flat_map}
-use Rattle.pt_types.specs.declared.firing.Task.{Task}
 use Rattle.pt_confluence.specs.Gathered.{AreLegal, tasks_of}
 use Rattle.pt_confluence.proofs.gathering.all_tasks.Given as goal
 
 abbrev pub invariant-loop-platform : goal.invariant-loop-platform
 invariant-loop-platform l = record {
-  tasks : map (λ (task : Bor Task). task.now) l.tasks.items ≡ flat_map tasks_of (take l.platform-index l.platforms);
+  tasks : l.tasks.items ≡ flat_map tasks_of (take l.platform-index l.platforms);
   legal : AreLegal (take l.platform-index l.platforms);
 }

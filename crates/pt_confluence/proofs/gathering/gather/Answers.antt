@@ -16,14 +16,14 @@ use Rattle.pt_confluence.proofs.gathering.gather.Goals as goal
 
 pub returns-clause-meaning : goal.returns-clause-meaning
 returns-clause-meaning c =
-    let sorted : AreOrdered (rank_of c.args.plan.now.ranks) (map (λ (task : Bor Task). task.now) c.in_ok-tasks.tasks.items) (map (λ (task : Bor Task). task.now) c.sort.new.tasks.items) =
-    subst (λ (r : Ranks). AreOrdered (rank_of r) (map (λ (task : Bor Task). task.now) c.in_ok-tasks.tasks.items) (map (λ (task : Bor Task). task.now) c.sort.new.tasks.items)) c.ranks.ensures.value
-    (sorted_tasks (λ (task : Bor Task). task.now) (rank_of c.ranks.result.now) c.in_ok-tasks.tasks.items c.sort.new.tasks.items c.sort.ensures.permutation c.sort.ensures.sorted) in
+    let sorted : AreOrdered (rank_of c.args.plan.now.ranks) (map (λ (task : Bor Task). task.now) c.in_ok-sorted.sorted.items) (map (λ (task : Bor Task). task.now) c.sort.new.tasks.items) =
+    subst (λ (r : Ranks). AreOrdered (rank_of r) (map (λ (task : Bor Task). task.now) c.in_ok-sorted.sorted.items) (map (λ (task : Bor Task). task.now) c.sort.new.tasks.items)) c.ranks.ensures.value
+    (sorted_tasks (λ (task : Bor Task). task.now) (rank_of c.ranks.result.now) c.in_ok-sorted.sorted.items c.sort.new.tasks.items c.sort.ensures.permutation c.sort.ensures.sorted) in
     let ordered : AreOrdered (rank_of c.args.plan.now.ranks) (flat_map tasks_of c.args.platforms.now) (map (λ (task : Bor Task). task.now) c.sort.new.tasks.items) =
-    subst (λ ts. AreOrdered (rank_of c.args.plan.now.ranks) ts (map (λ (task : Bor Task). task.now) c.sort.new.tasks.items)) c.in_ok-tasks.ensures.tasks sorted in
+    subst (λ ts. AreOrdered (rank_of c.args.plan.now.ranks) ts (map (λ (task : Bor Task). task.now) c.sort.new.tasks.items)) (c.in_ok-sorted.ensures ∙ c.as_slice.ensures.value ∙ c.in_ok-tasks.ensures.tasks) sorted in
     IfOk-weaker c.join.result _ _ (λ firings is rows run.
     subst (IsMeaning c.args.plan.now.graph (rank_of c.args.plan.now.ranks) rows)
-    (ap₂ (λ (g : Graph) (ts : List (Bor Task)). map (whole g) (joined (map (λ (task : Bor Task). task.now) ts))) (sym c.graph.ensures.value) (sym c.as_slice.ensures.value) ∙ sym is)
+    (ap₂ (λ (g : Graph) (ts : List (Bor Task)). map (whole g) (joined (map (λ (task : Bor Task). task.now) ts))) (sym c.graph.ensures.value) (sym c.as_slice-2.ensures.value) ∙ sym is)
     (meaning_is c.args.plan.now rows c.args.platforms.now c.graph.ensures.admitted run c.in_ok-tasks.ensures.legal (map (λ (task : Bor Task). task.now) c.sort.new.tasks.items) ordered)) c.join.ensures
 
 pub returns-clause-claimed : goal.returns-clause-claimed

@@ -1,15 +1,24 @@
-use Rattle.std.proofs.Common.{◌++◌, Bor, map, take, sym, ap, ◌∙◌, append_assoc}
+use Rattle.std.proofs.Common.{◌≡◌, ◌≤◌, ◌++◌, ◌∷◌, [], List, length, take, sym, ap, ◌∙◌, append_assoc, arith}
 use Rattle.std.specs.List.{flat_map}
+use Rattle.std.proofs.lemmas.List.{take_all}
 use Rattle.pt_types.specs.declared.firing.Task.{Task}
 use Rattle.pt_semantics.specs.Turn.{Turn}
-use Rattle.pt_confluence.proofs.Lines.{more_tasks, turn_at}
+use Rattle.pt_history.proofs.InTurn.{take_next}
 use Rattle.pt_confluence.proofs.gathering.push_history.Goals as goal
 
-pub loop-turn-preserved : goal.loop-turn-preserved
-loop-turn-preserved c =
-    let (turn, at, within, claimed) = turn_at c.args.history.now.turns c.loop-turn.turn c.claimed.result.now c.claimed.ensures in
-    c.in_ok-push_tasks.ensures
-    ∙ ap (λ ts. ts ++ c.claimed.result.now) c.loop-turn.invariant
-    ∙ ap (λ ts. (map (λ (task : Bor Task). task.now) c.args.tasks.now.items ++ flat_map (λ (t : Turn). t.claimed) (take c.loop-turn.turn c.args.history.now.turns)) ++ ts) (sym claimed)
-    ∙ append_assoc (map (λ (task : Bor Task). task.now) c.args.tasks.now.items) (flat_map (λ (t : Turn). t.claimed) (take c.loop-turn.turn c.args.history.now.turns)) turn.claimed
-    ∙ ap (λ ts. map (λ (task : Bor Task). task.now) c.args.tasks.now.items ++ ts) (more_tasks (λ (t : Turn). t.claimed) c.args.history.now.turns c.loop-turn.turn turn within at)
+pub task-requires : goal.task-requires
+task-requires c = omega (arith, c.loop-number-test.true, c.claims-number-end.ensures)
+
+pub loop-number-preserved : goal.loop-number-preserved
+loop-number-preserved c =
+    let tasks : List Task = flat_map (λ (turn : Turn). turn.claimed) c.args.history.now.turns in
+    c.in_ok-push.ensures.items
+    ∙ ap (λ ts. ts ++ c.task.result ∷ []) c.loop-number.invariant
+    ∙ append_assoc c.args.tasks.now.items (take c.loop-number.number tasks) (c.task.result ∷ [])
+    ∙ ap (λ ts. c.args.tasks.now.items ++ ts) (sym (take_next tasks c.loop-number.number c.task.result c.task.ensures))
+
+pub returns : goal.returns
+returns c =
+    let tasks : List Task = flat_map (λ (turn : Turn). turn.claimed) c.args.history.now.turns in
+    let past : length tasks ≤ c.loop-number.number = omega (arith, c.loop-number-test.false, c.claims-number-end.ensures) in
+    c.loop-number.invariant ∙ ap (λ ts. c.args.tasks.now.items ++ ts) (take_all c.loop-number.number tasks past)
