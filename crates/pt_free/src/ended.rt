@@ -1,18 +1,21 @@
 //! A threaded run: the workers visit the stations, and then the caller visits them to the end.
 ghost use Rattle.pt_pool.specs.Station.{graph_of};
 ghost use Rattle.std.specs.Prelude.{◌≡◌, ◌≤◌, Ok, None, length, vec_len, IfOk, IfSome, OnOk, false};
+ghost use Rattle.pt_free.specs.Helpers.{AreTables};
 ghost use Rattle.pt_free.specs.Orders.{numbers, count_up, AllDone, AreUnmarked, HasFailed};
 ghost use Rattle.pt_free.specs.Surveys.{Surveyed};
 
+use crate::boards::{NewBoard, empty_crews, open_boards};
 use crate::hand::Hand;
 use crate::order::in_order;
 use crate::results::Results;
 use crate::threads::{Gate, run_workers};
-use crate::workers::{Shared, lock_all, unlock_all};
+use crate::workers::{Shared, lock_all, lock_crews, unlock_all};
 use pt_actors::Tasks;
 use pt_blocks::Blocks;
 use pt_io::Clock;
 use pt_pool::{Run, Station};
+use pt_sites::Boards;
 use pt_tags::Memory;
 use pt_turn::Platform;
 use std::alloc::Global;
@@ -158,6 +161,7 @@ fn finish<J: Run, C: Clock, R: Wait>(
 fn free_in<
     J: Run + Send + Sync,
     L: Ledger + Send + Sync,
+    B: Boards + Send + Sync,
     C: Clock + Send,
     G: Gate + Sync,
     R: Threads + Wait + Sync,
@@ -166,6 +170,7 @@ fn free_in<
     alloc: Global,
     blank: Blank,
     stations: Vec<Station<J, C>>,
+    boards: Vec<NewBoard<J>>,
     hand: Hand<J>,
     blocks: &Blocks,
     workers: u32,
@@ -176,29 +181,39 @@ fn free_in<
     requires count { vec_len stations ≡ length (graph_of J.plan).platforms }
     requires order { numbers stations.items ≡ count_up (vec_len stations) }
     requires few { length (graph_of J.plan).platforms ≤ 16 }
+    requires boards { (vec_len boards ≡ vec_len stations) × AreTables B.table boards.items }
     requires most { (1 ≤ most) × (most ≤ 32) }
     ensures order { IfOk result (λ e. (vec_len e.stations ≡ length (graph_of J.plan).platforms) × (numbers e.stations.items ≡ count_up (length (graph_of J.plan).platforms))) }
     ensures done { IfOk result (λ e. e.fault ≡ None → AllDone e.stations.items) }
     ensures fault { IfOk result (λ e. IfSome e.fault (HasFailed e.stations.items)) }
     ensures unmarked { IfOk result (λ e. AreUnmarked e.stations.items) }
 {
-    let (bays, total, rest) = lock_all::<J, L, C>(alloc, blank, stations)?;
-    let shared = Shared::new(hand, bays, most);
+    let mut crews = empty_crews::<J, B>(alloc, workers)?;
+    let (bays, total, rest) = lock_all::<J, L, B, C>(
+        alloc,
+        blank,
+        stations,
+        boards,
+        crews.as_mut_slice(),
+    )?;
+    let shared = Shared::new(hand, bays, lock_crews(alloc, crews)?, most);
     run_workers(rt, alloc, &shared, blocks, workers, gate);
     let Shared {
         hand,
         bays,
+        crews,
         signs: _,
         most: _,
     } = shared;
-    let stations = unlock_all(alloc, bays, &total, rest)?;
+    let stations = unlock_all(alloc, bays, crews, &total, rest)?;
     let mut stations = in_order(alloc, stations)?;
     let fault = finish(rt, alloc, &hand, blocks, most, &mut stations)?;
     Ok(Ended { stations, fault })
 }
 
 /// Runs the stations of all platforms of a plan by `workers` threads: each visits the stations one after another, each under
-/// its lock, and fires what a visit claimed. A platform claims at most `most` units at a visit. After the workers the caller
+/// its lock. What a visit claims goes onto the station's board, from which each worker takes a task after its visits and fires it
+/// without a lock. A platform claims at most `most` units at a visit. After the workers the caller
 /// visits all stations until all are finished or one has a fault: the first that has one is named. Every visit had its memory.
 ///
 /// If the readings of a clock stop rising, the run may go on forever. If memory runs out, the stations are lost.
@@ -222,7 +237,8 @@ pub fn free<J: Run + Send + Sync, C: Clock + Send, G: Gate + Sync, R: Threads + 
     ensures unmarked { IfOk result (λ e. AreUnmarked e.stations.items) }
 {
     let blank = Blank::new(stations.len() as u64);
-    free_in::<J, Brand, C, G, R>(
-        rt, alloc, blank, stations, hand, blocks, workers, most, gate,
+    let boards = open_boards(alloc, &hand, stations.len())?;
+    free_in::<J, Brand, Brand, C, G, R>(
+        rt, alloc, blank, stations, boards, hand, blocks, workers, most, gate,
     )
 }

@@ -45,6 +45,13 @@ impl<J: Run> Hand<J> {
         }
     }
 
+    /// The run's graph.
+    pub(crate) fn graph(&self) -> &Graph
+        ensures { result.now ≡ graph_of J.plan }
+    {
+        self.plan.graph()
+    }
+
     /// Fires a task.
     pub fn fire(&self, blocks: &Blocks, task: &Task) -> Done
         ensures task { result.task ≡ task.now }

@@ -3,8 +3,10 @@
 //! Read first: `free`, then `specs/Orders.antt`.
 #![tactic(auto)]
 
+mod boards;
 mod ended;
 mod hand;
+mod helper;
 mod order;
 mod results;
 mod threads;

@@ -54,9 +54,4 @@ impl<J: Run> Results<J> {
     {
         self.items.as_slice()
     }
-
-    /// None is left.
-    pub(crate) fn clear(&mut self) {
-        self.items.clear();
-    }
 }

@@ -1,16 +1,19 @@
-//! Workers over locked stations.
+//! Workers over locked sites.
 ghost use Rattle.pt_pool.specs.Station.{graph_of};
 ghost use Rattle.std.specs.Prelude.{◌≡◌, ◌+◌, ◌^◌, ◌<◌, ◌≤◌, ℕ, length, vec_len, IfOk};
 ghost use Rattle.pt_post.specs.Posted.{IsDone};
+ghost use Rattle.pt_free.specs.Helpers.{AreTables};
 ghost use Rattle.pt_free.specs.Orders.{numbers, count_up, weight};
 
+use crate::boards::{NewBoard, dismiss, staff};
 use crate::hand::Hand;
-use crate::results::Results;
+use crate::helper::Helper;
 use crate::threads::{Gate, Rota};
 use pt_actors::{Done, Tasks};
 use pt_blocks::Blocks;
 use pt_io::Clock;
 use pt_pool::{Run, Station};
+use pt_sites::{Boards, Site};
 use pt_tags::Memory;
 use pt_turn::Platform;
 use pt_types::Task;
@@ -20,14 +23,13 @@ use std::sync::ledger::{Blank, Ledger, Share, Total};
 use std::sync::{Mutex, Wait};
 use std::thread::yield_now;
 
-/// What a lock guards: a station, the results that wait for its next visit, and one part of the run's ledger.
+/// What a lock guards: a site, and one part of the run's ledger.
 #[derive(Drop)]
-pub(crate) struct Bay<J: Run, L: Ledger, C: Clock> {
-    station: Station<J, C>,
-    results: Results<J>,
+pub(crate) struct Bay<J: Run, L: Ledger, B: Boards, C: Clock> {
+    site: Site<J, B, C>,
     share: Share<L>,
     ghost one_part: { share.parts ≡ 1 },
-    ghost amount: { share.amount ≡ 2 ^ station.platform.number },
+    ghost amount: { share.amount ≡ 2 ^ site.station.platform.number },
 }
 
 /// How a visit went, for the worker.
@@ -77,8 +79,38 @@ fn was_quiet(platform: &Platform) -> bool {
     history.turns() != 0 && history.was_quiet()
 }
 
-impl<J: Run, L: Ledger, C: Clock> Bay<J, L, C> {
-    /// One visit, with the results that wait.
+/// One visit of a site. `tasks` gets the tasks that found no free slot on the board.
+fn visit_site<J: Run, B: Boards, C: Clock, R: Wait>(
+    rt: &R,
+    alloc: Global,
+    site: &mut Site<J, B, C>,
+    most: usize,
+    tasks: &mut Tasks,
+) -> (u32, Went)
+    requires most { (1 ≤ most) × (most ≤ 32) }
+    ensures { site.new.station.platform.number ≡ site.old.station.platform.number }
+{
+    let platform = site.platform();
+    let number = platform.number();
+    if platform.fault().is_some() || site.marked() {
+        return (number, Went::Failed);
+    }
+    let was = platform.finished();
+    let Ok(()) = site.visit(rt, alloc, most, tasks) else {
+        return (number, Went::Failed);
+    };
+    let platform = site.platform();
+    if !was && platform.finished() {
+        (number, Went::Finished)
+    } else if was_quiet(platform) {
+        (number, Went::Quiet)
+    } else {
+        (number, Went::On)
+    }
+}
+
+impl<J: Run, L: Ledger, B: Boards, C: Clock> Bay<J, L, B, C> {
+    /// One visit. `tasks` gets the tasks that found no free slot on the board.
     fn visit<R: Wait>(
         &mut self,
         rt: &R,
@@ -88,44 +120,22 @@ impl<J: Run, L: Ledger, C: Clock> Bay<J, L, C> {
     ) -> (u32, Went)
         requires most { (1 ≤ most) × (most ≤ 32) }
     {
-        let platform = self.station.platform();
-        let number = platform.number();
-        if platform.fault().is_some() || self.station.marked() {
-            return (number, Went::Failed);
-        }
-        let was = platform.finished();
-        let answer = self
-            .station
-            .visit(rt, alloc, self.results.as_slice(), most, tasks);
-        self.results.clear();
-        match answer {
-            Err(_) => (number, Went::Failed),
-            Ok(()) => {
-                let platform = self.station.platform();
-                if !was && platform.finished() {
-                    (number, Went::Finished)
-                } else if was_quiet(platform) {
-                    (number, Went::Quiet)
-                } else {
-                    (number, Went::On)
-                }
-            }
-        }
+        visit_site(rt, alloc, &mut self.site, most, tasks)
     }
 
     /// Keeps a result for the next visit. `false` if memory ran out.
     fn keep(&mut self, done: Done) -> bool
         requires { IsDone (graph_of J.plan) done }
     {
-        self.results.keep(done)
+        self.site.keep(done).is_ok()
     }
 }
 
 /// One visit under the lock.
-fn visit_at<J: Run, L: Ledger, C: Clock, R: Wait>(
+fn visit_at<J: Run, L: Ledger, B: Boards, C: Clock, R: Wait>(
     rt: &R,
     alloc: Global,
-    bay: &Mutex<Bay<J, L, C>>,
+    bay: &Mutex<Bay<J, L, B, C>>,
     most: usize,
     tasks: &mut Tasks,
 ) -> (u32, Went)
@@ -135,9 +145,9 @@ fn visit_at<J: Run, L: Ledger, C: Clock, R: Wait>(
 }
 
 /// A result goes back to the platform that claimed the task.
-fn keep_at<J: Run, L: Ledger, C: Clock, R: Wait>(
+fn keep_at<J: Run, L: Ledger, B: Boards, C: Clock, R: Wait>(
     rt: &R,
-    bay: &Mutex<Bay<J, L, C>>,
+    bay: &Mutex<Bay<J, L, B, C>>,
     done: Done,
 ) -> bool
     requires { IsDone (graph_of J.plan) done }
@@ -145,11 +155,15 @@ fn keep_at<J: Run, L: Ledger, C: Clock, R: Wait>(
     bay.lock(rt).keep(done)
 }
 
-/// What all workers share: the stations under their locks, and what fires their tasks.
+/// The hands of one worker, by the order of the sites.
+type Crew<J, B> = Vec<Helper<J, B>>;
+
+/// What all workers share: the sites under their locks, what fires their tasks, and each worker's hands.
 #[derive(Drop)]
-pub(crate) struct Shared<J: Run, L: Ledger, C: Clock> {
+pub(crate) struct Shared<J: Run, L: Ledger, B: Boards, C: Clock> {
     pub(crate) hand: Hand<J>,
-    pub(crate) bays: Vec<Mutex<Bay<J, L, C>>>,
+    pub(crate) bays: Vec<Mutex<Bay<J, L, B, C>>>,
+    pub(crate) crews: Vec<Mutex<Crew<J, B>>>,
     pub(crate) signs: Signs,
     /// How many units a platform claims at most at a visit.
     pub(crate) most: usize,
@@ -157,9 +171,14 @@ pub(crate) struct Shared<J: Run, L: Ledger, C: Clock> {
     ghost few: { most ≤ 32 },
 }
 
-impl<J: Run, L: Ledger, C: Clock> Shared<J, L, C> {
+impl<J: Run, L: Ledger, B: Boards, C: Clock> Shared<J, L, B, C> {
     /// No worker has begun.
-    pub(crate) fn new(hand: Hand<J>, bays: Vec<Mutex<Bay<J, L, C>>>, most: usize) -> Shared<J, L, C>
+    pub(crate) fn new(
+        hand: Hand<J>,
+        bays: Vec<Mutex<Bay<J, L, B, C>>>,
+        crews: Vec<Mutex<Crew<J, B>>>,
+        most: usize,
+    ) -> Shared<J, L, B, C>
         requires most { (1 ≤ most) × (most ≤ 32) }
         ensures { result.bays ≡ bays }
     {
@@ -170,45 +189,111 @@ impl<J: Run, L: Ledger, C: Clock> Shared<J, L, C> {
         Shared {
             hand,
             bays,
+            crews,
             signs,
             most,
         }
     }
 }
 
-/// Visits the stations one after another, and fires what a visit claimed once it has released the lock. After a round in which
-/// nothing happened it lets other threads run.
-fn work<J: Run, L: Ledger, C: Clock, G: Gate, R: Wait>(
+/// Takes the tickets of a board one after another, until no task is found ready. Says whether there was one.
+fn serve_all<J: Run, B: Boards, G: Gate, R: Wait>(
+    rt: &R,
+    helper: &mut Helper<J, B>,
+    firing: &Hand<J>,
+    blocks: &Blocks,
+    gate: &G,
+) -> bool {
+    let mut some = false;
+    'tickets: for _ in rt.forever() {
+        if !helper.serve(firing, blocks, gate) {
+            break;
+        }
+        some = true;
+    }
+    some
+}
+
+/// Fires the tasks that found no free slot on the board of a site.
+fn fire_left<J: Run, L: Ledger, B: Boards, C: Clock, G: Gate, R: Wait>(
+    rt: &R,
+    shared: &Shared<J, L, B, C>,
+    bay: &Mutex<Bay<J, L, B, C>>,
+    blocks: &Blocks,
+    number: u32,
+    tasks: &[Task],
+    gate: &G,
+) {
+    for task in tasks {
+        gate.at(number, task);
+        if !keep_at(rt, bay, shared.hand.fire(blocks, task)) {
+            shared.signs.note(Went::Failed);
+        }
+    }
+}
+
+/// Visits a site, and then, with the lock released, fires the tasks that lie ready on its board. Says whether nothing happened.
+fn visit_and_fire<J: Run, L: Ledger, B: Boards, C: Clock, G: Gate, R: Wait>(
     rt: &R,
     alloc: Global,
-    shared: &Shared<J, L, C>,
+    shared: &Shared<J, L, B, C>,
+    bay: &Mutex<Bay<J, L, B, C>>,
+    helper: Option<&mut Helper<J, B>>,
+    blocks: &Blocks,
+    tasks: &mut Tasks,
+    gate: &G,
+) -> bool {
+    tasks.clear();
+    let (number, went) = visit_at(rt, alloc, bay, shared.most, tasks);
+    let quiet = went.is_quiet();
+    shared.signs.note(went);
+    fire_left(rt, shared, bay, blocks, number, tasks.as_slice(), gate);
+    let served = match helper {
+        Some(helper) => serve_all(rt, helper, &shared.hand, blocks, gate),
+        None => false,
+    };
+    quiet && !served
+}
+
+/// The place after this one, from 0 on again after the last.
+fn next_place(at: usize, count: usize) -> usize
+    requires { at < count }
+    ensures { result < count }
+{
+    if at + 1 < count { at + 1 } else { 0 }
+}
+
+/// Visits the sites one after another, and fires tasks of each. After a round in which nothing happened it lets other threads run.
+fn work<J: Run, L: Ledger, B: Boards, C: Clock, G: Gate, R: Wait>(
+    rt: &R,
+    alloc: Global,
+    shared: &Shared<J, L, B, C>,
     blocks: &Blocks,
     first: usize,
     gate: &G,
 ) {
     let bays = shared.bays.as_slice();
-    let signs = &shared.signs;
+    let Some(crew) = shared.crews.as_slice().get(first) else {
+        return;
+    };
     if bays.is_empty() {
         return;
     }
+    let mut crew = crew.lock(rt);
+    let helpers = &mut *crew;
     let mut at = first % bays.len();
     let mut quiet = 0;
     let mut tasks = Tasks::new(alloc);
     'rounds: for _ in rt.forever() {
-        if signs.ended() {
+        if shared.signs.ended() {
             break;
         }
-        tasks.clear();
-        let (number, went) = visit_at(rt, alloc, &bays[at], shared.most, &mut tasks);
-        quiet = if went.is_quiet() { quiet + 1 } else { 0 };
-        signs.note(went);
-        for task in tasks.as_slice() {
-            gate.at(number, task);
-            if !keep_at(rt, &bays[at], shared.hand.fire(blocks, task)) {
-                signs.note(Went::Failed);
-            }
-        }
-        at = if at + 1 < bays.len() { at + 1 } else { 0 };
+        let helper = helpers.as_mut_slice().get_mut(at);
+        let idle = visit_and_fire(
+            rt, alloc, shared, &bays[at], helper, blocks, &mut tasks, gate,
+        );
+        quiet = if idle { quiet + 1 } else { 0 };
+        at = next_place(at, bays.len());
         if quiet == bays.len() {
             quiet = 0;
             yield_now();
@@ -216,7 +301,8 @@ fn work<J: Run, L: Ledger, C: Clock, G: Gate, R: Wait>(
     }
 }
 
-impl<J: Run + Send + Sync, L: Ledger + Send + Sync, C: Clock + Send> Rota for Shared<J, L, C> {
+impl<J: Run + Send + Sync, L: Ledger + Send + Sync, B: Boards + Send + Sync, C: Clock + Send> Rota
+    for Shared<J, L, B, C> {
     fn work<G: Gate, R: Wait>(
         &self,
         rt: &R,
@@ -236,16 +322,20 @@ fn power(n: u32) -> u64
     1u64 << n
 }
 
-/// Puts each station under a lock, beside a share of one part whose amount is 2 to the power of its number.
-pub(crate) fn lock_all<J: Run, L: Ledger, C: Clock>(
+/// Puts each station, with its board, under a lock, beside a share of one part whose amount is 2 to the power of its number.
+/// Each crew gets a hand at each board.
+pub(crate) fn lock_all<J: Run, L: Ledger, B: Boards, C: Clock>(
     alloc: Global,
     blank: Blank,
     mut stations: Vec<Station<J, C>>,
-) -> Result<(Vec<Mutex<Bay<J, L, C>>>, Total<L>, Share<L>), Memory>
+    mut boards: Vec<NewBoard<J>>,
+    crews: &mut [Crew<J, B>],
+) -> Result<(Vec<Mutex<Bay<J, L, B, C>>>, Total<L>, Share<L>), Memory>
     requires name { (blank.name ≡ L.name) × (blank.parts ≡ L.parts) }
     requires parts { L.parts ≡ vec_len stations }
     requires order { numbers stations.items ≡ count_up (vec_len stations) }
     requires few { length (graph_of J.plan).platforms ≤ 16 }
+    requires boards { (vec_len boards ≡ vec_len stations) × AreTables B.table boards.items }
     ensures parts { IfOk result (λ r. (vec_len r.0 ≡ vec_len stations) × (r.1.parts ≡ vec_len stations)) }
     ensures total { IfOk result (λ r. r.1.amount + 1 ≡ 2 ^ vec_len stations) }
     ensures rest { IfOk result (λ r. (r.2.parts ≡ 0) × (r.2.amount ≡ 0)) }
@@ -255,22 +345,56 @@ pub(crate) fn lock_all<J: Run, L: Ledger, C: Clock>(
         return Err(Memory);
     };
     while let Some(station) = stations.pop() {
+        let Some(board) = boards.pop() else {
+            unreachable!()
+        };
+        let mut site = board.with_station(alloc, station);
+        staff(&mut site, crews)?;
         let mut share = rest.split_off(1, 0);
-        book.add(&mut share, power(station.platform().number()));
-        bays.push_reserved(Mutex::new(Bay {
-            station,
-            results: Results::new(alloc),
-            share,
-        }));
+        book.add(&mut share, power(site.platform().number()));
+        bays.push_reserved(Mutex::new(Bay { site, share }));
     }
     bays.as_mut_slice().reverse();
     Ok((bays, book.close(), rest))
 }
 
-/// Takes each station out from under its lock. Their powers add up to the ledger's total.
-pub(crate) fn unlock_all<J: Run, L: Ledger, C: Clock>(
+/// Puts each crew under a lock, its hands in the order of the sites.
+pub(crate) fn lock_crews<J: Run, B: Boards>(
     alloc: Global,
-    mut bays: Vec<Mutex<Bay<J, L, C>>>,
+    mut crews: Vec<Crew<J, B>>,
+) -> Result<Vec<Mutex<Crew<J, B>>>, Memory> {
+    let Ok(mut locked) = Vec::with_capacity(alloc, crews.len()) else {
+        return Err(Memory);
+    };
+    while let Some(mut crew) = crews.pop() {
+        crew.as_mut_slice().reverse();
+        if locked.push(Mutex::new(crew)).is_err() {
+            return Err(Memory);
+        }
+    }
+    Ok(locked)
+}
+
+/// Takes each crew out from under its lock.
+fn unlock_crews<J: Run, B: Boards>(
+    alloc: Global,
+    mut locked: Vec<Mutex<Crew<J, B>>>,
+) -> Result<Vec<Crew<J, B>>, Memory> {
+    let mut crews = Vec::new(alloc);
+    while let Some(crew) = locked.pop() {
+        if crews.push(crew.into_inner()).is_err() {
+            return Err(Memory);
+        }
+    }
+    Ok(crews)
+}
+
+/// Takes each station out from under its lock; the hands go back to their boards. The powers of the stations add up to the
+/// ledger's total.
+pub(crate) fn unlock_all<J: Run, L: Ledger, B: Boards, C: Clock>(
+    alloc: Global,
+    mut bays: Vec<Mutex<Bay<J, L, B, C>>>,
+    crews: Vec<Mutex<Crew<J, B>>>,
     total: &Total<L>,
     mut all: Share<L>,
 ) -> Result<Vec<Station<J, C>>, Memory>
@@ -279,17 +403,15 @@ pub(crate) fn unlock_all<J: Run, L: Ledger, C: Clock>(
     ensures parts { IfOk result (λ v. vec_len v ≡ total.now.parts) }
     ensures weight { IfOk result (λ v. weight (numbers v.items) ≡ total.now.amount) }
 {
+    let mut crews = unlock_crews(alloc, crews)?;
     let Ok(mut stations) = Vec::with_capacity(alloc, bays.len()) else {
         return Err(Memory);
     };
     while let Some(bay) = bays.pop() {
-        let Bay {
-            station,
-            results: _,
-            share,
-        } = bay.into_inner();
+        let Bay { mut site, share } = bay.into_inner();
+        dismiss(&mut site, crews.as_mut_slice());
         all.merge(share);
-        stations.push_reserved(station);
+        stations.push_reserved(site.into_station());
     }
     total.audit(&mut all);
     Ok(stations)

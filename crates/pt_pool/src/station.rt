@@ -1,9 +1,9 @@
 //! A platform with its clock and the ends of its links.
 
-ghost use Rattle.std.specs.Prelude.{◌≡◌, ◌<◌, ◌≤◌, None, Some, length, false, true};
+ghost use Rattle.std.specs.Prelude.{◌≡◌, ◌<◌, ◌≤◌, [], None, Some, length, false, true};
 ghost use Rattle.pt_post.specs.Posted.{AreDone};
 ghost use Rattle.pt_pool.specs.Station.{IsOfRun, graph_of};
-ghost use Rattle.pt_pool.specs.Answers.{Answers, answer_of};
+ghost use Rattle.pt_pool.specs.Answers.{Answers, StationRefused, answer_of};
 
 use crate::run::Run;
 use crate::visiting::visit_platform;
@@ -158,5 +158,13 @@ impl<J: Run, C: Clock> Station<J, C> {
         };
         self.marked = marked;
         answer(self.platform.fault())
+    }
+
+    /// Gives up a visit before anything was done, for want of memory: the clock hands out one reading, and the station is marked.
+    pub fn give_up(&mut self)
+        ensures { StationRefused self.old self.new [] [] }
+    {
+        let _ = self.clock.read();
+        self.marked = true;
     }
 }

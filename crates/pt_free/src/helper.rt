@@ -1,0 +1,84 @@
+//! Workers' hands at the boards of platforms.
+
+ghost use Rattle.pt_pool.specs.Station.{graph_of};
+ghost use Rattle.std.specs.Prelude.{◌≡◌, Some};
+ghost use Rattle.std.specs.Arc.{arc_value};
+ghost use Rattle.pt_board.specs.Hands.{HoldsNone};
+
+use crate::hand::Hand;
+use crate::threads::Gate;
+use pt_blocks::Blocks;
+use pt_board::{Board, Hand as BoardHand};
+use pt_pool::Run;
+use pt_sites::Boards;
+use std::marker::{Model, PhantomData};
+use std::sync::Arc;
+
+/// A worker's hand at the board of one platform, between two tickets. Contracts see the platform's number.
+#[derive(Drop)]
+pub(crate) struct Helper<J: Run, B: Boards> {
+    board: Arc<Board>,
+    hand: BoardHand,
+    platform: u32,
+    of: PhantomData<J>,
+    at: PhantomData<B>,
+}
+
+impl<J: Run, B: Boards> Model for Helper<J, B> {
+    ghost use Rattle.std.specs.Prelude.{ℕ};
+    ghost use Rattle.std.specs.Arc.{arc_value};
+    ghost use Rattle.pt_pool.specs.Station.{graph_of};
+    ghost use Rattle.pt_free.specs.Helpers.{IsHelper};
+
+    ghost Value = { ℕ };
+
+    ghost view = { λ h. h.platform };
+
+    ghost invariant = { λ h. IsHelper (graph_of J.plan) B.table h.platform (arc_value h.board) h.hand };
+}
+
+impl<J: Run, B: Boards> Helper<J, B> {
+    /// For a hand of this board that holds no ticket.
+    pub(crate) fn new(board: Arc<Board>, hand: BoardHand, platform: u32) -> Helper<J, B>
+        requires table { (hand.table ≡ (arc_value board).table) × (hand.table ≡ B.table platform) }
+        requires graph { hand.knows.graph ≡ Some (graph_of J.plan) }
+        requires none { HoldsNone hand }
+        ensures { result ≡ platform }
+    {
+        Helper {
+            board,
+            hand,
+            platform,
+            of: PhantomData,
+            at: PhantomData,
+        }
+    }
+
+    /// Its platform's number.
+    pub(crate) fn platform(&self) -> u32
+        ensures { result ≡ self.now }
+    {
+        self.platform
+    }
+
+    /// Claims a task, fires it and hands in its result. `false` if no task was found ready.
+    pub(crate) fn serve<G: Gate>(&mut self, firing: &Hand<J>, blocks: &Blocks, gate: &G) -> bool
+        ensures { self.new ≡ self.old }
+    {
+        let Some(ticket) = self.board.claim(&mut self.hand) else {
+            return false;
+        };
+        gate.at(self.platform, ticket.task());
+        let done = firing.fire(blocks, ticket.task());
+        self.board.finish(&mut self.hand, ticket, done);
+        true
+    }
+
+    /// Its hand, which holds no ticket.
+    pub(crate) fn into_hand(self) -> BoardHand
+        ensures table { result.table ≡ B.table self }
+        ensures none { HoldsNone result }
+    {
+        self.hand
+    }
+}

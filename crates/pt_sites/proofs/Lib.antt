@@ -1,0 +1,3 @@
+mod Collects
+mod Places
+mod Sites

@@ -1,0 +1,81 @@
+-- What always holds of a site, and what a visit does.
+use Rattle.std.specs.Prelude.{◌≡◌, ◌<◌, ◌≤◌, ◌++◌, ◌⊎◌, [], ◌∷◌, ℕ, ◌+◌, List, Option, Some, Result, Ok, Err, length, slice_get}
+use Rattle.atomic_table.specs.Seated.{TableId}
+use Rattle.pt_types.specs.declared.graph.Graph.{Graph}
+use Rattle.pt_types.specs.declared.firing.Done.{Done}
+use Rattle.pt_types.specs.declared.firing.Task.{Task}
+use Rattle.pt_semantics.specs.Lists.{IsIn}
+use Rattle.pt_offsets.specs.Plans.{Parts}
+use Rattle.pt_post.specs.Posted.{AreDone}
+use Rattle.pt_board.specs.Keepers.{BoardView, HasCollected, IsAllOut, KeeperView, SawNoneDone, out_at}
+use Rattle.pt_pool.specs.declared.station.VisitFault.{VisitFault}
+use Rattle.pt_pool.specs.declared.station.VisitFault.TheVariants.{Turn, Memory}
+use Rattle.pt_pool.specs.Answers.{Answers, StationRefused}
+use Rattle.pt_pool.specs.Station.{StationView, graph_of}
+
+-- its station, the keeper of its board, and the results that wait for the next visit
+pub record SiteView : Type 0 where
+  pub station : StationView
+  pub keeper : KeeperView
+  pub results : List Done
+
+-- the keeper is that of the platform's board in this run, its tasks are of the run's graph, it placed no more tasks than the
+-- platform claimed, and each waiting result is what the kind of its task's actor gives
+pub record IsSite (plan : Option Parts) (table : ℕ → TableId) (board : BoardView) (station : StationView) (keeper : KeeperView) (results : List Done) : Type 0 where
+  pub of_board : keeper.table ≡ board.table
+  pub named : keeper.table ≡ table station.platform.number
+  pub graph : keeper.knows.graph ≡ Some (graph_of plan)
+  pub few : keeper.next ≤ station.platform.claims
+  pub done : AreDone (graph_of plan) results
+
+-- these results were collected, one after another, each from the slot in which its task was out
+abbrev pub Collects : KeeperView → List Done → KeeperView → Type 0
+Collects old [] new = new ≡ old
+Collects old (d ∷ ds) new = (mid : KeeperView) × HasCollected old mid d × Collects mid ds new
+
+-- these results were collected: 32, or all until none was found done
+pub record HaveCollected (old new : KeeperView) (results : List Done) : Type 0 where
+  pub after : KeeperView
+  pub each : Collects old results after
+  pub until : ((new ≡ after) × (length results ≡ 32)) ⊎ SawNoneDone after new
+
+-- the task is out in a slot
+abbrev pub IsOut : KeeperView → Task → Type 0
+IsOut v task = (slot number : ℕ) × (slot < 32) × (out_at slot v.knows ≡ Some (number, task))
+
+-- of the first k of these tasks each is out, or was left; tasks were left only where each slot is out
+pub record HavePlaced (tasks : List Task) (k : ℕ) (old new : KeeperView) (handed now : List Task) : Type 0 where
+  pub left : List Task
+  pub added : now ≡ handed ++ left
+  pub each : (i : ℕ) (task : Task) → i < k → slice_get tasks i ≡ Some task → IsOut new task ⊎ IsIn task left
+  pub full : (left ≡ []) ⊎ IsAllOut new
+  pub stays : (i : ℕ) (x : ℕ × Task) → out_at i old.knows ≡ Some x → out_at i new.knows ≡ Some x
+  pub next : new.next ≤ old.next + k
+  pub graph : new.knows.graph ≡ old.knows.graph
+  pub table : new.table ≡ old.table
+
+-- a visit of a site: results were collected, the station was visited with those that waited and then these, what it claimed
+-- was placed, and no result waits
+pub record SiteVisited (result : Result (Unit {0}) VisitFault) (most : ℕ) (g : Graph) (old new : StationView) (was now : KeeperView) (kept waits : List Done) (handed left : List Task) : Type 0 where
+  pub collected : List Done
+  pub mid : KeeperView
+  pub got : HaveCollected was mid collected
+  pub done : AreDone g collected
+  pub claimed : List Task
+  pub visited : Answers result most (kept ++ collected) old new [] claimed
+  pub placed : HavePlaced claimed (length claimed) mid now handed left
+  pub none : waits ≡ []
+
+-- memory ran out: the station's visit was refused, and what was collected waits
+pub record SiteRefused (g : Graph) (old new : StationView) (was now : KeeperView) (kept waits : List Done) (handed left : List Task) : Type 0 where
+  pub collected : List Done
+  pub got : HaveCollected was now collected ⊎ ((now ≡ was) × (collected ≡ []))
+  pub done : AreDone g collected
+  pub waiting : waits ≡ kept ++ collected
+  pub refused : StationRefused old new [] []
+  pub tasks : left ≡ handed
+
+abbrev pub SiteAnswers : Result (Unit {0}) VisitFault → ℕ → Graph → StationView → StationView → KeeperView → KeeperView → List Done → List Done → List Task → List Task → Type 0
+SiteAnswers (Ok x) most g old new was now kept waits handed left = SiteVisited (Ok x) most g old new was now kept waits handed left
+SiteAnswers (Err (Turn fault)) most g old new was now kept waits handed left = SiteVisited (Err (Turn fault)) most g old new was now kept waits handed left
+SiteAnswers (Err Memory) most g old new was now kept waits handed left = SiteRefused g old new was now kept waits handed left

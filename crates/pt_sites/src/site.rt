@@ -1,0 +1,158 @@
+//! A station with its board.
+
+ghost use Rattle.std.specs.Prelude.{◌≡◌, ◌+◌, ◌≤◌, ◌<◌, ◌++◌, ◌∷◌, [], IfOk, OnErr, OnOk, None, Some, length};
+ghost use Rattle.std.specs.Arc.{arc_value};
+ghost use Rattle.pt_post.specs.Posted.{IsDone};
+ghost use Rattle.pt_board.specs.Hands.{HoldsNone};
+ghost use Rattle.pt_pool.specs.Station.{graph_of};
+ghost use Rattle.pt_sites.specs.Sites.{SiteAnswers};
+
+use crate::boards::Boards;
+use crate::visiting::visit_over;
+use pt_actors::{Done, Tasks};
+use pt_board::{Board, Hand, Keeper};
+use pt_io::Clock;
+use pt_pool::{Run, Station, VisitFault};
+use pt_tags::Memory;
+use pt_turn::Platform;
+use std::alloc::Global;
+use std::marker::{Model, PhantomData};
+use std::sync::{Arc, Wait};
+
+/// A station of a run with its board and the board's keeper, and the results that wait for the next visit.
+#[derive(Drop)]
+pub struct Site<J: Run, B: Boards, C: Clock> {
+    station: Station<J, C>,
+    board: Arc<Board>,
+    keeper: Keeper,
+    results: Vec<Done>,
+    /// What the last visit claimed.
+    claimed: Tasks,
+    of: PhantomData<B>,
+}
+
+impl<J: Run, B: Boards, C: Clock> Model for Site<J, B, C> {
+    ghost use Rattle.std.specs.Arc.{arc_value};
+    ghost use Rattle.pt_sites.specs.Sites.{IsSite, SiteView};
+
+    ghost Value = { SiteView };
+
+    ghost view = { λ s. record { station = s.station; keeper = s.keeper; results = s.results.items } };
+
+    ghost invariant = { λ s. IsSite J.plan B.table (arc_value s.board) s.station s.keeper s.results.items };
+}
+
+impl<J: Run, B: Boards, C: Clock> Site<J, B, C> {
+    /// A station with its board, on which nothing was placed. No memory is taken.
+    pub fn new(
+        alloc: Global,
+        station: Station<J, C>,
+        board: Arc<Board>,
+        keeper: Keeper,
+    ) -> Site<J, B, C>
+        requires table { (keeper.table ≡ (arc_value board).table) × (keeper.table ≡ B.table station.platform.number) }
+        requires graph { keeper.knows.graph ≡ Some (graph_of J.plan) }
+        requires none { keeper.next ≡ 0 }
+        ensures { result ≡ record { station = station; keeper = keeper; results = [] } }
+    {
+        Site {
+            station,
+            board,
+            keeper,
+            results: Vec::new(alloc),
+            claimed: Tasks::new(alloc),
+            of: PhantomData,
+        }
+    }
+
+    /// Its station's platform.
+    pub fn platform(&self) -> &Platform
+        ensures platform { result.now ≡ self.now.station.platform }
+        ensures below { result.now.number < length (graph_of J.plan).platforms }
+        ensures plan { J.plan ≡ Some result.now.plan }
+    {
+        self.station.platform()
+    }
+
+    /// Whether a visit gave up for want of memory.
+    pub fn marked(&self) -> bool
+        ensures { result ≡ self.now.station.marked }
+    {
+        self.station.marked()
+    }
+
+    /// The board that other threads share.
+    pub fn board(&self) -> &Arc<Board>
+        ensures { (arc_value result.now).table ≡ B.table self.now.station.platform.number }
+    {
+        &self.board
+    }
+
+    /// A new hand at its board, which holds no ticket.
+    pub fn hand(&mut self) -> Hand
+        ensures same { self.new ≡ self.old }
+        ensures table { result.table ≡ B.table self.old.station.platform.number }
+        ensures graph { result.knows.graph ≡ Some (graph_of J.plan) }
+        ensures none { HoldsNone result }
+    {
+        self.board.hand(&mut self.keeper)
+    }
+
+    /// Takes back a hand of its board that holds no ticket.
+    pub fn leave(&mut self, hand: Hand)
+        requires table { hand.table ≡ B.table self.old.station.platform.number }
+        requires none { HoldsNone hand }
+        ensures { self.new ≡ self.old }
+    {
+        self.board.leave(&mut self.keeper, hand);
+    }
+
+    /// Keeps a result for the next visit. If memory runs out, nothing is changed.
+    pub fn keep(&mut self, done: Done) -> Result<(), Memory>
+        requires { IsDone (graph_of J.plan) done }
+        ensures kept { OnOk result (self.new ≡ record self.old { results = self.old.results ++ done ∷ [] }) }
+        ensures unchanged { OnErr result (self.new ≡ self.old) }
+    {
+        match self.results.push(done) {
+            Ok(()) => Ok(()),
+            Err(_) => Err(Memory),
+        }
+    }
+
+    /// One visit: collects results from the board until none is found done, or 32 were collected; visits the station with those
+    /// that were kept, and then the collected ones; and places the tasks that it claimed on the board. `tasks` gets those that
+    /// found no free slot.
+    ///
+    /// If memory runs out, no turn is made, the station is marked, and what was collected is kept for the next visit.
+    pub fn visit<R: Wait>(
+        &mut self,
+        rt: &R,
+        alloc: Global,
+        most: usize,
+        tasks: &mut Tasks,
+    ) -> Result<(), VisitFault>
+        requires no_fault { self.old.station.platform.fault ≡ None }
+        requires most { (1 ≤ most) × (most ≤ 32) }
+        ensures answer { SiteAnswers result most (graph_of J.plan) self.old.station self.new.station self.old.keeper self.new.keeper self.old.results self.new.results tasks.old.tasks tasks.new.tasks }
+        ensures number { self.new.station.platform.number ≡ self.old.station.platform.number }
+    {
+        visit_over(
+            rt,
+            alloc,
+            &mut self.station,
+            &self.board,
+            &mut self.keeper,
+            &mut self.results,
+            &mut self.claimed,
+            most,
+            tasks,
+        )
+    }
+
+    /// Its station alone. What lies on the board is lost.
+    pub fn into_station(self) -> Station<J, C>
+        ensures { result ≡ self.station }
+    {
+        self.station
+    }
+}

@@ -1,0 +1,70 @@
+//! A visit of a station, over the keeper of its board.
+
+ghost use Rattle.std.specs.Prelude.{◌≡◌, ◌+◌, ◌≤◌, ◌++◌, None, Some, OnErr, OnOk, vec_len, vec_capacity};
+ghost use Rattle.pt_post.specs.Posted.{AreDone};
+ghost use Rattle.pt_pool.specs.Station.{graph_of};
+ghost use Rattle.pt_sites.specs.Sites.{SiteAnswers};
+
+use crate::collecting::{MOST, collect_all};
+use crate::placing::place_all;
+use pt_actors::{Done, Tasks};
+use pt_board::{Board, Keeper};
+use pt_io::Clock;
+use pt_pool::{Run, Station, VisitFault};
+use pt_tags::Memory;
+use std::alloc::Global;
+use std::sync::Wait;
+
+/// Makes room for 32 results, and for `most` tasks that find no free slot.
+fn make_room(results: &mut Vec<Done>, tasks: &mut Tasks, most: usize) -> Result<(), Memory>
+    ensures results { (results.new.items ≡ results.old.items) × (vec_len results.new ≡ vec_len results.old) }
+    ensures tasks { tasks.new.tasks ≡ tasks.old.tasks }
+    ensures room { OnOk result ((vec_len results.new + 32 ≤ vec_capacity results.new) × (most ≤ tasks.new.spare)) }
+{
+    if results.reserve(MOST).is_err() {
+        return Err(Memory);
+    }
+    tasks.reserve(most)
+}
+
+/// Visits a station with the results that wait and those that lie on the board, and places what it claimed.
+pub(crate) fn visit_over<J: Run, C: Clock, R: Wait>(
+    rt: &R,
+    alloc: Global,
+    station: &mut Station<J, C>,
+    board: &Board,
+    keeper: &mut Keeper,
+    results: &mut Vec<Done>,
+    claimed: &mut Tasks,
+    most: usize,
+    tasks: &mut Tasks,
+) -> Result<(), VisitFault>
+    requires no_fault { station.old.platform.fault ≡ None }
+    requires most { (1 ≤ most) × (most ≤ 32) }
+    requires table { keeper.old.table ≡ board.now.table }
+    requires graph { keeper.old.knows.graph ≡ Some (graph_of J.plan) }
+    requires done { AreDone (graph_of J.plan) results.old.items }
+    requires few { keeper.old.next ≤ station.old.platform.claims }
+    ensures answer { SiteAnswers result most (graph_of J.plan) station.old station.new keeper.old keeper.new results.old.items results.new.items tasks.old.tasks tasks.new.tasks }
+{
+    let _ = station.platform();
+    let Ok(()) = make_room(results, tasks, most) else {
+        station.give_up();
+        return Err(VisitFault::Memory);
+    };
+    collect_all(board, keeper, results);
+    claimed.clear();
+    match station.visit(rt, alloc, results.as_slice(), most, claimed) {
+        Ok(()) => {
+            results.clear();
+            place_all(board, keeper, claimed.as_slice(), tasks);
+            Ok(())
+        }
+        Err(VisitFault::Turn(fault)) => {
+            results.clear();
+            place_all(board, keeper, claimed.as_slice(), tasks);
+            Err(VisitFault::Turn(fault))
+        }
+        Err(VisitFault::Memory) => Err(VisitFault::Memory),
+    }
+}
