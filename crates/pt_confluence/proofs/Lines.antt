@@ -128,10 +128,13 @@ module _ (g : Graph) (tasks : List Task) (xs : List ActorFiring) (inputs : Each 
 pub next_task : (tasks : List Task) (i : ℕ) → i < length tasks → (task : Task) × (slice_get tasks i ≡ Some task) × ((xs : List ActorFiring) → (xs ++ map by_task (take i tasks)) ++ by_task task ∷ [] ≡ xs ++ map by_task (take (i + 1) tasks))
 next_task tasks i lt =
     let task : Task = slice_index_or tasks i no_task in
-    let at : slice_get tasks i ≡ Some task = slice_get-get_or tasks i no_task lt in
-    (task, at, λ xs.
-    append_assoc xs (map by_task (take i tasks)) (by_task task ∷ [])
-    ∙ ap (λ ys. xs ++ ys) (sym (map-append by_task (take i tasks) (task ∷ [])) ∙ ap (map by_task) (sym (take_more tasks i no_task lt))))
+    let at : slice_get tasks i ≡ Some task = slice_get-get_or tasks i no_task lt in (
+      task,
+      at,
+      λ xs.
+          append_assoc xs (map by_task (take i tasks)) (by_task task ∷ [])
+          ∙ ap (λ ys. xs ++ ys) (sym (map-append by_task (take i tasks) (task ∷ [])) ∙ ap (map by_task) (sym (take_more tasks i no_task lt))),
+    )
 
 -- the tasks of one more of some others
 pub more_tasks : {X : Type 0} (f : X → List Task) (ys : List X) (i : ℕ) (y : X) → i < length ys → y ≡ slice_index_or ys i y → flat_map f (take i ys) ++ f y ≡ flat_map f (take (i + 1) ys)

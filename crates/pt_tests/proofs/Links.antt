@@ -22,7 +22,6 @@ pub record AreBefore (n : ℕ) (ms : List Message) : Type 0 where
   pub fit : Each (FitsStep 100 1 0) ms
   pub before : Each (IsBefore n) ms
 
-
 each_push : (P : Message → Type 0) (ms : List Message) (m : Message) → Each P ms → P m → Each P (ms ++ m ∷ [])
 each_push P [] m h k = (k, tt)
 each_push P (x ∷ xs) m h k = (h.0, each_push P xs m h.1 k)
