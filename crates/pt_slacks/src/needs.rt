@@ -17,7 +17,7 @@ pub fn base(graph: &Graph, least: &Least, actor: u32) -> u64
     requires { IsLawful graph.now }
     ensures { IsBase graph.now (least_of least.now) actor result }
 {
-    let mut most = 0;
+    let mut most: u64 = 0;
     for (number, source) in graph.actors.as_slice().iter().enumerate() {
         most = most.max(by_kind(&source.kind, least, number as u32, actor));
     }

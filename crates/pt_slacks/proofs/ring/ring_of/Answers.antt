@@ -7,7 +7,7 @@ use Rattle.pt_slacks.specs.Rows.{row_at}
 use Rattle.pt_slacks.specs.Trails.{IsClosing}
 use Rattle.pt_slacks.proofs.Costs.{cheap, hops_len}
 use Rattle.pt_slacks.proofs.Rounds.{row_len, rows_fit}
-use Rattle.pt_slacks.proofs.Walking.{asks_at, back, closes, walk_ends, walk_more}
+use Rattle.pt_slacks.proofs.Walking.{asks_at, back, closes, none_asks, walk_ends, walk_more}
 use Rattle.pt_slacks.proofs.ring.ring_of.Goals as goal
 
 -- the row of a round
@@ -74,6 +74,21 @@ loop-step-preserved c =
     let asks = asks_at g least hops rows c.requires.rising.are c.as_slice.result.now c.slack_at-slack.result (n - step) b.risen at from is_row c.slack_at-slack.ensures place c.in-Some.ensures.1 in
     let off : list_any (λ x. x == from) (reverse trail) ≡ false = sym (ap (λ xs. list_any (λ x. x == from) (reverse xs)) c.as_slice-in-loop-step.ensures.value) ∙ sym c.is_on.ensures ∙ c.if-is_on.false in
     walk_more g least hops rows c.requires.rising.are step at from trail c.push-in-loop-step.new.self.items b.risen b.others room b.are c.in_ok-push-2.ensures.items b.is_trail c.in-Some.ensures.0 asks off
+
+pub returns-in_default : goal.returns-in_default
+returns-in_default c =
+    let g = c.args.graph.now in
+    let least = least_of c.args.least.now in
+    let hops = c.args.hops.now in
+    let n = length hops in
+    let rows = c.args.rows.now in
+    let step = c.loop-step.step in
+    let is_row = row_read rows n step c.index-rows-round.result c.as_slice.result.now c.requires.rising.are.len c.as_slice.ensures c.index-rows-round.is in
+    let b = back g least hops rows c.requires.rising.are step c.loop-step.trail.items c.loop-step.at c.loop-step-test.true c.loop-step.invariant in
+    let room : b.risen + (step + 1) ≡ n = b.place in
+    let place : n - step ≡ b.risen + 1 = omega (arith, room) in
+    absurd
+    (none_asks g least hops rows c.requires.rising.are c.as_slice.result.now c.slack_at-slack.result (n - step) b.risen c.loop-step.at is_row c.slack_at-slack.ensures place (omega (arith, room)) b.is_trail.on.0 c.in_default.ensures)
 
 pub returns : goal.returns
 returns c =
