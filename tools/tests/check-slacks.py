@@ -139,7 +139,7 @@ class Slacks(Case):
                 done = self.ask("slacks", even)
                 names = " ".join(f"w{number}" for number in range(size))
                 self.assertEqual((done.status, done.output, done.notes), (2, "", f"graph: ring {names}, gain 1\n"))
-        self.assertEqual(self.ask("slacks", ring(64, 0, LATEST, LATEST)).notes.split(",")[1], f" gain {64 * (2 * LATEST + 1)}\n")
+        self.assertEqual(self.ask("slacks", ring(64, 1, LATEST, LATEST)).notes.split(",")[1], f" gain {64 * 2 * LATEST}\n")
 
     def test_rows(self) -> None:
         """Behind one another senders need more and more, also more than a file can state."""
