@@ -1,5 +1,5 @@
 -- The lines of an actuator are those of its unit's firings.
-use Rattle.std.proofs.Common.{◌≡◌, ◌==◌, ◌&&◌, ℕ, suc, ◌+◌, true, false, List, [], ◌∷◌, ◌++◌, Option, Some, None, map, append_assoc, append-nil, arith, option_map, length, take, slice_index_or, ◌<◌, refl, sym, ap, ap₂, subst, ◌∙◌, ⊎_elim, slice_get, eqb-true}
+use Rattle.std.proofs.Common.{◌≡◌, ◌==◌, ◌&&◌, ℕ, suc, ◌+◌, true, false, List, [], ◌∷◌, ◌++◌, Option, Some, None, map, append_assoc, append-nil, arith, length, take, slice_index_or, ◌<◌, refl, sym, ap, ap₂, subst, ◌∙◌, ⊎_elim, slice_get, eqb-true}
 use Rattle.std.specs.List.{cons_option, filter_map, flat_map}
 use Rattle.std.proofs.lemmas.List.{map-append, take_more}
 use Rattle.std.proofs.lemmas.List.Concat.{flat_map-append}
@@ -24,8 +24,6 @@ use Rattle.pt_semantics.specs.Parts.{narrowed, part_by, part_of, parts}
 use Rattle.pt_semantics.specs.Tables.{line, line_of, lines_of, table_of}
 use Rattle.pt_semantics.specs.Units.{first_port, same_part, unit_of}
 use Rattle.pt_types.specs.Groups.{input_group}
-use Rattle.pt_semantics.specs.Turn.{Turn}
-use Rattle.pt_semantics.proofs.Lookups.{same_some}
 use Rattle.pt_semantics.proofs.Words.{when-false, when-true}
 use Rattle.pt_history.specs.Tasks.{no_task}
 use Rattle.pt_tables.specs.Gathered.{texts_from}

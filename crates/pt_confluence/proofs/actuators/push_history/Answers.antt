@@ -1,10 +1,8 @@
-use Rattle.std.proofs.Common.{◌≡◌, ◌<◌, ◌≤◌, ◌++◌, List, length, map, take, ap, ◌∙◌, arith}
+use Rattle.std.proofs.Common.{◌<◌, ◌≤◌, ◌++◌, List, length, map, take, ap, ◌∙◌, arith}
 use Rattle.std.specs.List.{flat_map}
 use Rattle.std.proofs.lemmas.List.{take_all}
-use Rattle.std.proofs.lemmas.Option.{slice_get-get_or}
 use Rattle.pt_types.specs.declared.firing.Task.{Task}
 use Rattle.pt_semantics.specs.Turn.{Turn}
-use Rattle.pt_history.specs.Tasks.{no_task}
 use Rattle.pt_tables.specs.Gathered.{texts_from}
 use Rattle.pt_confluence.specs.Gathered.{by_task}
 use Rattle.pt_confluence.proofs.Lines.{next_task}

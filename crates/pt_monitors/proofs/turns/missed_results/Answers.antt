@@ -1,5 +1,4 @@
-use Rattle.std.proofs.Common.{◌≡◌, ◌<◌, ◌≤◌, ◌++◌, Option, Some, length, filter_map, slice_get, ap, subst, ◌∙◌, arith}
-use Rattle.std.specs.Prelude.{option_map, option_to_list}
+use Rattle.std.proofs.Common.{◌≤◌, ◌++◌, length, filter_map, slice_get, ap, ◌∙◌, arith}
 use Rattle.std.proofs.lemmas.List.{take_all}
 use Rattle.pt_types.specs.declared.firing.Done.{Done}
 use Rattle.pt_history.specs.Tasks.{mark_of}

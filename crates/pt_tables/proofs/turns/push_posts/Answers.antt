@@ -1,5 +1,4 @@
 use Rattle.std.proofs.Common.{◌≤◌, length, slice_get, string_bytes, sym, ◌∙◌, arith}
-use Rattle.std.specs.Prelude.{option_map}
 use Rattle.pt_types.specs.declared.firing.Done.{Done}
 use Rattle.pt_history.specs.Tasks.{mark_of}
 use Rattle.pt_history.specs.Turns.{posted_in}
