@@ -7,8 +7,8 @@ returns-in-Err-Long-clause-fault c = record { rank = rank_of c.args.ranks.now; r
 
 pub returns-in-Ok-clause-text : goal.returns-in-Ok-clause-text
 returns-in-Ok-clause-text c = record {
-  firings = c.in-Ok.ensures.firings;
-  means = record { rank = rank_of c.args.ranks.now; ranks = c.requires.ranks; meaning = rw c.ranks.ensures at c.in-Ok.ensures.meaning };
-  fact = rw c.as_slice.ensures at c.in-Ok.ensures.few;
-  tables = c.in-Ok.ensures.took;
+  firings = c.in-Ok.ensures.text.firings;
+  means = record { rank = rank_of c.args.ranks.now; ranks = c.requires.ranks; meaning = rw c.ranks.ensures at c.in-Ok.ensures.text.meaning };
+  fact = rw c.as_slice.ensures at c.in-Ok.ensures.text.few;
+  tables = c.in-Ok.ensures.text.took;
 }
