@@ -2,8 +2,8 @@
 //!
 //! `graph JSON` writes `ok` or the first fault of a graph, `delays JSON` its least delays, `margins JSON` its margins, and
 //! `readings JSON` the readings of its platforms. `command LINE` is a line of a script of commands over files in memory, and
-//! `platform LINE` one of a script that drives platforms turn by turn. `meet firing JSON`, `meet reading JSON` and `meet ending JSON`
-//! are runs by threads. `measure N` measures the reader of rows and the firing of kinds. A line that begins with `#` is a heading, which is written as it is.
+//! `platform LINE` one of a script that drives platforms turn by turn. `meet firing JSON` and the like are runs by
+//! threads. `measure N` measures the reader of rows and the firing of kinds. A line that begins with `#` is a heading, which is written as it is.
 //!
 //! `stdin` has the tables and `stdout` what each line must give. That was worked out by hand, but for random graphs, of
 //! which only `agree` says something.

@@ -1,16 +1,17 @@
 //! Runs by threads that have to meet. No clause says that threads work at the same time: these runs do.
 //!
 //! `firing JSON` holds the first firing on a platform until a second one has begun: only another worker can begin it, and only
-//! if no lock is held. `reading JSON` holds the first readings of two clocks until both have begun. `ending JSON` makes many runs
+//! if no lock is held. `sharing JSON` does the same where both tasks are claimed at one visit: the other worker has to get the second
+//! one over the platform's board. `counting JSON` fires 10,000 tasks, each of which two workers may take. `reading JSON` holds the first readings of two clocks until both have begun. `ending JSON` makes many runs
 //! and says whether each ended as it may. The sensors are `s` and `u`, each with the one row of `ROWS`.
 
 mod clocks;
 mod meeting;
 
-ghost use Rattle.std.specs.Prelude.{◌≡◌, length};
+ghost use Rattle.std.specs.Prelude.{◌≡◌, ◌≤◌, length};
 
 use crate::meetings::clocks::{MeetingClock, meeting_clocks, step_clocks};
-use crate::meetings::meeting::Meeting;
+use crate::meetings::meeting::{Meeting, Sharing};
 use crate::plans::plan_of;
 use pt_blocks::Blocks;
 use pt_io::{Clock, Page, Shelf, StepClock};
@@ -31,6 +32,27 @@ const TABLES: &str = "actuator,time,step,value\nout,140,0,7\n";
 
 /// How many runs `ending` makes.
 const RUNS: u32 = 180;
+
+/// A platform that claims one task at a visit, and has four in all.
+const ONE_BY_ONE: Share = Share {
+    most: 1,
+    start: 100,
+    tasks: 4,
+};
+
+/// The same, with two tasks at a visit.
+const TWO_AT_ONCE: Share = Share {
+    most: 2,
+    start: 100,
+    tasks: 4,
+};
+
+/// A platform with 10,000 tasks.
+const MANY: Share = Share {
+    most: 8,
+    start: 0,
+    tasks: 10_000,
+};
 
 /// Bytes of a page.
 const ROOM: usize = 4_096;
@@ -54,20 +76,36 @@ pub fn meet<R: Threads + Wait + Sync>(
 ) -> Result<String, AllocError> {
     let (name, text) = line.split_once(' ').unwrap_or((line, ""));
     match name {
-        "firing" => firing(rt, alloc, text, blocks),
+        "firing" => shared(rt, alloc, text, blocks, ONE_BY_ONE),
+        "sharing" => shared(rt, alloc, text, blocks, TWO_AT_ONCE),
+        "counting" => shared(rt, alloc, text, blocks, MANY),
         "reading" => reading(rt, alloc, text, blocks),
         "ending" => ending(rt, alloc, text, blocks),
         _ => String::from_str(alloc, "no such meeting\n"),
     }
 }
 
-/// Runs a graph of one platform by two workers that claim a unit at a visit, and says whether the first firing met another one.
-fn firing<R: Threads + Wait + Sync>(
+/// How two workers fire the tasks of one platform.
+#[derive(Clone, Copy)]
+struct Share {
+    /// How many units the platform claims at most at a visit.
+    most: usize,
+    /// The clock reads this, then one more each time.
+    start: u64,
+    /// How many tasks there are.
+    tasks: usize,
+}
+
+/// Runs a graph of one platform by two workers, and says how many firings met another one and how many tasks were fired, each once.
+fn shared<R: Threads + Wait + Sync>(
     rt: &R,
     alloc: Global,
     text: &str,
     blocks: &Blocks,
-) -> Result<String, AllocError> {
+    share: Share,
+) -> Result<String, AllocError>
+    requires { (1 ≤ share.most) × (share.most ≤ 32) }
+{
     let Some(plan) = plan_of(alloc, text, blocks) else {
         return String::from_str(alloc, "no plan\n");
     };
@@ -83,9 +121,9 @@ fn firing<R: Threads + Wait + Sync>(
         return String::from_str(alloc, "not one platform\n");
     }
     let mut clocks = Vec::new(alloc);
-    clocks.push(StepClock::new(100, 1))?;
-    let meeting = Meeting::new();
-    let Ok(ended) = threaded(rt, alloc, platforms, clocks, blocks, 2, 1, &meeting) else {
+    clocks.push(StepClock::new(share.start, 1))?;
+    let gate = Sharing::new(alloc, share.tasks)?;
+    let Ok(ended) = threaded(rt, alloc, platforms, clocks, blocks, 2, share.most, &gate) else {
         return Err(AllocError);
     };
     let fault = if ended.fault.is_some() {
@@ -93,8 +131,8 @@ fn firing<R: Threads + Wait + Sync>(
     } else {
         "no fault"
     };
-    let met = meeting.met();
-    Ok(format!(in alloc; "{met} met, {fault}\n")?)
+    let (met, once, all) = (gate.met(), gate.fired_once(), gate.firings());
+    Ok(format!(in alloc; "{met} met, {once} tasks once in {all} firings, {fault}\n")?)
 }
 
 /// Runs a graph of two platforms by two workers, and says whether the first readings of both clocks met.

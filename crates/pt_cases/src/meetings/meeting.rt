@@ -1,7 +1,8 @@
-//! Where threads wait for each other.
+//! Where threads wait for each other, and where firings are counted.
 
 use pt_free::Gate;
 use pt_types::Task;
+use std::alloc::{AllocError, Global};
 use std::sync::atomic::{AtomicU64, Ordering};
 use std::thread::yield_now;
 
@@ -52,5 +53,56 @@ impl Gate for Meeting {
         if self.come() {
             self.wait();
         }
+    }
+}
+
+/// A meeting that counts the firings of each task, by the tasks' numbers.
+#[derive(Drop)]
+pub struct Sharing {
+    meeting: Meeting,
+    fired: Vec<AtomicU64>,
+}
+
+impl Sharing {
+    /// Nobody has come, and none of `tasks` tasks was fired.
+    pub fn new(alloc: Global, tasks: usize) -> Result<Sharing, AllocError> {
+        let mut fired = Vec::new(alloc);
+        for _ in 0..tasks {
+            fired.push(AtomicU64::new(0))?;
+        }
+        Ok(Sharing {
+            meeting: Meeting::new(),
+            fired,
+        })
+    }
+
+    /// How many saw another one.
+    pub fn met(&self) -> u64 {
+        self.meeting.met()
+    }
+
+    /// How many tasks were fired once, no more and no less.
+    pub fn fired_once(&self) -> u64 {
+        let mut once = 0u64;
+        for count in self.fired.as_slice() {
+            if count.load(Ordering::SeqCst) == 1 {
+                once = once.saturating_add(1);
+            }
+        }
+        once
+    }
+
+    /// How many firings there were.
+    pub fn firings(&self) -> u64 {
+        self.meeting.come.load(Ordering::SeqCst)
+    }
+}
+
+impl Gate for Sharing {
+    fn at(&self, platform: u32, task: &Task) {
+        if let Some(count) = self.fired.as_slice().get(task.number as usize) {
+            count.fetch_add(1, Ordering::SeqCst);
+        }
+        self.meeting.at(platform, task);
     }
 }

@@ -1,0 +1,102 @@
+//! The program `ptides` with blocks of its own: `least`, and `slow`, which gives the same value a millisecond later.
+//!
+//! It is an example of how a program hands in blocks, and shows from when on several workers are faster than one. Its command line
+//! is that of `ptides`. `bench/slow_blocks.py` makes its graphs and measures.
+#![tactic(auto)]
+
+mod slow;
+
+ghost use Rattle.std.specs.Prelude.{◌≡◌, IfOk, length};
+
+use crate::slow::slow;
+use pt_blocks::{Block, Blocks, least};
+use pt_io::{Clock, FileSource, MachineClock, NotesSink, OutSink, Sink, Source, SystemFiles};
+use pt_run::ptides;
+use pt_tags::Memory;
+use pt_types::Law;
+use std::alloc::Global;
+use std::process::ExitCode;
+use std::sync::Wait;
+use std::thread::Threads;
+use std::{env, io};
+
+/// The status if there is not enough memory to begin.
+const NO_MEMORY: u8 = 9;
+
+/// The most platforms of a graph.
+const MOST_PLATFORMS: usize = 16;
+
+/// The blocks that graphs may use here. That each function gives the value of its law is proved where it is made a block.
+fn own_blocks(alloc: Global) -> Result<Blocks, Memory> {
+    let mut blocks = Blocks::new(alloc);
+    let fast = Block::new(String::from_str(alloc, "least")?, least, Law::Least);
+    let long = Block::new(String::from_str(alloc, "slow")?, slow, Law::Least);
+    for block in [fast, long] {
+        if blocks.add(block).is_err() {
+            return Err(Memory);
+        }
+    }
+    Ok(blocks)
+}
+
+/// The words of the command line after the program's name.
+fn words(rt: &HostRuntime) -> Result<Vec<String>, Memory> {
+    let Ok(arguments) = env::args(rt) else {
+        return Err(Memory);
+    };
+    Ok(arguments.skip(1).collect::<Vec<String>>(rt.alloc())?)
+}
+
+/// A clock of the machine for each platform that a graph may have. Each begins now.
+fn machine_clocks<'r>(rt: &'r HostRuntime) -> Result<Vec<MachineClock<&'r HostRuntime>>, Memory>
+    ensures { IfOk result (λ clocks. length clocks.items ≡ 16) }
+{
+    let mut clocks = Vec::with_capacity(rt.alloc(), MOST_PLATFORMS)?;
+    while clocks.len() < MOST_PLATFORMS {
+        clocks.push(MachineClock::new(rt))?;
+    }
+    Ok(clocks)
+}
+
+/// The status of the command of these words.
+fn status<S: Source, K: Sink, E: Sink, C: Clock + Send, R: Threads + Wait + Sync>(
+    rt: &R,
+    alloc: Global,
+    words: &[String],
+    source: &mut S,
+    out: &mut K,
+    notes: &mut E,
+    clocks: Vec<C>,
+    blocks: &Blocks,
+) -> u8
+    requires clocks { length clocks.items ≡ 16 }
+{
+    ptides(rt, alloc, words, source, out, notes, clocks, blocks).status
+}
+
+fn main(rt: HostRuntime) -> ExitCode {
+    let alloc = rt.alloc();
+    let (Ok(words), Ok(blocks)) = (words(&rt), own_blocks(alloc)) else {
+        return ExitCode::from(NO_MEMORY);
+    };
+    let (stdout, stderr) = (rt.stdout(), rt.stderr());
+    let Ok(mut out) = OutSink::new(alloc, io::writer(&stdout)) else {
+        return ExitCode::from(NO_MEMORY);
+    };
+    let mut notes = NotesSink::new(io::writer(&stderr));
+    let mut source = FileSource::new(SystemFiles::new(&rt));
+    let Ok(clocks) = machine_clocks(&rt) else {
+        return ExitCode::from(NO_MEMORY);
+    };
+    let status = status(
+        &rt,
+        alloc,
+        words.as_slice(),
+        &mut source,
+        &mut out,
+        &mut notes,
+        clocks,
+        &blocks,
+    );
+    ExitCode::from(status)
+}
