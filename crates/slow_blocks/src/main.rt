@@ -26,19 +26,6 @@ const NO_MEMORY: u8 = 9;
 /// The most platforms of a graph.
 const MOST_PLATFORMS: usize = 16;
 
-/// The blocks that graphs may use here. That each function gives the value of its law is proved where it is made a block.
-fn own_blocks(alloc: Global) -> Result<Blocks, Memory> {
-    let mut blocks = Blocks::new(alloc);
-    let fast = Block::new(String::from_str(alloc, "least")?, least, Law::Least);
-    let long = Block::new(String::from_str(alloc, "slow")?, slow, Law::Least);
-    for block in [fast, long] {
-        if blocks.add(block).is_err() {
-            return Err(Memory);
-        }
-    }
-    Ok(blocks)
-}
-
 /// The words of the command line after the program's name.
 fn words(rt: &HostRuntime) -> Result<Vec<String>, Memory> {
     let Ok(arguments) = env::args(rt) else {
@@ -76,9 +63,20 @@ fn status<S: Source, K: Sink, E: Sink, C: Clock + Send, R: Threads + Wait + Sync
 
 fn main(rt: HostRuntime) -> ExitCode {
     let alloc = rt.alloc();
-    let (Ok(words), Ok(blocks)) = (words(&rt), own_blocks(alloc)) else {
+    let (Ok(words), Ok(least_name), Ok(slow_name)) = (
+        words(&rt),
+        String::from_str(alloc, "least"),
+        String::from_str(alloc, "slow"),
+    ) else {
         return ExitCode::from(NO_MEMORY);
     };
+    // That each function gives the value of its law is proved here.
+    let mut blocks = Blocks::new(alloc);
+    let fast = blocks.add(Block::new(least_name, least, Law::Least));
+    let long = blocks.add(Block::new(slow_name, slow, Law::Least));
+    if fast.is_err() || long.is_err() {
+        return ExitCode::from(NO_MEMORY);
+    }
     let (stdout, stderr) = (rt.stdout(), rt.stderr());
     let Ok(mut out) = OutSink::new(alloc, io::writer(&stdout)) else {
         return ExitCode::from(NO_MEMORY);
