@@ -71,13 +71,13 @@ posted_in g ds es s a b ha hb none d m =
 posts_one : (g : Graph) (ds es : List Done) (s a b : State) → Posts g s ds a → Posts g s es b → ((u : Part) → a.busy u ≡ None) → ((u : Part) → b.busy u ≡ None) → NumbersRise ds → NumbersRise es → ds ≡ es
 posts_one g ds es s a b ha hb na nb ra rb = rise_same ds es ra rb (posted_in g ds es s a b ha hb nb) (posted_in g es ds s b a hb ha na)
 
-posts_state : (g : Graph) (ds : List Done) (s a b : State) → Posts g s ds a → Posts g s ds b → a ≡ b
+pub posts_state : (g : Graph) (ds : List Done) (s a b : State) → Posts g s ds a → Posts g s ds b → a ≡ b
 posts_state g [] s a b ea eb = ea ∙ sym eb
 posts_state g (d ∷ ds) s a b (busy, result, rest) (busy2, result2, rest2) = posts_state g ds (after_post g s d) a b rest rest2
 
 -- taking
 
-takes_member : (g : Graph) (level : ℕ → ℕ) (i : ℕ) (ms : List OnLink) (late : Bool) (s new : State) → Takes g level i s ms late new → (m : OnLink) → IsIn m ms → (link : Link) × (slice_get g.links m.link ≡ Some link) × (platform_of g link.to ≡ i)
+pub takes_member : (g : Graph) (level : ℕ → ℕ) (i : ℕ) (ms : List OnLink) (late : Bool) (s new : State) → Takes g level i s ms late new → (m : OnLink) → IsIn m ms → (link : Link) × (slice_get g.links m.link ≡ Some link) × (platform_of g link.to ≡ i)
 takes_member g level i [] late s new h m mem = absurd mem
 takes_member g level i (x ∷ ms) late s new (link, at, home, orderly, next) m mem =
     ⊎_elim
@@ -90,7 +90,7 @@ takes_member g level i (x ∷ ms) late s new (link, at, home, orderly, next) m m
     mem
 
 -- a list of messages is taken in one way
-takes_state : (g : Graph) (level : ℕ → ℕ) (i : ℕ) (ms : List OnLink) (late slow : Bool) (s a b : State) → Takes g level i s ms late a → Takes g level i s ms slow b → (late ≡ slow) × (a ≡ b)
+pub takes_state : (g : Graph) (level : ℕ → ℕ) (i : ℕ) (ms : List OnLink) (late slow : Bool) (s a b : State) → Takes g level i s ms late a → Takes g level i s ms slow b → (late ≡ slow) × (a ≡ b)
 takes_state g level i [] late slow s a b ha hb = (ha.0 ∙ sym hb.0, ha.1 ∙ sym hb.1)
 takes_state g level i (m ∷ ms) late slow s a b (link, at, home, orderly, next) (link2, at2, home2, orderly2, next2) =
     ⊎_elim
@@ -133,11 +133,11 @@ takes_more g level i (m ∷ ms) more late slow s a b (link, at, home, orderly, n
 
 -- claiming
 
-nothing_claimed : (g : Graph) (r : ℕ) (tasks : List Task) (s new : State) → tasks ≡ [] → Claims g r s tasks new → new ≡ s
+pub nothing_claimed : (g : Graph) (r : ℕ) (tasks : List Task) (s new : State) → tasks ≡ [] → Claims g r s tasks new → new ≡ s
 nothing_claimed g r [] s new none e = e
 nothing_claimed g r (t ∷ tasks) s new none h = absurd (nothing_there t tasks none)
 
-next_same : (g : Graph) (r : ℕ) (s : State) (t o : Task) → IsNext g s r (unit_of g t) t → IsNext g s r (unit_of g o) o → t ≡ o
+pub next_same : (g : Graph) (r : ℕ) (s : State) (t o : Task) → IsNext g s r (unit_of g t) t → IsNext g s r (unit_of g o) o → t ≡ o
 next_same g r s t o ht ho =
     let h : NoLater t.tag (unit_of g t) o.tag (unit_of g o) = ht.first (unit_of g o) o.tag ho.safe in
     let k : NoLater o.tag (unit_of g o) t.tag (unit_of g t) = ho.first (unit_of g t) t.tag ht.safe in
@@ -167,7 +167,7 @@ next_same g r s t o ht ho =
     antisym : (a b : ℕ) → a ≤ b → b ≤ a → a ≡ b
     antisym a b h k = omega (arith, h, k)
 
-claims_grow : (g : Graph) (r : ℕ) (tasks : List Task) (s new : State) → Claims g r s tasks new → new.claims ≡ length tasks + s.claims
+pub claims_grow : (g : Graph) (r : ℕ) (tasks : List Task) (s new : State) → Claims g r s tasks new → new.claims ≡ length tasks + s.claims
 claims_grow g r [] s new e = let h : new.claims ≡ s.claims = ap (λ (z : State). z.claims) e in omega (arith, h)
 claims_grow g r (t ∷ tasks) s new (next, rest) =
     let ih : new.claims ≡ length tasks + suc s.claims = claims_grow g r tasks (after_claim g s (unit_of g t) t) new rest in
@@ -217,7 +217,7 @@ claims_one g r k most (t ∷ tasks) (o ∷ others) s a b (next, rest) (next2, re
         (λ (full : (most ≤ k + suc n) ⊎ (most_claims ≤ z.claims)). inr (⊎_elim (λ (many : most ≤ k + suc n). inl (omega (arith, many))) (λ (all : most_claims ≤ z.claims). inr all) full))
         h
 
-closes_one : (g : Graph) (i : ℕ) (s a b : State) (r : ℕ) (late : Bool) → Closes g i s r late a → Closes g i s r late b → a ≡ b
+pub closes_one : (g : Graph) (i : ℕ) (s a b : State) (r : ℕ) (late : Bool) → Closes g i s r late a → Closes g i s r late b → a ≡ b
 closes_one g i s a b r late ha hb =
     ⊎_elim
     (λ (x : CanClose g i s r × (late ≡ false) × (a ≡ shut g i s)).

@@ -30,7 +30,7 @@ AreFront outbox ms rest = (l : ℕ) → outbox l ≡ on_link l ms ++ rest l
 abbrev pub MayFollow : List OnLink → List OnLink → Type 0
 MayFollow sent ms = (l : ℕ) → length (on_link l sent) ≤ 64 → length (on_link l (sent ++ ms)) ≤ 64
 
-sends_more : (done mid : State) (sent ms : List OnLink) (rest : ℕ → List Message) → Sends done sent mid → AreFront mid.outbox ms rest → MayFollow sent ms → Sends done (sent ++ ms) (unsent mid rest)
+pub sends_more : (done mid : State) (sent ms : List OnLink) (rest : ℕ → List Message) → Sends done sent mid → AreFront mid.outbox ms rest → MayFollow sent ms → Sends done (sent ++ ms) (unsent mid rest)
 sends_more done mid sent ms rest s front few = (
   rest,
   ap (λ (z : State). unsent z rest) s.1,
@@ -42,7 +42,7 @@ sends_more done mid sent ms rest s front few = (
   λ l. few l (s.3 l),
 )
 
-abbrev turn_more : (g : Graph) (level : ℕ → ℕ) (i : ℕ) (s mid : State) (turn : Turn) (late : Bool) (ms : List OnLink) (rest : ℕ → List Message) → IsTurn g level i s turn late mid → AreFront mid.outbox ms rest → MayFollow turn.sent ms → IsTurn g level i s (sending ms turn) late (unsent mid rest)
+abbrev pub turn_more : (g : Graph) (level : ℕ → ℕ) (i : ℕ) (s mid : State) (turn : Turn) (late : Bool) (ms : List OnLink) (rest : ℕ → List Message) → IsTurn g level i s turn late mid → AreFront mid.outbox ms rest → MayFollow turn.sent ms → IsTurn g level i s (sending ms turn) late (unsent mid rest)
 turn_more g level i s mid turn late ms rest is front few = record {
   rises = is.rises;
   span = is.span;

@@ -82,6 +82,13 @@ impl Platform {
         self.fault
     }
 
+    /// The reading of its last turn, in microseconds; `None` before the first.
+    pub fn reading(&self) -> Option<u64>
+        ensures { result ≡ self.now.reading }
+    {
+        self.fields.reading
+    }
+
     /// Whether it is closed.
     pub fn closed(&self) -> bool
         ensures { result ≡ self.now.closed }

@@ -11,7 +11,7 @@ use pt_tags::Memory;
 use pt_types::{Graph, Kind};
 
 /// Fires a task. If the graph has no such actor, it fires as a receiver, as in the definitions.
-fn fire_one(blocks: &Blocks, graph: &Graph, task: &Task) -> Done
+pub fn fire_one(blocks: &Blocks, graph: &Graph, task: &Task) -> Done
     requires lawful { IsLawful graph.now }
     ensures task { result.task ≡ task.now }
     ensures done { IsDone graph.now result }

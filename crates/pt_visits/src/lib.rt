@@ -11,4 +11,5 @@ mod taking;
 mod visiting;
 
 pub use desk::Desk;
+pub use firing::fire_one;
 pub use visiting::visit;
