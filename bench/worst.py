@@ -138,4 +138,5 @@ def main():
             show(shape)
 
 
-main()
+if __name__ == "__main__":
+    main()

@@ -3,28 +3,16 @@
 ghost use Rattle.pt_pool.specs.Station.{graph_of};
 ghost use Rattle.std.specs.Prelude.{◌≡◌, Some};
 ghost use Rattle.std.specs.Arc.{arc_value};
-ghost use Rattle.pt_types.specs.Lawful.{IsLawful};
 ghost use Rattle.pt_post.specs.Posted.{IsDone};
 
-use pt_actors::{Done, fire};
+use pt_actors::Done;
 use pt_blocks::Blocks;
 use pt_offsets::Plan;
 use pt_pool::Run;
-use pt_types::{Graph, Kind, Task};
+use pt_types::{Graph, Task};
+use pt_visits::fire_one;
 use std::marker::PhantomData;
 use std::sync::Arc;
-
-/// Fires a task. Where the graph has no such actor it is fired as a receiver's, as the definitions have it.
-fn fire_one(blocks: &Blocks, graph: &Graph, task: &Task) -> Done
-    requires lawful { IsLawful graph.now }
-    ensures task { result.task ≡ task.now }
-    ensures done { IsDone graph.now result }
-{
-    match graph.actors.as_slice().get(task.actor as usize) {
-        Some(actor) => fire(blocks, &actor.kind, task),
-        None => fire(blocks, &Kind::Receive, task),
-    }
-}
 
 /// The plan of a run. Any worker fires tasks with it, without a lock.
 #[derive(Drop)]

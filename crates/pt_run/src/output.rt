@@ -1,4 +1,4 @@
-//! Writing the output, line by line.
+//! Writing texts: the output line by line, the lines of misses at once.
 
 ghost use Rattle.std.specs.Prelude.{◌≡◌, ◌<◌, ◌≤◌, length, OnOk, OnErr};
 ghost use Rattle.pt_io.specs.Causes.{Appends, AppendsPart, Rose};
@@ -16,8 +16,21 @@ pub fn put_text<K: Sink>(out: &mut K, text: &[u8]) -> Result<(), PutFault>
     out.flush()
 }
 
+/// Puts a text in one put, or in none if it is empty.
+pub fn put_whole<K: Sink>(out: &mut K, text: &[u8]) -> Result<(), PutFault>
+    ensures all { OnOk result (Appends (K.written out.old) (K.written out.new) text.now) }
+    ensures part { OnErr result (AppendsPart (K.written out.old) (K.written out.new) text.now) }
+    ensures failed { OnErr result (Rose (K.faults out.old) (K.faults out.new)) }
+    ensures grows { K.faults out.old ≤ K.faults out.new }
+{
+    if text.is_empty() {
+        return Ok(());
+    }
+    out.put(text)
+}
+
 /// Puts a text line by line, each line with its line feed in one put.
-pub fn put_lines<K: Sink>(out: &mut K, text: &[u8]) -> Result<(), PutFault>
+fn put_lines<K: Sink>(out: &mut K, text: &[u8]) -> Result<(), PutFault>
     ensures all { OnOk result (Appends (K.written out.old) (K.written out.new) text.now) }
     ensures part { OnErr result (AppendsPart (K.written out.old) (K.written out.new) text.now) }
     ensures failed { OnErr result (Rose (K.faults out.old) (K.faults out.new)) }

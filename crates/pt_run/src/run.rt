@@ -14,7 +14,7 @@ ghost use Rattle.pt_run.specs.Texts.{AsksFor, EndsOver, HasEnded, IsOfRun, IsSto
 use crate::fault::{Fault, fault_of_plan, fault_of_rows};
 use crate::notes::{tell, tell_write};
 use crate::outcome::Ending;
-use crate::output::{put_lines, put_text};
+use crate::output::{put_text, put_whole};
 use crate::{Ran, RunFault, run_of};
 use pt_blocks::Blocks;
 use pt_io::{Sink, Source};
@@ -124,7 +124,7 @@ fn write_run<K: Sink, E: Sink>(
         tell_write(notes);
         return Ending::stopped(alloc, Fault::Write, platforms);
     }
-    let _ = put_lines(notes, lines.as_str().as_bytes());
+    let _ = put_whole(notes, lines.as_str().as_bytes());
     Ending::done(misses, platforms)
 }
 

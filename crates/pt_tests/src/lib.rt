@@ -6,6 +6,8 @@
 #[cfg(test)]
 mod actors_tests;
 #[cfg(test)]
+mod board_tests;
+#[cfg(test)]
 mod causality_tests;
 #[cfg(test)]
 mod graph_writer_tests;

@@ -2,30 +2,20 @@
 
 ghost use Rattle.std.specs.Prelude.{◌≡◌, ◌<◌, IfOk, length};
 ghost use Rattle.pt_types.specs.Lawful.{IsLawful};
-ghost use Rattle.pt_post.specs.Posted.{AreDone, IsDone};
+ghost use Rattle.pt_post.specs.Posted.{AreDone};
 ghost use Rattle.pt_semantics.specs.Closing.{on_link};
 ghost use Rattle.pt_turn.specs.Gone.{last_sent};
 
 use crate::platforms::arrivals::{may_come, on_link};
-use pt_actors::{Done, Task, Tasks, fire};
+use pt_actors::{Done, Task, Tasks};
 use pt_blocks::Blocks;
 use pt_turn::{Platform, Room};
-use pt_types::{Graph, Kind, OnLink};
+use pt_types::{Graph, OnLink};
+use pt_visits::fire_one;
 use std::alloc::{AllocError, Global};
 
 /// How many units a platform claims at most in one turn, and how many messages it sends at most on a link.
 const MOST: usize = 64;
-
-/// Fires a task.
-fn fire_one(blocks: &Blocks, graph: &Graph, task: &Task) -> Done
-    requires lawful { IsLawful graph.now }
-    ensures done { IsDone graph.now result }
-{
-    match graph.actors.as_slice().get(task.actor as usize) {
-        Some(actor) => fire(blocks, &actor.kind, task),
-        None => fire(blocks, &Kind::Receive, task),
-    }
-}
 
 /// The results of tasks, in order.
 fn results_of(
