@@ -11,6 +11,7 @@ pub mod Migrating
 pub mod SlackRuns
 pub mod Headline
 pub mod CauseTable
+pub mod OneCause
 pub mod Exact
 pub mod RunsAgreeing
 pub mod Finished
