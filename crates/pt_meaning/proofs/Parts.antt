@@ -1,5 +1,5 @@
 -- Two parts of the events that wait, of which the first one's count first.
-use Rattle.std.proofs.Common.{◌≡◌, ℕ, zero, suc, ◌<◌, Bool, true, false, cond, Some, None, Option, IsSome, IfSome, IfNone, MatchOption, ℤ, List, [], ◌∷◌, slice_index_or, refl, sym, ap, subst, ◌∙◌, arith}
+use Rattle.std.proofs.Common.{◌≡◌, ℕ, zero, suc, true, Some, None, Option, IsSome, IfSome, IfNone, MatchOption, ℤ, List, [], ◌∷◌, slice_index_or, refl, sym, ap, subst, ◌∙◌}
 use Rattle.pt_tags.specs.declared.tag.Tag.{Tag}
 use Rattle.pt_types.specs.Ports.{at_port, eight, nothing}
 use Rattle.pt_semantics.specs.Firing.{any_present}

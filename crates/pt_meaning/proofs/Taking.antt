@@ -8,7 +8,7 @@ use Rattle.pt_tags.specs.declared.tag.Tag.{Tag}
 use Rattle.pt_tags.specs.Tags.{same_tag}
 use Rattle.pt_types.specs.Ports.{when, at_port, eight}
 use Rattle.pt_semantics.specs.Lists.{or_else}
-use Rattle.pt_semantics.specs.Meaning.{IsFirst, without, waiting}
+use Rattle.pt_semantics.specs.Meaning.{IsFirst, without}
 use Rattle.pt_meaning.specs.declared.place.Place.{Place}
 use Rattle.pt_meaning.specs.Waiting.{place_cmp, place_of, waits_in, IsPlaced, IsSound}
 use Rattle.pt_meaning.specs.Front.{IsLeast, Leaves, NoneInFront, is_of}

@@ -1,5 +1,5 @@
 use Rattle.std.proofs.Common.{◌≡◌, ◌++◌, ◌∷◌, take, drop, rules, sym, subst}
-use Rattle.pt_meaning.specs.Line.{in_line, IsGap}
+use Rattle.pt_meaning.specs.Line.{IsGap}
 use Rattle.pt_meaning.specs.Waiting.{place_cmp}
 use Rattle.pt_meaning.proofs.Lines.{place_total, enters_at, enters_not, rising_at}
 use Rattle.pt_meaning.proofs.line.Line.enter.Goals as goal

@@ -1,4 +1,4 @@
-use Rattle.std.proofs.Common.{◌≡◌, ◌<◌, length, refl, sym, subst, arith}
+use Rattle.std.proofs.Common.{◌<◌, length, refl, sym, subst, arith}
 use Rattle.pt_meaning.specs.Front.{IsLeast}
 use Rattle.pt_meaning.specs.Line.{in_line}
 use Rattle.pt_meaning.specs.Waiting.{place_cmp}

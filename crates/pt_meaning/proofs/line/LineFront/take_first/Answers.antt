@@ -1,4 +1,4 @@
-use Rattle.std.proofs.Common.{◌≡◌, ◌∙◌, ◌<◌, List, ◌∷◌, length, get_or, true, refl, sym, ap, subst, arith, rules, inr}
+use Rattle.std.proofs.Common.{◌≡◌, ◌∙◌, ◌<◌, ◌∷◌, length, get_or, true, refl, sym, ap, subst, arith, rules, inr}
 use Rattle.pt_meaning.specs.Front.{IsLeast, Leaves, is_of}
 use Rattle.pt_meaning.specs.Line.{in_line, IsRising}
 use Rattle.pt_meaning.specs.Waiting.{place_cmp}
