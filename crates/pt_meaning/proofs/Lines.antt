@@ -1,15 +1,17 @@
 -- What waits in a line, and what an event more or less does to it.
-use Rattle.std.proofs.Common.{◌≡◌, ℕ, zero, suc, ◌<◌, ◌≤◌, ◌==◌, ◌&&◌, List, [], ◌∷◌, ◌++◌, length, take, drop, get_or, cond, Bool, true, false, Option, Some, None, IsSome, Result, Ok, Err, IfOk, IfErr, ℤ, refl, sym, ap, ◌∙◌, arith}
+use Rattle.std.proofs.Common.{◌≡◌, ℕ, zero, suc, ◌<◌, ◌≤◌, ◌==◌, ◌&&◌, List, [], ◌∷◌, ◌++◌, length, take, drop, get_or, cond, Bool, true, false, Option, Some, None, IsSome, Result, Ok, Err, IfOk, IfErr, ℤ, refl, sym, ap, subst, ◌∙◌, ◌-◌, ◌⊎◌, ⊎_elim, inl, inr, arith}
 use Rattle.std.proofs.Math.Numerals.{add-one}
 use Rattle.std.specs.declared.cmp.Ordering.{Ordering}
 use Rattle.std.specs.declared.cmp.Ordering.TheVariants.{Less, Equal, Greater}
-use Rattle.std.specs.Ordering.{is_gt, is_eq, ordering_index}
+use Rattle.std.specs.Ordering.{is_lt, is_gt, is_eq, ordering_index}
 use Rattle.std.specs.Cmp.{IsTotalOrder}
 use Rattle.std.specs.List.Sorted.{IsSearchInRange, IsBinarySearchResult, IsNonDecreasingBy}
 use Rattle.std.proofs.lemmas.Cmp.{alike_right, tied_itself, nat_cmp_total, on_total, then_total}
 use Rattle.std.proofs.lemmas.List.Sorted.{searchable_from_sorted}
 use Rattle.pt_tags.specs.declared.tag.Tag.{Tag}
 use Rattle.pt_tags.specs.Tags.{same_tag}
+use Rattle.std.proofs.lemmas.Bool.{cases_lt}
+use Rattle.std.proofs.lemmas.List.{get_or_default}
 use Rattle.std.proofs.lemmas.Bool.Decides.{nat_tests}
 use Rattle.std.proofs.lemmas.Grind.{common_steps}
 use Rattle.pt_types.specs.Ports.{when}
@@ -19,12 +21,18 @@ use Rattle.pt_meaning.specs.declared.line.Sent.{Sent}
 use Rattle.pt_meaning.specs.Line.{in_line, IsGap, IsRising, IsThere}
 use Rattle.pt_meaning.specs.Waiting.{place_cmp}
 use Rattle.pt_meaning.specs.Front.{Leaves, is_of}
+use Rattle.pt_meaning.proofs.Emitting.{each_at}
 use Rattle.pt_meaning.proofs.Places.{same_self}
 
 pub place_total : IsTotalOrder place_cmp
 place_total =
     then_total (then_total (on_total (λ (p : Place). p.tag.time) nat_cmp_total) (on_total (λ (p : Place). p.tag.step) nat_cmp_total))
     (then_total (on_total (λ (p : Place). p.rank) nat_cmp_total) (then_total (on_total (λ (p : Place). p.actor) nat_cmp_total) (on_total (λ (p : Place). p.port) nat_cmp_total)))
+
+pub lt_of : (o : Ordering) → is_lt o ≡ true → o ≡ Less
+lt_of Less h = refl
+lt_of Equal h = absurd cc
+lt_of Greater h = absurd cc
 
 eq_of : (o : Ordering) → is_eq o ≡ true → o ≡ Equal
 eq_of Less h = absurd cc
@@ -77,12 +85,44 @@ module _ (R : Place → Place → Ordering) (o : IsTotalOrder R) where
       by true same some = eq_not_gt (R x.place q) same
       by false same some = after_first x.place es q rising.0 some
 
-  -- neighbours rise
+  -- of two events the one with the lower index is before the other
+  ordered : (es : List Sent) → IsRising R es → (i j : ℕ) (d : Sent) → i < j → j < length es → R (get_or es i d).place (get_or es j d).place ≡ Less
+  ordered [] rising i j d h within = absurd (omega arith)
+  ordered (x ∷ es) rising i zero d h within = absurd (omega arith)
+  ordered (x ∷ es) rising zero (suc j) d h within = each_at (λ (f : Sent). R x.place f.place ≡ Less) es j d rising.0 (omega arith)
+  ordered (x ∷ es) rising (suc i) (suc j) d h within = ordered es rising.1 i j d (omega arith) (omega arith)
+
   neighbours : (es : List Sent) → IsRising R es → (k : ℕ) (d : Sent) → suc k < length es → R (get_or es k d).place (get_or es (suc k) d).place ≡ Less
-  neighbours [] rising k d h = absurd (omega arith)
-  neighbours (x ∷ []) rising k d h = absurd (omega arith)
-  neighbours (x ∷ y ∷ es) rising zero d h = rising.0.0
-  neighbours (x ∷ y ∷ es) rising (suc k) d h = neighbours (y ∷ es) rising.1 k d (omega arith)
+  neighbours es rising k d h = ordered es rising k (suc k) d (omega arith) h
+
+  -- a place after the last event has its gap at the end
+  pub gap_at_end : (es : List Sent) (p : Place) (last : Sent) → IsRising R es → last ≡ get_or es (length es - 1) last → R last.place p ≡ Less → IsGap R p es (length es)
+  gap_at_end es p last rising is after = record {
+    in_range = omega arith;
+    before = λ k d h. before_last k d h;
+    after = λ k d low h. absurd (omega arith);
+  }
+    where
+      last_at : (d : Sent) → 0 < length es → R (get_or es (length es - 1) d).place p ≡ Less
+      last_at d some = subst (λ (e : Sent). R e.place p ≡ Less) (is ∙ get_or_default es (length es - 1) last d (omega arith)) after
+
+      by : (k : ℕ) (d : Sent) → k < length es → (k < length es - 1) ⊎ (k ≡ length es - 1) → R (get_or es k d).place p ≡ Less
+      by k d h (inl low) = o.trans (get_or es k d).place (get_or es (length es - 1) d).place p (ordered es rising k (length es - 1) d low (omega arith)) (last_at d (omega arith))
+      by k d h (inr at) = subst (λ n. R (get_or es n d).place p ≡ Less) (sym at) (last_at d (omega arith))
+
+      before_last : (k : ℕ) (d : Sent) → k < length es → R (get_or es k d).place p ≡ Less
+      before_last k d h = ⊎_elim
+          (λ (low : k < length es - 1). by k d h (inl low))
+          (λ (high : length es - 1 ≤ k). let at : k ≡ length es - 1 = omega (arith, h, high) in by k d h (inr at))
+          (cases_lt k (length es - 1))
+
+  -- in an empty line every place has
+  pub gap_in_none : (es : List Sent) (p : Place) → length es ≡ 0 → IsGap R p es (length es)
+  gap_in_none es p none = record {
+    in_range = omega arith;
+    before = λ k d h. absurd (omega arith);
+    after = λ k d low h. absurd (omega arith);
+  }
 
   searchable : (es : List Sent) (p : Place) → IsRising R es → IsNonDecreasingBy (λ (e : Sent). ordering_index (R e.place p)) es
   searchable es p rising = searchable_from_sorted o (λ (e : Sent). e.place) es p (λ k d low h.

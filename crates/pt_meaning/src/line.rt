@@ -1,6 +1,6 @@
 //! A line of events that wait, in the order in which they fire.
 
-ghost use Rattle.std.specs.Prelude.{◌≡◌, ◌<◌, ◌≤◌, [], ℕ, IfOk, IfErr, MatchBool, MatchOption, None, IsSome, length};
+ghost use Rattle.std.specs.Prelude.{◌≡◌, ◌<◌, ◌≤◌, [], ℕ, IfOk, IfErr, MatchBool, MatchOption, None, IsTrue, length};
 ghost use Rattle.pt_meaning.specs.declared.place.Place.{Place};
 ghost use Rattle.pt_meaning.specs.Front.{Enters, IsLeast};
 ghost use Rattle.pt_meaning.specs.Line.{in_line, IsGap, IsThere};
@@ -81,7 +81,20 @@ impl Line {
         ensures there { IfOk result (IsThere place_cmp place self.now) }
         ensures gap { IfErr result (IsGap place_cmp place self.now) }
     {
+        if self.is_past(place) {
+            return Err(self.events.len());
+        }
         self.events.binary_search_by_key(&place, |sent| sent.place)
+    }
+
+    /// Whether a place is after all events, as that of a new one often is.
+    fn is_past(&self, place: Place) -> bool
+        ensures { IsTrue result → IsGap place_cmp place self.now (length self.now) }
+    {
+        match self.events.back() {
+            Some(last) => last.place < place,
+            None => true,
+        }
     }
 }
 
