@@ -14,7 +14,7 @@ use Rattle.pt_semantics.specs.Lists.{or_else, Each}
 use Rattle.pt_semantics.specs.Meaning.{IsFirst, NotAfter, at_time, added, waiting, without}
 use Rattle.pt_meaning.specs.declared.early.Early.{Early}
 use Rattle.pt_semantics.specs.Firing.{any_present}
-use Rattle.pt_meaning.specs.declared.pending.Place.{Place}
+use Rattle.pt_meaning.specs.declared.place.Place.{Place}
 use Rattle.pt_meaning.specs.Waiting.{IsPlaced}
 use Rattle.pt_meaning.specs.Opening.{start_of}
 use Rattle.pt_meaning.specs.Early.{moment_of, moment_cmp, place_of_early, early_waits, is_at, AreEarly, Heads, IsEarly, IsOrderly, NotAtHead, NotLater, Rising}

@@ -9,7 +9,7 @@ use Rattle.pt_types.specs.declared.graph.Edge.{Edge}
 use Rattle.pt_types.specs.Ports.{when, at_port}
 use Rattle.pt_semantics.specs.Lists.{or_else, first_of, Each}
 use Rattle.pt_semantics.specs.Meaning.{Values, added, going, leaves_actor}
-use Rattle.pt_meaning.specs.declared.pending.Place.{Place}
+use Rattle.pt_meaning.specs.declared.place.Place.{Place}
 use Rattle.pt_meaning.specs.Waiting.{value_at}
 
 tag_is : (t u : Tag) → same_tag t u ≡ true → t.time ≡ u.time

@@ -2,6 +2,8 @@ pub mod Filling
 pub mod Lists
 pub mod Places
 pub mod Taking
+pub mod Lines
+pub mod Parts
 pub mod Both
 pub mod Emitting
 pub mod Earlies

@@ -15,7 +15,7 @@ use Rattle.pt_types.specs.Groups.{no_actor}
 use Rattle.pt_types.specs.Lookups.{kind_of}
 use Rattle.pt_semantics.specs.Meaning.{Values, added, at_time, start_at, row_at, rows_until, opening}
 use Rattle.pt_sensors.specs.declared.sensor_rows.SensorRows.{SensorRows}
-use Rattle.pt_meaning.specs.declared.pending.Place.{Place}
+use Rattle.pt_meaning.specs.declared.place.Place.{Place}
 use Rattle.pt_meaning.specs.Waiting.{value_at}
 use Rattle.pt_meaning.specs.Opening.{start_of, start_one, starts_below, rows_of_actor, rows_from_sensors}
 use Rattle.pt_sensors.specs.Listed.{rows_for}

@@ -4,28 +4,26 @@ use Rattle.std.proofs.lemmas.Bool.Decides.{nat_tests}
 use Rattle.std.proofs.lemmas.Grind.{common_steps}
 use Rattle.std.proofs.lemmas.List.{ext_get_or, get_or-set_same, get_or-set_other, length-set}
 use Rattle.std.specs.Ordering.{is_eq}
-use Rattle.std.specs.BTreeMap as tree
-use Rattle.std.specs.BTreeMap.{BTreeMap}
 use Rattle.pt_tags.specs.declared.tag.Tag.{Tag}
 use Rattle.pt_tags.specs.Tags.{same_tag}
-use Rattle.pt_types.specs.Ports.{when, eight}
+use Rattle.pt_types.specs.Ports.{when, at_port, eight}
 use Rattle.pt_semantics.specs.Lists.{or_else}
-use Rattle.pt_semantics.specs.Meaning.{IsFirst, without, waiting}
-use Rattle.pt_meaning.specs.declared.pending.Place.{Place}
+use Rattle.pt_semantics.specs.Meaning.{IsFirst, without}
+use Rattle.pt_meaning.specs.declared.place.Place.{Place}
 use Rattle.pt_meaning.specs.Waiting.{place_cmp, place_of, waits_in, IsPlaced, IsSound}
-use Rattle.pt_meaning.specs.Front.{Leaves, NoneInFront, is_of}
-use Rattle.pt_meaning.proofs.Places.{one_place, up_to}
+use Rattle.pt_meaning.specs.Front.{IsLeast, Leaves, NoneInFront, is_of}
+use Rattle.pt_meaning.proofs.Places.{one_place, same_self, up_to}
 
--- each event of a map is one of another
-abbrev pub IsPart : BTreeMap Place ℤ → BTreeMap Place ℤ → Type 0
-IsPart some all = (q : Place) (v : ℤ) → tree.get place_cmp some q ≡ Some v → tree.get place_cmp all q ≡ Some v
+-- each of some events is one of others
+abbrev pub IsPart : (Place → Option ℤ) → (Place → Option ℤ) → Type 0
+IsPart some all = (q : Place) (v : ℤ) → some q ≡ Some v → all q ≡ Some v
 
 there : (b : Bool) (x : Option ℤ) (v : ℤ) → cond b None x ≡ Some v → x ≡ Some v
 there true x v h = absurd cc
 there false x v h = h
 
-pub kept_more : (t : Tag) (a port : ℕ) (v : ℤ) (all before now : BTreeMap Place ℤ) → Leaves t a port v before now → IsPart before all → IsPart now all
-kept_more t a port v all before now leaves part q w h = part q w (there (is_eq (place_cmp leaves.place q)) (tree.get place_cmp before q) w (sym (leaves.others q) ∙ h))
+pub kept_more : (t : Tag) (a port : ℕ) (v : ℤ) (all before now : Place → Option ℤ) → Leaves t a port v before now → IsPart before all → IsPart now all
+kept_more t a port v all before now leaves part q w h = part q w (there (is_eq (place_cmp leaves.place q)) (before q) w (sym (leaves.others q) ∙ h))
 
 here : (t : Tag) (a : ℕ) (x : Place) → x.tag ≡ t → x.actor ≡ a → is_of t a x ≡ true
 here t a x tag actor = grind (arith, nat_tests, common_steps)
@@ -34,12 +32,12 @@ stays : (b : Bool) (x : Option ℤ) → (b ≡ true → ⊥) → cond b None x �
 stays true x h = absurd (h refl)
 stays false x h = refl
 
-pub others_more : (t : Tag) (a port : ℕ) (v : ℤ) (all before now : BTreeMap Place ℤ) → Leaves t a port v before now
-    → ((q : Place) → is_of t a q ≡ false → tree.get place_cmp before q ≡ tree.get place_cmp all q)
-    → (q : Place) → is_of t a q ≡ false → tree.get place_cmp now q ≡ tree.get place_cmp all q
+pub others_more : (t : Tag) (a port : ℕ) (v : ℤ) (all before now : Place → Option ℤ) → Leaves t a port v before now
+    → ((q : Place) → is_of t a q ≡ false → before q ≡ all q)
+    → (q : Place) → is_of t a q ≡ false → now q ≡ all q
 others_more t a port v all before now leaves was q other =
     leaves.others q
-    ∙ stays (is_eq (place_cmp leaves.place q)) (tree.get place_cmp before q) (λ e. let same : is_of t a q ≡ true = subst (λ z. is_of t a z ≡ true) (one_place leaves.place q e) (here t a leaves.place leaves.tag leaves.actor_is) in absurd cc)
+    ∙ stays (is_eq (place_cmp leaves.place q)) (before q) (λ e. let same : is_of t a q ≡ true = subst (λ z. is_of t a z ≡ true) (one_place leaves.place q e) (here t a leaves.place leaves.tag leaves.actor_is) in absurd cc)
     ∙ was q other
 
 -- the place of an event is where its actor's rank puts it
@@ -54,35 +52,38 @@ same_or_not m k = dec_of (m == k) refl
     dec_of false e = inr (λ s. grind (arith, nat_tests))
 
 -- one event more was taken: its value stands at its port
-pub values_more : (rank : ℕ → ℕ) (actors steps : ℕ) (t : Tag) (a port : ℕ) (v : ℤ) (all before now : BTreeMap Place ℤ) (values : List (Option ℤ)) → length values ≡ 8
+pub values_more : (rank : ℕ → ℕ) (actors steps : ℕ) (t : Tag) (a port : ℕ) (v : ℤ) (all before now : Place → Option ℤ) (values : List (Option ℤ)) (wanted : ℕ → Option ℤ) → length values ≡ 8
     → IsSound rank actors steps all → Leaves t a port v before now → IsPart before all
-    → ((p : ℕ) → p < 8 → or_else (slice_index_or values p None) (tree.get place_cmp before (place_of rank a p t)) ≡ tree.get place_cmp all (place_of rank a p t))
-    → (p : ℕ) → p < 8 → or_else (slice_index_or (slice_set values port (Some v)) p None) (tree.get place_cmp now (place_of rank a p t)) ≡ tree.get place_cmp all (place_of rank a p t)
-values_more rank actors steps t a port v all before now values len sound leaves part was p low =
+    → ((p : ℕ) → p < 8 → or_else (before (place_of rank a p t)) (slice_index_or values p None) ≡ wanted p)
+    → (p : ℕ) → p < 8 → or_else (now (place_of rank a p t)) (slice_index_or (slice_set values port (Some v)) p None) ≡ wanted p
+values_more rank actors steps t a port v all before now values wanted len sound leaves part was p low =
     ⊎_elim
     (λ (e : p ≡ port).
     let at : leaves.place ≡ place_of rank a p t = its_place rank leaves.place a p t placed.rank_is leaves.tag leaves.actor_is (leaves.port_is ∙ sym e) in
-    ap (λ x. or_else x (tree.get place_cmp now (place_of rank a p t))) (ap (λ z. slice_index_or (slice_set values port (Some v)) z None) e ∙ get_or-set_same values port (Some v) None within)
-    ∙ sym (subst (λ z. tree.get place_cmp all z ≡ Some v) at there_first))
+    let gone : now (place_of rank a p t) ≡ None = subst (λ z. now z ≡ None) at taken in
+    let here : before (place_of rank a p t) ≡ Some v = subst (λ z. before z ≡ Some v) at leaves.was in
+    ap (λ x. or_else x (slice_index_or (slice_set values port (Some v)) p None)) gone
+    ∙ ap (λ z. slice_index_or (slice_set values port (Some v)) z None) e ∙ get_or-set_same values port (Some v) None within
+    ∙ ap (λ x. or_else x (slice_index_or values p None)) (sym here) ∙ was p low)
     (λ (ne : p ≢ port).
-    ap (λ x. or_else x (tree.get place_cmp now (place_of rank a p t))) (get_or-set_other values port p (Some v) None ne)
-    ∙ ap (or_else (slice_index_or values p None))
+    ap (or_else (now (place_of rank a p t))) (get_or-set_other values port p (Some v) None ne)
+    ∙ ap (λ x. or_else x (slice_index_or values p None))
     (leaves.others (place_of rank a p t)
-    ∙ stays (is_eq (place_cmp leaves.place (place_of rank a p t))) (tree.get place_cmp before (place_of rank a p t)) (λ e. ne (ap (λ (z : Place). z.port) (sym (one_place leaves.place (place_of rank a p t) e)) ∙ leaves.port_is)))
+    ∙ stays (is_eq (place_cmp leaves.place (place_of rank a p t))) (before (place_of rank a p t)) (λ e. ne (ap (λ (z : Place). z.port) (sym (one_place leaves.place (place_of rank a p t) e)) ∙ leaves.port_is)))
     ∙ was p low)
     (same_or_not p port)
   where
-    there_first : tree.get place_cmp all leaves.place ≡ Some v
-    there_first = part leaves.place v leaves.was
+    taken : now leaves.place ≡ None
+    taken = leaves.others leaves.place ∙ ap (λ b. cond b None (before leaves.place)) (same_self leaves.place)
 
     placed : IsPlaced rank actors steps leaves.place
-    placed = sound leaves.place (subst IsSome (sym there_first) refl)
+    placed = sound leaves.place (subst IsSome (sym (part leaves.place v leaves.was)) refl)
 
     within : port < length values
     within = let low : leaves.place.port < 8 = placed.port in omega (arith, len, leaves.port_is, low)
 
 -- an event that was taken is at one of eight ports
-pub port_low : (rank : ℕ → ℕ) (actors steps : ℕ) (t : Tag) (a port : ℕ) (v : ℤ) (all before now : BTreeMap Place ℤ) → IsSound rank actors steps all → Leaves t a port v before now → IsPart before all → nat_lt port 8 ≡ true
+pub port_low : (rank : ℕ → ℕ) (actors steps : ℕ) (t : Tag) (a port : ℕ) (v : ℤ) (all before now : Place → Option ℤ) → IsSound rank actors steps all → Leaves t a port v before now → IsPart before all → nat_lt port 8 ≡ true
 port_low rank actors steps t a port v all before now sound leaves part =
     let placed = sound leaves.place (subst IsSome (sym (part leaves.place v leaves.was)) refl) in
     let low : leaves.place.port < 8 = placed.port in
@@ -97,7 +98,7 @@ length_by false values port v len = len
 pub length_put : (values : List (Option ℤ)) (port : ℕ) (v : ℤ) → length values ≡ 8 → length (if nat_lt port 8 then slice_set values port (Some v) else values) ≡ 8
 length_put values port v len = length_by (nat_lt port 8) values port v len
 
-at_eight : (f : ℕ → Option ℤ) (i : ℕ) → i < 8 → slice_index_or (eight f) i None ≡ f i
+pub at_eight : (f : ℕ → Option ℤ) (i : ℕ) → i < 8 → slice_index_or (eight f) i None ≡ f i
 at_eight f zero h = refl
 at_eight f (suc zero) h = refl
 at_eight f (suc (suc zero)) h = refl
@@ -121,19 +122,19 @@ or_not None h = refl
 or_not (Some v) h = absurd (h refl)
 
 -- where the first event isn't of that tag and actor, which come first, no event is
-pub none_left : (rank : ℕ → ℕ) (actors steps : ℕ) (t : Tag) (a : ℕ) (all now : BTreeMap Place ℤ) → IsSound rank actors steps all → IsFirst rank (waits_in rank all) a t → IsPart now all
-    → NoneInFront t a now → (p : ℕ) → tree.get place_cmp now (place_of rank a p t) ≡ None
+pub none_left : (rank : ℕ → ℕ) (actors steps : ℕ) (t : Tag) (a : ℕ) (all now : Place → Option ℤ) → IsSound rank actors steps all → IsFirst rank (waits_in rank all) a t → IsPart now all
+    → NoneInFront t a now → (p : ℕ) → now (place_of rank a p t) ≡ None
 none_left rank actors steps t a all now sound first part front p =
-    ⊎_elim (λ (empty : (q : Place) → tree.get place_cmp now q ≡ None). empty (place_of rank a p t))
-    (λ (other : (x : Place) × IsSome (tree.get place_cmp now x) × (is_of t a x ≡ false) × tree.IsLowerBound place_cmp now x).
-    or_not (tree.get place_cmp now (place_of rank a p t)) (λ some.
+    ⊎_elim (λ (empty : (q : Place) → now q ≡ None). empty (place_of rank a p t))
+    (λ (other : (x : Place) × IsLeast now x × (is_of t a x ≡ false)).
+    or_not (now (place_of rank a p t)) (λ some.
     let x : Place = other.0 in
-    let value = as_some (tree.get place_cmp now x) other.1 in
+    let value = as_some (now x) other.1.there in
     let was = part x value.0 value.1 in
     let placed = sound x (subst IsSome (sym was) refl) in
     let stands : x ≡ place_of rank x.actor x.port x.tag = its_place rank x x.actor x.port x.tag placed.rank_is refl refl refl in
-    let later = first x.actor x.port x.tag value.0 (subst (λ z. tree.get place_cmp all z ≡ Some value.0) stands was) in
-    let sooner = up_to x (place_of rank a p t) (other.3 (place_of rank a p t) some) in
+    let later = first x.actor x.port x.tag value.0 (subst (λ z. all z ≡ Some value.0) stands was) in
+    let sooner = up_to x (place_of rank a p t) (other.1.least (place_of rank a p t) some) in
     is_here t a x (rank a) (rank x.actor) placed.rank_is sooner later other.2))
     front
   where
@@ -153,38 +154,34 @@ none_left rank actors steps t a all now sound first part front p =
         let actor : x.actor ≡ a = omega (arith, low, high) in
         grind (arith, nat_tests, common_steps)
 
-or_none : (x y : Option ℤ) → y ≡ None → or_else x y ≡ x
-or_none None y h = h
-or_none (Some v) y h = refl
-
 -- all that waited was taken
-pub all_taken : (rank : ℕ → ℕ) (t : Tag) (a : ℕ) (all now : BTreeMap Place ℤ) (values : List (Option ℤ)) → length values ≡ 8
-    → ((p : ℕ) → p < 8 → or_else (slice_index_or values p None) (tree.get place_cmp now (place_of rank a p t)) ≡ tree.get place_cmp all (place_of rank a p t))
-    → ((p : ℕ) → tree.get place_cmp now (place_of rank a p t) ≡ None) → values ≡ waiting (waits_in rank all) a t
-all_taken rank t a all now values len at none =
-    all_eight (λ p. waits_in rank all a p t) values len (λ p low. sym (or_none (slice_index_or values p None) (tree.get place_cmp now (place_of rank a p t)) (none p)) ∙ at p low)
+pub all_taken : (rank : ℕ → ℕ) (t : Tag) (a : ℕ) (all now : Place → Option ℤ) (old values : List (Option ℤ)) → length values ≡ 8
+    → ((p : ℕ) → p < 8 → or_else (now (place_of rank a p t)) (slice_index_or values p None) ≡ or_else (all (place_of rank a p t)) (slice_index_or old p None))
+    → ((p : ℕ) → now (place_of rank a p t) ≡ None) → values ≡ eight (λ p. or_else (waits_in rank all a p t) (at_port old p))
+all_taken rank t a all now old values len at none =
+    all_eight (λ p. or_else (waits_in rank all a p t) (at_port old p)) values len (λ p low. ap (λ x. or_else x (slice_index_or values p None)) (sym (none p)) ∙ at p low)
 
 of_is : (t : Tag) (a b : ℕ) (u : Tag) → (b == a && same_tag t u) ≡ true → (b ≡ a) × (t.time ≡ u.time) × (t.step ≡ u.step)
 of_is t a b u h = (grind (arith, nat_tests, common_steps), grind (arith, nat_tests, common_steps), grind (arith, nat_tests, common_steps))
 
 -- and nothing else
-pub waits_without : (rank : ℕ → ℕ) (t : Tag) (a : ℕ) (all now : BTreeMap Place ℤ)
-    → ((q : Place) → is_of t a q ≡ false → tree.get place_cmp now q ≡ tree.get place_cmp all q)
-    → ((p : ℕ) → tree.get place_cmp now (place_of rank a p t) ≡ None) → waits_in rank now ≡ without (waits_in rank all) a t
+pub waits_without : (rank : ℕ → ℕ) (t : Tag) (a : ℕ) (all now : Place → Option ℤ)
+    → ((q : Place) → is_of t a q ≡ false → now q ≡ all q)
+    → ((p : ℕ) → now (place_of rank a p t) ≡ None) → waits_in rank now ≡ without (waits_in rank all) a t
 waits_without rank t a all now others none = λ i b p u. at b p u i
   where
     by : (b p : ℕ) (u : Tag) (c : Bool) → (b == a && same_tag t u) ≡ c → waits_in rank now b p u ≡ when (not c) (waits_in rank all b p u)
     by b p u true e =
         let is = of_is t a b u e in
         let at : place_of rank a p t ≡ place_of rank b p u = λ i. place_of rank (sym is.0 i) p (record { time = is.1 i; step = is.2 i }) in
-        subst (λ z. tree.get place_cmp now z ≡ None) at (none p)
+        subst (λ z. now z ≡ None) at (none p)
     by b p u false e = others (place_of rank b p u) e
 
     at : (b p : ℕ) (u : Tag) → waits_in rank now b p u ≡ without (waits_in rank all) a t b p u
     at b p u = by b p u (b == a && same_tag t u) refl
 
--- a part of a sound map is sound
-pub sound_part : (rank : ℕ → ℕ) (actors steps : ℕ) (all now : BTreeMap Place ℤ) → IsSound rank actors steps all → IsPart now all → IsSound rank actors steps now
+-- a part of sound events is sound
+pub sound_part : (rank : ℕ → ℕ) (actors steps : ℕ) (all now : Place → Option ℤ) → IsSound rank actors steps all → IsPart now all → IsSound rank actors steps now
 sound_part rank actors steps all now sound part x h =
-    let value = as_some (tree.get place_cmp now x) h in
+    let value = as_some (now x) h in
     sound x (subst IsSome (sym (part x value.0 value.1)) refl)

@@ -1,19 +1,20 @@
 -- The events known at the start and those sent since, together.
 use Rattle.std.specs.Prelude.{ℕ, ◌≤◌, List, Option, None, Some, ℤ, slice_set}
 use Rattle.pt_semantics.specs.Meaning.{Values, added}
-use Rattle.pt_meaning.specs.declared.pending.Place.{Place}
+use Rattle.pt_meaning.specs.declared.place.Place.{Place}
 use Rattle.pt_meaning.specs.declared.world.Waiting.{Waiting}
 use Rattle.pt_meaning.specs.Early.{early_waits, left, IsOrderly}
 use Rattle.pt_meaning.specs.Waiting.{waits_in, IsSound}
+use Rattle.pt_meaning.specs.Held.{held}
 
 -- the value that waits at each input and tag, in either part; if both have one, the early one
 abbrev pub all_waits : (ℕ → ℕ) → Waiting → Values
-all_waits rank w = added (early_waits (left w.early)) (waits_in rank w.late.events)
+all_waits rank w = added (early_waits (left w.early)) (waits_in rank (held w.late))
 
 -- the events of both parts are sound
 pub record AreSound (rank : ℕ → ℕ) (actors steps : ℕ) (w : Waiting) : Type 0 where
   pub early : IsOrderly rank actors (left w.early)
-  pub late : IsSound rank actors steps w.late.events
+  pub late : IsSound rank actors steps (held w.late)
 
 -- place x does not come after place y, by tag, rank and actor
 abbrev pub IsUpTo : Place → Place → Type 0

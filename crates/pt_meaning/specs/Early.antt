@@ -5,7 +5,7 @@ use Rattle.std.specs.Ordering.{nat_cmp, ordering_then}
 use Rattle.pt_tags.specs.declared.tag.Tag.{Tag}
 use Rattle.pt_semantics.specs.Lists.{Each}
 use Rattle.pt_semantics.specs.Meaning.{Values, added, at_time}
-use Rattle.pt_meaning.specs.declared.pending.Place.{Place}
+use Rattle.pt_meaning.specs.declared.place.Place.{Place}
 use Rattle.pt_meaning.specs.declared.early.Moment.{Moment}
 use Rattle.pt_meaning.specs.declared.early.Early.{Early}
 use Rattle.pt_meaning.specs.declared.early.EarlyList.{EarlyList}

@@ -2,6 +2,8 @@ pub mod Flat
 pub mod Marks
 pub mod Waiting
 pub mod Front
+pub mod Line
+pub mod Held
 pub mod Early
 pub mod Both
 pub mod Emission

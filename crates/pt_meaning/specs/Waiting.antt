@@ -1,14 +1,12 @@
--- A map of events, seen as the value that waits at each input and tag.
-use Rattle.std.specs.Prelude.{◌≡◌, ℕ, ◌<◌, ◌≤◌, List, slice_index_or, ◌==◌, ◌&&◌, Some, IsSome, ℤ}
+-- Events that wait, by place, seen as the value that waits at each input and tag.
+use Rattle.std.specs.Prelude.{◌≡◌, ℕ, ◌<◌, ◌≤◌, List, Option, slice_index_or, ◌==◌, ◌&&◌, Some, IsSome, ℤ}
 use Rattle.std.specs.declared.cmp.Ordering.{Ordering}
 use Rattle.std.specs.Ordering.{nat_cmp, ordering_then}
-use Rattle.std.specs.BTreeMap as tree
-use Rattle.std.specs.BTreeMap.{BTreeMap}
 use Rattle.pt_tags.specs.declared.tag.Tag.{Tag}
 use Rattle.pt_tags.specs.Tags.{same_tag}
 use Rattle.pt_types.specs.Ports.{when}
 use Rattle.pt_semantics.specs.Meaning.{Values}
-use Rattle.pt_meaning.specs.declared.pending.Place.{Place}
+use Rattle.pt_meaning.specs.declared.place.Place.{Place}
 
 -- the order of places: by tag, rank, actor and port
 abbrev pub place_cmp : Place → Place → Ordering
@@ -19,8 +17,8 @@ abbrev pub place_of : (ℕ → ℕ) → ℕ → ℕ → Tag → Place
 place_of rank a p t = record { tag = t; rank = rank a; actor = a; port = p }
 
 -- the value that waits at each input and tag, given each actor's rank
-abbrev pub waits_in : (ℕ → ℕ) → BTreeMap Place ℤ → Values
-waits_in rank events a p t = tree.get place_cmp events (place_of rank a p t)
+abbrev pub waits_in : (ℕ → ℕ) → (Place → Option ℤ) → Values
+waits_in rank held a p t = held (place_of rank a p t)
 
 -- the value of an event at its place, for an actor, an input and a tag
 abbrev pub value_at : Place → ℤ → Values
@@ -33,9 +31,9 @@ pub record IsPlaced (rank : ℕ → ℕ) (actors steps : ℕ) (x : Place) : Type
   pub port : x.port < 8
   pub step : x.tag.step ≤ steps
 
--- each event of the map is at such a place
-abbrev pub IsSound : (ℕ → ℕ) → ℕ → ℕ → BTreeMap Place ℤ → Type 0
-IsSound rank actors steps events = (x : Place) → IsSome (tree.get place_cmp events x) → IsPlaced rank actors steps x
+-- each event is at such a place
+abbrev pub IsSound : (ℕ → ℕ) → ℕ → ℕ → (Place → Option ℤ) → Type 0
+IsSound rank actors steps held = (x : Place) → IsSome (held x) → IsPlaced rank actors steps x
 
 -- the rank of each actor, from a list of ranks
 abbrev pub rank_in : List ℕ → ℕ → ℕ

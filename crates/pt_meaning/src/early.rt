@@ -8,7 +8,7 @@ ghost use Rattle.pt_meaning.specs.declared.early.Early.{Early};
 ghost use Rattle.pt_semantics.specs.Meaning.{IsFirst, waiting, without};
 ghost use Rattle.pt_meaning.specs.Early.{moment_of, moment_cmp, early_waits, is_at, left, place_of_early, AreEarly, Heads, IsOrderly, NotAtHead};
 
-use crate::pending::Place;
+use crate::place::Place;
 use pt_tags::{Memory, Tag};
 
 /// When a starting event fires: moments are ordered by time, rank and actor, as the events fire.

@@ -1,8 +1,8 @@
 //! The meaning as a program: one global list of events, whose first event's actor fires, again and again.
 //!
-//! The list has two parts. The events known at the start are sorted once; those sent since are in a map in the same order, by
-//! tag, rank, actor and port. The first of both parts fires next. The definition is `IsMeaning` in `specs/Meaning.antt` of
-//! pt_semantics.
+//! The list has two parts. The events known at the start are sorted once; those sent since are in the same order, by tag, rank,
+//! actor and port: nearly all in a line, into which a new one goes near either end, and the rest in a map. The first of all fires
+//! next. The definition is `IsMeaning` in `specs/Meaning.antt` of pt_semantics.
 //!
 //! A receiver takes the firings as they happen. `Firings` is a compact list of them: only values that are present are stored,
 //! one after another, and consecutive firings at one tag share it. Contracts see the list of whole firings.
@@ -15,13 +15,17 @@ mod early;
 mod emission;
 mod engine;
 mod firings;
+mod front;
+mod later;
+mod line;
 mod meaning;
 mod moments;
 mod opening;
 mod pending;
+mod place;
 mod receiver;
 mod world;
 
 pub use firings::Firings;
-pub use meaning::{MeaningFault, fire_all, reference};
+pub use meaning::{MeaningFault, fire_all};
 pub use receiver::Receiver;

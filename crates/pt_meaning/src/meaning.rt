@@ -1,17 +1,16 @@
 //! The meaning of a graph and its rows.
 
-ghost use Rattle.std.specs.Prelude.{◌≡◌, ◌≤◌, [], IfOk, OnOk, IsErrOf, length};
+ghost use Rattle.std.specs.Prelude.{◌≡◌, [], OnOk, IsErrOf, length};
 ghost use Rattle.pt_types.specs.Lawful.{IsLawful};
 ghost use Rattle.pt_semantics.specs.Lists.{Each};
-ghost use Rattle.pt_semantics.specs.Meaning.{IsMeaning, IsLonger, rows_until};
+ghost use Rattle.pt_semantics.specs.Meaning.{IsLonger, rows_until};
 ghost use Rattle.pt_meaning.specs.Waiting.{rank_in};
 ghost use Rattle.pt_sensors.specs.Listed.{rows_for, IsOfActors};
 ghost use Rattle.pt_meaning.specs.Running.{IsRunnable, Handed};
 ghost use Rattle.pt_causality.specs.Wiring.{IsWiring};
 
+use crate::Receiver;
 use crate::engine::{begin, fire_next};
-use crate::receiver::Gathered;
-use crate::{Firings, Receiver};
 use pt_causality::{all_edges, outgoing};
 use pt_sensors::SensorRows;
 use pt_tags::List;
@@ -25,31 +24,6 @@ pub enum MeaningFault {
     Memory,
     /// The meaning has more firings than `most`.
     Long,
-}
-
-/// The firings that are the meaning of a graph with these rows, in order: by tag, then rank, then actor.
-///
-/// `ranks` has the rank of each actor of the graph. Rows past the horizon are left out. Fails with `Long` if there are more
-/// than `most` firings.
-pub fn reference(
-    alloc: Global,
-    graph: &Graph,
-    ranks: &[u32],
-    sensors: &[SensorRows],
-    most: usize,
-) -> Result<Firings, MeaningFault>
-    requires lawful { IsLawful graph.now }
-    requires sensors { Each (IsOfActors (length graph.now.actors)) sensors.now }
-    ensures meaning { IfOk result (λ firings. IsMeaning graph.now (rank_in ranks.now) (λ a. rows_until graph.now.until (rows_for sensors.now a)) firings) }
-    ensures most { IfOk result (λ firings. length firings ≤ most) }
-    ensures long { IsErrOf result MeaningFault.Long → IsLonger graph.now (rank_in ranks.now) (λ a. rows_until graph.now.until (rows_for sensors.now a)) most }
-{
-    let firings = Firings::new(alloc);
-    let mut gathered = Gathered { alloc, firings };
-    match fire_all(alloc, graph, ranks, sensors, most, &mut gathered) {
-        Ok(()) => Ok(gathered.firings),
-        Err(fault) => Err(fault),
-    }
 }
 
 /// Gives a receiver the firings that are the meaning of a graph with these rows, one after another: by tag, then rank, then

@@ -1,14 +1,15 @@
 //! The events that wait: those known at the start, and those sent since.
 
-ghost use Rattle.std.specs.Prelude.{◌≡◌, ◌<◌, ◌⊎◌, ℕ, IfSome, IfNone, None, true};
+ghost use Rattle.std.specs.Prelude.{◌≡◌, ℕ, IfSome, IfNone, None, true};
 ghost use Rattle.pt_tags.specs.declared.tag.Tag.{Tag};
 ghost use Rattle.pt_semantics.specs.Firing.{any_present};
 ghost use Rattle.pt_semantics.specs.Meaning.{IsFirst, waiting, without};
 ghost use Rattle.pt_meaning.specs.Waiting.{IsPlaced};
-ghost use Rattle.pt_meaning.specs.Both.{all_waits, with_first, AreSound, IsUpTo};
+ghost use Rattle.pt_meaning.specs.Both.{all_waits, with_first, AreSound};
 
 use crate::early::EarlyList;
-use crate::pending::{Pending, Place};
+use crate::pending::Pending;
+use crate::place::{Place, sooner};
 use pt_tags::Tag;
 use pt_types::Ports;
 
@@ -48,14 +49,6 @@ impl Waiting {
         put_first(&mut inputs, early);
         inputs
     }
-}
-
-/// The one of two places that comes first.
-fn sooner(x: Place, y: Place) -> Place
-    ensures one { (result ≡ x) ⊎ (result ≡ y) }
-    ensures first { IsUpTo result x × IsUpTo result y }
-{
-    if x <= y { x } else { y }
 }
 
 /// Puts a value, if it is one, at port 0.

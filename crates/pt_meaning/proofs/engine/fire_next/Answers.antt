@@ -8,6 +8,7 @@ use Rattle.pt_meaning.specs.Waiting.{waits_in, rank_in}
 use Rattle.pt_meaning.specs.Running.{world_in, states_in, firing_of}
 use Rattle.pt_meaning.specs.Emission.{IsUsable, AddsOneStep}
 use Rattle.pt_meaning.specs.Both.{all_waits}
+use Rattle.pt_meaning.specs.Held.{held}
 use Rattle.pt_meaning.proofs.Both.{added_late}
 use Rattle.pt_meaning.proofs.FiredOn.{fires_by, after_by, each_filter, each_adds}
 use Rattle.pt_meaning.proofs.engine.fire_next.Goals as goal
@@ -32,8 +33,8 @@ returns-clause-after c =
     let kept : states_in c.set_state.new.states.items ≡ put_state (states_in c.args.list.now.states.items) c.args.actor c.firing-firing.result.after = search rules in
     let rank = rank_in c.args.ranks.now in
     let sent = ap (added (early_waits (left c.take-inputs.new.self.early))) (c.in_ok-emit.ensures.waits g refl)
-    ∙ added_late (early_waits (left c.take-inputs.new.self.early)) (waits_in rank c.take-inputs.new.self.late.events) (going g c.args.leaving.now (leaves_actor c.args.actor) c.args.tag c.firing-firing.result.outputs) in
-    after_by g w c.firing-firing.result c.args.actor c.args.tag (all_waits rank c.take-inputs.new.self) (added (early_waits (left c.take-inputs.new.self.early)) (waits_in rank c.emit.new.pending.events))
+    ∙ added_late (early_waits (left c.take-inputs.new.self.early)) (waits_in rank (held c.take-inputs.new.self.late)) (going g c.args.leaving.now (leaves_actor c.args.actor) c.args.tag c.firing-firing.result.outputs) in
+    after_by g w c.firing-firing.result c.args.actor c.args.tag (all_waits rank c.take-inputs.new.self) (added (early_waits (left c.take-inputs.new.self.early)) (waits_in rank (held c.emit.new.pending)))
     (states_in c.set_state.new.states.items) c.args.leaving.now (ap (λ (x : ActorFiring). x.actor) c.firing-firing.ensures) (ap (λ (x : ActorFiring). x.tag) c.firing-firing.ensures)
     (c.take-inputs.ensures.waits rank (length g.actors) c.requires.sound.0 c.requires.sound.1 c.requires.first) c.requires.leaving sent kept
 

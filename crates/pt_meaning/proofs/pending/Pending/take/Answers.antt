@@ -1,40 +1,30 @@
-use Rattle.std.proofs.Common.{◌≡◌, ◌∙◌, rules, slice_set, Some, ap, sym, subst, length, nat_lt, if◌then◌else◌}
-use Rattle.pt_meaning.specs.Waiting.{waits_in, IsSound}
-use Rattle.pt_meaning.specs.Front.{Leaves, NoneInFront}
-use Rattle.pt_meaning.proofs.Taking.{kept_more, length_put, others_more, port_low, values_more, none_left, all_taken, waits_without, sound_part}
+use Rattle.std.proofs.Common.{◌∙◌, ap₂}
+use Rattle.std.specs.BTreeMap as tree
+use Rattle.pt_semantics.specs.Meaning.{added}
+use Rattle.pt_meaning.specs.Line.{in_line}
+use Rattle.pt_meaning.specs.Waiting.{place_cmp, waits_in}
+use Rattle.pt_meaning.proofs.Both.{first_early, first_late, without_both}
+use Rattle.pt_meaning.proofs.Parts.{sound_near, sound_far, sound_both, taken_parts}
 use Rattle.pt_meaning.proofs.pending.Pending.take.Goals as goal
-
-pub loop-port-preserved : goal.loop-port-preserved
-loop-port-preserved c =
-    let t = c.args.tag in let a = c.args.actor in
-    let all = c.args.self.now.events in let before = c.loop-port.self.events in let now = c.take_first.new.self.events in
-    let leaves : Leaves c.args.tag c.args.actor c.in-Some.port c.in-Some.value c.loop-port.self.events c.take_first.new.self.events = search rules in
-    let written : c.put_at.new.values ≡ (if nat_lt c.in-Some.port 8 then slice_set c.loop-port.values c.in-Some.port (Some c.in-Some.value) else c.loop-port.values) = search rules in
-    record {
-      len = ap length written ∙ length_put c.loop-port.values c.in-Some.port c.in-Some.value c.loop-port.invariant.len;
-      kept = kept_more t a c.in-Some.port c.in-Some.value all before now leaves c.loop-port.invariant.kept;
-      others = others_more t a c.in-Some.port c.in-Some.value all before now leaves c.loop-port.invariant.others;
-      values = λ rank actors steps sound p low.
-          let within = port_low rank actors steps t a c.in-Some.port c.in-Some.value all before now sound leaves c.loop-port.invariant.kept in
-          let put : c.put_at.new.values ≡ slice_set c.loop-port.values c.in-Some.port (Some c.in-Some.value) = written ∙ ap (λ b. if b then slice_set c.loop-port.values c.in-Some.port (Some c.in-Some.value) else c.loop-port.values) within in
-          rw put
-          (values_more rank actors steps t a c.in-Some.port c.in-Some.value all before now c.loop-port.values c.loop-port.invariant.len sound leaves c.loop-port.invariant.kept (c.loop-port.invariant.values rank actors steps sound) p low);
-    }
 
 pub returns-clause-inputs : goal.returns-clause-inputs
 returns-clause-inputs c = λ rank actors steps sound first.
-    let front : NoneInFront c.args.tag c.args.actor c.loop-port.self.events = c.in_default.ensures.none.0 in
-    all_taken rank c.args.tag c.args.actor c.args.self.now.events c.loop-port.self.events c.loop-port.values c.loop-port.invariant.len (c.loop-port.invariant.values rank actors steps sound)
-    (none_left rank actors steps c.args.tag c.args.actor c.args.self.now.events c.loop-port.self.events sound first c.loop-port.invariant.kept front)
+    let n = in_line place_cmp c.args.self.now.line in let f = tree.get place_cmp c.args.self.now.later.events in
+    taken_parts (waits_in rank n) (waits_in rank f) c.args.actor c.args.tag c.new-inputs.result c.take_all.new.inputs c.take_all-2.new.inputs c.new-inputs.ensures
+    (c.take_all.ensures.inputs rank actors steps (sound_far n f rank actors steps sound) (first_late rank (waits_in rank n) (waits_in rank f) c.args.actor c.args.tag first))
+    (c.take_all-2.ensures.inputs rank actors steps (sound_near n f rank actors steps sound) (first_early rank (waits_in rank n) (waits_in rank f) c.args.actor c.args.tag first))
 
 pub returns-clause-waits : goal.returns-clause-waits
 returns-clause-waits c = λ rank actors steps sound first.
-    let none = c.in_default.ensures.none in
-    ap (waits_in rank) none.1
-    ∙ waits_without rank c.args.tag c.args.actor c.args.self.now.events c.loop-port.self.events c.loop-port.invariant.others
-    (none_left rank actors steps c.args.tag c.args.actor c.args.self.now.events c.loop-port.self.events sound first c.loop-port.invariant.kept none.0)
+    let n = in_line place_cmp c.args.self.now.line in let f = tree.get place_cmp c.args.self.now.later.events in
+    ap₂ added
+    (c.take_all-2.ensures.waits rank actors steps (sound_near n f rank actors steps sound) (first_early rank (waits_in rank n) (waits_in rank f) c.args.actor c.args.tag first))
+    (c.take_all.ensures.waits rank actors steps (sound_far n f rank actors steps sound) (first_late rank (waits_in rank n) (waits_in rank f) c.args.actor c.args.tag first))
+    ∙ without_both (waits_in rank n) (waits_in rank f) c.args.actor c.args.tag
 
 pub returns-clause-sound : goal.returns-clause-sound
 returns-clause-sound c = λ rank actors steps sound.
-    subst (IsSound rank actors steps) (sym c.in_default.ensures.none.1)
-    (sound_part rank actors steps c.args.self.now.events c.loop-port.self.events sound c.loop-port.invariant.kept)
+    let n = in_line place_cmp c.args.self.now.line in let f = tree.get place_cmp c.args.self.now.later.events in
+    sound_both (in_line place_cmp c.take_all-2.new.front) (tree.get place_cmp c.take_all.new.front.events) rank actors steps
+    (c.take_all-2.ensures.sound rank actors steps (sound_near n f rank actors steps sound))
+    (c.take_all.ensures.sound rank actors steps (sound_far n f rank actors steps sound))

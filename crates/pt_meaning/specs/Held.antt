@@ -1,0 +1,12 @@
+-- The events sent since the start: those of the line and those of the map.
+use Rattle.std.specs.Prelude.{Option, ℤ}
+use Rattle.std.specs.BTreeMap as tree
+use Rattle.pt_semantics.specs.Lists.{or_else}
+use Rattle.pt_meaning.specs.declared.place.Place.{Place}
+use Rattle.pt_meaning.specs.declared.pending.Pending.{Pending}
+use Rattle.pt_meaning.specs.Line.{in_line}
+use Rattle.pt_meaning.specs.Waiting.{place_cmp}
+
+-- the value that waits at a place, in the line or else in the map
+abbrev pub held : Pending → Place → Option ℤ
+held pending q = or_else (in_line place_cmp pending.line q) (tree.get place_cmp pending.later.events q)
