@@ -1,5 +1,5 @@
 -- Tags by the places of units.
-use Rattle.std.proofs.Common.{◌≡◌, ◌≢◌, ℕ, ◌+◌, ◌*◌, ◌<◌, ◌≤◌, ◌⊎◌, ⊎_elim, nat_lt, true, false, if◌then◌else◌, IsSome, List, Option, Some, None, length, replicate, slice_index_or, slice_set, refl, sym, ap, subst, ◌∙◌, arith}
+use Rattle.std.proofs.Common.{◌≡◌, ◌≢◌, ℕ, ◌+◌, ◌*◌, ◌/◌, ◌%◌, ◌<◌, ◌≤◌, ◌⊎◌, ⊎_elim, nat_lt, true, false, if◌then◌else◌, IsSome, List, Option, Some, None, length, replicate, slice_index_or, slice_set, refl, sym, ap, subst, ◌∙◌, arith}
 use Rattle.std.proofs.lemmas.Bool.{cases_Bool, false≢true, lt-ltb}
 use Rattle.std.proofs.lemmas.List.{get_or-replicate, get_or-set_same, get_or-set_other, get_or_past, length-replicate}
 use Rattle.pt_tags.specs.declared.tag.Tag.{Tag}
@@ -7,15 +7,16 @@ use Rattle.pt_types.specs.declared.graph.Unit.{Unit as Part}
 use Rattle.pt_semantics.specs.Units.{same_part}
 use Rattle.pt_semantics.proofs.Lookups.{same_part-true, same_part-refl}
 use Rattle.pt_queue.specs.Listed.{FitsIn, tag_in}
+use Rattle.pt_queue.specs.Marks.{unit_with}
 
 either : (n m : ℕ) → (n < m) ⊎ (m ≤ n)
 either n m = grind arith
 
 -- the tag of a unit with a place
-in_place : (tags : List (Option Tag)) (u : Part) → u.group < 8 → tag_in tags u ≡ slice_index_or tags (8 * u.actor + u.group) None
+pub in_place : (tags : List (Option Tag)) (u : Part) → u.group < 8 → tag_in tags u ≡ slice_index_or tags (8 * u.actor + u.group) None
 in_place tags u l = ap (λ b. if b then slice_index_or tags (8 * u.actor + u.group) None else None) (lt-ltb u.group 8 l)
 
-no_place : (tags : List (Option Tag)) (u : Part) → 8 ≤ u.group → tag_in tags u ≡ None
+pub no_place : (tags : List (Option Tag)) (u : Part) → 8 ≤ u.group → tag_in tags u ≡ None
 no_place tags u m = ap (λ b. if b then slice_index_or tags (8 * u.actor + u.group) None else None) (past u.group 8 m)
   where
     past : (n m : ℕ) → m ≤ n → nat_lt n m ≡ false
@@ -69,7 +70,7 @@ tags_stay tags u x None fits out = ⊎_elim
         (either u.group 8)
 
 -- no unit has a tag
-nowhere : (n k : ℕ) → slice_index_or (replicate {A = Option Tag} n None) k None ≡ None
+pub nowhere : (n k : ℕ) → slice_index_or (replicate {A = Option Tag} n None) k None ≡ None
 nowhere n k = ⊎_elim
     (λ (l : k < n). get_or-replicate {A = Option Tag} n k None None l)
     (λ (m : n ≤ k). get_or_past (replicate {A = Option Tag} n None) k None (omega (arith, m, length-replicate {A = Option Tag} n None)))
@@ -80,3 +81,16 @@ no_tags n u = ⊎_elim
     (λ (l : u.group < 8). in_place (replicate {A = Option Tag} n None) u l ∙ nowhere n (8 * u.actor + u.group))
     (λ (m : 8 ≤ u.group). no_place (replicate {A = Option Tag} n None) u m)
     (either u.group 8)
+
+-- a unit, by its place
+pub with_place : (u : Part) → u.group < 8 → unit_with (8 * u.actor + u.group) ≡ u
+with_place u l =
+    let a : (8 * u.actor + u.group) / 8 ≡ u.actor = omega (arith, l) in
+    let b : (8 * u.actor + u.group) % 8 ≡ u.group = omega (arith, l) in
+    λ i. record { actor = a i; group = b i }
+
+pub tag_with : (tags : List (Option Tag)) (n : ℕ) → tag_in tags (unit_with n) ≡ slice_index_or tags n None
+tag_with tags n =
+    let l : n % 8 < 8 = omega arith in
+    let same : 8 * (n / 8) + n % 8 ≡ n = omega arith in
+    in_place tags (unit_with n) l ∙ ap (λ k. slice_index_or tags k None) same

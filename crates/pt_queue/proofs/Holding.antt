@@ -22,13 +22,14 @@ use Rattle.pt_queue.specs.declared.waiting.Waiting.{Waiting}
 use Rattle.pt_queue.specs.Groups.{AreGroups, groups_at}
 use Rattle.pt_queue.specs.Events.{AreWaiting, IsBlocked, IsClear, IsLeastTag, IsPlaced, waiting_in}
 use Rattle.pt_queue.specs.Listed.{AreListed, AreTags, SomeHoldsUp, holds_up, tag_holds_up, tag_in, tag_of}
+use Rattle.pt_queue.specs.Marks.{one_if}
 use Rattle.pt_queue.specs.Scans.{reaches}
 use Rattle.pt_queue.proofs.Found.{blocked_by, from_unit, not_both_ways}
 use Rattle.pt_queue.proofs.Listing.{in_tag}
 use Rattle.pt_queue.proofs.Known.{event_in, waiting_is}
 use Rattle.pt_queue.proofs.Waits.{placed_actor}
 
-one_holds : {X : Type 0} (test : X → Bool) (xs : List X) → list_any test xs ≡ true → (x : X) × IsIn x xs × (test x ≡ true)
+pub one_holds : {X : Type 0} (test : X → Bool) (xs : List X) → list_any test xs ≡ true → (x : X) × IsIn x xs × (test x ≡ true)
 one_holds test [] h = absurd (false≢true h)
 one_holds test (x ∷ xs) h = ⊎_elim
     (λ (y : test x ≡ true). (x, inl refl, y))
@@ -155,3 +156,11 @@ listed_holds table least u t ws x (Some s) is h =
 -- one of all units
 pub some_holds : (table : List Groups) (least : Part → Part → Option Delay) (u : Part) (t : Tag) (ws : List Waiting) (tags : List (Option Tag)) → AreTags table ws tags → SomeHoldsUp table least u t tags → list_any (holds_up table least u t) ws ≡ true
 some_holds table least u t ws tags are some = listed_holds table least u t ws some.0 (tag_in tags some.0) (sym (are.same some.0)) some.1
+
+-- a unit that holds up another has a tag, and a path leads from it
+pub holder_has : (table : List Groups) (least : Part → Part → Option Delay) (u : Part) (t : Tag) (x : Part) (o : Option Tag) → tag_holds_up table least u t x o ≡ true → (one_if o ≡ 1) × IsSome (least x u)
+holder_has table least u t x None h = absurd (false≢true h)
+holder_has table least u t x (Some w) h =
+    let one = and_parts (not (same_part x u)) (reaches (least x u) w t && nat_lt x.group (groups_at table x.actor).count) h in
+    let two = and_parts (reaches (least x u) w t) (nat_lt x.group (groups_at table x.actor).count) one.1 in
+    (refl, reaches_some (least x u) w t two.0)

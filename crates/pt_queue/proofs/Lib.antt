@@ -16,3 +16,6 @@ pub mod Ports
 pub mod Changing
 pub mod ByUnit
 pub mod Bits
+pub mod Words
+pub mod Marked
+pub mod Finding

@@ -3,3 +3,4 @@ pub mod Events
 pub mod Lines
 pub mod Scans
 pub mod Listed
+pub mod Marks

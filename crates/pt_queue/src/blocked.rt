@@ -1,15 +1,20 @@
 //! Which of the units that have events hold up another unit.
 
-ghost use Rattle.std.specs.Prelude.{◌≡◌, true, is_some};
+ghost use Rattle.std.specs.Prelude.{◌≡◌, ◌+◌, ◌*◌, ◌/◌, ◌%◌, ◌<◌, ◌≤◌, true, is_some};
+ghost use Rattle.std.specs.Int.{bit_at};
 ghost use Rattle.std.specs.List.{list_any};
+ghost use Rattle.pt_types.specs.declared.graph.Unit.{Unit as Part};
 ghost use Rattle.pt_causality.specs.Before.{MayHave};
 ghost use Rattle.pt_causality.specs.Delays.{HasAllBefore, least_of};
+ghost use Rattle.pt_queue.specs.Events.{IsRising};
 ghost use Rattle.pt_queue.specs.Listed.{AreTags, SomeHoldsUp, holds_up, unit_holds_up};
+ghost use Rattle.pt_queue.specs.Marks.{IsHolder, IsHolderIn, most_places};
 
 use crate::events::reaches;
 use crate::groups::{Groups, count_at};
 use crate::holders::Holders;
-use crate::least_tags::{place_of, tag_in};
+use crate::least_tags::{LeastTags, place_of, unit_at};
+use crate::marks::last_bit;
 use crate::waiting::Waiting;
 use pt_causality::Least;
 use pt_tags::Tag;
@@ -103,20 +108,10 @@ fn holder_before(
     None
 }
 
-/// A listed unit that holds up this one; `None` if there is none.
-fn holder(table: &[Groups], listed: &[Waiting], unit: Unit, tag: Tag, least: &Least) -> Option<Unit>
-    ensures { is_some result ≡ list_any (holds_up table.now (least_of least.now) unit tag) listed.now }
-{
-    match least.before(unit) {
-        None => holder_listed(table, listed, unit, tag, least),
-        Some(before) => holder_before(table, listed, unit, tag, least, before),
-    }
-}
-
 /// Whether `other` has events and holds up this unit.
 fn unit_holds_up(
     table: &[Groups],
-    tags: &[Option<Tag>],
+    tags: &LeastTags,
     unit: Unit,
     tag: Tag,
     least: &Least,
@@ -124,7 +119,7 @@ fn unit_holds_up(
 ) -> bool
     ensures { result ≡ unit_holds_up table.now (least_of least.now) unit tag tags.now other }
 {
-    match tag_in(tags, other) {
+    match tags.of(other) {
         None => false,
         Some(from) => holds_up(
             table,
@@ -139,10 +134,94 @@ fn unit_holds_up(
     }
 }
 
+/// The last unit that holds up this one, of those with a bit in `word`: bit `n` is that of the unit with place
+/// `64 * index + n`. `None` if none of these holds it up.
+fn holder_in_word(
+    table: &[Groups],
+    tags: &LeastTags,
+    unit: Unit,
+    tag: Tag,
+    least: &Least,
+    index: usize,
+    word: u64,
+) -> Option<Unit>
+    requires { 64 * index ≤ most_places }
+    ensures { IsHolderIn table.now (least_of least.now) unit tag tags.now index word result }
+{
+    let mut left = word;
+    while let Some(bit) = last_bit(left) {
+        let other = unit_at(64 * index + bit as usize);
+        if unit_holds_up(table, tags, unit, tag, least, other) {
+            return Some(other);
+        }
+        left -= 1 << bit;
+    }
+    None
+}
+
+/// A word of `before`; all bits are set in a word past its end, since of the units there nothing is known.
+fn word_before(before: &[u64], index: usize) -> u64
+    ensures { (x : Part) → MayHave before.now x → x.group < 8 → (8 * x.actor + x.group) / 64 ≡ index → bit_at result ((8 * x.actor + x.group) % 64) ≡ 1 }
+{
+    match before.get(index) {
+        None => u64::MAX,
+        Some(word) => *word,
+    }
+}
+
+/// A unit that holds up this one, by the bits of all units that have events; `None` if there is none. `before` has all units
+/// from which a path leads here.
+fn holder_marked(
+    table: &[Groups],
+    tags: &LeastTags,
+    unit: Unit,
+    tag: Tag,
+    least: &Least,
+    before: &[u64],
+) -> Option<Unit>
+    requires { HasAllBefore least.now unit before.now }
+    ensures { IsHolder table.now (least_of least.now) unit tag tags.now result }
+{
+    let marks = tags.marks();
+    for behind in 0..marks.len() {
+        let index = marks.len() - behind - 1;
+        let word = marks[index] & word_before(before, index);
+        let found = holder_in_word(table, tags, unit, tag, least, index, word);
+        if found.is_some() {
+            return found;
+        }
+    }
+    None
+}
+
+/// A listed unit that holds up this one; `None` if there is none.
+///
+/// Where fewer units are listed than the bits have words, to ask each of them takes less time than to look at each word.
+fn holder(
+    table: &[Groups],
+    listed: &[Waiting],
+    tags: &LeastTags,
+    unit: Unit,
+    tag: Tag,
+    least: &Least,
+) -> Option<Unit>
+    requires rises { IsRising listed.now }
+    requires tags { AreTags table.now listed.now tags.now }
+    ensures { is_some result ≡ list_any (holds_up table.now (least_of least.now) unit tag) listed.now }
+{
+    let Some(before) = least.before(unit) else {
+        return holder_listed(table, listed, unit, tag, least);
+    };
+    if listed.len() <= tags.marks().len() {
+        return holder_before(table, listed, unit, tag, least, before);
+    }
+    holder_marked(table, tags, unit, tag, least, before)
+}
+
 /// Whether the unit that took the place of this one's last holder holds it up. If so, that is remembered.
 fn is_held_by_successor(
     table: &[Groups],
-    tags: &[Option<Tag>],
+    tags: &LeastTags,
     holders: &Holders,
     unit: Unit,
     tag: Tag,
@@ -166,7 +245,7 @@ fn is_held_by_successor(
 /// Whether the unit that last held up this one still does, or else the one that took its place.
 fn is_held_still(
     table: &[Groups],
-    tags: &[Option<Tag>],
+    tags: &LeastTags,
     holders: &Holders,
     unit: Unit,
     tag: Tag,
@@ -191,19 +270,20 @@ fn is_held_still(
 pub fn is_blocked(
     table: &[Groups],
     listed: &[Waiting],
-    tags: &[Option<Tag>],
+    tags: &LeastTags,
     holders: &Holders,
     unit: Unit,
     tag: Tag,
     least: &Least,
 ) -> bool
+    requires rises { IsRising listed.now }
     requires tags { AreTags table.now listed.now tags.now }
     ensures { result ≡ list_any (holds_up table.now (least_of least.now) unit tag) listed.now }
 {
     if is_held_still(table, tags, holders, unit, tag, least) {
         return true;
     }
-    match holder(table, listed, unit, tag, least) {
+    match holder(table, listed, tags, unit, tag, least) {
         None => false,
         Some(holder) => {
             holders.keep(unit, holder);

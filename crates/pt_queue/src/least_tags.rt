@@ -1,15 +1,18 @@
 //! The least tag of each unit's events, by unit.
 
-ghost use Rattle.std.specs.Prelude.{◌≡◌, ◌+◌, ◌*◌, IfOk, IsSome, None, length, replicate, if◌then◌else◌};
+ghost use Rattle.std.specs.Prelude.{◌≡◌, ◌+◌, ◌*◌, ◌<◌, ◌≤◌, IfOk, IsSome, None, length, replicate, slice_set, if◌then◌else◌};
 ghost use Rattle.pt_types.specs.declared.graph.Unit.{Unit as Part};
 ghost use Rattle.pt_semantics.specs.Units.{same_part};
 ghost use Rattle.pt_queue.specs.Listed.{FitsIn, tag_in};
+ghost use Rattle.pt_queue.specs.Marks.{AreMarks, most_places, unit_with};
 ghost use Rattle.pt_queue.specs.Scans.{sooner};
 
+use crate::marks::mark;
 use crate::waiting::earlier;
-use pt_tags::Tag;
+use pt_tags::{Memory, Tag};
 use pt_types::Unit;
 use std::alloc::{AllocError, Global};
+use std::marker::Model;
 
 /// The place of a unit, eight for each actor: `8 * actor + group`.
 pub fn place_of(unit: Unit) -> usize
@@ -18,8 +21,19 @@ pub fn place_of(unit: Unit) -> usize
     8 * unit.actor as usize + unit.group as usize
 }
 
+/// The unit with a place.
+pub fn unit_at(place: usize) -> Unit
+    requires { place < 64 + most_places }
+    ensures { result ≡ unit_with place }
+{
+    Unit {
+        actor: (place / 8) as u32,
+        group: (place % 8) as u32,
+    }
+}
+
 /// `count` places without a tag.
-pub fn no_tags(alloc: Global, count: usize) -> Result<Vec<Option<Tag>>, AllocError>
+fn no_tags(alloc: Global, count: usize) -> Result<Vec<Option<Tag>>, AllocError>
     ensures { IfOk result (λ tags. tags.items ≡ replicate count None) }
 {
     let mut tags = Vec::with_capacity(alloc, count)?;
@@ -29,38 +43,88 @@ pub fn no_tags(alloc: Global, count: usize) -> Result<Vec<Option<Tag>>, AllocErr
     Ok(tags)
 }
 
-/// The least tag of a unit's events; `None` if it has none, or no place.
-pub fn tag_in(tags: &[Option<Tag>], unit: Unit) -> Option<Tag>
-    ensures { result ≡ tag_in tags.now unit }
-{
-    if unit.group >= 8 {
-        return None;
-    }
-    tags.get(place_of(unit)).copied().unwrap_or(None)
+/// The least tag of each unit's events, where it has events. Contracts see a list with the tag at each place: unit
+/// `8 * actor + group`.
+#[derive(Drop)]
+pub struct LeastTags {
+    tags: Vec<Option<Tag>>,
+    /// A bit for each place, 64 in a word: it is set where there is a tag.
+    marks: Vec<u64>,
 }
 
-/// Sets the tag of a unit. A unit without a place can only have no tag.
-pub fn set_tag(tags: &mut Vec<Option<Tag>>, unit: Unit, tag: Option<Tag>)
-    requires { IsSome tag → FitsIn (length tags.old.items) unit }
-    ensures tags { (x : Part) → tag_in tags.new.items x ≡ (if same_part unit x then tag else tag_in tags.old.items x) }
-    ensures len { length tags.new.items ≡ length tags.old.items }
-{
-    if unit.group >= 8 {
-        return;
-    }
-    let place = place_of(unit);
-    if place >= tags.len() {
-        return;
-    }
-    tags[place] = tag;
+impl Model for LeastTags {
+    ghost use Rattle.std.specs.Prelude.{List, Option};
+    ghost use Rattle.pt_tags.specs.declared.tag.Tag.{Tag};
+    ghost use Rattle.pt_queue.specs.Marks.{AreMarked};
+
+    ghost Value = { List (Option Tag) };
+
+    ghost view = { λ l. l.tags.items };
+
+    ghost invariant = { λ l. AreMarked l.tags.items l.marks.items };
 }
 
-/// Gives a unit a tag, or lowers its tag to that one if it is greater.
-pub fn lower_tag(tags: &mut Vec<Option<Tag>>, unit: Unit, tag: Tag)
-    requires { FitsIn (length tags.old.items) unit }
-    ensures tags { (x : Part) → tag_in tags.new.items x ≡ (if same_part unit x then sooner (tag_in tags.old.items unit) tag else tag_in tags.old.items x) }
-    ensures len { length tags.new.items ≡ length tags.old.items }
-{
-    let so_far = tag_in(tags.as_slice(), unit);
-    set_tag(tags, unit, Some(earlier(so_far, tag)));
+impl LeastTags {
+    /// `count` places without a tag.
+    pub fn new(alloc: Global, count: usize) -> Result<LeastTags, Memory>
+        requires { count ≤ most_places }
+        ensures { IfOk result (λ tags. tags ≡ replicate count None) }
+    {
+        let tags = no_tags(alloc, count)?;
+        let marks = vec![in alloc; 0u64; count / 64 + 1]?;
+        Ok(LeastTags { tags, marks })
+    }
+
+    /// The least tag of a unit's events; `None` if it has none, or no place.
+    pub fn of(&self, unit: Unit) -> Option<Tag>
+        ensures { result ≡ tag_in self.now unit }
+    {
+        if unit.group >= 8 {
+            return None;
+        }
+        self.tags.get(place_of(unit)).copied().unwrap_or(None)
+    }
+
+    /// Sets the tag at a place.
+    fn put(&mut self, place: usize, tag: Option<Tag>)
+        requires { place < length self.old }
+        ensures { self.new ≡ slice_set self.old place tag }
+    {
+        self.tags[place] = tag;
+        mark(&mut self.marks, place, tag.is_some());
+    }
+
+    /// Sets the tag of a unit. A unit without a place can only have no tag.
+    pub fn set(&mut self, unit: Unit, tag: Option<Tag>)
+        requires { IsSome tag → FitsIn (length self.old) unit }
+        ensures tags { (x : Part) → tag_in self.new x ≡ (if same_part unit x then tag else tag_in self.old x) }
+        ensures len { length self.new ≡ length self.old }
+    {
+        if unit.group >= 8 {
+            return;
+        }
+        let place = place_of(unit);
+        if place >= self.tags.len() {
+            return;
+        }
+        self.put(place, tag);
+    }
+
+    /// Gives a unit a tag, or lowers its tag to that one if it is greater.
+    pub fn lower(&mut self, unit: Unit, tag: Tag)
+        requires { FitsIn (length self.old) unit }
+        ensures tags { (x : Part) → tag_in self.new x ≡ (if same_part unit x then sooner (tag_in self.old unit) tag else tag_in self.old x) }
+        ensures len { length self.new ≡ length self.old }
+    {
+        let so_far = self.of(unit);
+        self.set(unit, Some(earlier(so_far, tag)));
+    }
+
+    /// A bit for each place, set where there is a tag.
+    pub fn marks(&self) -> &[u64]
+        ensures marks { AreMarks self.now result.now }
+        ensures few { 64 * length result.now ≤ 64 + most_places }
+    {
+        self.marks.as_slice()
+    }
 }

@@ -16,7 +16,7 @@ use crate::blocked::is_blocked;
 use crate::events::{least_tag, remove, unit_of};
 use crate::groups::{Groups, all_groups};
 use crate::holders::Holders;
-use crate::least_tags::{lower_tag, no_tags, set_tag, tag_in};
+use crate::least_tags::LeastTags;
 use crate::lines::{Lines, line_number};
 use crate::loose::settle;
 use crate::taking::take_from_lines;
@@ -40,8 +40,8 @@ pub struct Queue {
     groups: Vec<Groups>,
     /// The units that have events, with room for all units.
     waiting: Vec<Waiting>,
-    /// The same tags, at the place `8 * actor + group` of each unit.
-    tags: Vec<Option<Tag>>,
+    /// The same tags, by unit.
+    tags: LeastTags,
     holders: Holders,
     lines: Lines,
     loose: VecDeque<Event>,
@@ -62,7 +62,7 @@ impl Model for Queue {
 
     ghost view = { λ q. record { groups = q.groups.items; events = all_of (settled q.lines q.loose.items); spare = q.spare } };
 
-    ghost invariant = { λ q. AreKept q.groups.items q.lines q.loose.items × (q.spare + deque_len q.loose ≤ deque_capacity q.loose) × AreKnown q.groups.items (all_of (settled q.lines q.loose.items)) q.waiting.items (vec_capacity q.waiting) × AreTags q.groups.items q.waiting.items q.tags.items };
+    ghost invariant = { λ q. AreKept q.groups.items q.lines q.loose.items × (q.spare + deque_len q.loose ≤ deque_capacity q.loose) × AreKnown q.groups.items (all_of (settled q.lines q.loose.items)) q.waiting.items (vec_capacity q.waiting) × AreTags q.groups.items q.waiting.items q.tags };
 }
 
 impl Queue {
@@ -75,7 +75,7 @@ impl Queue {
         let groups = all_groups(alloc, graph)?;
         let lines = Lines::new(alloc, 8 * groups.len())?;
         let waiting = Vec::with_capacity(alloc, 8 * groups.len())?;
-        let tags = no_tags(alloc, 8 * groups.len())?;
+        let tags = LeastTags::new(alloc, 8 * groups.len())?;
         let holders = Holders::new(alloc, 8 * groups.len())?;
         Ok(Queue {
             groups,
@@ -122,7 +122,7 @@ impl Queue {
         self.spare -= 1;
         let unit = unit_of(self.groups.as_slice(), &event);
         lower(&mut self.waiting, unit, event.tag);
-        lower_tag(&mut self.tags, unit, event.tag);
+        self.tags.lower(unit, event.tag);
         let line = line_number(event.actor, event.port);
         if !self.lines.push(line, event) {
             self.short = line;
@@ -137,7 +137,7 @@ impl Queue {
     pub fn least(&self, unit: Unit) -> Option<Tag>
         ensures { (g : Graph) → AreGroups g self.now.groups → IsLeastTag g (waiting_in self.now.events) unit result }
     {
-        tag_in(self.tags.as_slice(), unit)
+        self.tags.of(unit)
     }
 
     /// The units that have events, in rising order of actor and group, each with its least tag.
@@ -159,7 +159,7 @@ impl Queue {
         remove(&mut self.loose, table, unit, tag);
         let least = least_tag(table, &self.loose, unit, taken.least);
         set(&mut self.waiting, unit, least);
-        set_tag(&mut self.tags, unit, least);
+        self.tags.set(unit, least);
         taken.inputs
     }
 
@@ -176,7 +176,7 @@ impl Queue {
         is_blocked(
             self.groups.as_slice(),
             self.waiting.as_slice(),
-            self.tags.as_slice(),
+            &self.tags,
             &self.holders,
             unit,
             tag,

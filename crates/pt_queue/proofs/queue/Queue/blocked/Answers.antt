@@ -2,7 +2,7 @@ use Rattle.std.proofs.Common.{◌≡◌, true, false, ◌↔◌, ap, ◌∙◌, 
 use Rattle.std.specs.List.{list_any}
 use Rattle.pt_causality.specs.Delays.{least_of}
 use Rattle.pt_queue.specs.Groups.{AreGroups}
-use Rattle.pt_queue.specs.Events.{IsBlocked, IsClear, Queued, waiting_in}
+use Rattle.pt_queue.specs.Events.{IsBlocked, IsClear, IsRising, Queued, waiting_in}
 use Rattle.pt_queue.specs.Lines.{all_of, settled}
 use Rattle.pt_queue.specs.Listed.{AreTags, holds_up}
 use Rattle.pt_queue.proofs.Holding.{free_is, held_is}
@@ -33,8 +33,8 @@ returns-clause-clear c = λ g lawful are is unit.
 
 pub is_blocked-requires : goal.is_blocked-requires
 is_blocked-requires c = record {
+  rises = subst IsRising (sym c.as_slice-2.ensures.value) c.self.invariant.2.units.rising;
   tags =
-      subst (λ gs. AreTags gs c.as_slice-2.result.now c.as_slice-3.result.now) (sym c.as_slice.ensures.value)
-      (subst (λ ws. AreTags c.self.inside.groups.items ws c.as_slice-3.result.now) (sym c.as_slice-2.ensures.value)
-      (subst (AreTags c.self.inside.groups.items c.self.inside.waiting.items) (sym c.as_slice-3.ensures.value) c.self.invariant.3));
+      subst (λ gs. AreTags gs c.as_slice-2.result.now c.self.inside.tags) (sym c.as_slice.ensures.value)
+      (subst (λ ws. AreTags c.self.inside.groups.items ws c.self.inside.tags) (sym c.as_slice-2.ensures.value) c.self.invariant.3);
 }

@@ -37,12 +37,12 @@ lower-requires-clause-unit c =
     let placed : IsPlaced table c.args.event = record { actor = subst (λ (v : Queued). c.args.event.actor < length v.groups) (sym c.self.view_is) c.requires.actor; port = c.requires.port } in
     subst (FitsIn (vec_capacity c.self.inside.waiting)) (sym (c.unit_of-unit.ensures ∙ ap (λ gs. unit_in gs c.args.event) c.as_slice.ensures.value)) (unit_fits table c.args.event (vec_capacity c.self.inside.waiting) c.self.invariant.2.few c.self.invariant.2.room placed)
 
-pub lower_tag-requires : goal.lower_tag-requires
-lower_tag-requires c =
+pub lower-requires-2 : goal.lower-requires-2
+lower-requires-2 c =
     let table = c.self.inside.groups.items in
     let placed : IsPlaced table c.args.event = record { actor = subst (λ (v : Queued). c.args.event.actor < length v.groups) (sym c.self.view_is) c.requires.actor; port = c.requires.port } in
-    let known = roomy table (all_of (settled c.self.inside.lines c.self.inside.loose.items)) c.self.inside.waiting.items c.self.inside.tags.items (vec_capacity c.self.inside.waiting) c.self.invariant.2 c.self.invariant.3 in
-    subst (FitsIn (length c.self.inside.tags.items)) (sym (c.unit_of-unit.ensures ∙ ap (λ gs. unit_in gs c.args.event) c.as_slice.ensures.value)) (unit_fits table c.args.event (length c.self.inside.tags.items) known.few known.room placed)
+    let known = roomy table (all_of (settled c.self.inside.lines c.self.inside.loose.items)) c.self.inside.waiting.items c.self.inside.tags (vec_capacity c.self.inside.waiting) c.self.invariant.2 c.self.invariant.3 in
+    subst (FitsIn (length c.self.inside.tags)) (sym (c.unit_of-unit.ensures ∙ ap (λ gs. unit_in gs c.args.event) c.as_slice.ensures.value)) (unit_fits table c.args.event (length c.self.inside.tags) known.few known.room placed)
 
 pub invariant_of-self : goal.invariant_of-self
 invariant_of-self c =
@@ -58,8 +58,8 @@ invariant_of-self c =
           (known_more table (all_of (settled c.self.inside.lines c.self.inside.loose.items)) (all_of (settled c.self.inside.lines (c.self.inside.loose.items ++ c.args.event ∷ []))) c.self.inside.waiting.items c.lower.new.listed.items (vec_capacity c.self.inside.waiting) (vec_capacity c.lower.new.listed) c.args.event c.unit_of-unit.result c.self.invariant.2 c.lower.ensures.rises unit c.lower.ensures.tags c.lower.ensures.capacity
           (least_loose table c.self.inside.lines c.self.inside.loose.items c.args.event c.self.invariant.0 placed))),
       record {
-        room = c.lower_tag.ensures.len ∙ c.self.invariant.3.room;
-        same = λ x. c.lower_tag.ensures.tags x ∙ ap₂ (λ a b. if same_part c.unit_of-unit.result x then sooner a c.args.event.tag else b) (c.self.invariant.3.same c.unit_of-unit.result) (c.self.invariant.3.same x) ∙ sym (c.lower.ensures.tags x);
+        room = c.lower-2.ensures.len ∙ c.self.invariant.3.room;
+        same = λ x. c.lower-2.ensures.tags x ∙ ap₂ (λ a b. if same_part c.unit_of-unit.result x then sooner a c.args.event.tag else b) (c.self.invariant.3.same c.unit_of-unit.result) (c.self.invariant.3.same x) ∙ sym (c.lower.ensures.tags x);
       },
     )
 
@@ -76,7 +76,7 @@ invariant_of-self-else-not-push c =
           (known_more table (all_of (settled c.self.inside.lines c.self.inside.loose.items)) (all_of (settled (joined_by c.self.inside.lines c.args.event) c.self.inside.loose.items)) c.self.inside.waiting.items c.lower.new.listed.items (vec_capacity c.self.inside.waiting) (vec_capacity c.lower.new.listed) c.args.event c.unit_of-unit.result c.self.invariant.2 c.lower.ensures.rises unit c.lower.ensures.tags c.lower.ensures.capacity
           (least_joined table c.self.inside.lines c.self.inside.loose.items c.args.event c.self.invariant.0 placed kept)),
       record {
-        room = c.lower_tag.ensures.len ∙ c.self.invariant.3.room;
-        same = λ x. c.lower_tag.ensures.tags x ∙ ap₂ (λ a b. if same_part c.unit_of-unit.result x then sooner a c.args.event.tag else b) (c.self.invariant.3.same c.unit_of-unit.result) (c.self.invariant.3.same x) ∙ sym (c.lower.ensures.tags x);
+        room = c.lower-2.ensures.len ∙ c.self.invariant.3.room;
+        same = λ x. c.lower-2.ensures.tags x ∙ ap₂ (λ a b. if same_part c.unit_of-unit.result x then sooner a c.args.event.tag else b) (c.self.invariant.3.same c.unit_of-unit.result) (c.self.invariant.3.same x) ∙ sym (c.lower.ensures.tags x);
       },
     )

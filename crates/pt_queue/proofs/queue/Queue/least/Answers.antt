@@ -2,7 +2,6 @@ use Rattle.std.proofs.Common.{ap, ◌∙◌, subst, sym}
 use Rattle.pt_queue.specs.Groups.{AreGroups}
 use Rattle.pt_queue.specs.Events.{IsLeastTag, Queued, waiting_in}
 use Rattle.pt_queue.specs.Lines.{all_of, settled}
-use Rattle.pt_queue.specs.Listed.{tag_in}
 use Rattle.pt_queue.proofs.Found.{least_is}
 use Rattle.pt_queue.proofs.Views.{placed_settled}
 use Rattle.pt_queue.proofs.queue.Queue.least.Goals as goal
@@ -12,6 +11,6 @@ returns c = λ g are.
     let table = c.self.inside.groups.items in
     let events = all_of (settled c.self.inside.lines c.self.inside.loose.items) in
     let groups = ap (λ (v : Queued). v.groups) c.self.view_is in
-    subst (λ (v : Queued). IsLeastTag g (waiting_in v.events) c.args.unit c.tag_in.result) c.self.view_is
-    (subst (IsLeastTag g (waiting_in events) c.args.unit) (sym (c.tag_in.ensures ∙ ap (λ ts. tag_in ts c.args.unit) c.as_slice.ensures.value ∙ c.self.invariant.3.same c.args.unit ∙ c.self.invariant.2.units.tags c.args.unit))
+    subst (λ (v : Queued). IsLeastTag g (waiting_in v.events) c.args.unit c.of.result) c.self.view_is
+    (subst (IsLeastTag g (waiting_in events) c.args.unit) (sym (c.of.ensures ∙ c.self.invariant.3.same c.args.unit ∙ c.self.invariant.2.units.tags c.args.unit))
     (least_is g table events c.args.unit (subst (AreGroups g) (sym groups) are) (placed_settled table c.self.inside.lines c.self.inside.loose.items c.self.invariant.0)))

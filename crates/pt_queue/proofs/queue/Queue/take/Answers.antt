@@ -35,15 +35,15 @@ set-requires-clause-unit c =
     let least : c.least_tag-least.result ≡ least_from table c.args.unit None (all_of c.take_from_lines-taken.new.lines ++ c.remove.new.events.items) = least_whole c.as_slice-table.result.now table c.args.unit c.take_from_lines-taken.new.lines c.remove.new.events.items c.take_from_lines-taken.result.least c.least_tag-least.result c.as_slice-table.ensures.value c.take_from_lines-taken.ensures.least c.least_tag-least.ensures in
     left_fits table c.args.unit c.args.tag c.self.inside.lines c.take_from_lines-taken.new.lines c.self.inside.loose.items c.remove.new.events.items c.self.invariant.0 lines loose c.self.inside.waiting.items (vec_capacity c.self.inside.waiting) c.least_tag-least.result c.self.invariant.2 least
 
-pub set_tag-requires : goal.set_tag-requires
-set_tag-requires c =
+pub set-requires-2 : goal.set-requires-2
+set-requires-2 c =
     let table = c.self.inside.groups.items in
     let keep = λ (e : Event). not (is_at table c.args.unit c.args.tag e) in
     let lines : c.take_from_lines-taken.new.lines ≡ map (filter keep) c.self.inside.lines = c.take_from_lines-taken.ensures.lines ∙ ap (λ gs. map (filter (λ (e : Event). not (is_at gs c.args.unit c.args.tag e))) c.self.inside.lines) c.as_slice-table.ensures.value in
     let loose : c.remove.new.events.items ≡ filter keep c.self.inside.loose.items = c.remove.ensures.left ∙ ap (λ gs. filter (λ (e : Event). not (is_at gs c.args.unit c.args.tag e)) c.self.inside.loose.items) c.as_slice-table.ensures.value in
     let least : c.least_tag-least.result ≡ least_from table c.args.unit None (all_of c.take_from_lines-taken.new.lines ++ c.remove.new.events.items) = least_whole c.as_slice-table.result.now table c.args.unit c.take_from_lines-taken.new.lines c.remove.new.events.items c.take_from_lines-taken.result.least c.least_tag-least.result c.as_slice-table.ensures.value c.take_from_lines-taken.ensures.least c.least_tag-least.ensures in
-    left_fits table c.args.unit c.args.tag c.self.inside.lines c.take_from_lines-taken.new.lines c.self.inside.loose.items c.remove.new.events.items c.self.invariant.0 lines loose c.self.inside.waiting.items (length c.self.inside.tags.items) c.least_tag-least.result
-    (roomy table (all_of (settled c.self.inside.lines c.self.inside.loose.items)) c.self.inside.waiting.items c.self.inside.tags.items (vec_capacity c.self.inside.waiting) c.self.invariant.2 c.self.invariant.3) least
+    left_fits table c.args.unit c.args.tag c.self.inside.lines c.take_from_lines-taken.new.lines c.self.inside.loose.items c.remove.new.events.items c.self.invariant.0 lines loose c.self.inside.waiting.items (length c.self.inside.tags) c.least_tag-least.result
+    (roomy table (all_of (settled c.self.inside.lines c.self.inside.loose.items)) c.self.inside.waiting.items c.self.inside.tags (vec_capacity c.self.inside.waiting) c.self.invariant.2 c.self.invariant.3) least
 
 pub invariant_of-self : goal.invariant_of-self
 invariant_of-self c =
@@ -57,8 +57,8 @@ invariant_of-self c =
       left_known table c.args.unit c.args.tag c.self.inside.lines c.take_from_lines-taken.new.lines c.self.inside.loose.items c.remove.new.events.items c.self.invariant.0 lines loose
           c.self.inside.waiting.items c.set.new.listed.items (vec_capacity c.self.inside.waiting) (vec_capacity c.set.new.listed) c.least_tag-least.result c.self.invariant.2 c.set.ensures.rises least c.set.ensures.tags c.set.ensures.capacity,
       record {
-        room = c.set_tag.ensures.len ∙ c.self.invariant.3.room;
-        same = λ x. c.set_tag.ensures.tags x ∙ ap (λ o. if same_part c.args.unit x then c.least_tag-least.result else o) (c.self.invariant.3.same x) ∙ sym (c.set.ensures.tags x);
+        room = c.set-2.ensures.len ∙ c.self.invariant.3.room;
+        same = λ x. c.set-2.ensures.tags x ∙ ap (λ o. if same_part c.args.unit x then c.least_tag-least.result else o) (c.self.invariant.3.same x) ∙ sym (c.set.ensures.tags x);
       },
     )
 

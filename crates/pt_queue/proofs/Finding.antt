@@ -1,0 +1,99 @@
+-- The search for a unit that holds up another, word by word.
+use Rattle.std.proofs.Common.{◌≡◌, ℕ, ◌+◌, ◌-◌, ◌*◌, ◌/◌, ◌%◌, ◌^◌, ◌<◌, ◌≤◌, ◌⊎◌, Bool, true, false, IsSome, List, Option, None, Some, length, slice_index_or, refl, sym, ap, subst, ◌∙◌, ⊎_elim, arith}
+use Rattle.std.specs.Int.{bit_at}
+use Rattle.std.specs.Option.{is_some}
+use Rattle.std.specs.List.{list_any}
+use Rattle.std.specs.Int.RustNames.{bit_and}
+use Rattle.std.proofs.lemmas.Bool.{cases_Bool, false≢true}
+use Rattle.std.proofs.lemmas.Nat.Bits.{bit_at_and}
+use Rattle.pt_tags.specs.declared.tag.Tag.{Tag}
+use Rattle.pt_tags.specs.declared.tag.Delay.{Delay}
+use Rattle.pt_types.specs.declared.graph.Unit.{Unit as Part}
+use Rattle.pt_causality.specs.Before.{MayHave, bit_of}
+use Rattle.pt_queue.specs.declared.groups.Groups.{Groups}
+use Rattle.pt_queue.specs.declared.waiting.Waiting.{Waiting}
+use Rattle.pt_queue.specs.Events.{IsRising}
+use Rattle.pt_queue.specs.Listed.{AreTags, holds_up, tag_holds_up, tag_in, unit_holds_up}
+use Rattle.pt_queue.specs.Marks.{AreMarks, IsHolder, IsHolderIn, one_if, unit_with}
+use Rattle.pt_queue.proofs.ByUnit.{no_place, tag_with, with_place}
+use Rattle.pt_queue.proofs.Holding.{holder_has, one_holds}
+use Rattle.pt_queue.proofs.Listing.{tag_in as tag_listed}
+use Rattle.pt_queue.proofs.Words.{at_word, past_words, top_above, top_below}
+
+below_or : (n m : ℕ) → (n < m) ⊎ (m ≤ n)
+below_or n m = grind arith
+
+same_or : (n m : ℕ) → m ≤ n → (n ≡ m) ⊎ (m < n)
+same_or n m l = grind arith
+
+-- the bits left of a word, without the highest
+pub without_top : (holds : ℕ → Bool) (word left bit : ℕ) → 2 ^ bit ≤ left → left < 2 ^ (bit + 1) → holds bit ≡ false → ((i : ℕ) → i < 64 → bit_at word i ≡ 1 → bit_at left i ≡ 0 → holds i ≡ false) → (i : ℕ) → i < 64 → bit_at word i ≡ 1 → bit_at (left - 2 ^ bit) i ≡ 0 → holds i ≡ false
+without_top holds word left bit le less off before i few set gone = ⊎_elim
+    (λ (l : i < bit). before i few set (top_below left bit i le less l ∙ gone))
+    (λ (m : bit ≤ i). ⊎_elim
+    (λ (e : i ≡ bit). subst (λ k. holds k ≡ false) (sym e) off)
+    (λ (l : bit < i). before i few set (top_above left bit i less l))
+    (same_or i bit m))
+    (below_or i bit)
+
+module _ (table : List Groups) (least : Part → Part → Option Delay) (u : Part) (t : Tag) (tags : List (Option Tag)) (marks : List ℕ) (are : AreMarks tags marks) where
+  -- the unit with place n holds up u
+  abbrev holds : ℕ → Bool
+  holds n = unit_holds_up table least u t tags (unit_with n)
+
+  -- so its bit is set
+  marked : (n : ℕ) → holds n ≡ true → bit_of marks n ≡ 1
+  marked n h = are n ∙ ap one_if (sym (tag_with tags n)) ∙ (holder_has table least u t (unit_with n) (tag_in tags (unit_with n)) h).0
+
+  pub past_marks : (n : ℕ) → length marks ≤ n / 64 → holds n ≡ false
+  past_marks n l = ⊎_elim
+      (λ (y : holds n ≡ true). let one = marked n y in let none = past_words marks n l in absurd (omega (arith, one, none)))
+      (λ (no : holds n ≡ false). no)
+      (cases_Bool (holds n))
+
+  module _ (before : List ℕ) (all : (x : Part) → IsSome (least x u) → MayHave before x) (index m b : ℕ) (own : m ≡ slice_index_or marks index 0)
+      (other : (x : Part) → MayHave before x → x.group < 8 → (8 * x.actor + x.group) / 64 ≡ index → bit_at b ((8 * x.actor + x.group) % 64) ≡ 1) where
+    in_both : (n i : ℕ) → i < 64 → n ≡ 64 * index + i → holds n ≡ true → bit_at (bit_and m b) i ≡ 1
+    in_both n i l is h =
+        let has = holder_has table least u t (unit_with n) (tag_in tags (unit_with n)) h in
+        let place : 8 * (n / 8) + n % 8 ≡ n = omega arith in
+        let word : (8 * (n / 8) + n % 8) / 64 ≡ index = omega (arith, place, l, is) in
+        let bit : (8 * (n / 8) + n % 8) % 64 ≡ i = omega (arith, place, l, is) in
+        let first : bit_at m i ≡ 1 = ap (λ w. bit_at w i) own ∙ sym (at_word marks n index i l is) ∙ marked n h in
+        let second : bit_at b i ≡ 1 = ap (bit_at b) (sym bit) ∙ other (unit_with n) (all (unit_with n) has.1) (omega arith) word in
+        omega (arith, bit_at_and m b i, first, second)
+
+    -- one word more
+    pub word_done : (len behind : ℕ) → behind < len → index ≡ len - behind - 1 → IsHolderIn table least u t tags index (bit_and m b) None → ((n : ℕ) → 64 * (len - behind) ≤ n → holds n ≡ false) → (n : ℕ) → 64 * (len - (behind + 1)) ≤ n → holds n ≡ false
+    word_done len behind l at none done n le = ⊎_elim
+        (λ (less : n < 64 * (len - behind)). ⊎_elim
+        (λ (y : holds n ≡ true).
+        let i : n ≡ 64 * index + (n - 64 * index) = omega (arith, le, at, l) in
+        let few : n - 64 * index < 64 = omega (arith, le, less, at, l) in
+        let off : holds (64 * index + (n - 64 * index)) ≡ false = none (n - 64 * index) few (in_both n (n - 64 * index) few i y) in
+        absurd (false≢true (sym (ap holds i ∙ off) ∙ y)))
+        (λ (no : holds n ≡ false). no)
+        (cases_Bool (holds n)))
+        (λ (more : 64 * (len - behind) ≤ n). done n more)
+        (below_or n (64 * (len - behind)))
+
+-- all units, by their places
+pub no_holder : (table : List Groups) (least : Part → Part → Option Delay) (u : Part) (t : Tag) (tags : List (Option Tag)) → ((n : ℕ) → unit_holds_up table least u t tags (unit_with n) ≡ false) → IsHolder table least u t tags None
+no_holder table least u t tags none = λ x. ⊎_elim
+    (λ (l : x.group < 8). subst (λ z. unit_holds_up table least u t tags z ≡ false) (with_place x l) (none (8 * x.actor + x.group)))
+    (λ (m : 8 ≤ x.group). ap (tag_holds_up table least u t x) (no_place tags x m))
+    (below_or x.group 8)
+
+pub none_found : (o : Option Part) → is_some o ≡ false → o ≡ None
+none_found None h = refl
+none_found (Some x) h = absurd (false≢true (sym h))
+
+-- without a holder no listed unit holds up
+pub none_listed : (table : List Groups) (least : Part → Part → Option Delay) (u : Part) (t : Tag) (ws : List Waiting) (tags : List (Option Tag)) → IsRising ws → AreTags table ws tags → IsHolder table least u t tags None → list_any (holds_up table least u t) ws ≡ false
+none_listed table least u t ws tags rises are none = ⊎_elim
+    (λ (y : list_any (holds_up table least u t) ws ≡ true).
+    let f = one_holds (holds_up table least u t) ws y in
+    let tag : tag_in tags f.0.unit ≡ Some f.0.tag = are.same f.0.unit ∙ tag_listed ws f.0 rises f.1 in
+    absurd (false≢true (sym (none f.0.unit) ∙ ap (tag_holds_up table least u t f.0.unit) tag ∙ f.2)))
+    (λ (no : list_any (holds_up table least u t) ws ≡ false). no)
+    (cases_Bool (list_any (holds_up table least u t) ws))

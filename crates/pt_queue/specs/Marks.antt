@@ -1,0 +1,47 @@
+-- Bits that are set, 64 in a word, and the least tags that they stand for.
+use Rattle.std.specs.Prelude.{◌≡◌, ℕ, ◌+◌, ◌*◌, ◌/◌, ◌%◌, ◌^◌, ◌<◌, ◌≤◌, false, true, List, Option, Some, None, length, slice_index_or}
+use Rattle.std.specs.Int.{bit_at}
+use Rattle.pt_tags.specs.declared.tag.Tag.{Tag}
+use Rattle.pt_tags.specs.declared.tag.Delay.{Delay}
+use Rattle.pt_types.specs.declared.graph.Unit.{Unit as Part}
+use Rattle.pt_causality.specs.Before.{bit_of}
+use Rattle.pt_queue.specs.declared.groups.Groups.{Groups}
+use Rattle.pt_queue.specs.Listed.{unit_holds_up}
+
+-- the most places of units
+abbrev pub most_places : ℕ
+most_places = 8192
+
+-- k is the highest bit of a word that is set; or, for None, none is set
+abbrev pub IsTopBit : ℕ → Option ℕ → Type 0
+IsTopBit word None = word ≡ 0
+IsTopBit word (Some k) = (k < 64) × (2 ^ k ≤ word) × (word < 2 ^ (k + 1))
+
+-- the unit with place n
+abbrev pub unit_with : ℕ → Part
+unit_with n = record { actor = n / 8; group = n % 8 }
+
+-- 1 where there is a tag, else 0
+abbrev pub one_if : Option Tag → ℕ
+one_if None = 0
+one_if (Some t) = 1
+
+-- the bits are set exactly where there is a tag
+abbrev pub AreMarks : List (Option Tag) → List ℕ → Type 0
+AreMarks tags marks = (n : ℕ) → bit_of marks n ≡ one_if (slice_index_or tags n None)
+
+-- the tags, and the bits that are set where there is one
+pub record AreMarked (tags : List (Option Tag)) (marks : List ℕ) : Type 0 where
+  pub marks_are : AreMarks tags marks
+  pub words : length marks ≡ length tags / 64 + 1
+  pub few : length tags ≤ most_places
+
+-- h is a unit that holds up u; or, for None, none does
+abbrev pub IsHolder : List Groups → (Part → Part → Option Delay) → Part → Tag → List (Option Tag) → Option Part → Type 0
+IsHolder table least u t tags None = (x : Part) → unit_holds_up table least u t tags x ≡ false
+IsHolder table least u t tags (Some h) = unit_holds_up table least u t tags h ≡ true
+
+-- h is a unit that holds up u; or, for None, no unit with a place in this word and a bit there does
+abbrev pub IsHolderIn : List Groups → (Part → Part → Option Delay) → Part → Tag → List (Option Tag) → ℕ → ℕ → Option Part → Type 0
+IsHolderIn table least u t tags index word None = (i : ℕ) → i < 64 → bit_at word i ≡ 1 → unit_holds_up table least u t tags (unit_with (64 * index + i)) ≡ false
+IsHolderIn table least u t tags index word (Some h) = unit_holds_up table least u t tags h ≡ true
