@@ -57,7 +57,7 @@ fn read(alloc: Global, bytes: &[u8]) -> Result<List<Row>, RowFault>
 }
 
 /// Reads the next record, if there is one.
-fn advance(reader: &mut Reader<&[u8]>, line: &mut ByteRecord) -> Result<bool, Memory>
+pub fn advance(reader: &mut Reader<&[u8]>, line: &mut ByteRecord) -> Result<bool, Memory>
     requires { IsPlain (λ r. Some r.now) reader.old }
     ensures { IfOk result (λ found. Finds (λ r. Some r.now)
         (next (reader_state reader.old) (left_of (λ r. Some r.now) reader.old)) found reader.new (fields_of line.new)) }
@@ -123,7 +123,7 @@ fn row(number: u32, before: Option<Row>, line: &ByteRecord) -> Result<Row, RowFa
 
 /// The three fields of a record, if it has three.
 #[tactic(auto, unfolding(crate::specs::Rows::cells))]
-fn cells(line: &ByteRecord) -> Option<(&[u8], &[u8], &[u8])>
+pub fn cells(line: &ByteRecord) -> Option<(&[u8], &[u8], &[u8])>
     ensures { option_map (λ c. (c.0.now, c.1.now, c.2.now)) result ≡ cells (fields_of line.now) }
 {
     if line.len() == 3 {

@@ -1,0 +1,5 @@
+pub mod Errors
+pub mod Given
+pub mod Keeping
+pub mod Loop
+pub mod Sizes

@@ -1,0 +1,4 @@
+pub mod AirOf
+pub mod Bounds
+pub mod Lines
+pub mod Rows

@@ -1,0 +1,119 @@
+//! Reads an air file.
+
+ghost use Rattle.std.specs.Prelude.{◌≡◌, ◌≤◌, ◌↔◌, [], None, Some, IfOk, length};
+ghost use Rattle.std.specs.List.{All};
+ghost use Rattle.csv.specs.Reading.{reader_state};
+ghost use Rattle.csv.specs.Records.{fields_of};
+ghost use Rattle.pt_sensors.specs.Rows.{IsPlain, left_of};
+ghost use Rattle.pt_air.specs.AirOf.{Gives, air_of, air_with, rows_from, rows_of};
+ghost use Rattle.pt_air.specs.Bounds.{KeepsBounds};
+
+use crate::air::Air;
+use crate::breach::breach_of;
+use crate::fault::AirFault;
+use crate::record::{is_header, row};
+use crate::row::AirRow;
+use crate::times::{lags_of, transits_of};
+use csv::{ByteRecord, Reader, ReaderBuilder};
+use pt_sensors::advance;
+use pt_tags::{List, Memory};
+use pt_types::Graph;
+use std::alloc::{AllocError, Global};
+
+/// The most bytes of an air file.
+pub const MOST_BYTES: usize = 8_388_608;
+
+/// The most rows of an air file.
+const MOST_ROWS: u32 = 100_000;
+
+/// What an air file says of a graph, or the file's first fault.
+///
+/// Faults are looked for in the order in which `AirFault` lists them: first those of the file and its header,
+/// then row by row. (The format is this project's own choice.)
+pub fn read_air(alloc: Global, bytes: &[u8], graph: &Graph) -> Result<Air, AirFault>
+    ensures air { Gives (air_of graph.now bytes.now) result }
+    ensures lengths { IfOk result (λ air. (length air.lags ≡ length graph.now.platforms) × (length air.transits ≡ length graph.now.links)) }
+    ensures numbers { IfOk result (λ air. All (λ n. n ≤ 1000000000000000) air.lags × All (All (λ n. n ≤ 1000000000000000)) air.transits) }
+    ensures bounds { IfOk result (λ air. (air.breach ≡ None) ↔ KeepsBounds graph.now air) }
+{
+    let rows = rows_of(alloc, bytes, graph)?;
+    match air_with(alloc, graph, rows.as_slice()) {
+        Ok(air) => Ok(air),
+        Err(_) => Err(AirFault::Memory),
+    }
+}
+
+/// What the rows of a file say.
+fn air_with(alloc: Global, graph: &Graph, rows: &[AirRow]) -> Result<Air, AllocError>
+    requires { length rows.now ≤ 100000 }
+    ensures { IfOk result (λ air. air ≡ air_with graph.now rows.now) }
+{
+    let lags = lags_of(alloc, graph, rows)?;
+    let transits = transits_of(alloc, graph, rows)?;
+    let breach = breach_of(graph, lags.as_slice(), rows);
+    Ok(Air {
+        lags: List::new(lags),
+        transits: List::new(transits),
+        breach,
+    })
+}
+
+/// The rows of an air file, or its first fault, from the records that csv reads.
+#[tactic(auto, unfolding(crate::specs::AirOf::rows_of))]
+fn rows_of(alloc: Global, bytes: &[u8], graph: &Graph) -> Result<List<AirRow>, AirFault>
+    ensures { Gives (rows_of graph.now bytes.now) result }
+{
+    if bytes.len() > MOST_BYTES {
+        return Err(AirFault::TooLong);
+    }
+    let mut reader = ReaderBuilder::new()
+        .has_headers(false)
+        .flexible(true)
+        .from_reader(alloc, bytes);
+    let mut line = ByteRecord::new(alloc);
+    match advance(&mut reader, &mut line) {
+        Ok(found) => {
+            if found && is_header(&line) {
+                rows(alloc, graph, &mut reader, &mut line)
+            } else {
+                Err(AirFault::Header)
+            }
+        }
+        Err(Memory) => Err(AirFault::Memory),
+    }
+}
+
+/// The rows that follow; the header was read.
+fn rows(
+    alloc: Global,
+    graph: &Graph,
+    reader: &mut Reader<&[u8]>,
+    line: &mut ByteRecord,
+) -> Result<List<AirRow>, AirFault>
+    requires { IsPlain (λ r. Some r.now) reader.old }
+    ensures { Gives (rows_from graph.now 100000 [] (reader_state reader.old) (left_of (λ r. Some r.now) reader.old)) result }
+{
+    let mut rows = Vec::new(alloc);
+    for number in 1..MOST_ROWS + 1 {
+        let Ok(found) = advance(reader, line) else {
+            return Err(AirFault::Memory);
+        };
+        if !found {
+            return Ok(List::new(rows));
+        }
+        let row = row(graph, number, rows.as_slice(), line)?;
+        if rows.push(row).is_err() {
+            return Err(AirFault::Memory);
+        }
+    }
+    match advance(reader, line) {
+        Ok(found) => {
+            if found {
+                Err(AirFault::TooManyRows)
+            } else {
+                Ok(List::new(rows))
+            }
+        }
+        Err(Memory) => Err(AirFault::Memory),
+    }
+}
