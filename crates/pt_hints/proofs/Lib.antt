@@ -2,3 +2,4 @@ pub mod Cuts
 pub mod Splitting
 pub mod Blocks
 pub mod Passing
+pub mod Namesakes
