@@ -3,3 +3,5 @@ pub mod Splitting
 pub mod Blocks
 pub mod Passing
 pub mod Namesakes
+pub mod Printed
+pub mod Heads
