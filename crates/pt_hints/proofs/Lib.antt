@@ -5,3 +5,5 @@ pub mod Passing
 pub mod Namesakes
 pub mod Printed
 pub mod Heads
+pub mod ItemLines
+pub mod Reading

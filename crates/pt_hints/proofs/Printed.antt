@@ -75,8 +75,8 @@ lawful_name platforms a h =
 pub lacks_actor : (g : Graph) (b a : ℕ) → IsLawful g → in_name b ≡ false → Lacks b (actor_name g a)
 lacks_actor g b a lawful other = ⊎_elim
     (λ (less : a < length g.actors).
-      let actor = get_or g.actors a no_actor in
-      lacks_name b actor.name other (lawful_name (length g.platforms) actor (all_at (actor_is_lawful (length g.platforms)) g.actors a actor lawful.actors (slice_get-get_or g.actors a no_actor less))))
+    let actor = get_or g.actors a no_actor in
+    lacks_name b actor.name other (lawful_name (length g.platforms) actor (all_at (actor_is_lawful (length g.platforms)) g.actors a actor lawful.actors (slice_get-get_or g.actors a no_actor less))))
     (λ (past : length g.actors ≤ a). subst (λ (actor : Actor). Lacks b actor.name) (sym (get_or_past g.actors a no_actor past)) tt)
     (cases_lt a (length g.actors))
 
