@@ -7,3 +7,4 @@ pub mod Printed
 pub mod Heads
 pub mod ItemLines
 pub mod Reading
+pub mod TurnTexts

@@ -48,11 +48,14 @@ pub fn read_hints(graph: &Graph, text: &[u8], hints: &mut Hints) -> Result<bool,
     let Some(head) = read_head(graph, line) else {
         return Ok(false);
     };
+    if !read_entries(graph, rest, hints)? {
+        return Ok(false);
+    }
     hints.platform = head.platform;
     hints.first = head.first;
     hints.last = head.last;
     hints.count = head.count;
-    read_entries(graph, rest, hints)
+    Ok(true)
 }
 
 impl Hints {
