@@ -8,3 +8,4 @@ pub mod Heads
 pub mod ItemLines
 pub mod Reading
 pub mod TurnTexts
+pub mod Cut

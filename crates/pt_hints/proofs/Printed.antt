@@ -53,7 +53,7 @@ lacks_all b (x ∷ name) other all =
     let parts = and_parts (in_name x) (list_all in_name name) all in
     (λ (e : x ≡ b). both_ways (in_name b) other (ap in_name (sym e) ∙ parts.0), lacks_all b name other parts.1)
 
-lacks_name : (b : ℕ) (name : List ℕ) → in_name b ≡ false → is_name name ≡ true → Lacks b name
+pub lacks_name : (b : ℕ) (name : List ℕ) → in_name b ≡ false → is_name name ≡ true → Lacks b name
 lacks_name b name other is = lacks_all b name other (is_name_all name is)
   where
     is_name_all : (xs : List ℕ) → is_name xs ≡ true → list_all in_name xs ≡ true
@@ -65,7 +65,7 @@ lacks_platform g b p lawful other = ⊎_elim
     (λ (past : length g.platforms ≤ p). subst (λ (xs : List ℕ). Lacks b xs) (sym (get_or_past g.platforms p [] past)) tt)
     (cases_lt p (length g.platforms))
 
-lawful_name : (platforms : ℕ) (a : Actor) → actor_is_lawful platforms a ≡ true → is_name a.name ≡ true
+pub lawful_name : (platforms : ℕ) (a : Actor) → actor_is_lawful platforms a ≡ true → is_name a.name ≡ true
 lawful_name platforms a h =
     let outputs = and_parts (is_name a.name && nat_lt a.platform platforms && kind_is_lawful a.kind && a.inputs == visible_inputs a.kind) (a.outputs == visible_outputs a.kind) h in
     let inputs = and_parts (is_name a.name && nat_lt a.platform platforms && kind_is_lawful a.kind) (a.inputs == visible_inputs a.kind) outputs.0 in

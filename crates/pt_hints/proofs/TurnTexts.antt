@@ -65,7 +65,7 @@ turn_cut g p t text line rest lawful e a b =
     let shape : text ≡ body ++ 10 ∷ later = e ∙ turn_text g p t ∙ append_assoc body (10 ∷ []) later in
     (ap (λ (xs : List ℕ). xs ++ 10 ∷ []) (a ∙ ap (before 10) shape ∙ before_at 10 body later lacks), b ∙ ap (after 10) shape ∙ after_at 10 body later lacks)
 
-each_append : {X : Type 0} (P : X → Type 0) (xs ys : List X) → Each P xs → Each P ys → Each P (xs ++ ys)
+pub each_append : {X : Type 0} (P : X → Type 0) (xs ys : List X) → Each P xs → Each P ys → Each P (xs ++ ys)
 each_append P [] ys p q = q
 each_append P (x ∷ xs) ys p q = (p.0, each_append P xs ys p.1 q)
 
