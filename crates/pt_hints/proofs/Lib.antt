@@ -9,3 +9,4 @@ pub mod ItemLines
 pub mod Reading
 pub mod TurnTexts
 pub mod Cut
+pub mod BlockTexts
