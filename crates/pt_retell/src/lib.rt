@@ -6,8 +6,13 @@
 //! Read first: `retell`, then `specs/Retold.antt`.
 #![tactic(auto)]
 
+mod coming;
+mod form;
 mod hints;
+mod posting;
 mod retelling;
+mod sending;
+mod turning;
 
 pub use hints::Hints;
 pub use retelling::{Retelling, retell};
