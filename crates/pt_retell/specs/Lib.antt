@@ -1,0 +1,5 @@
+pub mod Hinted
+pub mod Following
+pub mod Lasts
+pub mod Retold
+pub mod Steps
