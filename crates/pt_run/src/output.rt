@@ -3,6 +3,7 @@
 ghost use Rattle.std.specs.Prelude.{◌≡◌, ◌<◌, ◌≤◌, length, OnOk, OnErr};
 ghost use Rattle.pt_io.specs.Causes.{Appends, AppendsPart, Rose};
 
+use memchr::memchr;
 use pt_io::{PutFault, Sink};
 
 /// Puts a text line by line and flushes the sink.
@@ -53,7 +54,7 @@ fn line_len(text: &[u8]) -> usize
     ensures some { 0 < result }
     ensures within { result ≤ length text.now }
 {
-    match text.iter().position(|b| *b == b'\n') {
+    match memchr(b'\n', text) {
         Some(n) => n + 1,
         None => text.len(),
     }
