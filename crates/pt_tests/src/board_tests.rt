@@ -54,7 +54,10 @@ fn a_board_gives_back_the_33rd_task(rt: HostRuntime) -> Result<(), Fail> {
         return Err("no result")?;
     };
     assert_eq!(rt; *collected.task(), claimed);
-    assert_eq!(rt; collected.fired().outputs.get(0), Some(10 * claimed.number as i64 + 1));
+    assert_eq!(rt;
+        collected.fired().outputs.get(0),
+        Some(10 * claimed.number as i64 + 1)
+    );
     assert_eq!(rt; board.place(&mut keeper, task(32)), Ok(()));
     assert_eq!(rt; board.place(&mut keeper, task(33)), Err(task(33)));
     board.leave(&mut keeper, hand);
