@@ -5,12 +5,19 @@ use Rattle.pt_semantics.specs.Meaning.{added}
 use Rattle.pt_queue.specs.Events.{Queued, waiting_in}
 use Rattle.pt_queue.specs.Groups.{AreGroups}
 use Rattle.pt_turn.specs.Starting.{start_one}
-use Rattle.pt_turn.proofs.Beginning.{actor_read, starts_all, starts_free, starts_more, starts_skip}
+use Rattle.pt_turn.proofs.Beginning.{actor_read, starts_all, starts_free, starts_more, starts_none, starts_skip}
 use Rattle.pt_turn.proofs.starting_events.starting.Goals.{then-actor-platform, else-actor-platform}
 use Rattle.pt_turn.proofs.starting_events.starting.Goals as goal
 
 pub begin-requires-clause-absent : goal.begin-requires-clause-absent
 begin-requires-clause-absent c = λ t. starts_free c.args.graph.now c.args.platform c.loop-number.number (waiting_in c.loop-number.queue.events) t c.loop-number.invariant.waits
+
+pub loop-number-init : goal.loop-number-init
+loop-number-init c = record {
+  groups = subst (AreGroups c.args.graph.now) (sym c.in_ok-reserve.ensures.groups) c.in_ok-queue.ensures.groups;
+  spare = omega (arith, c.in_ok-reserve.ensures.spare, c.len.ensures, ap length c.as_slice.ensures);
+  waits = starts_none c.args.graph.now c.args.platform (waiting_in c.reserve.new.self.events) (ap waiting_in (c.in_ok-reserve.ensures.events ∙ c.in_ok-queue.ensures.empty));
+}
 
 pub loop-number-preserved : goal.loop-number-preserved
 loop-number-preserved c =
