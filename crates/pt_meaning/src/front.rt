@@ -1,7 +1,6 @@
 //! Taking events from the front of those that wait.
 
 ghost use Rattle.std.specs.Prelude.{◌≡◌, ◌<◌, ℕ, ℤ, Option, IfSome, IfNone, Some, length, nat_lt, slice_set, if◌then◌else◌};
-ghost use Rattle.pt_tags.specs.declared.tag.Tag.{Tag};
 ghost use Rattle.pt_types.specs.Ports.{at_port, eight};
 ghost use Rattle.pt_semantics.specs.Lists.{or_else};
 ghost use Rattle.pt_semantics.specs.Meaning.{IsFirst, without};

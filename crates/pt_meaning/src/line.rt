@@ -1,6 +1,6 @@
 //! A line of events that wait, in the order in which they fire.
 
-ghost use Rattle.std.specs.Prelude.{◌≡◌, ◌<◌, ◌≤◌, [], ℕ, IfOk, IfErr, MatchBool, MatchOption, None, IsTrue, length};
+ghost use Rattle.std.specs.Prelude.{◌≡◌, [], IfOk, IfErr, MatchBool, MatchOption, None, IsTrue, length};
 ghost use Rattle.pt_meaning.specs.declared.place.Place.{Place};
 ghost use Rattle.pt_meaning.specs.Front.{Enters, IsLeast};
 ghost use Rattle.pt_meaning.specs.Line.{in_line, IsGap, IsThere};

@@ -1,6 +1,6 @@
 //! The events sent since the start, in the order in which they fire.
 
-ghost use Rattle.std.specs.Prelude.{◌≡◌, ◌<◌, ◌≤◌, ℕ, IfOk, IfSome, IfNone, MatchBool, OnOk, None, true};
+ghost use Rattle.std.specs.Prelude.{◌≡◌, ℕ, IfSome, IfNone, OnOk, None, true};
 ghost use Rattle.pt_tags.specs.declared.tag.Tag.{Tag};
 ghost use Rattle.pt_semantics.specs.Meaning.{IsFirst, added, waiting, without};
 ghost use Rattle.pt_semantics.specs.Firing.{any_present};
