@@ -17,10 +17,12 @@ abbrev pub ◌>>=◌ : {A B : Type 0} → Result A AirFault → (A → Result B 
 (Ok x) >>= f = f x
 (Err e) >>= f = Err e
 
+-- a value, or else the fault
 abbrev pub or_fault : {A : Type 0} → AirFault → Option A → Result A AirFault
 or_fault e None = Err e
 or_fault e (Some x) = Ok x
 
+-- the titles of the three columns
 abbrev pub are_titles : Cells → Bool
 are_titles c = bytes_eq c.0 (codes "what") && bytes_eq c.1 (codes "name") && bytes_eq c.2 (codes "value")
 
@@ -33,7 +35,7 @@ is_lag c = bytes_eq c.0 (codes "lag")
 abbrev pub is_transit : Cells → Bool
 is_transit c = bytes_eq c.0 (codes "transit")
 
--- three fields, of a lag or a transit
+-- the three fields of a lag or a transit
 abbrev pub formed : Cells → Option Cells
 formed c = if is_lag c || is_transit c then Some c else None
 
@@ -41,7 +43,7 @@ formed c = if is_lag c || is_transit c then Some c else None
 abbrev pub platform_named : Graph → List ℕ → Option ℕ
 platform_named g name = position (λ n. bytes_eq n name) g.platforms
 
--- the number of the link whose sender has this name
+-- the number of the link whose sender has this name; in a lawful graph each sender has one link, and only senders have
 abbrev pub link_named : Graph → List ℕ → Option ℕ
 link_named g name = position (λ (l : Link). bytes_eq (actor_name g l.from) name) g.links
 
@@ -49,10 +51,12 @@ link_named g name = position (λ (l : Link). bytes_eq (actor_name g l.from) name
 abbrev pub subject_of : Graph → Cells → Option Subject
 subject_of g c = if is_lag c then option_map subject.Platform (platform_named g c.1) else option_map subject.Link (link_named g c.1)
 
+-- the subject is platform p
 abbrev pub is_platform : ℕ → Subject → Bool
 is_platform p (subject.Platform q) = q == p
 is_platform p (subject.Link l) = false
 
+-- the subject is link l
 abbrev pub is_link : ℕ → Subject → Bool
 is_link l (subject.Platform p) = false
 is_link l (subject.Link k) = k == l
