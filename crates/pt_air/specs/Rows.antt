@@ -1,8 +1,10 @@
 -- Which records are rows of an air file.
 use Rattle.std.specs.Prelude.{ℕ, ◌==◌, ◌&&◌, ◌||◌, List, Bool, false, Option, Some, None, Result, Ok, Err, bytes_eq, codes, option_and_then, option_map, position, unwrap_or, if◌then◌else◌}
 use Rattle.std.specs.List.{list_any}
+use Rattle.pt_types.specs.declared.graph.Actor.{Actor}
 use Rattle.pt_types.specs.declared.graph.Graph.{Graph}
 use Rattle.pt_types.specs.declared.graph.Link.{Link}
+use Rattle.pt_types.specs.Ends.{is_send}
 use Rattle.pt_types.specs.Lookups.{actor_name}
 use Rattle.pt_sensors.specs.Numbers.{limited}
 use Rattle.pt_sensors.specs.Rows.{Cells, cells}
@@ -43,9 +45,13 @@ formed c = if is_lag c || is_transit c then Some c else None
 abbrev pub platform_named : Graph → List ℕ → Option ℕ
 platform_named g name = position (λ n. bytes_eq n name) g.platforms
 
--- the number of the link whose sender has this name; in a lawful graph each sender has one link, and only senders have
+-- the number of the link whose sender has this name; in a lawful graph each sender has one
 abbrev pub link_named : Graph → List ℕ → Option ℕ
 link_named g name = position (λ (l : Link). bytes_eq (actor_name g l.from) name) g.links
+
+-- an actor is a sender with this name
+abbrev pub is_sender_named : List ℕ → Actor → Bool
+is_sender_named name a = is_send a.kind && bytes_eq a.name name
 
 -- the platform or the link of a row, by the name in it
 abbrev pub subject_of : Graph → Cells → Option Subject
