@@ -8,11 +8,9 @@
 
 mod coming;
 mod form;
-mod hints;
 mod posting;
 mod retelling;
 mod sending;
 mod turning;
 
-pub use hints::Hints;
 pub use retelling::{Retelling, retell};

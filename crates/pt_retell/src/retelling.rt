@@ -7,12 +7,12 @@ ghost use Rattle.pt_retell.specs.Retold.{HasRetold, IsOnly, NoneFollows};
 
 use crate::coming::may_come;
 use crate::form::is_in_form;
-use crate::hints::Hints;
 use crate::posting::fire_claims;
 use crate::sending::send_all;
 use crate::turning::{has_counts, make_turn};
 use pt_actors::{Done, Tasks};
 use pt_blocks::Blocks;
+use pt_hints::Hints;
 use pt_tags::{Memory, Message};
 use pt_turn::Platform;
 use std::alloc::Global;

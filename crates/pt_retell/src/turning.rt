@@ -7,8 +7,8 @@ ghost use Rattle.pt_turn.specs.Platforms.{level_at, state_at};
 ghost use Rattle.pt_turn.specs.Turned.{MayCome};
 ghost use Rattle.pt_retell.specs.Steps.{HasCounts, IsInForm, MakesTurn};
 
-use crate::hints::Hints;
 use pt_actors::{Done, Tasks};
+use pt_hints::Hints;
 use pt_history::History;
 use pt_tags::Memory;
 use pt_turn::{Platform, Room};
