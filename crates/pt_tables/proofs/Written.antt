@@ -10,39 +10,52 @@ use Rattle.pt_types.specs.declared.rows.RowAt.{RowAt}
 use Rattle.pt_semantics.specs.Turn.{Turn}
 use Rattle.pt_semantics.proofs.Lookups.{none_some, same_some}
 use Rattle.pt_history.proofs.InTurn.{drop_next}
-use Rattle.pt_tables.specs.Log.{claim_line, post_line, row_line, sent_line, take_line, turn_line, turn_lines}
+use Rattle.pt_tables.specs.Log.{claim_line, list_lines, post_line, row_line, sent_line, take_line, turn_line, turn_lines}
 use Rattle.pt_types.specs.Lookups.{platform_name}
 
--- what is read of a turn
-pub record Reads (o : Option Turn) (first last count : ℕ) (posted : List Done) (rows : List RowAt) (taken : List OnLink) (claimed : List Task) (sent : List OnLink) : Type 0 where
+-- what is read of a turn's first line
+pub record ReadsHead (o : Option Turn) (first last count : ℕ) : Type 0 where
   pub the_first : option_map (λ (turn : Turn). turn.first) o ≡ Some first
   pub the_last : option_map (λ (turn : Turn). turn.last) o ≡ Some last
   pub the_count : option_map (λ (turn : Turn). turn.count) o ≡ Some count
+
+-- what is read of a turn's lists
+pub record ReadsLists (o : Option Turn) (posted : List Done) (rows : List RowAt) (taken : List OnLink) (claimed : List Task) (sent : List OnLink) : Type 0 where
   pub the_posted : option_map (λ (turn : Turn). turn.posted) o ≡ Some posted
   pub the_rows : option_map (λ (turn : Turn). turn.rows) o ≡ Some rows
   pub the_taken : option_map (λ (turn : Turn). turn.taken) o ≡ Some taken
   pub the_claimed : option_map (λ (turn : Turn). turn.claimed) o ≡ Some claimed
   pub the_sent : option_map (λ (turn : Turn). turn.sent) o ≡ Some sent
 
-regroup : (text a b c d e f : List ℕ) → text ++ (a ++ b ++ c ++ d ++ e ++ f) ≡ (((((text ++ a) ++ b) ++ c) ++ d) ++ e) ++ f
-regroup text a b c d e f = simp append_assoc
+regroup : (text b c d e f : List ℕ) → text ++ (b ++ c ++ d ++ e ++ f) ≡ ((((text ++ b) ++ c) ++ d) ++ e) ++ f
+regroup text b c d e f = simp append_assoc
 
-pub turn_written : (g : Graph) (platform : ℕ) (o : Option Turn) (first last count : ℕ) (posted : List Done) (rows : List RowAt) (taken : List OnLink) (claimed : List Task) (sent : List OnLink) (old : List ℕ)
-    → Reads o first last count posted rows taken claimed sent
-    → option_map (λ (turn : Turn). old ++ turn_lines g platform turn) o
-    ≡ Some ((((((old ++ turn_line (platform_name g platform) first last count) ++ flat_map post_line posted) ++ flat_map (row_line g) rows) ++ flat_map (take_line g) taken) ++ flat_map (claim_line g) claimed) ++ flat_map (sent_line g) sent)
-turn_written g platform None first last count posted rows taken claimed sent old reads = absurd (none_some first reads.the_first)
-turn_written g platform (Some turn) first last count posted rows taken claimed sent old reads =
-    let f : turn.first ≡ first = same_some turn.first first reads.the_first in
-    let l : turn.last ≡ last = same_some turn.last last reads.the_last in
-    let n : turn.count ≡ count = same_some turn.count count reads.the_count in
+pub lists_written : (g : Graph) (o : Option Turn) (posted : List Done) (rows : List RowAt) (taken : List OnLink) (claimed : List Task) (sent : List OnLink) (old : List ℕ)
+    → ReadsLists o posted rows taken claimed sent
+    → option_map (λ (turn : Turn). old ++ list_lines g turn) o
+    ≡ Some (((((old ++ flat_map post_line posted) ++ flat_map (row_line g) rows) ++ flat_map (take_line g) taken) ++ flat_map (claim_line g) claimed) ++ flat_map (sent_line g) sent)
+lists_written g None posted rows taken claimed sent old reads = absurd (none_some posted reads.the_posted)
+lists_written g (Some turn) posted rows taken claimed sent old reads =
     let p : turn.posted ≡ posted = same_some turn.posted posted reads.the_posted in
     let r : turn.rows ≡ rows = same_some turn.rows rows reads.the_rows in
     let t : turn.taken ≡ taken = same_some turn.taken taken reads.the_taken in
     let c : turn.claimed ≡ claimed = same_some turn.claimed claimed reads.the_claimed in
     let s : turn.sent ≡ sent = same_some turn.sent sent reads.the_sent in
     ap Some
-    (λ i. regroup old (turn_line (platform_name g platform) (f i) (l i) (n i)) (flat_map post_line (p i)) (flat_map (row_line g) (r i)) (flat_map (take_line g) (t i)) (flat_map (claim_line g) (c i)) (flat_map (sent_line g) (s i)) i)
+    (λ i. regroup old (flat_map post_line (p i)) (flat_map (row_line g) (r i)) (flat_map (take_line g) (t i)) (flat_map (claim_line g) (c i)) (flat_map (sent_line g) (s i)) i)
+
+-- a turn's first line, and then those of its lists
+pub turn_written : (g : Graph) (platform : ℕ) (o : Option Turn) (first last count : ℕ) (old mid new : List ℕ) → ReadsHead o first last count
+    → mid ≡ old ++ turn_line (platform_name g platform) first last count → option_map (λ (turn : Turn). mid ++ list_lines g turn) o ≡ Some new
+    → option_map (λ (turn : Turn). old ++ turn_lines g platform turn) o ≡ Some new
+turn_written g platform None first last count old mid new reads head lists = absurd (none_some first reads.the_first)
+turn_written g platform (Some turn) first last count old mid new reads head lists =
+    let f : turn.first ≡ first = same_some turn.first first reads.the_first in
+    let l : turn.last ≡ last = same_some turn.last last reads.the_last in
+    let n : turn.count ≡ count = same_some turn.count count reads.the_count in
+    let line : turn_line (platform_name g platform) turn.first turn.last turn.count ≡ turn_line (platform_name g platform) first last count = λ i. turn_line (platform_name g platform) (f i) (l i) (n i) in
+    ap Some (sym (append_assoc old (turn_line (platform_name g platform) turn.first turn.last turn.count) (list_lines g turn))
+    ∙ ap (λ text. (old ++ text) ++ list_lines g turn) line ∙ ap (λ text. text ++ list_lines g turn) (sym head)) ∙ lists
 
 -- the line of an item, and then those of the items after it
 pub next_put : {X : Type 0} (f : X → List ℕ) (xs : List X) (n : ℕ) (x : X) (old new : List ℕ) → slice_get xs n ≡ Some x → new ≡ old ++ f x → new ++ flat_map f (drop (n + 1) xs) ≡ old ++ flat_map f (drop n xs)

@@ -41,15 +41,18 @@ claim_line g task = codes "claim," ++ decimal task.number ++ 44 ∷ actor_name g
 abbrev pub sent_line : Graph → OnLink → List ℕ
 sent_line g sent = message_line (codes "sent") (sender_name g (slice_get g.links sent.link)) sent.message
 
--- the lines of a turn: its own, and then one for each result, row, message taken, claim and message sent
-abbrev pub turn_lines : Graph → ℕ → Turn → List ℕ
-turn_lines g platform turn =
-    turn_line (platform_name g platform) turn.first turn.last turn.count
-    ++ flat_map post_line turn.posted
+-- the lines of a turn's lists: one for each result, row, message taken, claim and message sent
+abbrev pub list_lines : Graph → Turn → List ℕ
+list_lines g turn =
+    flat_map post_line turn.posted
     ++ flat_map (row_line g) turn.rows
     ++ flat_map (take_line g) turn.taken
     ++ flat_map (claim_line g) turn.claimed
     ++ flat_map (sent_line g) turn.sent
+
+-- the lines of a turn: its own, and then those of its lists
+abbrev pub turn_lines : Graph → ℕ → Turn → List ℕ
+turn_lines g platform turn = turn_line (platform_name g platform) turn.first turn.last turn.count ++ list_lines g turn
 
 -- the lines of all recorded turns of a platform
 abbrev pub history_lines : Graph → ℕ → List Turn → List ℕ

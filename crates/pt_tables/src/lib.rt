@@ -20,9 +20,10 @@ mod text;
 mod turns;
 
 pub use actor_tables::{ActorTables, has_table};
+pub use lines::push_turn_line;
 pub use margin_lines::margins;
 pub use meaning::tables_of_meaning;
 pub use miss::{miss_line, miss_lines};
 pub use platforms::push_log;
 pub use text::tables;
-pub use turns::{push_head, push_history, push_turn};
+pub use turns::{push_head, push_history, push_lists, push_turn};

@@ -12,7 +12,7 @@ use pt_types::{Graph, OnLink, Row, RowAt, Task};
 use std::alloc::AllocError;
 
 /// Appends the line of a turn, or of a run of quiet turns: `turn,PLATFORM,FIRST,LAST,COUNT`.
-pub(crate) fn push_turn_line(
+pub fn push_turn_line(
     text: &mut String,
     platform: &str,
     first: u64,

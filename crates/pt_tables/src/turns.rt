@@ -4,7 +4,7 @@ ghost use Rattle.std.specs.Prelude.{◌≡◌, ◌++◌, ◌∷◌, ◌<◌, [],
 ghost use Rattle.std.specs.List.{flat_map};
 ghost use Rattle.pt_semantics.specs.Turn.{Turn};
 ghost use Rattle.pt_history.specs.Turns.{claimed_in, posted_in};
-ghost use Rattle.pt_tables.specs.Log.{claim_line, history_lines, log_head, log_text, post_line, row_line, sent_line, take_line, turn_lines};
+ghost use Rattle.pt_tables.specs.Log.{claim_line, history_lines, list_lines, log_head, log_text, post_line, row_line, sent_line, take_line, turn_lines};
 
 use crate::lines::{push_claim, push_post, push_row, push_sent, push_taken, push_turn_line};
 use pt_history::History;
@@ -54,6 +54,19 @@ pub fn push_turn(
         history.last(number),
         history.count(number),
     )?;
+    push_lists(text, graph, history, number)
+}
+
+/// Appends the lines of the lists of one recorded turn: all its lines but the first.
+pub fn push_lists(
+    text: &mut String,
+    graph: &Graph,
+    history: &History,
+    number: usize,
+) -> Result<(), AllocError>
+    requires { number < length history.now.turns }
+    ensures { OnOk result (option_map (λ turn. string_bytes text.old ++ list_lines graph.now turn) (slice_get history.now.turns number) ≡ Some (string_bytes text.new)) }
+{
     push_posts(text, history, number)?;
     push_rows(text, graph, history.rows(number))?;
     push_all_taken(text, graph, history.taken(number))?;

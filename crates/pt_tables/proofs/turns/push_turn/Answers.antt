@@ -1,9 +1,8 @@
-use Rattle.std.proofs.Common.{◌≡◌, ◌++◌, List, Some, ℕ, string_bytes, ap, sym, ◌∙◌}
-use Rattle.std.specs.Prelude.{flat_map, slice_get}
+use Rattle.std.proofs.Common.{◌≡◌, ◌++◌, List, Option, Some, ℕ, string_bytes, ap, ◌∙◌}
+use Rattle.std.specs.Prelude.{option_map, slice_get}
 use Rattle.std.proofs.lemmas.Result.{on_ok_weaker}
-use Rattle.pt_history.specs.Turns.{claimed_in, posted_in}
-use Rattle.pt_history.proofs.InTurn.{claimed_is, posted_is}
-use Rattle.pt_tables.specs.Log.{claim_line, post_line, row_line, sent_line, take_line, turn_line}
+use Rattle.pt_semantics.specs.Turn.{Turn}
+use Rattle.pt_tables.specs.Log.{list_lines, turn_line}
 use Rattle.pt_tables.proofs.Written.{turn_written}
 use Rattle.pt_tables.proofs.turns.push_turn.Goals as goal
 
@@ -12,22 +11,10 @@ pub returns : goal.returns
 returns c =
     let g = c.args.graph.now in
     let old : List ℕ = string_bytes c.args.text.now in
-    let turn = c.in_ok-push_turn_line.ensures ∙ ap (λ (name : List ℕ). old ++ turn_line name c.first.result c.last.result c.count.result) c.platform_name.ensures in
-    let posts = c.in_ok-push_posts.ensures ∙ ap (λ (text : List ℕ). text ++ flat_map post_line (posted_in c.args.history.now.turns c.args.number)) turn in
-    let rows = c.in_ok-push_rows.ensures ∙ ap (λ (text : List ℕ). text ++ flat_map (row_line g) c.rows.result.now) posts in
-    let taken = c.in_ok-push_all_taken.ensures ∙ ap (λ (text : List ℕ). text ++ flat_map (take_line g) c.taken.result.now) rows in
-    let claims = c.in_ok-push_claims.ensures ∙ ap (λ (text : List ℕ). text ++ flat_map (claim_line g) (claimed_in c.args.history.now.turns c.args.number)) taken in
-    on_ok_weaker c.push_all_sent.result (λ (sent : string_bytes c.push_all_sent.new.text ≡ string_bytes c.push_claims.new.text ++ flat_map (sent_line g) c.sent.result.now).
-    turn_written g c.args.platform (slice_get c.args.history.now.turns c.args.number) c.first.result c.last.result c.count.result (posted_in c.args.history.now.turns c.args.number) c.rows.result.now c.taken.result.now (claimed_in c.args.history.now.turns c.args.number) c.sent.result.now old
-    (record {
-      the_first = c.first.ensures;
-      the_last = c.last.ensures;
-      the_count = c.count.ensures;
-      the_posted = posted_is c.args.history.now.turns c.args.number c.requires;
-      the_rows = c.rows.ensures;
-      the_taken = c.taken.ensures;
-      the_claimed = claimed_is c.args.history.now.turns c.args.number c.requires;
-      the_sent = c.sent.ensures;
-    })
-    ∙ ap Some (sym (sent ∙ ap (λ (text : List ℕ). text ++ flat_map (sent_line g) c.sent.result.now) claims)))
-    c.push_all_sent.ensures
+    let o : Option Turn = slice_get c.args.history.now.turns c.args.number in
+    let head = c.in_ok-push_turn_line.ensures ∙ ap (λ (name : List ℕ). old ++ turn_line name c.first.result c.last.result c.count.result) c.platform_name.ensures in
+    on_ok_weaker c.push_lists.result (λ (lists : option_map (λ (turn : Turn). string_bytes c.push_turn_line.new.text ++ list_lines g turn) o ≡ Some (string_bytes c.push_lists.new.text)).
+    turn_written g c.args.platform o c.first.result c.last.result c.count.result old (string_bytes c.push_turn_line.new.text) (string_bytes c.push_lists.new.text)
+    (record { the_first = c.first.ensures; the_last = c.last.ensures; the_count = c.count.ensures })
+    head lists)
+    c.push_lists.ensures
