@@ -1,0 +1,13 @@
+//! The log part of a file cut into the blocks of its turns, and what the lines of a turn say of it.
+//!
+//! A file is cut into lines and blocks as in `specs/Lines.antt`. `read_hints` reads back what the log writes of a turn, as in
+//! `specs/Hints.antt`, and nothing more is promised of it: a reader prints the turn that it makes again and compares.
+//!
+//! Read first: `log_at` and `Cursor`, then `read_hints`.
+#![tactic(auto)]
+
+mod cursor;
+mod hints;
+
+pub use cursor::{Cursor, LogAt, TurnText, log_at};
+pub use hints::{Hints, read_hints};
