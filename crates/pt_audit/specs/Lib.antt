@@ -1,0 +1,4 @@
+pub mod LawfulLogs
+pub mod Told
+pub mod Verdicts
+pub mod Theorems
