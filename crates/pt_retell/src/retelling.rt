@@ -1,0 +1,56 @@
+//! A turn from its hints.
+
+ghost use Rattle.std.specs.Prelude.{◌≡◌, IfOk, false, true};
+ghost use Rattle.pt_turn.specs.Platforms.{state_at};
+ghost use Rattle.pt_retell.specs.Lasts.{AreLast, KeepOthers};
+ghost use Rattle.pt_retell.specs.Retold.{HasRetold, IsOnly, NoneFollows};
+
+use crate::hints::Hints;
+use pt_actors::{Done, Tasks};
+use pt_blocks::Blocks;
+use pt_tags::{Memory, Message};
+use pt_turn::Platform;
+use std::alloc::Global;
+
+/// The results and the tasks of the current turn, and by link how many messages it sent. All turns reuse its memory.
+#[derive(Drop)]
+pub struct Retelling {
+    pub(crate) dones: Vec<Done>,
+    pub(crate) tasks: Tasks,
+    pub(crate) sent: [u8; 64],
+}
+
+impl Retelling {
+    /// Empty. Allocates nothing.
+    pub fn new(alloc: Global) -> Retelling {
+        Retelling {
+            dones: Vec::new(alloc),
+            tasks: Tasks::new(alloc),
+            sent: [0; 64],
+        }
+    }
+}
+
+/// Makes the turn that these hints tell of, records it as one turn at its last reading, and returns whether there is such
+/// a turn. `last` has, by link, the last message taken on it; the links that lead to this platform are kept up to date.
+///
+/// The caller still has to compare what the hints leave out: the rows, the tags and actors of the claims, and that a turn in
+/// which something happened counts as one. If it returns `false`, or runs out of memory, the platform and `last` may be left
+/// anywhere: nothing may follow.
+pub fn retell(
+    platform: &mut Platform,
+    hints: &Hints,
+    last: &mut [Option<Message>],
+    desk: &mut Retelling,
+    blocks: &Blocks,
+) -> Result<bool, Memory>
+    requires named { hints.now.platform ≡ platform.old.number }
+    requires last { AreLast platform.old.plan.graph platform.old.number (state_at platform.old).taken last.old }
+    ensures made { IfOk result (λ told. told ≡ true → HasRetold hints.now platform.old platform.new) }
+    ensures one { IfOk result (λ told. told ≡ true → IsOnly hints.now platform.old platform.new) }
+    ensures never { IfOk result (λ told. told ≡ false → NoneFollows hints.now platform.old) }
+    ensures last { IfOk result (λ told. told ≡ true → AreLast platform.old.plan.graph platform.old.number (state_at platform.new).taken last.new) }
+    ensures others { IfOk result (λ told. told ≡ true → KeepOthers platform.old.plan.graph platform.old.number last.old last.new) }
+{
+    Ok(false)
+}
