@@ -1,9 +1,10 @@
 //! The log part of a file, block by block.
 
-ghost use Rattle.std.specs.Prelude.{◌≡◌, ◌<◌, ◌+◌, ◌^◌, ◌∷◌, [], None, length, MatchOption};
-ghost use Rattle.pt_hints.specs.Lines.{at_log, blocks_from, lines_of};
-ghost use Rattle.pt_hints.specs.Places.{IsLogAt};
+ghost use Rattle.std.specs.Prelude.{◌≡◌, ℕ, ◌<◌, ◌+◌, ◌^◌, ◌∷◌, [], None, length, take, drop, MatchOption};
+ghost use Rattle.pt_hints.specs.Lines.{Block, at_log, blocks_from, lines_of};
+ghost use Rattle.pt_hints.specs.Places.{IsFirstBlock, IsLogAt};
 
+use crate::fields::line_len;
 use std::marker::Model;
 
 /// Where the log part of a file begins.
@@ -20,6 +21,16 @@ pub fn log_at(bytes: &[u8]) -> Option<LogAt>
     requires { length bytes.now < 2 ^ 32 }
     ensures { MatchOption result (at_log (lines_of bytes.now) ≡ None) (λ at. IsLogAt bytes.now at.place at.line) }
 {
+    let mut place = 0;
+    let mut line = 1;
+    while place < bytes.len() {
+        let rest = &bytes[place..];
+        if rest.starts_with(b"log\n") {
+            return Some(LogAt { place, line });
+        }
+        place += line_len(rest);
+        line += 1;
+    }
     None
 }
 
@@ -62,6 +73,36 @@ impl<'a> Cursor<'a> {
     pub fn next(&mut self) -> Option<TurnText<'a>>
         ensures { MatchOption result ((self.old ≡ []) × (self.new ≡ [])) (λ block. self.old ≡ record { line = block.line; text = block.text.now } ∷ self.new) }
     {
-        None
+        if self.rest.is_empty() {
+            return None;
+        }
+        let Extent { len, lines } = block_extent(self.rest);
+        let (text, rest) = self.rest.split_at(len);
+        let line = self.line;
+        self.rest = rest;
+        self.line = line + lines;
+        Some(TurnText { line, text })
     }
+}
+
+/// How long a block is.
+#[derive(Clone, Copy)]
+struct Extent {
+    len: usize,
+    lines: u32,
+}
+
+/// How long the first block of a text is.
+fn block_extent(bytes: &[u8]) -> Extent
+    requires some { 0 < length bytes.now }
+    requires short { length bytes.now < 2 ^ 32 }
+    ensures { IsFirstBlock bytes.now result.len result.lines }
+{
+    let mut len = line_len(bytes);
+    let mut lines = 1;
+    while len < bytes.len() && !bytes[len..].starts_with(b"turn,") {
+        len += line_len(&bytes[len..]);
+        lines += 1;
+    }
+    Extent { len, lines }
 }

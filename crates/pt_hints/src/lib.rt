@@ -7,6 +7,7 @@
 #![tactic(auto)]
 
 mod cursor;
+mod fields;
 mod hints;
 
 pub use cursor::{Cursor, LogAt, TurnText, log_at};
