@@ -1,0 +1,4 @@
+pub mod Cuts
+pub mod Splitting
+pub mod Blocks
+pub mod Passing

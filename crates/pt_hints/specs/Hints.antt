@@ -1,5 +1,6 @@
 -- What the lines of a turn say of it, and the turns of which they say it.
-use Rattle.std.specs.Prelude.{◌≡◌, ℕ, ◌<◌, ◌^◌, ◌-◌, ◌≤ℤ◌, pos, negsuc, length, map}
+use Rattle.std.specs.Prelude.{◌≡◌, ℕ, ◌<◌, ◌^◌, FitsSigned, length, map}
+use Rattle.std.specs.Int.{w64}
 use Rattle.pt_tags.specs.Tags.{Fits}
 use Rattle.pt_tags.specs.declared.message.Message.{Message}
 use Rattle.pt_tags.specs.declared.message.Message.TheVariants.{End, Event}
@@ -10,9 +11,9 @@ use Rattle.pt_semantics.specs.Lists.{Each}
 use Rattle.pt_semantics.specs.Turn.{Turn}
 use Rattle.pt_hints.specs.declared.hints.Hints.{Hints}
 
--- the value of a message is one that 64 bits hold
+-- the value of a message is one that 64 bits hold, with a sign
 abbrev pub IsHeld : Message → Type 0
-IsHeld (Event tag value) = (negsuc (2 ^ 63 - 1) ≤ℤ value) × (value ≤ℤ pos (2 ^ 63 - 1))
+IsHeld (Event tag value) = FitsSigned w64 value
 IsHeld End = Unit {0}
 
 -- the tag of a message fits in 64 bits

@@ -8,6 +8,8 @@ pub record IsLogAt (bytes : List ℕ) (place line : ℕ) : Type 0 where
   pub lines : at_log (lines_of bytes) ≡ Some (lines_of (take place bytes), lines_of (drop (place + 4) bytes))
   pub number : line ≡ length (lines_of (take place bytes)) + 1
   pub parts : bytes ≡ take place bytes ++ log_head ++ drop (place + 4) bytes
+  pub few : line ≤ place + 1
+  pub within : place + 4 ≤ length bytes
 
 -- the first block of the text has this many bytes, and this many lines
 pub record IsFirstBlock (bytes : List ℕ) (len lines : ℕ) : Type 0 where

@@ -18,7 +18,7 @@ pub struct LogAt {
 
 /// Where the first line `log` of a file is, if a line is `log`.
 pub fn log_at(bytes: &[u8]) -> Option<LogAt>
-    requires { length bytes.now < 2 ^ 32 }
+    requires { length bytes.now + 1 < 2 ^ 32 }
     ensures { MatchOption result (at_log (lines_of bytes.now) ≡ None) (λ at. IsLogAt bytes.now at.place at.line) }
 {
     let mut place = 0;

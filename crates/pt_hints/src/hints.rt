@@ -6,6 +6,9 @@ ghost use Rattle.pt_semantics.specs.Turn.{Turn};
 ghost use Rattle.pt_tables.specs.Log.{turn_lines};
 ghost use Rattle.pt_hints.specs.Hints.{AreHints, IsTellable};
 
+use crate::fields::cut;
+use crate::head::read_head;
+use crate::items::read_items;
 use pt_tags::Memory;
 use pt_types::{Graph, OnLink};
 use std::alloc::Global;
@@ -39,5 +42,42 @@ pub fn read_hints(graph: &Graph, text: &[u8], hints: &mut Hints) -> Result<bool,
     requires lawful { IsLawful graph.now }
     ensures back { IfOk result (λ given. (p : ℕ) (t : Turn) → IsTellable graph.now p t → text.now ≡ turn_lines graph.now p t → (given ≡ true) × AreHints p t hints.new) }
 {
-    Ok(false)
+    hints.clear();
+    let (line, rest) = cut(text, b'\n');
+    let Some(head) = read_head(graph, line) else {
+        return Ok(false);
+    };
+    hints.platform = head.platform;
+    hints.first = head.first;
+    hints.last = head.last;
+    hints.count = head.count;
+    read_items(graph, rest, hints)
+}
+
+impl Hints {
+    ghost use Rattle.pt_hints.specs.Items.{nothing_yet, tally};
+
+    /// No hints; no memory is taken.
+    pub fn new(alloc: Global) -> Hints {
+        Hints {
+            platform: 0,
+            first: 0,
+            last: 0,
+            count: 0,
+            posts: Vec::new(alloc),
+            taken: Vec::new(alloc),
+            claims: 0,
+            sent: Vec::new(alloc),
+        }
+    }
+
+    /// Forgets what the lines after the first said.
+    fn clear(&mut self)
+        ensures { tally self.new ≡ nothing_yet }
+    {
+        self.posts.clear();
+        self.taken.clear();
+        self.claims = 0;
+        self.sent.clear();
+    }
 }

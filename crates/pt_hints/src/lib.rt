@@ -8,7 +8,11 @@
 
 mod cursor;
 mod fields;
+mod head;
 mod hints;
+mod items;
+mod names;
+mod numbers;
 
 pub use cursor::{Cursor, LogAt, TurnText, log_at};
 pub use hints::{Hints, read_hints};

@@ -1,0 +1,72 @@
+-- The lines of a turn after its first, one by one, and what they add to the hints.
+use Rattle.std.specs.Prelude.{ℕ, suc, ◌<◌, ◌^◌, List, [], ◌∷◌, ◌++◌, codes}
+use Rattle.std.specs.Fmt.{decimal, signed_decimal}
+use Rattle.pt_tags.specs.declared.message.Message.{Message}
+use Rattle.pt_tags.specs.declared.message.Message.TheVariants.{End, Event}
+use Rattle.pt_types.specs.declared.firing.Done.{Done}
+use Rattle.pt_types.specs.declared.firing.OnLink.{OnLink}
+use Rattle.pt_types.specs.declared.firing.Task.{Task}
+use Rattle.pt_types.specs.declared.graph.Graph.{Graph}
+use Rattle.pt_types.specs.declared.rows.RowAt.{RowAt}
+use Rattle.pt_tables.specs.Log.{claim_line, post_line, row_line, sent_line, take_line}
+use Rattle.pt_hints.specs.Hints.{IsTellableOn}
+use Rattle.pt_hints.specs.declared.hints.Hints.{Hints}
+
+-- what a line of a turn after its first tells
+pub data Item : Type 0 where
+  post : Done → Item
+  row : RowAt → Item
+  got : OnLink → Item
+  claim : Task → Item
+  sent : OnLink → Item
+
+-- the line that tells it
+abbrev pub item_line : Graph → Item → List ℕ
+item_line g (post done) = post_line done
+item_line g (row at) = row_line g at
+item_line g (got x) = take_line g x
+item_line g (claim task) = claim_line g task
+item_line g (sent x) = sent_line g x
+
+-- its numbers are ones that 64 bits hold, and its link is one of the graph
+abbrev pub IsTellableItem : Graph → Item → Type 0
+IsTellableItem g (post done) = done.task.number < 2 ^ 64
+IsTellableItem g (row at) = Unit {0}
+IsTellableItem g (got x) = IsTellableOn g x
+IsTellableItem g (claim task) = Unit {0}
+IsTellableItem g (sent x) = IsTellableOn g x
+
+-- a message as its line has it after the name: TIME,STEP,VALUE or end
+abbrev pub message_text : Message → List ℕ
+message_text (Event tag value) = decimal tag.time ++ 44 ∷ decimal tag.step ++ 44 ∷ signed_decimal value
+message_text End = codes "end"
+
+-- a name, and then the message
+abbrev pub message_fields : List ℕ → Message → List ℕ
+message_fields name message = name ++ 44 ∷ message_text message
+
+-- what the hints have of the lines so far
+pub record Tally : Type 0 where
+  pub posts : List ℕ
+  pub taken : List OnLink
+  pub claims : ℕ
+  pub sent : List OnLink
+
+abbrev pub nothing_yet : Tally
+nothing_yet = record { posts = []; taken = []; claims = 0; sent = [] }
+
+abbrev pub tally : Hints → Tally
+tally hints = record { posts = hints.posts.items; taken = hints.taken.items; claims = hints.claims; sent = hints.sent.items }
+
+-- and what they have after one more
+abbrev pub with_item : Tally → Item → Tally
+with_item so_far (post done) = record so_far { posts = so_far.posts ++ done.task.number ∷ [] }
+with_item so_far (row at) = so_far
+with_item so_far (got x) = record so_far { taken = so_far.taken ++ x ∷ [] }
+with_item so_far (claim task) = record so_far { claims = suc so_far.claims }
+with_item so_far (sent x) = record so_far { sent = so_far.sent ++ x ∷ [] }
+
+-- and after several
+abbrev pub with_items : Tally → List Item → Tally
+with_items so_far [] = so_far
+with_items so_far (item ∷ items) = with_items (with_item so_far item) items
