@@ -64,15 +64,19 @@ pub record IsFirstUnlinked (g : Graph) (l : ℕ) (histories : ℕ → List Recor
   pub unlinked : IsLinked g histories l → ⊥
   pub first : (k : ℕ) → k < l → IsLinked g histories k
 
+-- the verdict on the blocks of a log
+abbrev pub IsVerdictOn : Parts → (ℕ → List Row) → List Block → Verdict → Type 0
+IsVerdictOn plan rows blocks (Turn line) = StopsAt plan.graph (level_of plan.ranks) rows line blocks
+IsVerdictOn plan rows blocks (Unfinished i) = TellsAll plan.graph (level_of plan.ranks) rows blocks (λ histories ends. IsFirstUnfinished plan.graph i ends)
+IsVerdictOn plan rows blocks (Unlinked l) = TellsAll plan.graph (level_of plan.ranks) rows blocks (λ histories ends. AreFinished plan.graph ends × IsFirstUnlinked plan.graph l histories)
+IsVerdictOn plan rows blocks Fine = TellsAll plan.graph (level_of plan.ranks) rows blocks (λ histories ends. AreFinished plan.graph ends × AreLinked plan.graph histories)
+IsVerdictOn plan rows blocks _ = ⊥
+
 -- the verdict on a file, with this plan and these rows. The head isn't judged here, so `Table` is no verdict of its own
 abbrev pub IsVerdict : Parts → (ℕ → List Row) → List ℕ → Verdict → Type 0
 IsVerdict plan rows bytes TooLong = most_bytes < length bytes
 IsVerdict plan rows bytes NoLog = (length bytes ≤ most_bytes) × (at_log (lines_of bytes) ≡ None)
-IsVerdict plan rows bytes (Turn line) = HasLog bytes (λ blocks. StopsAt plan.graph (level_of plan.ranks) rows line blocks)
-IsVerdict plan rows bytes (Unfinished i) = HasLog bytes (λ blocks. TellsAll plan.graph (level_of plan.ranks) rows blocks (λ histories ends. IsFirstUnfinished plan.graph i ends))
-IsVerdict plan rows bytes (Unlinked l) = HasLog bytes (λ blocks. TellsAll plan.graph (level_of plan.ranks) rows blocks (λ histories ends. AreFinished plan.graph ends × IsFirstUnlinked plan.graph l histories))
-IsVerdict plan rows bytes Table = ⊥
-IsVerdict plan rows bytes Fine = HasLog bytes (λ blocks. TellsAll plan.graph (level_of plan.ranks) rows blocks (λ histories ends. AreFinished plan.graph ends × AreLinked plan.graph histories))
+IsVerdict plan rows bytes v = HasLog bytes (λ blocks. IsVerdictOn plan rows blocks v)
 
 -- the lines before the first line `log` are the tables of the meaning
 pub record IsHead (plan : Parts) (rows : ℕ → List Row) (bytes : List ℕ) : Type 0 where

@@ -7,10 +7,18 @@
 //! Read first: `specs/LawfulLogs.antt` and `specs/Verdicts.antt`, then `replay`; the theorems are in `specs/Theorems.antt`.
 #![tactic(auto)]
 
+mod block;
+mod blocks;
+mod finishing;
 mod laws;
-mod replay;
+mod linking;
+mod log;
+mod order;
+mod replayed;
+mod telling;
+mod turn;
 mod verdict;
 
 pub use laws::{fine_logs_are_lawful, lawful_logs_are_fine, verdicts_are_one};
-pub use replay::{Replayed, replay};
+pub use replayed::{Replayed, replay};
 pub use verdict::Verdict;

@@ -1,0 +1,17 @@
+pub mod OneState
+pub mod JoinedTurns
+pub mod ToldTurns
+pub mod Changed
+pub mod Making
+pub mod Next
+pub mod Pushed
+pub mod Refused
+pub mod Members
+pub mod Retold
+pub mod Messages
+pub mod Judged
+pub mod Loop
+pub mod OneVerdict
+pub mod Texts
+pub mod ByPlatform
+pub mod Lawful
