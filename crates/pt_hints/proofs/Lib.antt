@@ -2,3 +2,11 @@ pub mod Cuts
 pub mod Splitting
 pub mod Blocks
 pub mod Passing
+pub mod Namesakes
+pub mod Printed
+pub mod Heads
+pub mod ItemLines
+pub mod Reading
+pub mod TurnTexts
+pub mod Cut
+pub mod BlockTexts

@@ -1,5 +1,5 @@
 -- The lines of a turn after its first, one by one, and what they add to the hints.
-use Rattle.std.specs.Prelude.{ℕ, suc, ◌<◌, ◌^◌, List, [], ◌∷◌, ◌++◌, codes}
+use Rattle.std.specs.Prelude.{ℕ, ◌+◌, ◌<◌, ◌^◌, List, [], ◌∷◌, ◌++◌, codes, Option, Some, None, bytes_eq, if◌then◌else◌}
 use Rattle.std.specs.Fmt.{decimal, signed_decimal}
 use Rattle.pt_tags.specs.declared.message.Message.{Message}
 use Rattle.pt_tags.specs.declared.message.Message.TheVariants.{End, Event}
@@ -10,6 +10,10 @@ use Rattle.pt_types.specs.declared.graph.Graph.{Graph}
 use Rattle.pt_types.specs.declared.rows.RowAt.{RowAt}
 use Rattle.pt_tables.specs.Log.{claim_line, post_line, row_line, sent_line, take_line}
 use Rattle.pt_hints.specs.Hints.{IsTellableOn}
+use Rattle.pt_hints.specs.declared.entries.Entry.{Entry}
+use Rattle.pt_hints.specs.declared.entries.Entry.TheVariants.{Claim, Post, Row, Sent, Take}
+use Rattle.pt_hints.specs.declared.entries.Word.{Word}
+use Rattle.pt_hints.specs.declared.entries.Word.TheVariants as word
 use Rattle.pt_hints.specs.declared.hints.Hints.{Hints}
 
 -- what a line of a turn after its first tells
@@ -58,15 +62,28 @@ nothing_yet = record { posts = []; taken = []; claims = 0; sent = [] }
 abbrev pub tally : Hints → Tally
 tally hints = record { posts = hints.posts.items; taken = hints.taken.items; claims = hints.claims; sent = hints.sent.items }
 
+-- what a line says to one who reads it
+abbrev pub entry_of : Item → Entry
+entry_of (post done) = Post done.task.number
+entry_of (row at) = Row
+entry_of (got x) = Take x
+entry_of (claim task) = Claim
+entry_of (sent x) = Sent x
+
+-- the word of a line
+abbrev pub word_is : List ℕ → Option Word
+word_is text =
+    if bytes_eq text (codes "post") then Some word.Post else (if bytes_eq text (codes "row") then Some word.Row else (if bytes_eq text (codes "take") then Some word.Take else (if bytes_eq text (codes "claim") then Some word.Claim else (if bytes_eq text (codes "sent") then Some word.Sent else None))))
+
 -- and what they have after one more
-abbrev pub with_item : Tally → Item → Tally
-with_item so_far (post done) = record so_far { posts = so_far.posts ++ done.task.number ∷ [] }
-with_item so_far (row at) = so_far
-with_item so_far (got x) = record so_far { taken = so_far.taken ++ x ∷ [] }
-with_item so_far (claim task) = record so_far { claims = suc so_far.claims }
-with_item so_far (sent x) = record so_far { sent = so_far.sent ++ x ∷ [] }
+abbrev pub with_entry : Tally → Entry → Tally
+with_entry so_far (Post number) = record so_far { posts = so_far.posts ++ number ∷ [] }
+with_entry so_far Row = so_far
+with_entry so_far (Take x) = record so_far { taken = so_far.taken ++ x ∷ [] }
+with_entry so_far Claim = record so_far { claims = so_far.claims + 1 }
+with_entry so_far (Sent x) = record so_far { sent = so_far.sent ++ x ∷ [] }
 
 -- and after several
-abbrev pub with_items : Tally → List Item → Tally
-with_items so_far [] = so_far
-with_items so_far (item ∷ items) = with_items (with_item so_far item) items
+abbrev pub with_entries : Tally → List Entry → Tally
+with_entries so_far [] = so_far
+with_entries so_far (entry ∷ entries) = with_entries (with_entry so_far entry) entries

@@ -4,3 +4,4 @@ pub mod Places
 pub mod Fields
 pub mod Items
 pub mod Heads
+pub mod Numbered

@@ -6,9 +6,10 @@ ghost use Rattle.pt_semantics.specs.Turn.{Turn};
 ghost use Rattle.pt_tables.specs.Log.{turn_lines};
 ghost use Rattle.pt_hints.specs.Hints.{AreHints, IsTellable};
 
+use crate::entries::Entry;
 use crate::fields::cut;
 use crate::head::read_head;
-use crate::items::read_items;
+use crate::text::read_entries;
 use pt_tags::Memory;
 use pt_types::{Graph, OnLink};
 use std::alloc::Global;
@@ -47,15 +48,19 @@ pub fn read_hints(graph: &Graph, text: &[u8], hints: &mut Hints) -> Result<bool,
     let Some(head) = read_head(graph, line) else {
         return Ok(false);
     };
+    if !read_entries(graph, rest, hints)? {
+        return Ok(false);
+    }
     hints.platform = head.platform;
     hints.first = head.first;
     hints.last = head.last;
     hints.count = head.count;
-    read_items(graph, rest, hints)
+    Ok(true)
 }
 
 impl Hints {
-    ghost use Rattle.pt_hints.specs.Items.{nothing_yet, tally};
+    ghost use Rattle.pt_hints.specs.Items.{nothing_yet, tally, with_entry};
+    ghost use Rattle.std.specs.Prelude.{◌<◌, ◌≤◌, ◌+◌, ◌^◌, OnOk};
 
     /// No hints; no memory is taken.
     pub fn new(alloc: Global) -> Hints {
@@ -69,6 +74,22 @@ impl Hints {
             claims: 0,
             sent: Vec::new(alloc),
         }
+    }
+
+    /// Adds what a line after the first says.
+    pub(crate) fn add(&mut self, entry: Entry) -> Result<(), Memory>
+        requires { self.old.claims + 1 < 2 ^ 64 }
+        ensures tally { OnOk result (tally self.new ≡ with_entry (tally self.old) entry) }
+        ensures claims { self.new.claims ≤ self.old.claims + 1 }
+    {
+        match entry {
+            Entry::Post(number) => self.posts.push(number)?,
+            Entry::Row => {}
+            Entry::Take(taken) => self.taken.push(taken)?,
+            Entry::Claim => self.claims += 1,
+            Entry::Sent(sent) => self.sent.push(sent)?,
+        }
+        Ok(())
     }
 
     /// Forgets what the lines after the first said.

@@ -7,12 +7,13 @@
 #![tactic(auto)]
 
 mod cursor;
+mod entries;
 mod fields;
 mod head;
 mod hints;
-mod items;
 mod names;
 mod numbers;
+mod text;
 
 pub use cursor::{Cursor, LogAt, TurnText, log_at};
 pub use hints::{Hints, read_hints};

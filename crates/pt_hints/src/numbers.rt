@@ -10,14 +10,18 @@ use std::str::from_utf8;
 pub(crate) fn number(field: &[u8]) -> Option<u64>
     ensures { (n : ℕ) → n < 2 ^ 64 → field.now ≡ decimal n → result ≡ Some n }
 {
-    let text = from_utf8(field).ok()?;
-    text.parse().ok()
+    match from_utf8(field) {
+        Ok(text) => text.parse().ok(),
+        Err(_) => None,
+    }
 }
 
 /// The same for a number with a sign.
 pub(crate) fn signed(field: &[u8]) -> Option<i64>
     ensures { (z : ℤ) → FitsSigned w64 z → field.now ≡ signed_decimal z → result ≡ Some z }
 {
-    let text = from_utf8(field).ok()?;
-    text.parse().ok()
+    match from_utf8(field) {
+        Ok(text) => text.parse().ok(),
+        Err(_) => None,
+    }
 }

@@ -1,4 +1,4 @@
-pub mod Hinted
 pub mod Following
 pub mod Lasts
 pub mod Retold
+pub mod Steps

@@ -5,9 +5,9 @@ use Rattle.pt_semantics.specs.Platform.{State}
 use Rattle.pt_semantics.specs.Turn.{IsLast, IsTurn, Turn}
 use Rattle.pt_turn.specs.Platforms.{PlatformView, level_at, state_at}
 use Rattle.pt_turn.specs.Turned.{Ends, StaysThere, is_late}
-use Rattle.pt_retell.specs.declared.hints.Hints.{Hints}
+use Rattle.pt_hints.specs.declared.hints.Hints.{Hints}
 use Rattle.pt_retell.specs.Following.{CanFollow}
-use Rattle.pt_retell.specs.Hinted.{AreHints}
+use Rattle.pt_hints.specs.Hints.{AreHints}
 
 -- the turn as one turn at its last reading
 abbrev pub at_last : Turn → Turn

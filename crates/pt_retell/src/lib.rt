@@ -6,8 +6,11 @@
 //! Read first: `retell`, then `specs/Retold.antt`.
 #![tactic(auto)]
 
-mod hints;
+mod coming;
+mod form;
+mod posting;
 mod retelling;
+mod sending;
+mod turning;
 
-pub use hints::Hints;
 pub use retelling::{Retelling, retell};

@@ -5,19 +5,23 @@ ghost use Rattle.pt_turn.specs.Platforms.{state_at};
 ghost use Rattle.pt_retell.specs.Lasts.{AreLast, KeepOthers};
 ghost use Rattle.pt_retell.specs.Retold.{HasRetold, IsOnly, NoneFollows};
 
-use crate::hints::Hints;
+use crate::coming::may_come;
+use crate::form::is_in_form;
+use crate::posting::fire_claims;
+use crate::sending::send_all;
+use crate::turning::{has_counts, make_turn};
 use pt_actors::{Done, Tasks};
 use pt_blocks::Blocks;
+use pt_hints::Hints;
 use pt_tags::{Memory, Message};
 use pt_turn::Platform;
 use std::alloc::Global;
 
-/// The results and the tasks of the current turn, and by link how many messages it sent. All turns reuse its memory.
+/// The results and the tasks of the current turn. All turns reuse its memory.
 #[derive(Drop)]
 pub struct Retelling {
     pub(crate) dones: Vec<Done>,
     pub(crate) tasks: Tasks,
-    pub(crate) sent: [u8; 64],
 }
 
 impl Retelling {
@@ -26,7 +30,6 @@ impl Retelling {
         Retelling {
             dones: Vec::new(alloc),
             tasks: Tasks::new(alloc),
-            sent: [0; 64],
         }
     }
 }
@@ -52,5 +55,21 @@ pub fn retell(
     ensures last { IfOk result (λ told. told ≡ true → AreLast platform.old.plan.graph platform.old.number (state_at platform.new).taken last.new) }
     ensures others { IfOk result (λ told. told ≡ true → KeepOthers platform.old.plan.graph platform.old.number last.old last.new) }
 {
-    Ok(false)
+    if platform.fault().is_some() {
+        return Ok(false);
+    }
+    if !is_in_form(platform.reading(), hints) {
+        return Ok(false);
+    }
+    if !may_come(platform, hints.taken.as_slice(), last) {
+        return Ok(false);
+    }
+    if !fire_claims(platform, hints.posts.as_slice(), blocks, &mut desk.dones)? {
+        return Ok(false);
+    }
+    make_turn(platform, hints, desk.dones.as_slice(), &mut desk.tasks)?;
+    if !has_counts(platform.history(), hints) {
+        return Ok(false);
+    }
+    Ok(send_all(platform, hints.sent.as_slice()))
 }

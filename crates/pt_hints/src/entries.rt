@@ -1,65 +1,76 @@
 //! The lines of a turn after its first.
 
-ghost use Rattle.std.specs.Prelude.{◌≡◌, ◌<◌, ◌+◌, ◌≤◌, ◌^◌, ◌++◌, ◌∷◌, [], IfOk, List, Some, flat_map, length, slice_get, true};
+ghost use Rattle.std.specs.Prelude.{◌≡◌, ◌++◌, ◌∷◌, [], Some, slice_get};
 ghost use Rattle.pt_tags.specs.declared.message.Message.{Message};
 ghost use Rattle.pt_types.specs.declared.firing.OnLink.{OnLink};
 ghost use Rattle.pt_types.specs.Lawful.{IsLawful};
-ghost use Rattle.pt_semantics.specs.Lists.{Each};
 ghost use Rattle.pt_tables.specs.Names.{receiver_name, sender_name};
 ghost use Rattle.pt_hints.specs.Hints.{FitsTag, IsHeld, IsTellableOn};
-ghost use Rattle.pt_hints.specs.Items.{IsTellableItem, Item, item_line, message_fields, message_text, tally, with_item, with_items};
+ghost use Rattle.pt_hints.specs.Items.{IsTellableItem, Item, entry_of, item_line, message_fields, message_text, word_is};
 
 use crate::fields::cut;
-use crate::hints::Hints;
 use crate::names::{link_from, link_to};
 use crate::numbers::{number, signed};
-use pt_tags::{Memory, Message, Tag};
+use pt_tags::{Message, Tag};
 use pt_types::{Graph, OnLink};
 
-/// Reads the lines of a turn after its first, and appends what they say to the hints. False for a text that is not of their
-/// form.
-pub(crate) fn read_items(graph: &Graph, text: &[u8], hints: &mut Hints) -> Result<bool, Memory>
-    requires lawful { IsLawful graph.now }
-    requires room { hints.old.claims + length text.now < 2 ^ 64 }
-    ensures { IfOk result (λ given. (items : List Item) → Each (IsTellableItem graph.now) items → text.now ≡ flat_map (item_line graph.now) items → (given ≡ true) × (tally hints.new ≡ with_items (tally hints.old) items)) }
-{
-    let mut rest = text;
-    while !rest.is_empty() {
-        let (line, more) = cut(rest, b'\n');
-        if !read_item(graph, line, hints)? {
-            return Ok(false);
-        }
-        rest = more;
-    }
-    Ok(true)
+/// What a line of a turn after its first says of it.
+#[derive(Clone, Copy)]
+pub(crate) enum Entry {
+    /// The number of a result posted.
+    Post(u64),
+    /// A row entered.
+    Row,
+    /// A message taken.
+    Take(OnLink),
+    /// A task claimed.
+    Claim,
+    /// A message sent.
+    Sent(OnLink),
+}
+
+/// The first word of such a line.
+#[derive(Clone, Copy)]
+enum Word {
+    Post,
+    Row,
+    Take,
+    Claim,
+    Sent,
 }
 
 /// Reads one of these lines, without its line feed.
-fn read_item(graph: &Graph, line: &[u8], hints: &mut Hints) -> Result<bool, Memory>
+pub(crate) fn read_entry(graph: &Graph, line: &[u8]) -> Option<Entry>
     requires lawful { IsLawful graph.now }
-    requires room { hints.old.claims + 1 < 2 ^ 64 }
-    ensures item { IfOk result (λ given. (item : Item) → IsTellableItem graph.now item → line.now ++ 10 ∷ [] ≡ item_line graph.now item → (given ≡ true) × (tally hints.new ≡ with_item (tally hints.old) item)) }
-    ensures claims { hints.new.claims ≤ hints.old.claims + 1 }
+    ensures { (item : Item) → IsTellableItem graph.now item → line.now ++ 10 ∷ [] ≡ item_line graph.now item → result ≡ Some (entry_of item) }
 {
     let (word, fields) = cut(line, b',');
-    match word {
-        b"post" => match number(fields) {
-            Some(number) => hints.posts.push(number)?,
-            None => return Ok(false),
-        },
-        b"row" => {}
-        b"take" => match read_taken(graph, fields) {
-            Some(taken) => hints.taken.push(taken)?,
-            None => return Ok(false),
-        },
-        b"claim" => hints.claims += 1,
-        b"sent" => match read_sent(graph, fields) {
-            Some(sent) => hints.sent.push(sent)?,
-            None => return Ok(false),
-        },
-        _ => return Ok(false),
+    match word_of(word)? {
+        Word::Post => Some(Entry::Post(number(fields)?)),
+        Word::Row => Some(Entry::Row),
+        Word::Take => Some(Entry::Take(read_taken(graph, fields)?)),
+        Word::Claim => Some(Entry::Claim),
+        Word::Sent => Some(Entry::Sent(read_sent(graph, fields)?)),
     }
-    Ok(true)
+}
+
+/// The word with this spelling, if there is one.
+fn word_of(text: &[u8]) -> Option<Word>
+    ensures { result ≡ word_is text.now }
+{
+    if text == b"post".as_slice() {
+        Some(Word::Post)
+    } else if text == b"row".as_slice() {
+        Some(Word::Row)
+    } else if text == b"take".as_slice() {
+        Some(Word::Take)
+    } else if text == b"claim".as_slice() {
+        Some(Word::Claim)
+    } else if text == b"sent".as_slice() {
+        Some(Word::Sent)
+    } else {
+        None
+    }
 }
 
 /// Reads a message taken, from the receiver's name on.
