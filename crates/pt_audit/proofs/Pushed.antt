@@ -21,7 +21,6 @@ use Rattle.pt_hints.specs.Hints.{AreHints, IsTellable}
 use Rattle.pt_hints.specs.Lines.{Block}
 use Rattle.pt_hints.specs.declared.hints.Hints.{Hints}
 use Rattle.pt_retell.specs.Following.{CanFollow}
-use Rattle.pt_retell.specs.Hinted.{AreHints as Hinted}
 use Rattle.pt_retell.specs.Lasts.{AreLast, KeepOthers}
 use Rattle.pt_retell.specs.Retold.{IsOnly, at_last}
 use Rattle.pt_audit.specs.Told.{AreLawful, AreTold, ToldTurn, turns_of}
@@ -33,13 +32,6 @@ use Rattle.pt_audit.proofs.JoinedTurns.{joined_more, with_turns_push}
 use Rattle.pt_audit.proofs.Making.{Step, made_more, step_of}
 use Rattle.pt_audit.proofs.Next.{IsEntered, may_follow, others_are, x as next}
 use Rattle.pt_audit.proofs.ToldTurns.{each_last, each_push, order_push, told_push, turns_here, turns_there}
-
--- hints of a turn, as the crate that makes turns has them
-pub hinted : (p : ℕ) (turn : Turn) (hints : Hints) → AreHints p turn hints → Hinted p turn hints
-hinted p turn hints h = record { platform = h.platform; first = h.first; last = h.last; count = h.count; posts = h.posts; taken = h.taken; claims = h.claims; sent = h.sent }
-
-pub hints_of : (p : ℕ) (turn : Turn) (hints : Hints) → Hinted p turn hints → AreHints p turn hints
-hints_of p turn hints h = record { platform = h.platform; first = h.first; last = h.last; count = h.count; posts = h.posts; taken = h.taken; claims = h.claims; sent = h.sent }
 
 order_platform : (turns : List Turn) (order : Order) → (with_turns turns order).platform ≡ order.platform
 order_platform [] order = refl
@@ -75,7 +67,7 @@ module _ (plan : Parts) (rows : ℕ → List Row) (blocks : List Block) (order e
   t = record { platform = p; turn = turn }
 
   their_hints : AreHints p turn hints
-  their_hints = subst (λ n. AreHints n turn hints) number_is (hints_of old.number turn hints told.made.told)
+  their_hints = subst (λ n. AreHints n turn hints) number_is told.made.told
 
   is_tellable : IsTellable plan.graph p turn
   is_tellable = tellable p turn their_hints
@@ -116,7 +108,7 @@ module _ (plan : Parts) (rows : ℕ → List Row) (blocks : List Block) (order e
       let theirs : AreHints u.platform u.turn hints = back u.platform u.turn (next plan rows blocks order last platforms r b others ends are lawful).tellable (next plan rows blocks order last platforms r b others ends are lawful).text in
       let here : p ≡ u.platform = sym named ∙ theirs.platform in
       let can : CanFollow old u.turn = may_follow plan rows blocks order last platforms r b others ends are lawful old (subst (λ n. slice_get platforms n ≡ Some old) here at) in
-      let made = only u.turn can.late can.new (hinted old.number u.turn hints (subst (λ n. AreHints n u.turn hints) (sym here ∙ sym number_is) theirs)) can.is in
+      let made = only u.turn can.late can.new (subst (λ n. AreHints n u.turn hints) (sym here ∙ sym number_is) theirs) can.is in
       let same : u.turn ≡ turn = same_turn u.platform p u.turn turn hints old.turns new.turns theirs their_hints made.0 told.made.kept in
       let is : u ≡ t = λ i. record { platform = (sym here) i; turn = same i } in
       others_are plan rows blocks order last platforms r b others ends are lawful ∙ ap (λ (z : ToldTurn). r.told ++ z ∷ []) is

@@ -2,6 +2,7 @@
 use Rattle.std.proofs.Common.{◌≡◌, ◌≢◌, ℕ, ◌≤◌, ◌<◌, ◌⊎◌, Bool, true, false, List, [], ◌∷◌, ◌++◌, Option, Some, None, refl, sym, ap, subst, ◌∙◌, length, slice_get}
 use Rattle.std.proofs.lemmas.Bool.{false≢true}
 use Rattle.pt_tags.specs.declared.message.Message.{Message}
+use Rattle.pt_types.specs.declared.graph.Graph.{Graph}
 use Rattle.pt_types.specs.declared.rows.Row.{Row}
 use Rattle.pt_semantics.specs.Platform.{State}
 use Rattle.pt_semantics.specs.Turn.{Turn}
@@ -20,10 +21,10 @@ use Rattle.pt_audit.proofs.JoinedTurns.{MayJoin}
 use Rattle.pt_audit.proofs.Next.{after, is_refused, joins, may_follow, x as next}
 
 -- what is read of a text that is a turn's
-abbrev pub ReadsBack : Parts → List ℕ → Bool → Hints → Type 0
-ReadsBack plan text given hints = (p : ℕ) (t : Turn) → IsTellable plan.graph p t → text ≡ turn_lines plan.graph p t → (given ≡ true) × AreHints p t hints
+abbrev pub ReadsBack : Graph → List ℕ → Bool → Hints → Type 0
+ReadsBack g text given hints = (p : ℕ) (t : Turn) → IsTellable g p t → text ≡ turn_lines g p t → (given ≡ true) × AreHints p t hints
 
-module _ (plan : Parts) (rows : ℕ → List Row) (blocks : List Block) (order : Order) (last : List (Option Message)) (platforms : List PlatformView) (r : HaveReplayed plan rows blocks order last platforms) (b : Block) (given : Bool) (hints : Hints) (back : ReadsBack plan b.text given hints) where
+module _ (plan : Parts) (rows : ℕ → List Row) (blocks : List Block) (order : Order) (last : List (Option Message)) (platforms : List PlatformView) (r : HaveReplayed plan rows blocks order last platforms) (b : Block) (given : Bool) (hints : Hints) (back : ReadsBack plan.graph b.text given hints) where
   -- the text is of no turn's form
   pub unread : given ≡ false → Tells plan.graph (level_of plan.ranks) rows (blocks ++ b ∷ []) → ⊥
   unread e (others, ends, are, lawful) =

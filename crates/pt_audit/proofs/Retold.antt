@@ -1,6 +1,6 @@
 -- A turn made again from hints, and its text.
-use Rattle.std.proofs.Common.{◌≡◌, ◌<◌, ◌^◌, ℕ, Bool, true, false, List, [], ◌∷◌, ◌++◌, Some, refl, sym, ap, ap₂, subst, ◌∙◌, arith, length, slice_get}
-use Rattle.std.specs.Prelude.{◌-◌, ◌↔◌, option_map}
+use Rattle.std.proofs.Common.{◌≡◌, ◌<◌, ◌^◌, ℕ, Bool, true, false, List, [], ◌∷◌, ◌++◌, Option, Some, None, refl, sym, ap, ap₂, subst, ◌∙◌, arith, length, slice_get}
+use Rattle.std.specs.Prelude.{◌-◌, ◌↔◌, if◌then◌else◌, option_map}
 use Rattle.std.proofs.lemmas.Bool.{false≢true}
 use Rattle.pt_types.specs.declared.graph.Graph.{Graph}
 use Rattle.pt_types.specs.Lookups.{platform_name}
@@ -13,9 +13,10 @@ use Rattle.pt_hints.specs.Hints.{AreHints}
 use Rattle.pt_hints.specs.declared.hints.Hints.{Hints}
 use Rattle.pt_retell.specs.Following.{CanFollow}
 use Rattle.pt_retell.specs.Retold.{HasRetold, IsOnly, at_last}
+use Rattle.pt_audit.specs.Replaying.{quiet_count}
 use Rattle.pt_audit.specs.Retelling.{HasTold, NoneTold}
 use Rattle.pt_audit.proofs.Members.{last_member}
-use Rattle.pt_audit.proofs.Pushed.{hinted, hints_of, same_turn}
+use Rattle.pt_audit.proofs.Pushed.{same_turn}
 
 module _ (old new : PlatformView) (hints : Hints) (block : List ℕ) (g : Graph) (turns : List Turn) (made : HasRetold hints old new) (only : IsOnly hints old new) (named : hints.platform ≡ old.number) (g_is : g ≡ old.plan.graph) (turns_are : turns ≡ new.turns) where
   are_kept : turns ≡ kept_with old.turns (at_last made.turn)
@@ -27,7 +28,11 @@ module _ (old new : PlatformView) (hints : Hints) (block : List ℕ) (g : Graph)
 
   -- whichever turn may follow with these hints is the one that was made
   same_made : (turn : Turn) → AreHints old.number turn hints → CanFollow old turn → turn ≡ made.turn
-  same_made turn h can = same_turn old.number old.number turn made.turn hints old.turns new.turns h (hints_of old.number made.turn hints made.told) (only turn can.late can.new (hinted old.number turn hints h) can.is).0 made.kept
+  same_made turn h can = same_turn old.number old.number turn made.turn hints old.turns new.turns h made.told (only turn can.late can.new h can.is).0 made.kept
+
+  -- the count that was read of the last recorded turn
+  pub quiet_here : (o : Option ℕ) → ((turn : Turn) → slice_get turns (length turns - 1) ≡ Some turn → o ≡ quiet_count (record turn { count = hints.count })) → o ≡ quiet_count made.turn
+  quiet_here o counts = counts (at_last made.turn) recorded ∙ ap (λ n. if is_quiet made.turn then Some n else None) made.told.count
 
   module _ (quiet : Bool) (reads_quiet : option_map is_quiet (slice_get turns (length turns - 1)) ≡ Some quiet) where
     quiet_is : is_quiet made.turn ≡ quiet
@@ -57,10 +62,10 @@ module _ (old new : PlatformView) (hints : Hints) (block : List ℕ) (g : Graph)
       }
         where
           theirs : AreHints old.number made.turn hints
-          theirs = hints_of old.number made.turn hints made.told
+          theirs = made.told
 
       pub untold_here : same ≡ false → NoneTold block hints old
       untold_here e turn h text can =
           let is : turn ≡ made.turn = same_made turn h can in
-          let theirs : AreHints old.number made.turn hints = hints_of old.number made.turn hints made.told in
+          let theirs : AreHints old.number made.turn hints = made.told in
           false≢true (sym e ∙ (compares (at_last made.turn) recorded).1 (text ∙ ap (turn_lines old.plan.graph old.number) is ∙ sym (text_by made.turn theirs)))

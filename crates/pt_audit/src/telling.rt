@@ -16,6 +16,7 @@ use std::alloc::AllocError;
 
 /// Whether the hints are of a platform of the graph, with messages on its links alone.
 pub(crate) fn are_tellable(graph: &Graph, hints: &Hints) -> bool
+    ensures platform { result ≡ true → hints.now.platform < length graph.now.platforms }
     ensures yes { result ≡ true → (p : ℕ) (turn : Turn) → AreHints p turn hints.now → IsTellable graph.now p turn }
     ensures no { result ≡ false → (p : ℕ) (turn : Turn) → AreHints p turn hints.now → IsTellable graph.now p turn → ⊥ }
 {

@@ -23,3 +23,8 @@ returns-clause-yes c = λ e p turn h.
       taken = subst (Each (IsTellableOn c.args.graph.now)) (c.as_slice-3.ensures.value ∙ h.taken) (c.are_on_links.ensures.0 c.if-not-are_on_links.false);
       sent = subst (Each (IsTellableOn c.args.graph.now)) (c.as_slice-4.ensures.value ∙ h.sent) (c.are_on_links-2.ensures.0 e);
     }
+
+pub returns-clause-platform : goal.returns-clause-platform
+returns-clause-platform c = λ e.
+    let platforms : length c.as_slice-2.result.now ≡ length c.args.graph.now.platforms = ap length c.as_slice-2.ensures in
+    omega (arith, platforms, c.if-hints-as_slice.false)
