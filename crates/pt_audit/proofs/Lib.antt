@@ -11,7 +11,10 @@ pub mod Retold
 pub mod Messages
 pub mod Judged
 pub mod Loop
+pub mod Start
+pub mod Ended
 pub mod OneVerdict
 pub mod Texts
 pub mod ByPlatform
 pub mod Lawful
+pub mod FineLogs

@@ -12,8 +12,25 @@ use pt_turn::Platform;
 use pt_types::Graph;
 use std::alloc::Global;
 
+/// The verdict if the replay stopped at this line, or else on the platforms, which have made all turns of the log.
+pub(crate) fn verdict_after(
+    alloc: Global,
+    graph: &Graph,
+    platforms: &[Platform],
+    stop: Option<u32>,
+) -> Result<Verdict, Memory>
+    requires lawful { IsLawful graph.now }
+    requires all { length platforms.now ≡ length graph.now.platforms }
+    ensures { IfOk result (λ verdict. MatchOption stop (IsJudged graph.now platforms.now verdict) (λ line. verdict ≡ Verdict.Turn line)) }
+{
+    match stop {
+        Some(line) => Ok(Verdict::Turn { line }),
+        None => verdict_of(alloc, graph, platforms),
+    }
+}
+
 /// The verdict on platforms that have made all turns of a log.
-pub(crate) fn verdict_of(
+fn verdict_of(
     alloc: Global,
     graph: &Graph,
     platforms: &[Platform],

@@ -8,7 +8,7 @@ ghost use Rattle.pt_audit.specs.Verdicts.{IsVerdictOn};
 ghost use Rattle.pt_audit.specs.declared.verdict.Verdict.TheVariants.{Fine};
 
 use crate::blocks::replay_blocks;
-use crate::finishing::verdict_of;
+use crate::finishing::verdict_after;
 use crate::order::Order;
 use crate::turn::Tools;
 use crate::verdict::Verdict;
@@ -56,10 +56,7 @@ pub(crate) fn replay_log(
         blocks,
         log,
     )?;
-    let verdict = match stop {
-        Some(line) => Verdict::Turn { line },
-        None => verdict_of(alloc, plan.graph(), platforms.as_slice())?,
-    };
+    let verdict = verdict_after(alloc, plan.graph(), platforms.as_slice(), stop)?;
     Ok(Ended { verdict, platforms })
 }
 
