@@ -1,16 +1,10 @@
 -- Theorems about logs.
 use Rattle.std.specs.Prelude.{◌≡◌, ℕ, List}
 use Rattle.pt_types.specs.declared.rows.Row.{Row}
-use Rattle.pt_semantics.specs.Rows.{FitRows}
 use Rattle.pt_offsets.specs.Plans.{IsAdmitted, Parts}
 use Rattle.pt_audit.specs.LawfulLogs.{IsLawfulLog}
 use Rattle.pt_audit.specs.Verdicts.{IsHead, IsVerdict}
-use Rattle.pt_audit.specs.declared.verdict.Verdict.{Verdict}
 use Rattle.pt_audit.specs.declared.verdict.Verdict.TheVariants.{Fine}
-
--- no file has two verdicts
-abbrev pub VerdictsAreOne : Type 0
-VerdictsAreOne = (plan : Parts) (rows : ℕ → List Row) (bytes : List ℕ) (v w : Verdict) → IsAdmitted plan → FitRows plan.graph rows → IsVerdict plan rows bytes v → IsVerdict plan rows bytes w → v ≡ w
 
 -- a lawful log is fine, and its head is the tables
 abbrev pub LawfulLogsAreFine : Type 0

@@ -30,11 +30,7 @@ pub(crate) fn verdict_after(
 }
 
 /// The verdict on platforms that have made all turns of a log.
-fn verdict_of(
-    alloc: Global,
-    graph: &Graph,
-    platforms: &[Platform],
-) -> Result<Verdict, Memory>
+fn verdict_of(alloc: Global, graph: &Graph, platforms: &[Platform]) -> Result<Verdict, Memory>
     requires lawful { IsLawful graph.now }
     requires all { length platforms.now ≡ length graph.now.platforms }
     ensures { IfOk result (IsJudged graph.now platforms.now) }

@@ -1,11 +1,6 @@
 //! Theorems about logs.
 
-ghost use Rattle.pt_audit.specs.Theorems.{FineLogsAreLawful, LawfulLogsAreFine, VerdictsAreOne};
-
-/// No file has two verdicts.
-pub fn verdicts_are_one()
-    ensures { VerdictsAreOne }
-{}
+ghost use Rattle.pt_audit.specs.Theorems.{FineLogsAreLawful, LawfulLogsAreFine};
 
 /// A lawful log is fine, and its head is the tables.
 pub fn lawful_logs_are_fine()

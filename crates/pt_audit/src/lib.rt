@@ -19,6 +19,6 @@ mod telling;
 mod turn;
 mod verdict;
 
-pub use laws::{fine_logs_are_lawful, lawful_logs_are_fine, verdicts_are_one};
+pub use laws::{fine_logs_are_lawful, lawful_logs_are_fine};
 pub use replayed::{Replayed, replay};
 pub use verdict::Verdict;

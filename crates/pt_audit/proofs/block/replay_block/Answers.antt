@@ -83,9 +83,9 @@ returns-clause-told g c = λ rows before line h e.
     let told : HasTold c.args.block.now c.read_hints.new.hints (get_or c.args.platforms.now c.read_hints.new.hints.platform c.index-platforms-number.result) c.replay_turn.new.platform = c.in_ok-replay_turn.ensures.told yes in
     let only = c.in_ok-replay_turn.ensures.only yes in
     let quiet = quiet_here (get_or c.args.platforms.now c.read_hints.new.hints.platform c.index-platforms-number.result) c.replay_turn.new.platform c.read_hints.new.hints c.args.block.now c.graph-graph.result.now c.history.result.now.turns told.made only
-        (sym (h.all.numbers c.read_hints.new.hints.platform (get_or c.args.platforms.now c.read_hints.new.hints.platform c.index-platforms-number.result) at))
-        (c.graph-graph.ensures.value ∙ ap (λ (z : Parts). z.graph) (sym (h.all.plans c.read_hints.new.hints.platform (get_or c.args.platforms.now c.read_hints.new.hints.platform c.index-platforms-number.result) at)))
-        c.history.ensures.turns c.quiet_count.result c.quiet_count.ensures in
+    (sym (h.all.numbers c.read_hints.new.hints.platform (get_or c.args.platforms.now c.read_hints.new.hints.platform c.index-platforms-number.result) at))
+    (c.graph-graph.ensures.value ∙ ap (λ (z : Parts). z.graph) (sym (h.all.plans c.read_hints.new.hints.platform (get_or c.args.platforms.now c.read_hints.new.hints.platform c.index-platforms-number.result) at)))
+    c.history.ensures.turns c.quiet_count.result c.quiet_count.ensures in
     subst (λ (o : Order). HaveReplayed c.args.plan.now rows (before ++ (record { line = line; text = c.args.block.now }) ∷ []) o c.replay_turn.new.last (set c.args.platforms.now c.read_hints.new.hints.platform c.replay_turn.new.platform)) (sym c.with_turn.ensures)
     (pushed c.args.plan.now rows before c.args.order.now c.in-Some.entered c.args.last.now c.replay_turn.new.last c.args.platforms.now h (record { line = line; text = c.args.block.now }) c.read_hints.new.hints.platform (get_or c.args.platforms.now c.read_hints.new.hints.platform c.index-platforms-number.result) c.replay_turn.new.platform c.read_hints.new.hints c.quiet_count.result at refl
     (is_entered h.told c.args.order.now h.up_to h.two c.read_hints.new.hints.platform c.in-Some.entered (sym c.entered.ensures ∙ c.in-Some.is))

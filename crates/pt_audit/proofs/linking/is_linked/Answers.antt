@@ -36,16 +36,15 @@ returns c =
     let from_lt : c.platform_of-from.result < length c.args.platforms.now = omega (arith, from_home, c.platform_of-from.ensures, c.requires.all) in
     let to_lt : c.platform_of-to.result < length c.args.platforms.now = omega (arith, to_home, c.platform_of-to.ensures, c.requires.all) in
     let from : histories_of c.args.platforms.now (platform_of c.args.graph.now c.args.link.now.from) ≡ c.index-platforms-from.result.turns =
-        ap (histories_of c.args.platforms.now) (sym c.platform_of-from.ensures) ∙ history c.args.platforms.now c.platform_of-from.result c.index-platforms-from.result from_lt c.index-platforms-from.is in
+    ap (histories_of c.args.platforms.now) (sym c.platform_of-from.ensures) ∙ history c.args.platforms.now c.platform_of-from.result c.index-platforms-from.result from_lt c.index-platforms-from.is in
     let to : histories_of c.args.platforms.now (platform_of c.args.graph.now c.args.link.now.to) ≡ c.index-platforms-to.result.turns =
-        ap (histories_of c.args.platforms.now) (sym c.platform_of-to.ensures) ∙ history c.args.platforms.now c.platform_of-to.result c.index-platforms-to.result to_lt c.index-platforms-to.is in
+    ap (histories_of c.args.platforms.now) (sym c.platform_of-to.ensures) ∙ history c.args.platforms.now c.platform_of-to.result c.index-platforms-to.result to_lt c.index-platforms-to.is in
     let sent : c.as_slice.result.now ≡ all_sent c.args.number (histories_of c.args.platforms.now (platform_of c.args.graph.now c.args.link.now.from)) =
-        c.as_slice.ensures.value ∙ c.in_ok-sent.ensures ∙ ap (all_sent c.args.number) (c.history.ensures.turns ∙ sym from) in
+    c.as_slice.ensures.value ∙ c.in_ok-sent.ensures ∙ ap (all_sent c.args.number) (c.history.ensures.turns ∙ sym from) in
     let taken : c.as_slice-2.result.now ≡ all_taken c.args.number (histories_of c.args.platforms.now (platform_of c.args.graph.now c.args.link.now.to)) =
-        c.as_slice-2.ensures.value ∙ c.in_ok-taken.ensures ∙ ap (all_taken c.args.number) (c.history-2.ensures.turns ∙ sym to) in
+    c.as_slice-2.ensures.value ∙ c.in_ok-taken.ensures ∙ ap (all_taken c.args.number) (c.history-2.ensures.turns ∙ sym to) in
     let decides = slice_eq-Decides (λ a b. search rules) c.as_slice.result.now c.as_slice-2.result.now c.eq.result c.eq.ensures in
-    let the_link : (l : Link) → slice_get c.args.graph.now.links c.args.number ≡ Some l → c.args.link.now ≡ l = λ l at. same_some c.args.link.now l (sym c.requires.link ∙ at) in
-    (
+    let the_link : (l : Link) → slice_get c.args.graph.now.links c.args.number ≡ Some l → c.args.link.now ≡ l = λ l at. same_some c.args.link.now l (sym c.requires.link ∙ at) in (
       λ e l at.
           let P : Link → Type 0 = λ z. all_sent c.args.number (histories_of c.args.platforms.now (platform_of c.args.graph.now z.from)) ≡ all_taken c.args.number (histories_of c.args.platforms.now (platform_of c.args.graph.now z.to)) in
           subst P (the_link l at) (sym sent ∙ decides.0 e ∙ taken),

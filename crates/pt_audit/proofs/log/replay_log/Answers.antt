@@ -11,7 +11,7 @@ use Rattle.pt_audit.specs.Finishing.{IsJudged}
 use Rattle.pt_audit.specs.Replaying.{HaveReplayed, fresh_order}
 use Rattle.pt_audit.specs.declared.verdict.Verdict.{Verdict}
 use Rattle.pt_audit.specs.declared.verdict.Verdict.TheVariants.{Turn}
-use Rattle.pt_audit.proofs.Ended.{finished_is, verdict_is, written}
+use Rattle.pt_audit.proofs.Ended.{finished_is, verdict_is, verdict_one, written}
 use Rattle.pt_audit.proofs.Start.{starts}
 use Rattle.pt_audit.proofs.log.replay_log.Goals as goal
 
@@ -42,6 +42,13 @@ returns-clause-verdict g c = λ rows ready.
     let all : c.as_slice-3.result.now ≡ c.replay_blocks.new.platforms = c.as_slice-3.ensures.value ∙ written c.args.platforms.len c.replay_blocks.new.platforms c.args.platforms.items (omega (arith, c.replay_blocks.auto.platforms, c.as_mut_slice.ensures.len)) in
     let after = judged_by c.in_ok-stop.stop c.graph-2.result.now c.args.plan.now.graph c.as_slice-3.result.now c.replay_blocks.new.platforms c.in_ok-verdict.verdict c.graph-2.ensures.value all c.in_ok-verdict.ensures in
     verdict_is c.args.plan.now rows c.args.log c.replay_blocks.new.order c.replay_blocks.new.last c.replay_blocks.new.platforms c.in_ok-stop.stop c.in_ok-verdict.verdict c.graph.ensures.admitted stopped after
+
+pub returns-clause-one : goal.returns-clause-one
+returns-clause-one g c = λ rows ready.
+    let stopped = c.in_ok-stop.ensures rows (started c.args.plan.now rows c.args.platforms.items c.as_slice.result.now c.as_mut_slice.result.now c.in_ok-last.last.items c.as_mut_slice-2.result.now c.graph.result.now (length c.as_slice-2.result.now) ready c.have_not_moved.ensures.legal c.as_slice.ensures.value c.as_mut_slice.ensures.value c.as_mut_slice-2.ensures.value c.in_ok-last.ensures (ap length c.as_slice-2.ensures) c.graph.ensures.value) in
+    let all : c.as_slice-3.result.now ≡ c.replay_blocks.new.platforms = c.as_slice-3.ensures.value ∙ written c.args.platforms.len c.replay_blocks.new.platforms c.args.platforms.items (omega (arith, c.replay_blocks.auto.platforms, c.as_mut_slice.ensures.len)) in
+    let after = judged_by c.in_ok-stop.stop c.graph-2.result.now c.args.plan.now.graph c.as_slice-3.result.now c.replay_blocks.new.platforms c.in_ok-verdict.verdict c.graph-2.ensures.value all c.in_ok-verdict.ensures in
+    verdict_one c.args.plan.now rows c.args.log c.replay_blocks.new.order c.replay_blocks.new.last c.replay_blocks.new.platforms c.in_ok-stop.stop c.in_ok-verdict.verdict c.graph.ensures.admitted stopped after
 
 pub returns-clause-fine : goal.returns-clause-fine
 returns-clause-fine g c = λ rows ready e.

@@ -5,7 +5,6 @@ use Rattle.pt_semantics.specs.Lists.{Each}
 use Rattle.pt_hints.specs.Hints.{IsTellableOn}
 use Rattle.pt_audit.proofs.telling.are_tellable.Goals as goal
 
-
 each_mapped : (ds : List Done) → Each (λ (n : ℕ). n < 2 ^ 64) (map (λ (done : Done). done.task.number) ds) → Each (λ (done : Done). done.task.number < 2 ^ 64) ds
 each_mapped [] h = tt
 each_mapped (d ∷ ds) h = (h.0, each_mapped ds h.1)
