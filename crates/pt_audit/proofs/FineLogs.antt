@@ -5,7 +5,6 @@ use Rattle.std.proofs.lemmas.List.Elements.{filter_map-append}
 use Rattle.std.specs.Prelude.{◌==◌}
 use Rattle.std.specs.List.{cons_option}
 use Rattle.pt_types.specs.declared.graph.Graph.{Graph}
-use Rattle.pt_types.specs.declared.graph.Link.{Link}
 use Rattle.pt_types.specs.declared.rows.Row.{Row}
 use Rattle.pt_types.specs.Lookups.{platform_of}
 use Rattle.pt_types.specs.Ports.{when}
@@ -17,7 +16,7 @@ use Rattle.pt_semantics.specs.Turn.{Turn}
 use Rattle.pt_semantics.proofs.Lookups.{Each-append}
 use Rattle.pt_causality.specs.Ranked.{level_of}
 use Rattle.pt_offsets.specs.Plans.{IsAdmitted, Parts}
-use Rattle.pt_tables.specs.Log.{lines_from, log_text}
+use Rattle.pt_tables.specs.Log.{lines_from}
 use Rattle.pt_hints.specs.Hints.{IsTellable}
 use Rattle.pt_hints.specs.Lines.{Block, at_log, blocks_from, lines_of}
 use Rattle.pt_hints.proofs.Cut.{log_blocks, log_cut, text_of}

@@ -1,16 +1,14 @@
 -- The verdict on a log that was replayed to its end.
-use Rattle.std.proofs.Common.{◌≡◌, ℕ, zero, suc, ◌<◌, List, [], ◌∷◌, ◌++◌, Option, Some, None, refl, sym, ap, subst, ◌∙◌, arith, length, slice_get}
+use Rattle.std.proofs.Common.{◌≡◌, ℕ, zero, suc, ◌<◌, List, [], ◌∷◌, Option, Some, refl, sym, ap, subst, ◌∙◌, arith, length, slice_get}
 use Rattle.std.specs.Prelude.{option_map, unwrap_or}
 use Rattle.std.proofs.lemmas.Option.{slice_get_within}
 use Rattle.pt_tags.specs.declared.message.Message.{Message}
-use Rattle.pt_types.specs.declared.graph.Link.{Link}
 use Rattle.pt_types.specs.declared.rows.Row.{Row}
 use Rattle.pt_types.specs.Lookups.{platform_of}
 use Rattle.pt_semantics.specs.History.{IsLegal}
 use Rattle.pt_semantics.specs.Linked.{AreLinked, IsFinished, all_sent, all_taken}
 use Rattle.pt_semantics.specs.Platform.{State, opened}
 use Rattle.pt_semantics.specs.Rows.{FitRows}
-use Rattle.pt_semantics.specs.Turn.{Turn as Recorded}
 use Rattle.pt_semantics.proofs.LawfulEdges.{wired}
 use Rattle.pt_causality.specs.Ranked.{level_of}
 use Rattle.pt_offsets.specs.Plans.{IsAdmitted, Parts}
@@ -18,10 +16,10 @@ use Rattle.pt_turn.specs.All.{histories_of}
 use Rattle.pt_turn.specs.Platforms.{PlatformView, state_at}
 use Rattle.pt_confluence.specs.Gathered.{HaveFinished}
 use Rattle.pt_hints.specs.Lines.{Block}
-use Rattle.pt_audit.specs.Finishing.{AreAtEnd, IsAtEnd, IsFirstOpen, IsJudged}
+use Rattle.pt_audit.specs.Finishing.{AreAtEnd, IsAtEnd, IsJudged}
 use Rattle.pt_audit.specs.Replaying.{HasMade, HaveReplayed}
-use Rattle.pt_audit.specs.Told.{AreLawful, Tells, ToldTurn, turns_of}
-use Rattle.pt_audit.specs.Verdicts.{AreFinished, IsFirstUnlinked, IsLinked, IsVerdictOn, TellsAll}
+use Rattle.pt_audit.specs.Told.{AreLawful, Tells, turns_of}
+use Rattle.pt_audit.specs.Verdicts.{AreFinished, IsLinked, IsVerdictOn}
 use Rattle.pt_audit.specs.declared.order.Order.{Order}
 use Rattle.pt_audit.specs.declared.verdict.Verdict.{Verdict}
 use Rattle.pt_audit.specs.declared.verdict.Verdict.TheVariants.{TooLong, NoLog, Turn, Unfinished, Unlinked, Table, Fine}

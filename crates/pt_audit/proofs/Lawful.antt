@@ -1,9 +1,8 @@
 -- A fine log whose head is the tables is lawful.
-use Rattle.std.proofs.Common.{◌≡◌, ◌≢◌, ℕ, zero, suc, ◌+◌, ◌≤◌, ◌<◌, ◌⊎◌, Bool, List, [], ◌∷◌, ◌++◌, Option, Some, refl, sym, ap, ap₂, subst, ◌∙◌, ⊎_elim, append_assoc, arith, length}
+use Rattle.std.proofs.Common.{◌≡◌, ◌≢◌, ℕ, ◌+◌, ◌≤◌, ◌<◌, Bool, List, [], ◌∷◌, ◌++◌, Some, refl, sym, ap, ap₂, subst, ◌∙◌, ⊎_elim, append_assoc, arith, length}
 use Rattle.std.specs.Prelude.{flat_map}
 use Rattle.std.specs.List.{cons_option}
 use Rattle.pt_types.specs.declared.graph.Graph.{Graph}
-use Rattle.pt_types.specs.declared.graph.Link.{Link}
 use Rattle.pt_types.specs.declared.rows.Row.{Row}
 use Rattle.pt_types.specs.Lookups.{platform_of}
 use Rattle.pt_types.specs.Ports.{when}
@@ -17,9 +16,9 @@ use Rattle.pt_semantics.proofs.Lookups.{same_some}
 use Rattle.pt_laws.proofs.Onward.{cases_same}
 use Rattle.pt_causality.specs.Ranked.{level_of}
 use Rattle.pt_offsets.specs.Plans.{IsAdmitted, Parts}
-use Rattle.pt_tables.specs.Log.{lines_from, log_head, log_text, turn_lines}
+use Rattle.pt_tables.specs.Log.{lines_from, log_head, log_text}
 use Rattle.pt_hints.specs.Hints.{IsTellable}
-use Rattle.pt_hints.specs.Lines.{Block, at_log, blocks_from, lines_of}
+use Rattle.pt_hints.specs.Lines.{Block, blocks_from, lines_of}
 use Rattle.pt_audit.specs.LawfulLogs.{IsLawfulLog, history_in}
 use Rattle.pt_audit.specs.Theorems.{FineLogsAreLawful}
 use Rattle.pt_audit.specs.Told.{AreTold, ToldTurn, turns_of}

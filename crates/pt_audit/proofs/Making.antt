@@ -1,5 +1,5 @@
 -- A platform after one more told turn.
-use Rattle.std.proofs.Common.{◌≡◌, ℕ, Bool, true, false, List, [], ◌∷◌, ◌++◌, Option, Some, None, refl, sym, ap, subst, ◌∙◌, append-nil, append_assoc}
+use Rattle.std.proofs.Common.{◌≡◌, ℕ, Bool, false, List, [], ◌∷◌, ◌++◌, Option, Some, None, refl, sym, ap, subst, ◌∙◌, append-nil, append_assoc}
 use Rattle.std.specs.Prelude.{flat_map}
 use Rattle.std.proofs.lemmas.Grind.{flat_map-append}
 use Rattle.pt_tags.specs.declared.message.Message.{Message}
@@ -19,13 +19,11 @@ use Rattle.pt_turn.specs.Platforms.{PlatformView, level_at, messages_of, state_a
 use Rattle.pt_turn.specs.Running.{GoesOn}
 use Rattle.pt_turn.specs.Turned.{Ends, is_late}
 use Rattle.pt_turn.specs.declared.fault.TurnFault.{TurnFault}
-use Rattle.pt_turn.specs.declared.fault.TurnFault.TheVariants.{Late, Long}
 use Rattle.pt_turn.proofs.Coming.{on_append}
 use Rattle.pt_turn.proofs.Turns.{goes_on_push, legal_push, messages_more}
 use Rattle.pt_hints.specs.declared.hints.Hints.{Hints}
 use Rattle.pt_retell.specs.Retold.{HasRetold, at_last}
 use Rattle.pt_audit.specs.Replaying.{HasMade}
-use Rattle.pt_audit.proofs.JoinedTurns.{MayJoin, joined_more}
 use Rattle.pt_audit.proofs.OneState.{turn_same, turn_state}
 use Rattle.pt_audit.proofs.ToldTurns.{each_push}
 

@@ -1,5 +1,5 @@
 -- A turn leads from a state to one state, and so do the turns of a history.
-use Rattle.std.proofs.Common.{◌≡◌, ℕ, ◌+◌, Bool, true, List, [], ◌∷◌, ◌++◌, length, arith, refl, sym, ap, ap₂, subst, ◌∙◌, length-append}
+use Rattle.std.proofs.Common.{◌≡◌, ℕ, ◌+◌, Bool, List, [], ◌∷◌, ◌++◌, length, arith, refl, sym, ap, subst, ◌∙◌, length-append}
 use Rattle.std.proofs.lemmas.List.{append_cancel_left}
 use Rattle.pt_tags.specs.declared.message.Message.{Message}
 use Rattle.pt_types.specs.declared.graph.Graph.{Graph}
@@ -7,7 +7,6 @@ use Rattle.pt_types.specs.declared.firing.Task.{Task}
 use Rattle.pt_types.specs.declared.firing.OnLink.{OnLink}
 use Rattle.pt_semantics.specs.Units.{unit_of}
 use Rattle.pt_semantics.specs.Platform.{State, raised}
-use Rattle.pt_semantics.specs.Posting.{Posts}
 use Rattle.pt_semantics.specs.Entering.{after_rows}
 use Rattle.pt_semantics.specs.Taking.{Takes}
 use Rattle.pt_semantics.specs.Claiming.{Claims, after_claim}

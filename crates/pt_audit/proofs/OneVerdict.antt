@@ -1,15 +1,13 @@
 -- A log has one verdict, if its blocks are told in one way.
-use Rattle.std.proofs.Common.{◌≡◌, ◌≢◌, ℕ, ◌≤◌, ◌<◌, ◌⊎◌, List, [], ◌∷◌, ◌++◌, refl, sym, ap, ap₂, subst, ◌∙◌, inl, inr, ⊎_elim, append_assoc, arith, length, Some, slice_get}
+use Rattle.std.proofs.Common.{◌≡◌, ℕ, ◌≤◌, ◌<◌, ◌⊎◌, List, [], ◌∷◌, ◌++◌, refl, sym, ap, ap₂, subst, ◌∙◌, inl, inr, ⊎_elim, append_assoc, arith, length}
 use Rattle.std.proofs.lemmas.Bool.{cases_lt}
 use Rattle.pt_types.specs.declared.graph.Graph.{Graph}
-use Rattle.pt_types.specs.declared.graph.Link.{Link}
 use Rattle.pt_types.specs.declared.rows.Row.{Row}
 use Rattle.pt_types.specs.Lookups.{platform_of}
 use Rattle.pt_semantics.specs.History.{Legal}
 use Rattle.pt_semantics.specs.Linked.{AreLinked, IsFinished}
 use Rattle.pt_semantics.specs.Platform.{State, opened}
 use Rattle.pt_semantics.specs.Turn.{Turn as Recorded}
-use Rattle.pt_laws.proofs.Onward.{cases_same}
 use Rattle.pt_causality.specs.Ranked.{level_of}
 use Rattle.pt_offsets.specs.Plans.{Parts}
 use Rattle.pt_hints.specs.Lines.{Block}
@@ -18,7 +16,7 @@ use Rattle.pt_audit.specs.Verdicts.{AreFinished, IsFirstUnfinished, IsFirstUnlin
 use Rattle.pt_audit.specs.declared.verdict.Verdict.{Verdict}
 use Rattle.pt_audit.specs.declared.verdict.Verdict.TheVariants.{TooLong, NoLog, Turn, Unfinished, Unlinked, Table, Fine}
 use Rattle.pt_audit.proofs.OneState.{legal_state}
-use Rattle.pt_audit.proofs.ToldTurns.{LastTold, before_ends, lawful_before, told_last}
+use Rattle.pt_audit.proofs.ToldTurns.{before_ends, lawful_before, told_last}
 
 -- Blocks that tell turns, without the last ones.
 

@@ -1,17 +1,13 @@
 -- A log replayed one block further.
-use Rattle.std.proofs.Common.{◌≡◌, ◌≢◌, ℕ, ◌≤◌, ◌<◌, ◌⊎◌, Bool, true, List, [], ◌∷◌, ◌++◌, Option, Some, None, refl, sym, ap, subst, ◌∙◌, inl, inr, ⊎_elim, arith, length, set, slice_get}
+use Rattle.std.proofs.Common.{◌≡◌, ◌≢◌, ℕ, ◌≤◌, true, List, [], ◌∷◌, ◌++◌, Option, Some, refl, sym, ap, subst, ◌∙◌, ⊎_elim, arith, set, slice_get}
 use Rattle.std.proofs.lemmas.List.{append_cancel_left, length-set}
 use Rattle.pt_tags.specs.declared.message.Message.{Message}
-use Rattle.pt_types.specs.declared.graph.Graph.{Graph}
-use Rattle.pt_types.specs.declared.graph.Link.{Link}
 use Rattle.pt_types.specs.declared.rows.Row.{Row}
-use Rattle.pt_types.specs.Lookups.{platform_of}
 use Rattle.pt_semantics.specs.Kept.{kept_with, settled}
 use Rattle.pt_semantics.specs.Lists.{Each}
 use Rattle.pt_semantics.specs.Platform.{State}
 use Rattle.pt_semantics.specs.Turn.{Turn}
 use Rattle.pt_semantics.proofs.Lookups.{Each-from, Each-in}
-use Rattle.pt_laws.proofs.Onward.{cases_same}
 use Rattle.pt_causality.specs.Ranked.{level_of}
 use Rattle.pt_offsets.specs.Plans.{Parts}
 use Rattle.pt_turn.specs.All.{AreAll}
@@ -29,7 +25,7 @@ use Rattle.pt_audit.specs.Retelling.{HasTold}
 use Rattle.pt_audit.specs.declared.order.Order.{Order}
 use Rattle.pt_audit.proofs.Changed.{set_cases}
 use Rattle.pt_audit.proofs.JoinedTurns.{joined_more, with_turns_push}
-use Rattle.pt_audit.proofs.Making.{Step, made_more, step_of}
+use Rattle.pt_audit.proofs.Making.{made_more, step_of}
 use Rattle.pt_audit.proofs.Next.{IsEntered, may_follow, others_are, x as next}
 use Rattle.pt_audit.proofs.ToldTurns.{each_last, each_push, order_push, told_push, turns_here, turns_there}
 

@@ -1,10 +1,9 @@
 -- Why no turn that may follow has the text of a block.
-use Rattle.std.proofs.Common.{◌≡◌, ◌≢◌, ℕ, ◌≤◌, ◌<◌, ◌⊎◌, Bool, true, false, List, [], ◌∷◌, ◌++◌, Option, Some, None, refl, sym, ap, subst, ◌∙◌, length, slice_get}
+use Rattle.std.proofs.Common.{◌≡◌, ℕ, Bool, true, false, List, [], ◌∷◌, ◌++◌, Option, Some, None, sym, subst, ◌∙◌, slice_get}
 use Rattle.std.proofs.lemmas.Bool.{false≢true}
 use Rattle.pt_tags.specs.declared.message.Message.{Message}
 use Rattle.pt_types.specs.declared.graph.Graph.{Graph}
 use Rattle.pt_types.specs.declared.rows.Row.{Row}
-use Rattle.pt_semantics.specs.Platform.{State}
 use Rattle.pt_semantics.specs.Turn.{Turn}
 use Rattle.pt_causality.specs.Ranked.{level_of}
 use Rattle.pt_offsets.specs.Plans.{Parts}
@@ -13,11 +12,10 @@ use Rattle.pt_tables.specs.Log.{turn_lines}
 use Rattle.pt_hints.specs.Hints.{AreHints, IsTellable}
 use Rattle.pt_hints.specs.Lines.{Block}
 use Rattle.pt_hints.specs.declared.hints.Hints.{Hints}
-use Rattle.pt_audit.specs.Told.{Tells, ToldTurn, turns_of}
-use Rattle.pt_audit.specs.Replaying.{HaveReplayed, entered, fresh_order, with_turns}
+use Rattle.pt_audit.specs.Told.{Tells}
+use Rattle.pt_audit.specs.Replaying.{HaveReplayed, entered}
 use Rattle.pt_audit.specs.Retelling.{NoneTold}
 use Rattle.pt_audit.specs.declared.order.Order.{Order}
-use Rattle.pt_audit.proofs.JoinedTurns.{MayJoin}
 use Rattle.pt_audit.proofs.Next.{after, is_refused, joins, may_follow, x as next}
 
 -- what is read of a text that is a turn's

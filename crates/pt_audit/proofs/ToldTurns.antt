@@ -1,8 +1,8 @@
 -- Told turns, one more at the end.
-use Rattle.std.proofs.Common.{◌≡◌, ◌≢◌, ℕ, ◌≤◌, ◌<◌, ◌⊎◌, Bool, true, false, List, [], ◌∷◌, ◌++◌, Option, Some, None, refl, sym, ap, subst, ◌∙◌, inl, inr, ⊎_elim, append-nil, arith, length}
-use Rattle.std.specs.Prelude.{◌==◌, if◌then◌else◌, filter_map}
+use Rattle.std.proofs.Common.{◌≡◌, ◌≢◌, ℕ, ◌≤◌, ◌<◌, Bool, true, false, List, [], ◌∷◌, ◌++◌, Some, refl, sym, ap, subst, ◌∙◌, ⊎_elim, append-nil, arith, length}
+use Rattle.std.specs.Prelude.{◌==◌, if◌then◌else◌}
 use Rattle.std.specs.List.{cons_option}
-use Rattle.std.proofs.lemmas.Bool.{eq-eqb, eqb-true, cases_Bool, false≢true}
+use Rattle.std.proofs.lemmas.Bool.{eq-eqb, eqb-true, cases_Bool}
 use Rattle.std.proofs.lemmas.List.Elements.{filter_map-append}
 use Rattle.pt_types.specs.declared.graph.Graph.{Graph}
 use Rattle.pt_types.specs.declared.rows.Row.{Row}
@@ -10,7 +10,6 @@ use Rattle.pt_types.specs.Ports.{when}
 use Rattle.pt_semantics.specs.History.{IsCounted, IsLegal}
 use Rattle.pt_semantics.specs.Lists.{Each}
 use Rattle.pt_semantics.specs.Platform.{State, opened}
-use Rattle.pt_semantics.specs.Turn.{Turn}
 use Rattle.pt_tables.specs.Log.{turn_lines}
 use Rattle.pt_hints.specs.Hints.{IsTellable}
 use Rattle.pt_hints.specs.Lines.{Block}

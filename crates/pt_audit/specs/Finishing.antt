@@ -6,7 +6,7 @@ use Rattle.pt_turn.specs.All.{histories_of}
 use Rattle.pt_turn.specs.Platforms.{PlatformView, state_at}
 use Rattle.pt_audit.specs.Verdicts.{IsFirstUnlinked}
 use Rattle.pt_audit.specs.declared.verdict.Verdict.{Verdict}
-use Rattle.pt_audit.specs.declared.verdict.Verdict.TheVariants.{TooLong, NoLog, Turn, Unfinished, Unlinked, Table, Fine}
+use Rattle.pt_audit.specs.declared.verdict.Verdict.TheVariants.{Unfinished, Unlinked, Fine}
 
 -- a platform is finished
 abbrev pub IsAtEnd : PlatformView → Type 0

@@ -1,5 +1,5 @@
 -- Theorems about logs.
-use Rattle.std.specs.Prelude.{◌≡◌, ℕ, List}
+use Rattle.std.specs.Prelude.{ℕ, List}
 use Rattle.pt_types.specs.declared.rows.Row.{Row}
 use Rattle.pt_offsets.specs.Plans.{IsAdmitted, Parts}
 use Rattle.pt_audit.specs.LawfulLogs.{IsLawfulLog}

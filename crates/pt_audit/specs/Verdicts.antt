@@ -15,7 +15,7 @@ use Rattle.pt_hints.specs.Places.{IsLogAt}
 use Rattle.pt_audit.specs.LawfulLogs.{most_bytes}
 use Rattle.pt_audit.specs.Told.{AreLawful, AreTold, Tells, ToldTurn, turns_of}
 use Rattle.pt_audit.specs.declared.verdict.Verdict.{Verdict}
-use Rattle.pt_audit.specs.declared.verdict.Verdict.TheVariants.{TooLong, NoLog, Turn, Unfinished, Unlinked, Table, Fine}
+use Rattle.pt_audit.specs.declared.verdict.Verdict.TheVariants.{TooLong, NoLog, Turn, Unfinished, Unlinked, Fine}
 
 -- a file that is not too long and has a line `log`: the lines before it, and the blocks of the lines after it
 pub record HasLog (bytes : List ℕ) (Fact : List Block → Type 0) : Type 0 where

@@ -1,4 +1,3 @@
-use Rattle.std.proofs.Common.{◌≡◌}
 use Rattle.pt_hints.specs.Lines.{Block}
 use Rattle.pt_audit.proofs.Loop.{further, stops}
 use Rattle.pt_audit.proofs.blocks.replay_blocks.Goals as goal

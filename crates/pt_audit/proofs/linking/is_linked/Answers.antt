@@ -2,16 +2,13 @@ use Rattle.std.proofs.Common.{rules, ◌≡◌, ◌<◌, ℕ, List, [], Option, 
 use Rattle.std.proofs.lemmas.Option.{slice_get-get_or}
 use Rattle.std.proofs.lemmas.Slice.Eq.{slice_eq-Decides}
 use Rattle.std.specs.Prelude.{option_map, unwrap_or}
-use Rattle.pt_tags.specs.declared.message.Message.{Message}
 use Rattle.pt_types.specs.declared.graph.Link.{Link}
 use Rattle.pt_types.specs.Lookups.{platform_of}
 use Rattle.pt_semantics.specs.Linked.{all_sent, all_taken}
-use Rattle.pt_semantics.specs.Turn.{Turn}
 use Rattle.pt_semantics.proofs.LawfulEdges.{wired}
 use Rattle.pt_semantics.proofs.Lookups.{same_some}
 use Rattle.pt_turn.specs.All.{histories_of}
 use Rattle.pt_turn.specs.Platforms.{PlatformView}
-use Rattle.pt_audit.specs.Verdicts.{IsLinked}
 use Rattle.pt_audit.proofs.linking.is_linked.Goals as goal
 
 -- the history of a platform by its number

@@ -1,6 +1,5 @@
 use Rattle.std.proofs.Common.{rules, ◌≡◌, ℕ, ◌+◌, List, ◌≤◌, length, sym, ap, subst, ◌∙◌, arith}
 use Rattle.std.specs.Arc.{arc_value}
-use Rattle.pt_types.specs.declared.rows.Row.{Row}
 use Rattle.pt_offsets.specs.Plans.{Parts}
 use Rattle.pt_sensors.specs.Listed.{rows_for}
 use Rattle.pt_sensors.specs.Places.{of_run}
@@ -10,7 +9,7 @@ use Rattle.pt_audit.specs.LawfulLogs.{most_bytes}
 use Rattle.pt_audit.specs.Verdicts.{IsVerdict, IsVerdictOn}
 use Rattle.pt_audit.specs.declared.verdict.Verdict.{Verdict}
 use Rattle.pt_audit.specs.declared.verdict.Verdict.TheVariants.{Fine}
-use Rattle.pt_audit.proofs.Ended.{no_log_only, one_on_file, rest_of, too_long_only, verdict_on_file}
+use Rattle.pt_audit.proofs.Ended.{one_on_file, rest_of, verdict_on_file}
 use Rattle.pt_audit.proofs.replayed.replay.Goals as goal
 
 pub returns-then-ne-clause-verdict : goal.returns-then-ne-clause-verdict

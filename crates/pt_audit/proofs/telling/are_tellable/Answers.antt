@@ -1,6 +1,5 @@
-use Rattle.std.proofs.Common.{◌≡◌, ◌<◌, ◌^◌, ℕ, List, [], ◌∷◌, ap, sym, subst, ◌∙◌, arith, length, map}
+use Rattle.std.proofs.Common.{◌≡◌, ◌<◌, ◌^◌, ℕ, List, [], ◌∷◌, ap, subst, ◌∙◌, arith, length, map}
 use Rattle.pt_types.specs.declared.firing.Done.{Done}
-use Rattle.pt_types.specs.declared.firing.OnLink.{OnLink}
 use Rattle.pt_semantics.specs.Lists.{Each}
 use Rattle.pt_hints.specs.Hints.{IsTellableOn}
 use Rattle.pt_audit.proofs.telling.are_tellable.Goals as goal

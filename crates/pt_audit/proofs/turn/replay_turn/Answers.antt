@@ -1,4 +1,4 @@
-use Rattle.std.proofs.Common.{◌≡◌, true, false, sym, ◌∙◌}
+use Rattle.std.proofs.Common.{◌≡◌, true, sym, ◌∙◌}
 use Rattle.std.proofs.lemmas.Bool.{false≢true}
 use Rattle.pt_retell.specs.Retold.{HasRetold, IsOnly}
 use Rattle.pt_audit.proofs.Retold.{told_here, uncounted, untold_here}
