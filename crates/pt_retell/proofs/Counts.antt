@@ -70,7 +70,7 @@ idle_for_good g level i s new turn late t timely none =
     at_least : (a b c d n : ℕ) → most_claims ≤ a → b ≡ a → c ≡ b → d ≡ n + c → most_claims ≤ d
     at_least a b c d n h e f k = omega (arith, h, e, f, k)
 
--- a turn that was made from hints, and a turn that they tell of
+-- a turn that was made from hints, and a turn that has these hints
 module _ (hints : Hints) (old mid : PlatformView) (claims : List Task) (dones : List Done) (tidy : IsTidy old.plan.graph (level_at old) old.number claims (state_at old)) (form : IsInForm old.reading hints)
     (are : AreOf claims hints.posts.items dones) (done : AreDone old.plan.graph dones) (made : IsTurned old mid hints.last (max 1 hints.claims) dones hints.taken.items)
     (turn : Turn) (told : AreHints old.number turn hints) (slow : Bool) (s : State) (is : IsTurn old.plan.graph (level_at old) old.number (state_at old) turn slow s) where
@@ -125,7 +125,7 @@ module _ (hints : Hints) (old mid : PlatformView) (claims : List Task) (dones : 
     claimed = same_count ∙ sym told.claims;
   }
 
-  -- and what was sent after the told turn can be sent
+  -- and what was sent after that turn can be sent
   pub sends_hold : CanSend mid.outbox hints.sent.items
   sends_hold =
       let same_done : made.is.done ≡ is.done = done_state old.plan.graph (level_at old) old.number (state_at old) (state_at mid) s made.turn turn (is_late mid.fault) slow made.is is same_last same_posted same_taken same_count in

@@ -1,4 +1,4 @@
--- The turn that was made, as the hints tell of it.
+-- The turn that was made has the hints, and is the only one that has them.
 use Rattle.std.proofs.Common.{◌≡◌, ℕ, suc, ◌+◌, ◌≤◌, max, Bool, List, [], ◌∷◌, ◌++◌, None, length, map, refl, sym, ap, subst, ◌∙◌, append-nil, arith, length-append}
 use Rattle.std.proofs.lemmas.List.{append_cancel_left}
 use Rattle.pt_types.specs.declared.firing.Done.{Done}
@@ -31,7 +31,7 @@ use Rattle.pt_retell.proofs.Counts.{reading_is}
 state_after : (mid : PlatformView) (ms outbox : List OnLink) → state_at (record mid { turns = on_last (sending ms) mid.turns; outbox = outbox }) ≡ unsent (state_at mid) (λ (l : ℕ). on_link l outbox)
 state_after mid ms outbox = ap (λ (z : List OnLink). record (state_at mid) { outbox = λ l. on_link l outbox; taken = λ l. on_link l z }) (taken_still mid.turns ms)
 
--- the turn that was made, as the hints tell of it
+-- the turn that was made, with the readings and the count of the hints, and with the messages sent after it
 module _ (hints : Hints) (old mid : PlatformView) (claims : List Task) (dones : List Done) (named : hints.platform ≡ old.number) (no_fault : old.fault ≡ None)
     (tidy : IsTidy old.plan.graph (level_at old) old.number claims (state_at old)) (form : IsInForm old.reading hints)
     (are : AreOf claims hints.posts.items dones) (done : AreDone old.plan.graph dones) (made : IsTurned old mid hints.last (max 1 hints.claims) dones hints.taken.items) (stays : StaysThere old mid) (counts : HasCounts hints made.turn) where
@@ -120,7 +120,7 @@ module _ (hints : Hints) (old mid : PlatformView) (claims : List Task) (dones : 
       let is : new ≡ record mid { turns = on_last (sending hints.sent.items) mid.turns; outbox = new.outbox } = sent.stays ∙ ap (λ (ts : List Turn). record mid { turns = ts; outbox = new.outbox }) sent.turns in
       subst (HasRetold hints old) (sym is) (retold_with new.outbox sent.rest can.few)
 
--- whoever tells a turn with these hints tells the one that was made
+-- each turn with these hints that leads from the old state is the one that was made
 pub only_one : (hints : Hints) (old new : PlatformView) (claims : List Task) → IsTidy old.plan.graph (level_at old) old.number claims (state_at old) → HasRetold hints old new → IsOnly hints old new
 only_one hints old new claims tidy h turn late s told is =
     let last : h.turn.last ≡ turn.last = sym h.told.last ∙ told.last in
@@ -135,7 +135,7 @@ only_one hints old new claims tidy h turn late s told is =
     let turn_is : at_last h.turn ≡ at_last turn = λ i. record { first = last i; last = last i; count = 1; posted = posted i; rows = rows i; taken = taken i; claimed = claimed.0 i; sent = sent i } in
     (h.kept ∙ ap (kept_with old.turns) turn_is, sym both.0, sym state)
 
--- so it is the turn that was told
+-- so it is the turn that was made again
 pub same_turn : (hints : Hints) (old new : PlatformView) (h : HasRetold hints old new) → IsOnly hints old new → (turn : Turn) (late : Bool) (s : State) → AreHints old.number turn hints → IsTurn old.plan.graph (level_at old) old.number (state_at old) turn late s → turn ≡ h.turn
 same_turn hints old new h only turn late s told is =
     let recorded : at_last turn ≡ at_last h.turn = one_end (settled old.turns) (at_last turn) (at_last h.turn) (sym (only turn late s told is).0 ∙ h.kept) in

@@ -34,12 +34,12 @@ impl Retelling {
     }
 }
 
-/// Makes the turn that these hints tell of, records it as one turn at its last reading, and returns whether there is such
-/// a turn. `last` has, by link, the last message taken on it; the links that lead to this platform are kept up to date.
+/// Makes the turn that has these hints, and returns whether there is one. The platform records it as one turn at its last
+/// reading. `last` has the last message taken on each link; those of the links that lead to this platform are updated.
 ///
-/// The caller still has to compare what the hints leave out: the rows, the tags and actors of the claims, and that a turn in
-/// which something happened counts as one. If it returns `false`, or runs out of memory, the platform and `last` may be left
-/// anywhere: nothing may follow.
+/// The hints leave out the rows, and the tags and actors of the claims, and a count above 1 needs a quiet turn: the caller
+/// compares these. If it returns `false`, or runs out of memory, the platform and `last` may be left anywhere, and no turn
+/// may follow.
 pub fn retell(
     platform: &mut Platform,
     hints: &Hints,
