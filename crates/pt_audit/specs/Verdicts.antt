@@ -1,4 +1,4 @@
--- The verdicts on a file. Each file has exactly one.
+-- The verdicts on a file. (`replay` gives one, and shows that the file has no other.)
 use Rattle.std.specs.Prelude.{◌≡◌, ◌<◌, ◌≤◌, ◌+◌, ◌++◌, ◌∷◌, [], ℕ, List, None, Some, flat_map, length, slice_get}
 use Rattle.pt_types.specs.declared.graph.Graph.{Graph}
 use Rattle.pt_types.specs.declared.graph.Link.{Link}
