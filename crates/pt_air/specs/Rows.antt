@@ -1,8 +1,10 @@
 -- Which records are rows of an air file.
 use Rattle.std.specs.Prelude.{ℕ, ◌==◌, ◌&&◌, ◌||◌, List, Bool, false, Option, Some, None, Result, Ok, Err, bytes_eq, codes, option_and_then, option_map, position, unwrap_or, if◌then◌else◌}
 use Rattle.std.specs.List.{list_any}
+use Rattle.pt_types.specs.declared.graph.Actor.{Actor}
 use Rattle.pt_types.specs.declared.graph.Graph.{Graph}
 use Rattle.pt_types.specs.declared.graph.Link.{Link}
+use Rattle.pt_types.specs.Ends.{is_send}
 use Rattle.pt_types.specs.Lookups.{actor_name}
 use Rattle.pt_sensors.specs.Numbers.{limited}
 use Rattle.pt_sensors.specs.Rows.{Cells, cells}
@@ -17,10 +19,12 @@ abbrev pub ◌>>=◌ : {A B : Type 0} → Result A AirFault → (A → Result B 
 (Ok x) >>= f = f x
 (Err e) >>= f = Err e
 
+-- a value, or else the fault
 abbrev pub or_fault : {A : Type 0} → AirFault → Option A → Result A AirFault
 or_fault e None = Err e
 or_fault e (Some x) = Ok x
 
+-- the titles of the three columns
 abbrev pub are_titles : Cells → Bool
 are_titles c = bytes_eq c.0 (codes "what") && bytes_eq c.1 (codes "name") && bytes_eq c.2 (codes "value")
 
@@ -33,7 +37,7 @@ is_lag c = bytes_eq c.0 (codes "lag")
 abbrev pub is_transit : Cells → Bool
 is_transit c = bytes_eq c.0 (codes "transit")
 
--- three fields, of a lag or a transit
+-- the three fields of a lag or a transit
 abbrev pub formed : Cells → Option Cells
 formed c = if is_lag c || is_transit c then Some c else None
 
@@ -41,18 +45,24 @@ formed c = if is_lag c || is_transit c then Some c else None
 abbrev pub platform_named : Graph → List ℕ → Option ℕ
 platform_named g name = position (λ n. bytes_eq n name) g.platforms
 
--- the number of the link whose sender has this name
+-- the number of the link whose sender has this name; in a lawful graph each sender has one
 abbrev pub link_named : Graph → List ℕ → Option ℕ
 link_named g name = position (λ (l : Link). bytes_eq (actor_name g l.from) name) g.links
+
+-- an actor is a sender with this name
+abbrev pub is_sender_named : List ℕ → Actor → Bool
+is_sender_named name a = is_send a.kind && bytes_eq a.name name
 
 -- the platform or the link of a row, by the name in it
 abbrev pub subject_of : Graph → Cells → Option Subject
 subject_of g c = if is_lag c then option_map subject.Platform (platform_named g c.1) else option_map subject.Link (link_named g c.1)
 
+-- the subject is platform p
 abbrev pub is_platform : ℕ → Subject → Bool
 is_platform p (subject.Platform q) = q == p
 is_platform p (subject.Link l) = false
 
+-- the subject is link l
 abbrev pub is_link : ℕ → Subject → Bool
 is_link l (subject.Platform p) = false
 is_link l (subject.Link k) = k == l

@@ -1,10 +1,11 @@
 //! The row of a record.
 
-ghost use Rattle.std.specs.Prelude.{◌≡◌, option_and_then, option_map};
+ghost use Rattle.std.specs.Prelude.{◌≡◌, is_some, option_and_then, option_map};
 ghost use Rattle.std.specs.List.{list_any};
 ghost use Rattle.csv.specs.Records.{fields_of};
+ghost use Rattle.pt_types.specs.Lawful.{IsLawful};
 ghost use Rattle.pt_sensors.specs.Rows.{cells};
-ghost use Rattle.pt_air.specs.Rows.{are_titles, formed, is_header, is_lag, is_lag_of, is_repeated, is_transit, link_named, platform_named, row_of, subject_of};
+ghost use Rattle.pt_air.specs.Rows.{are_titles, formed, is_header, is_lag, is_lag_of, is_repeated, is_sender_named, is_transit, link_named, platform_named, row_of, subject_of};
 
 use crate::fault::AirFault;
 use crate::row::{AirRow, Subject};
@@ -105,6 +106,14 @@ fn platform_named(graph: &Graph, name: &[u8]) -> Option<usize>
 
 /// The number of the link whose sender has this name.
 fn link_named(graph: &Graph, name: &[u8]) -> Option<usize>
+    ensures link { result ≡ link_named graph.now name.now }
+    ensures sender { IsLawful graph.now → is_some result ≡ list_any (is_sender_named name.now) graph.now.actors }
+{
+    link_index(graph, name)
+}
+
+/// The number of the first link whose sender has this name.
+fn link_index(graph: &Graph, name: &[u8]) -> Option<usize>
     ensures { result ≡ link_named graph.now name.now }
 {
     let links = graph.links.as_slice();

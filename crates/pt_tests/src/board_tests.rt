@@ -1,12 +1,14 @@
 //! A board of 32 slots, by one thread.
 
-ghost use Rattle.std.specs.Prelude.{◌≡◌, ◌×◌};
+ghost use Rattle.std.specs.Prelude.{◌≡◌, ◌<◌, ◌≤◌, ◌+◌, Some};
+ghost use Rattle.pt_types.specs.Lawful.{IsLawful};
 
 use pt_actors::{Inputs, Task};
 use pt_blocks::Blocks;
-use pt_board::Board;
+use pt_board::{Board, Hand, Keeper};
 use pt_graph::read_graph;
 use pt_tags::Tag;
+use pt_types::Graph;
 use pt_visits::fire_one;
 use std::test::Fail;
 
@@ -18,14 +20,53 @@ const GRAPH: &str = r#"{"ptides":1,"until":1000,"clock_error":0,"platforms":["p"
     "wires":[["s",0,"more",0],["more",0,"out",0]],"links":[]}"#;
 
 /// A task of the actor that adds 1, with ten times its number.
-fn task(number: u64) -> Task {
+fn task(number: u64) -> Task
+    requires { number < 100 }
+{
     Task {
         number,
         actor: 1,
         tag: Tag { time: 50, step: 0 },
-        inputs: Inputs::first(Some(10 * (number % 100) as i64)),
+        inputs: Inputs::first(Some(10 * number as i64)),
         state: 0,
     }
+}
+
+/// Places a task, and gives the number of the task that comes back.
+fn placed(board: &Board, keeper: &mut Keeper, number: u64) -> Option<u64>
+    requires table { keeper.old.table ≡ board.now.table }
+    requires few { (keeper.old.next < 64) × (number < 100) }
+    ensures table { keeper.new.table ≡ keeper.old.table }
+    ensures graph { keeper.new.knows.graph ≡ keeper.old.knows.graph }
+    ensures next { keeper.new.next ≤ keeper.old.next + 1 }
+{
+    match board.place(keeper, task(number)) {
+        Ok(()) => None,
+        Err(task) => Some(task.number),
+    }
+}
+
+/// Claims a task, fires it and hands in its result; its number.
+fn served(board: &Board, hand: &mut Hand, blocks: &Blocks, graph: &Graph) -> Option<u64>
+    requires table { hand.old.table ≡ board.now.table }
+    requires lawful { IsLawful graph.now }
+    requires graph { hand.old.knows.graph ≡ Some graph.now }
+{
+    let ticket = board.claim(hand)?;
+    let number = ticket.task().number;
+    let done = fire_one(blocks, graph, ticket.task());
+    board.finish(hand, ticket, done);
+    Some(number)
+}
+
+/// Collects a result: the number of its task, and the value at output 0.
+fn collected(board: &Board, keeper: &mut Keeper) -> Option<(u64, Option<i64>)>
+    requires table { keeper.old.table ≡ board.now.table }
+    ensures table { keeper.new.table ≡ keeper.old.table }
+    ensures next { keeper.new.next ≡ keeper.old.next }
+{
+    let done = board.collect(keeper)?;
+    Some((done.task().number, done.fired().outputs.get(0)))
 }
 
 #[test]
@@ -40,26 +81,13 @@ fn a_board_gives_back_the_33rd_task(rt: HostRuntime) -> Result<(), Fail> {
     };
     let mut hand = board.hand(&mut keeper);
     for number in 0..32 {
-        assert_eq!(rt; board.place(&mut keeper, task(number)), Ok(()));
+        assert_eq!(rt; placed(&board, &mut keeper, number), None);
     }
-    assert_eq!(rt; board.place(&mut keeper, task(32)), Err(task(32)));
-    assert!(rt; board.collect(&mut keeper).is_none());
-    let Some(ticket) = board.claim(&mut hand) else {
-        return Err("no task is ready")?;
-    };
-    let claimed = *ticket.task();
-    let done = fire_one(&blocks, &graph, ticket.task());
-    board.finish(&mut hand, ticket, done);
-    let Some(collected) = board.collect(&mut keeper) else {
-        return Err("no result")?;
-    };
-    assert_eq!(rt; *collected.task(), claimed);
-    assert_eq!(rt;
-        collected.fired().outputs.get(0),
-        Some(10 * claimed.number as i64 + 1)
-    );
-    assert_eq!(rt; board.place(&mut keeper, task(32)), Ok(()));
-    assert_eq!(rt; board.place(&mut keeper, task(33)), Err(task(33)));
-    board.leave(&mut keeper, hand);
+    assert_eq!(rt; placed(&board, &mut keeper, 32), Some(32));
+    assert_eq!(rt; collected(&board, &mut keeper), None);
+    assert_eq!(rt; served(&board, &mut hand, &blocks, &graph), Some(0));
+    assert_eq!(rt; collected(&board, &mut keeper), Some((0, Some(1))));
+    assert_eq!(rt; placed(&board, &mut keeper, 32), None);
+    assert_eq!(rt; placed(&board, &mut keeper, 33), Some(33));
     Ok(())
 }
