@@ -1,5 +1,5 @@
 -- The blocks of the lines of a text, cut where the first block ends.
-use Rattle.std.proofs.Common.{◌≡◌, ◌≢◌, ℕ, zero, suc, ◌+◌, Bool, true, false, ◌==◌, ◌&&◌, nat_eq, List, [], ◌∷◌, ◌++◌, bytes_eq, codes, length, take, refl, sym, ap, ◌∙◌, subst, ⊎_elim, append_assoc, arith}
+use Rattle.std.proofs.Common.{◌≡◌, ◌≢◌, ℕ, suc, Bool, true, false, ◌==◌, ◌&&◌, nat_eq, List, [], ◌∷◌, ◌++◌, bytes_eq, codes, length, take, refl, sym, ap, ◌∙◌, ⊎_elim, append_assoc, arith}
 use Rattle.std.proofs.lemmas.Bool.{cases_Bool, eqb-true, ne_eqb}
 use Rattle.pt_hints.specs.Lines.{Block, before_first, begins_turn, blocks_from, lines_of, with_line}
 use Rattle.pt_hints.proofs.Cuts.{Lacks}

@@ -1,5 +1,5 @@
 -- A lawful log cut up: the tables, the line `log`, and then a block for each turn.
-use Rattle.std.proofs.Common.{◌≡◌, ◌≢◌, ℕ, suc, ◌+◌, true, false, Bool, ◌==◌, not, List, [], ◌∷◌, ◌++◌, Option, Some, None, bytes_eq, codes, flat_map, map, refl, sym, ap, ◌∙◌, subst, append_assoc, append-nil, arith, length, ◌⊎◌, inl, inr, ⊎_elim}
+use Rattle.std.proofs.Common.{◌≡◌, ℕ, suc, ◌+◌, true, false, ◌==◌, not, List, [], ◌∷◌, ◌++◌, Some, bytes_eq, codes, flat_map, map, refl, sym, ap, ◌∙◌, subst, append_assoc, append-nil, arith, length, ◌⊎◌, inl, inr, ⊎_elim}
 use Rattle.std.specs.Fmt.{decimal, signed_decimal}
 use Rattle.std.specs.List.{list_all}
 use Rattle.std.proofs.lemmas.Bool.{and_parts, both_ways, cases_Bool, eq-eqb, false_from_ne_true, ne_eqb, not-true}

@@ -1,5 +1,5 @@
 -- Texts cut at a byte, and their first lines.
-use Rattle.std.proofs.Common.{◌≡◌, ◌≢◌, ℕ, zero, suc, ◌<◌, ◌≤◌, true, false, ◌==◌, List, [], ◌∷◌, ◌++◌, length, get_or, take, drop, refl, ap, arith}
+use Rattle.std.proofs.Common.{◌≡◌, ◌≢◌, ℕ, zero, suc, ◌<◌, true, false, ◌==◌, List, [], ◌∷◌, ◌++◌, length, get_or, take, drop, refl, ap, arith}
 use Rattle.std.proofs.lemmas.List.{drop_all, take_all}
 use Rattle.std.proofs.lemmas.Bool.{eq-eqb, false_from_ne_true, ne_eqb}
 use Rattle.pt_semantics.specs.Lists.{Each}
@@ -35,11 +35,7 @@ pub after_at : (b : ℕ) (xs ys : List ℕ) → Lacks b xs → after b (xs ++ b 
 after_at b [] ys lacks = rw (eq-eqb b b refl) refl
 after_at b (x ∷ xs) ys lacks = rw (ne_eqb x b lacks.0) (after_at b xs ys lacks.1)
 
-pub before_whole : (b : ℕ) (xs : List ℕ) → Lacks b xs → before b xs ≡ xs
-before_whole b [] lacks = refl
-before_whole b (x ∷ xs) lacks = rw (ne_eqb x b lacks.0) (ap (λ (zs : List ℕ). x ∷ zs) (before_whole b xs lacks.1))
-
--- what comes before and after lacks a byte, or is shorter
+-- a text of two parts that lack a byte lacks it
 pub lacks_append : (b : ℕ) (xs ys : List ℕ) → Lacks b xs → Lacks b ys → Lacks b (xs ++ ys)
 lacks_append b [] ys one other = other
 lacks_append b (x ∷ xs) ys one other = (one.0, lacks_append b xs ys one.1 other)

@@ -1,18 +1,16 @@
 -- The fields of the lines of a turn after its first.
-use Rattle.std.proofs.Common.{◌≡◌, ℕ, ◌<◌, ◌^◌, ℤ, List, [], ◌∷◌, ◌++◌, Option, Some, codes, slice_get, refl, sym, ap, ◌∙◌, append_assoc, arith}
+use Rattle.std.proofs.Common.{◌≡◌, ℕ, ◌<◌, ◌^◌, ℤ, List, [], ◌∷◌, ◌++◌, Option, Some, codes, slice_get, refl, ap, ◌∙◌, append_assoc, arith}
 use Rattle.std.specs.Fmt.{decimal, signed_decimal}
 use Rattle.pt_tags.specs.declared.message.Message.{Message}
 use Rattle.pt_tags.specs.declared.message.Message.TheVariants.{End, Event}
 use Rattle.pt_tags.specs.declared.tag.Tag.{Tag}
 use Rattle.pt_types.specs.declared.firing.OnLink.{OnLink}
 use Rattle.pt_types.specs.declared.graph.Graph.{Graph}
-use Rattle.pt_types.specs.Lawful.{IsLawful}
 use Rattle.pt_types.specs.Lookups.{actor_name}
 use Rattle.pt_tables.specs.Log.{message_line}
 use Rattle.pt_tables.specs.Names.{receiver_name, sender_name}
 use Rattle.pt_hints.specs.Fields.{after, before}
 use Rattle.pt_hints.specs.Hints.{IsTellableOn}
-use Rattle.pt_hints.specs.declared.entries.Entry.{Entry}
 use Rattle.pt_hints.specs.declared.entries.Entry.TheVariants.{Claim, Post, Row, Sent, Take}
 use Rattle.pt_hints.specs.Items.{IsTellableItem, Item, entry_of, item_line, message_fields, message_text, word_is}
 use Rattle.pt_hints.specs.declared.entries.Word.{Word}
@@ -20,7 +18,7 @@ use Rattle.pt_hints.specs.declared.entries.Word.TheVariants as word
 use Rattle.pt_hints.specs.Items.Item.{claim, got, post, row, sent}
 use Rattle.pt_hints.proofs.Cuts.{Lacks, after_at, before_at}
 use Rattle.pt_hints.proofs.Heads.{push_cancel}
-use Rattle.pt_hints.proofs.Printed.{IsNoDigit, comma, lacks_decimal, lacks_receiver, lacks_sender, no_comma_in_names}
+use Rattle.pt_hints.proofs.Printed.{IsNoDigit, comma, lacks_decimal}
 
 -- the three fields of an event
 pub event_parts : (fields time rest step value : List ℕ) (tag : Tag) (z : ℤ) → fields ≡ message_text (Event tag z) → time ≡ before 44 fields → rest ≡ after 44 fields → step ≡ before 44 rest → value ≡ after 44 rest → (time ≡ decimal tag.time) × (step ≡ decimal tag.step) × (value ≡ signed_decimal z)

@@ -1,14 +1,14 @@
 -- How far the search for the line `log` has come, and how far a block.
-use Rattle.std.proofs.Common.{◌≡◌, ℕ, suc, ◌+◌, ◌<◌, ◌≤◌, Bool, true, false, nat_eq, List, [], ◌∷◌, ◌++◌, Option, Some, None, bytes_eq, codes, length, take, drop, refl, sym, ap, ◌∙◌, subst, append_assoc, append-nil, arith, length-append, length-drop}
+use Rattle.std.proofs.Common.{◌≡◌, ℕ, suc, ◌+◌, ◌≤◌, true, false, nat_eq, List, [], ◌∷◌, ◌++◌, Some, None, bytes_eq, codes, length, take, drop, refl, sym, ap, ◌∙◌, append_assoc, append-nil, arith, length-append, length-drop}
 use Rattle.std.specs.List.{concat, starts_with}
-use Rattle.std.proofs.lemmas.Bool.{both_ways, cases_Bool, false_from_ne_true}
+use Rattle.std.proofs.lemmas.Bool.{both_ways, false_from_ne_true}
 use Rattle.std.proofs.lemmas.Bool.Decides.{Decides-eqb}
 use Rattle.std.proofs.lemmas.List.{drop-drop, drop_all, take-append-drop}
 use Rattle.std.proofs.lemmas.Slice.Eq.{bytes_eq-Decides, starts_is}
 use Rattle.std.proofs.Math.Seq.{take-add}
 use Rattle.pt_tables.specs.Log.{log_head}
 use Rattle.pt_hints.specs.Fields.{IsFirstLine}
-use Rattle.pt_hints.specs.Lines.{Block, at_log, begins_turn, blocks_from, lines_of, with_line}
+use Rattle.pt_hints.specs.Lines.{at_log, begins_turn, blocks_from, lines_of, with_line}
 use Rattle.pt_hints.specs.Places.{IsFirstBlock, IsLogAt}
 use Rattle.pt_hints.proofs.Blocks.{block_ends, block_more}
 use Rattle.pt_hints.proofs.Splitting.{HaveNoLog, at_log_none, at_log_past, concat_push, lines_front, no_log_push}

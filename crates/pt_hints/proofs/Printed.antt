@@ -1,5 +1,5 @@
 -- Which bytes names and numbers don't have.
-use Rattle.std.proofs.Common.{◌≡◌, ◌≢◌, ℕ, ◌&&◌, zero, suc, ◌+◌, ◌*◌, ◌/◌, ◌%◌, ◌<◌, ◌≤◌, ℤ, pos, negsuc, Bool, true, false, cond, ◌==◌, nat_lt, List, [], ◌∷◌, ◌++◌, Option, Some, None, get_or, length, refl, sym, ap, ◌∙◌, subst, arith, ⊎_elim}
+use Rattle.std.proofs.Common.{◌≡◌, ◌≢◌, ℕ, ◌&&◌, zero, suc, ◌+◌, ◌/◌, ◌%◌, ◌<◌, ◌≤◌, ℤ, pos, negsuc, true, false, ◌==◌, nat_lt, List, [], ◌∷◌, Option, Some, None, get_or, length, refl, sym, ap, ◌∙◌, subst, arith, ⊎_elim}
 use Rattle.std.specs.Fmt.{decimal, digit_glyph, digits, digits_onto, signed_decimal}
 use Rattle.std.specs.List.{list_all}
 use Rattle.std.proofs.lemmas.Bool.{and_parts, both_ways, cases_Bool, cases_lt, lt-ltb}
@@ -12,7 +12,7 @@ use Rattle.pt_types.specs.Groups.{no_actor}
 use Rattle.pt_types.specs.Kinds.{kind_is_lawful, visible_inputs, visible_outputs}
 use Rattle.pt_types.specs.Lawful.{IsLawful, actor_is_lawful}
 use Rattle.pt_types.specs.Lookups.{actor_name, platform_name}
-use Rattle.pt_types.specs.Names.{in_name, is_letter, is_name}
+use Rattle.pt_types.specs.Names.{in_name, is_name}
 use Rattle.pt_types.proofs.Distinct.{all_at}
 use Rattle.pt_tables.specs.Names.{receiver_name, sender_name}
 use Rattle.pt_hints.proofs.Cuts.{Lacks}

@@ -1,5 +1,5 @@
 -- How far the lines of a turn are read.
-use Rattle.std.proofs.Common.{◌≡◌, ℕ, ◌+◌, ◌<◌, ◌≤◌, ◌^◌, ◌==◌, true, false, ⊎_elim, slice_get, List, [], ◌∷◌, ◌++◌, Option, Some, None, flat_map, length, map, refl, sym, ap, ◌∙◌, subst, append_assoc, arith, length-append}
+use Rattle.std.proofs.Common.{◌≡◌, ℕ, ◌+◌, ◌<◌, ◌≤◌, ◌^◌, ◌==◌, true, false, ⊎_elim, slice_get, List, [], ◌∷◌, ◌++◌, Some, flat_map, length, map, sym, ap, ◌∙◌, append_assoc, arith, length-append}
 use Rattle.std.specs.Fmt.{decimal, signed_decimal}
 use Rattle.std.proofs.lemmas.Bool.{cases_Bool, eqb-false, eqb-true}
 use Rattle.std.proofs.lemmas.List.{nil_from_length}

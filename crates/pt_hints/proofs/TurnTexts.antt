@@ -1,5 +1,5 @@
 -- The text of a turn, and what its lines add up to.
-use Rattle.std.proofs.Common.{◌≡◌, ℕ, suc, ◌+◌, ◌<◌, ◌^◌, List, [], ◌∷◌, ◌++◌, codes, flat_map, length, map, refl, sym, ap, ◌∙◌, subst, append_assoc, append-nil, arith, zero-add}
+use Rattle.std.proofs.Common.{◌≡◌, ℕ, suc, ◌+◌, ◌<◌, ◌^◌, List, [], ◌∷◌, ◌++◌, codes, flat_map, length, map, refl, sym, ap, ◌∙◌, append_assoc, append-nil, arith, zero-add}
 use Rattle.std.specs.Fmt.{decimal}
 use Rattle.std.proofs.lemmas.List.{map-append}
 use Rattle.std.proofs.lemmas.List.Concat.{flat_map-append}
@@ -34,13 +34,13 @@ items_text : (g : Graph) (t : Turn) → flat_map (item_line g) (items_of t) ≡ 
 items_text g t =
     rw (flat_map-append (item_line g) (map post t.posted) (map row t.rows ++ (map got t.taken ++ (map claim t.claimed ++ map sent t.sent))), flat_map-append (item_line g) (map row t.rows) (map got t.taken ++ (map claim t.claimed ++ map sent t.sent)), flat_map-append (item_line g) (map got t.taken) (map claim t.claimed ++ map sent t.sent), flat_map-append (item_line g) (map claim t.claimed) (map sent t.sent), lines_of_map g post post_line t.posted (λ x. refl), lines_of_map g row (row_line g) t.rows (λ x. refl), lines_of_map g got (take_line g) t.taken (λ x. refl), lines_of_map g claim (claim_line g) t.claimed (λ x. refl), lines_of_map g sent (sent_line g) t.sent (λ x. refl)) refl
 
-to_the_right : (a b c d e f : List ℕ) → ((((a ++ b) ++ c) ++ d) ++ e) ++ f ≡ a ++ (b ++ (c ++ (d ++ (e ++ f))))
-to_the_right a b c d e f = simp append_assoc
+to_the_right : (b c d e f : List ℕ) → (((b ++ c) ++ d) ++ e) ++ f ≡ b ++ (c ++ (d ++ (e ++ f)))
+to_the_right b c d e f = simp append_assoc
 
 pub turn_text : (g : Graph) (p : ℕ) (t : Turn) → turn_lines g p t ≡ turn_line (platform_name g p) t.first t.last t.count ++ flat_map (item_line g) (items_of t)
 turn_text g p t =
     let head = turn_line (platform_name g p) t.first t.last t.count in
-    to_the_right head (flat_map post_line t.posted) (flat_map (row_line g) t.rows) (flat_map (take_line g) t.taken) (flat_map (claim_line g) t.claimed) (flat_map (sent_line g) t.sent) ∙ ap (λ (xs : List ℕ). head ++ xs) (sym (items_text g t))
+    ap (λ (xs : List ℕ). head ++ xs) (to_the_right (flat_map post_line t.posted) (flat_map (row_line g) t.rows) (flat_map (take_line g) t.taken) (flat_map (claim_line g) t.claimed) (flat_map (sent_line g) t.sent) ∙ sym (items_text g t))
 
 -- a turn's first line without its line feed
 abbrev pub head_body : List ℕ → ℕ → ℕ → ℕ → List ℕ

@@ -16,7 +16,7 @@ use Rattle.pt_hints.specs.declared.entries.Word.{Word}
 use Rattle.pt_hints.specs.declared.entries.Word.TheVariants as word
 use Rattle.pt_hints.specs.declared.hints.Hints.{Hints}
 
--- what a line of a turn after its first tells
+-- what a line of a turn after its first is for
 pub data Item : Type 0 where
   post : Done → Item
   row : RowAt → Item
@@ -24,7 +24,7 @@ pub data Item : Type 0 where
   claim : Task → Item
   sent : OnLink → Item
 
--- the line that tells it
+-- the line, as the log has it
 abbrev pub item_line : Graph → Item → List ℕ
 item_line g (post done) = post_line done
 item_line g (row at) = row_line g at
@@ -56,9 +56,11 @@ pub record Tally : Type 0 where
   pub claims : ℕ
   pub sent : List OnLink
 
+-- the hints before any line
 abbrev pub nothing_yet : Tally
 nothing_yet = record { posts = []; taken = []; claims = 0; sent = [] }
 
+-- what these hints have
 abbrev pub tally : Hints → Tally
 tally hints = record { posts = hints.posts.items; taken = hints.taken.items; claims = hints.claims; sent = hints.sent.items }
 
@@ -75,7 +77,7 @@ abbrev pub word_is : List ℕ → Option Word
 word_is text =
     if bytes_eq text (codes "post") then Some word.Post else (if bytes_eq text (codes "row") then Some word.Row else (if bytes_eq text (codes "take") then Some word.Take else (if bytes_eq text (codes "claim") then Some word.Claim else (if bytes_eq text (codes "sent") then Some word.Sent else None))))
 
--- and what they have after one more
+-- what the hints have after one more line
 abbrev pub with_entry : Tally → Entry → Tally
 with_entry so_far (Post number) = record so_far { posts = so_far.posts ++ number ∷ [] }
 with_entry so_far Row = so_far
@@ -83,7 +85,7 @@ with_entry so_far (Take x) = record so_far { taken = so_far.taken ++ x ∷ [] }
 with_entry so_far Claim = record so_far { claims = so_far.claims + 1 }
 with_entry so_far (Sent x) = record so_far { sent = so_far.sent ++ x ∷ [] }
 
--- and after several
+-- what they have after several lines
 abbrev pub with_entries : Tally → List Entry → Tally
 with_entries so_far [] = so_far
 with_entries so_far (entry ∷ entries) = with_entries (with_entry so_far entry) entries

@@ -1,6 +1,5 @@
 -- The lines of a file, and the blocks of the log in it.
-use Rattle.std.specs.Prelude.{ℕ, suc, ◌==◌, List, [], ◌∷◌, ◌++◌, codes, Option, None, Some, option_map, bytes_eq, take, if◌then◌else◌}
-use Rattle.std.specs.Prelude.{Bool}
+use Rattle.std.specs.Prelude.{ℕ, suc, Bool, ◌==◌, List, [], ◌∷◌, ◌++◌, codes, Option, None, Some, option_map, bytes_eq, take, if◌then◌else◌}
 use Rattle.pt_tables.specs.Log.{log_head}
 
 -- this byte before these lines: it begins the first one

@@ -35,9 +35,9 @@ pub struct Hints {
     pub sent: Vec<OnLink>,
 }
 
-/// Reads what the lines of a turn say of it: for the text of a turn, what the turn has. False for a text that is not of a
-/// turn's form.
+/// Reads what the lines of a turn say of it. The text of a turn gives what the turn has.
 ///
+/// Another text is refused by `false`, or gives hints of no turn: a caller that makes a turn from them prints it and compares.
 /// The hints are written over; their memory is used again.
 pub fn read_hints(graph: &Graph, text: &[u8], hints: &mut Hints) -> Result<bool, Memory>
     requires lawful { IsLawful graph.now }
@@ -63,7 +63,9 @@ impl Hints {
     ghost use Rattle.std.specs.Prelude.{◌<◌, ◌≤◌, ◌+◌, ◌^◌, OnOk};
 
     /// No hints; no memory is taken.
-    pub fn new(alloc: Global) -> Hints {
+    pub fn new(alloc: Global) -> Hints
+        ensures { tally result ≡ nothing_yet }
+    {
         Hints {
             platform: 0,
             first: 0,

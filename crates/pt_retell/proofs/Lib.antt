@@ -7,4 +7,7 @@ pub mod Histories
 pub mod Came
 pub mod Fires
 pub mod Sends
+pub mod Counts
+pub mod Told
+pub mod Passes
 pub mod Turns

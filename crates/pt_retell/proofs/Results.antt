@@ -14,9 +14,12 @@ use Rattle.pt_semantics.specs.Units.{unit_of}
 use Rattle.pt_semantics.proofs.Floor.{put_none_found}
 use Rattle.pt_semantics.proofs.Lookups.{same_some}
 use Rattle.pt_post.specs.Posted.{AreDone, ArePosted, IsDone}
-use Rattle.pt_retell.specs.Hinted.{number_of}
 use Rattle.pt_retell.specs.Steps.{AreOf}
 use Rattle.pt_retell.proofs.Tidy.{IsTidy}
+
+-- the number of the claim that a result is of
+abbrev pub number_of : Done → ℕ
+number_of d = d.task.number
 
 -- a result of an open claim
 abbrev pub IsOfOpen : Graph → State → Done → Type 0

@@ -27,6 +27,8 @@ use Rattle.pt_semantics.specs.Units.{unit_of}
 use Rattle.pt_semantics.proofs.Floor.{put_none_found, put_other, put_same}
 use Rattle.pt_semantics.proofs.Lookups.{cases_part, none_some, same_some}
 
+-- a state of platform i after these claims: they are numbered from 0, and each open claim is the one of its number; what was
+-- taken on each link that leads here is orderly, and messages wait only on links
 pub record IsTidy (g : Graph) (level : ℕ → ℕ) (i : ℕ) (claimed : List Task) (s : State) : Type 0 where
   pub count : length claimed ≡ s.claims
   pub numbers : (k : ℕ) (task : Task) → slice_get claimed k ≡ Some task → task.number ≡ k

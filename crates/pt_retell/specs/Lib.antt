@@ -1,4 +1,3 @@
-pub mod Hinted
 pub mod Following
 pub mod Lasts
 pub mod Retold

@@ -5,16 +5,16 @@ use Rattle.pt_semantics.specs.Platform.{State}
 use Rattle.pt_semantics.specs.Turn.{IsLast, IsTurn, Turn}
 use Rattle.pt_turn.specs.Platforms.{PlatformView, level_at, state_at}
 use Rattle.pt_turn.specs.Turned.{Ends, StaysThere, is_late}
-use Rattle.pt_retell.specs.declared.hints.Hints.{Hints}
+use Rattle.pt_hints.specs.declared.hints.Hints.{Hints}
 use Rattle.pt_retell.specs.Following.{CanFollow}
-use Rattle.pt_retell.specs.Hinted.{AreHints}
+use Rattle.pt_hints.specs.Hints.{AreHints}
 
 -- the turn as one turn at its last reading
 abbrev pub at_last : Turn → Turn
 at_last turn = record turn { first = turn.last; count = 1 }
 
--- a turn with these hints leads from the platform's old state to its new one. The platform records it as one at its last
--- reading; that a count above 1 needs a quiet turn is left out
+-- a turn with these hints leads from the platform's old state to its new one, and the platform records it as one turn at its
+-- last reading. This does not say that a turn with a count above 1 is quiet
 pub record HasRetold (hints : Hints) (old new : PlatformView) : Type 0 where
   pub no_fault : old.fault ≡ None
   pub turn : Turn
@@ -25,7 +25,7 @@ pub record HasRetold (hints : Hints) (old new : PlatformView) : Type 0 where
   pub kept : new.turns ≡ kept_with old.turns (at_last turn)
   pub stays : StaysThere old new
 
--- whichever turn with these hints leads from the old state, it is the one that the platform recorded, and leads to the new state
+-- each turn with these hints that leads from the old state is the one that the platform recorded, and leads to the new state
 abbrev pub IsOnly : Hints → PlatformView → PlatformView → Type 0
 IsOnly hints old new = (turn : Turn) (late : Bool) (s : State) → AreHints old.number turn hints → IsTurn old.plan.graph (level_at old) old.number (state_at old) turn late s →
     (new.turns ≡ kept_with old.turns (at_last turn)) × (late ≡ is_late new.fault) × (s ≡ state_at new)

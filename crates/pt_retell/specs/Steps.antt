@@ -12,7 +12,7 @@ use Rattle.pt_semantics.specs.Orderly.{ComesAfter, FitsStep}
 use Rattle.pt_semantics.specs.Turn.{Turn}
 use Rattle.pt_turn.specs.Platforms.{PlatformView}
 use Rattle.pt_turn.specs.Turned.{IsTurned, StaysThere}
-use Rattle.pt_retell.specs.declared.hints.Hints.{Hints}
+use Rattle.pt_hints.specs.declared.hints.Hints.{Hints}
 
 -- the readings, the count and the number of claims are those of some turn after this reading
 pub record IsInForm (reading : Option ℕ) (hints : Hints) : Type 0 where

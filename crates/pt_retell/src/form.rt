@@ -3,7 +3,7 @@
 ghost use Rattle.std.specs.Prelude.{◌≡◌, ◌↔◌, true};
 ghost use Rattle.pt_retell.specs.Steps.{IsInForm};
 
-use crate::hints::Hints;
+use pt_hints::Hints;
 
 /// Whether readings never fall, the count fits the readings, and the claims are at most 64.
 pub fn is_in_form(reading: Option<u64>, hints: &Hints) -> bool

@@ -1,18 +1,16 @@
-//! A platform makes the turns that a log tells of.
+//! A platform makes again the turns that a log reports.
 //!
-//! The log gives hints: readings, the numbers of the claims whose results were posted, messages, and how many claims were
-//! made. From the state before the turn they leave one turn at most, which `retell` makes.
+//! A log gives hints of each turn: its readings, the numbers of the claims whose results were posted, its messages, and how
+//! many claims were made. From the state before it, at most one turn has these hints. `retell` makes it.
 //!
 //! Read first: `retell`, then `specs/Retold.antt`.
 #![tactic(auto)]
 
 mod coming;
 mod form;
-mod hints;
 mod posting;
 mod retelling;
 mod sending;
 mod turning;
 
-pub use hints::Hints;
 pub use retelling::{Retelling, retell};

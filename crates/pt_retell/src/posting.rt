@@ -13,7 +13,7 @@ use pt_turn::Platform;
 use pt_visits::fire_one;
 
 /// Fires the claims with these numbers, in order, and replaces `dones` by their results. Returns whether all numbers are of
-/// claims that the platform made: whether these are still open, the turn sees.
+/// claims that the platform made. Whether these are still open is seen in the turn, which posts only results of open claims.
 pub fn fire_claims(
     platform: &Platform,
     numbers: &[u64],

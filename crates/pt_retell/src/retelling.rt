@@ -7,12 +7,12 @@ ghost use Rattle.pt_retell.specs.Retold.{HasRetold, IsOnly, NoneFollows};
 
 use crate::coming::may_come;
 use crate::form::is_in_form;
-use crate::hints::Hints;
 use crate::posting::fire_claims;
 use crate::sending::send_all;
 use crate::turning::{has_counts, make_turn};
 use pt_actors::{Done, Tasks};
 use pt_blocks::Blocks;
+use pt_hints::Hints;
 use pt_tags::{Memory, Message};
 use pt_turn::Platform;
 use std::alloc::Global;
@@ -34,12 +34,12 @@ impl Retelling {
     }
 }
 
-/// Makes the turn that these hints tell of, records it as one turn at its last reading, and returns whether there is such
-/// a turn. `last` has, by link, the last message taken on it; the links that lead to this platform are kept up to date.
+/// Makes the turn that has these hints, and returns whether there is one. The platform records it as one turn at its last
+/// reading. `last` has the last message taken on each link; those of the links that lead to this platform are updated.
 ///
-/// The caller still has to compare what the hints leave out: the rows, the tags and actors of the claims, and that a turn in
-/// which something happened counts as one. If it returns `false`, or runs out of memory, the platform and `last` may be left
-/// anywhere: nothing may follow.
+/// The hints leave out the rows, and the tags and actors of the claims, and a count above 1 needs a quiet turn: the caller
+/// compares these. If it returns `false`, or runs out of memory, the platform and `last` may be left anywhere, and no turn
+/// may follow.
 pub fn retell(
     platform: &mut Platform,
     hints: &Hints,

@@ -7,14 +7,14 @@ ghost use Rattle.pt_turn.specs.Platforms.{level_at, state_at};
 ghost use Rattle.pt_turn.specs.Turned.{MayCome};
 ghost use Rattle.pt_retell.specs.Steps.{HasCounts, IsInForm, MakesTurn};
 
-use crate::hints::Hints;
 use pt_actors::{Done, Tasks};
+use pt_hints::Hints;
 use pt_history::History;
 use pt_tags::Memory;
 use pt_turn::{Platform, Room};
 
 /// Makes a turn at the last reading of the hints, with these results and the messages of the hints. It claims at most as
-/// many units as the hints say, and at most one if they say none, which shows whether there is one to claim.
+/// many units as the hints say. If they say none, it may claim one: then the hints are wrong.
 pub fn make_turn(
     platform: &mut Platform,
     hints: &Hints,

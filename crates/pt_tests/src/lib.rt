@@ -12,6 +12,8 @@ mod causality_tests;
 #[cfg(test)]
 mod graph_writer_tests;
 #[cfg(test)]
+mod hints_tests;
+#[cfg(test)]
 mod io_tests;
 #[cfg(test)]
 mod links_tests;

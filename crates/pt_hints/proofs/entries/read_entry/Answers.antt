@@ -1,4 +1,4 @@
-use Rattle.std.proofs.Common.{◌≡◌, Some, ap, sym, ◌∙◌}
+use Rattle.std.proofs.Common.{Some, ap, sym, ◌∙◌}
 use Rattle.std.proofs.lemmas.Option.{none-some, same_Some}
 use Rattle.pt_hints.specs.declared.entries.Entry.TheVariants.{Post, Sent, Take}
 use Rattle.pt_hints.proofs.ItemLines.{claim_only, kind_of, post_only, row_only, sent_only, take_only, word_parts}

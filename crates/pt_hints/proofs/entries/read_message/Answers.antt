@@ -1,10 +1,9 @@
-use Rattle.std.proofs.Common.{ap, refl, sym, ◌∙◌, codes, bytes_eq, true, false, ◌≡◌, Some}
+use Rattle.std.proofs.Common.{refl, sym, ◌∙◌, bytes_eq, true, false, ◌≡◌}
 use Rattle.std.specs.Int.{w64}
 use Rattle.std.proofs.lemmas.Bool.{both_ways}
 use Rattle.std.proofs.lemmas.Int.{to_z-of_z}
 use Rattle.std.proofs.lemmas.Option.{none-some, same_Some}
 use Rattle.std.proofs.lemmas.Slice.Eq.{bytes_eq-Decides}
-use Rattle.pt_tags.specs.declared.message.Message.{Message}
 use Rattle.pt_tags.specs.declared.message.Message.TheVariants.{End, Event}
 use Rattle.pt_hints.proofs.ItemLines.{event_parts, no_end}
 use Rattle.pt_hints.proofs.entries.read_message.Goals as goal

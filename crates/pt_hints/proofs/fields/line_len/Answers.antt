@@ -1,4 +1,4 @@
-use Rattle.std.proofs.Common.{◌∷◌, sym, ◌∙◌, add-one, arith, length}
+use Rattle.std.proofs.Common.{add-one, arith}
 use Rattle.pt_hints.proofs.Cuts.{line_here, line_whole_at}
 use Rattle.pt_hints.proofs.fields.line_len.Goals as goal
 

@@ -1,4 +1,3 @@
-use Rattle.std.proofs.Common.{ap, refl}
 use Rattle.std.proofs.lemmas.Option.{none-some, same_Some}
 use Rattle.pt_hints.proofs.Heads.{head_parts}
 use Rattle.pt_hints.proofs.head.read_head.Goals as goal

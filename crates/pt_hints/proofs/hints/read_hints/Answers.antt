@@ -1,4 +1,4 @@
-use Rattle.std.proofs.Common.{ap, refl, sym, ◌∙◌, map}
+use Rattle.std.proofs.Common.{ap, refl, ◌∙◌, map}
 use Rattle.std.proofs.lemmas.Bool.{both_ways}
 use Rattle.pt_hints.specs.Items.{Tally, entry_of, with_entries}
 use Rattle.pt_hints.proofs.TurnTexts.{items_add, items_of, items_told, turn_cut}

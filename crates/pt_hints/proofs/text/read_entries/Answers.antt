@@ -1,4 +1,4 @@
-use Rattle.std.proofs.Common.{refl, sym, ◌∙◌, arith}
+use Rattle.std.proofs.Common.{refl}
 use Rattle.std.proofs.lemmas.Option.{none-some}
 use Rattle.pt_hints.proofs.Reading.{after_shorter, all_read, empty_rest, line_at, next_item, reads_on, some_rest}
 use Rattle.pt_hints.proofs.text.read_entries.Goals as goal

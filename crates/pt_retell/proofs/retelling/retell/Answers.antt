@@ -5,7 +5,9 @@ use Rattle.pt_turn.specs.Platforms.{level_at, state_at}
 use Rattle.pt_turn.specs.Turned.{MayCome}
 use Rattle.pt_retell.specs.Steps.{CanSend, HasCounts, IsInForm}
 use Rattle.pt_retell.proofs.Histories.{claims_in, running_tidy}
-use Rattle.pt_retell.proofs.Turns.{HasMade, counts_must, has_made, known_hold, last_after, last_made, may_hold, nothing_sent_yet, only_links, only_one, retold_from, sends_must}
+use Rattle.pt_retell.proofs.Passes.{known_hold, may_hold}
+use Rattle.pt_retell.proofs.Told.{only_one}
+use Rattle.pt_retell.proofs.Turns.{HasMade, counts_must, has_made, last_after, last_made, nothing_sent_yet, only_links, retold_from, sends_must}
 use Rattle.pt_retell.proofs.retelling.retell.Goals as goal
 
 pub returns-then-not-may_come-clause-never : goal.returns-then-not-may_come-clause-never

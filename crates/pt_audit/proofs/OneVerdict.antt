@@ -1,0 +1,161 @@
+-- A log has one verdict, if its blocks are told in one way.
+use Rattle.std.proofs.Common.{◌≡◌, ℕ, ◌≤◌, ◌<◌, ◌⊎◌, List, [], ◌∷◌, ◌++◌, refl, sym, ap, ap₂, subst, ◌∙◌, inl, inr, ⊎_elim, append_assoc, arith, length}
+use Rattle.std.proofs.lemmas.Bool.{cases_lt}
+use Rattle.pt_types.specs.declared.graph.Graph.{Graph}
+use Rattle.pt_types.specs.declared.rows.Row.{Row}
+use Rattle.pt_types.specs.Lookups.{platform_of}
+use Rattle.pt_semantics.specs.History.{Legal}
+use Rattle.pt_semantics.specs.Linked.{AreLinked, IsFinished}
+use Rattle.pt_semantics.specs.Platform.{State, opened}
+use Rattle.pt_semantics.specs.Turn.{Turn as Recorded}
+use Rattle.pt_causality.specs.Ranked.{level_of}
+use Rattle.pt_offsets.specs.Plans.{Parts}
+use Rattle.pt_hints.specs.Lines.{Block}
+use Rattle.pt_audit.specs.Told.{AreLawful, AreTold, Tells, ToldTurn, turns_of}
+use Rattle.pt_audit.specs.Verdicts.{AreFinished, IsFirstUnfinished, IsFirstUnlinked, IsLinked, IsVerdictOn, StopsAt, TellsAll}
+use Rattle.pt_audit.specs.declared.verdict.Verdict.{Verdict}
+use Rattle.pt_audit.specs.declared.verdict.Verdict.TheVariants.{TooLong, NoLog, Turn, Unfinished, Unlinked, Table, Fine}
+use Rattle.pt_audit.proofs.OneState.{legal_state}
+use Rattle.pt_audit.proofs.ToldTurns.{before_ends, lawful_before, told_last}
+
+-- Blocks that tell turns, without the last ones.
+
+tells_before : (g : Graph) (level : ℕ → ℕ) (rows : ℕ → List Row) (blocks : List Block) (b : Block) → Tells g level rows (blocks ++ b ∷ []) → Tells g level rows blocks
+tells_before g level rows blocks b (told, ends, are, lawful) =
+    let x = told_last g blocks b told are in
+    let whole : AreLawful g level rows (x.front ++ x.turn ∷ []) ends = subst (λ (ts : List ToldTurn). AreLawful g level rows ts ends) x.is lawful in
+    (x.front, before_ends g level rows x.front x.turn ends x.tellable.platform whole, x.before, lawful_before g level rows x.front x.turn ends x.tellable.platform whole)
+
+pub tells_front : (g : Graph) (level : ℕ → ℕ) (rows : ℕ → List Row) (front : List Block) (b : Block) (more : List Block) → Tells g level rows (front ++ b ∷ more) → Tells g level rows (front ++ b ∷ [])
+tells_front g level rows front b [] h = h
+tells_front g level rows front b (c ∷ more) h =
+    let on : Tells g level rows ((front ++ b ∷ []) ++ c ∷ []) = tells_front g level rows (front ++ b ∷ []) c more (subst (Tells g level rows) (sym (append_assoc front (b ∷ []) (c ∷ more))) h) in
+    tells_before g level rows (front ++ b ∷ []) c on
+
+-- Two places in one list.
+
+abbrev Places : List Block → Block → List Block → Block → Type 0
+Places xs b ys c = ((xs ≡ ys) × (b ≡ c)) ⊎ (((rest : List Block) × (ys ≡ xs ++ b ∷ rest)) ⊎ ((rest : List Block) × (xs ≡ ys ++ c ∷ rest)))
+
+heads : (x y : Block) (xs ys : List Block) → x ∷ xs ≡ y ∷ ys → (x ≡ y) × (xs ≡ ys)
+heads x y xs ys e = (cc, cc)
+
+places : (xs ys : List Block) (b c : Block) (zs ws : List Block) → xs ++ b ∷ zs ≡ ys ++ c ∷ ws → Places xs b ys c
+places [] [] b c zs ws e = inl (refl, (heads b c zs ws e).0)
+places [] (y ∷ ys) b c zs ws e = let h = heads b y zs (ys ++ c ∷ ws) e in inr (inl (ys, ap (λ z. z ∷ ys) (sym h.0)))
+places (x ∷ xs) [] b c zs ws e = let h = heads x c (xs ++ b ∷ zs) ws e in inr (inr (xs, ap (λ z. z ∷ xs) h.0))
+places (x ∷ xs) (y ∷ ys) b c zs ws e =
+    let h = heads x y (xs ++ b ∷ zs) (ys ++ c ∷ ws) e in
+    ⊎_elim
+    (λ (same : (xs ≡ ys) × (b ≡ c)). inl (ap₂ (λ z (zs : List Block). z ∷ zs) h.0 same.0, same.1))
+    (λ (other : ((rest : List Block) × (ys ≡ xs ++ b ∷ rest)) ⊎ ((rest : List Block) × (xs ≡ ys ++ c ∷ rest))).
+    ⊎_elim
+    (λ (one : (rest : List Block) × (ys ≡ xs ++ b ∷ rest)). inr (inl (one.0, ap₂ (λ z (zs : List Block). z ∷ zs) (sym h.0) one.1)))
+    (λ (two : (rest : List Block) × (xs ≡ ys ++ c ∷ rest)). inr (inr (two.0, ap₂ (λ z (zs : List Block). z ∷ zs) h.0 two.1)))
+    other)
+    (places xs ys b c zs ws h.1)
+
+module _ (g : Graph) (level : ℕ → ℕ) (rows : ℕ → List Row) (blocks : List Block) where
+  pub stops_once : (l m : ℕ) → StopsAt g level rows l blocks → StopsAt g level rows m blocks → l ≡ m
+  stops_once l m s t =
+      ⊎_elim
+      (λ (same : (s.before ≡ t.before) × (s.bad ≡ t.bad)). s.at ∙ ap (λ (b : Block). b.line) same.1 ∙ sym t.at)
+      (λ (other : ((rest : List Block) × (t.before ≡ s.before ++ s.bad ∷ rest)) ⊎ ((rest : List Block) × (s.before ≡ t.before ++ t.bad ∷ rest))).
+      ⊎_elim
+      (λ (one : (rest : List Block) × (t.before ≡ s.before ++ s.bad ∷ rest)). absurd (s.never (tells_front g level rows s.before s.bad one.0 (subst (Tells g level rows) one.1 t.tells))))
+      (λ (two : (rest : List Block) × (s.before ≡ t.before ++ t.bad ∷ rest)). absurd (t.never (tells_front g level rows t.before t.bad two.0 (subst (Tells g level rows) two.1 s.tells))))
+      other)
+      (places s.before t.before s.bad t.bad s.after t.after (sym s.is ∙ t.is))
+
+  pub stops_or_tells : (l : ℕ) → StopsAt g level rows l blocks → Tells g level rows blocks → ⊥
+  stops_or_tells l s h = s.never (tells_front g level rows s.before s.bad s.after (subst (Tells g level rows) s.is h))
+
+-- The first of some numbers.
+
+first_one : (P : ℕ → Type 0) (i j : ℕ) → (P i → ⊥) → ((k : ℕ) → k < i → P k) → (P j → ⊥) → ((k : ℕ) → k < j → P k) → i ≡ j
+first_one P i j ni below_i nj below_j =
+    ⊎_elim
+    (λ (lt : i < j). absurd (ni (below_j i lt)))
+    (λ (le : j ≤ i). ⊎_elim (λ (gt : j < i). absurd (nj (below_i j gt))) (λ (ge : i ≤ j). omega (arith, le, ge)) (cases_lt j i))
+    (cases_lt i j)
+
+module _ (plan : Parts) (rows : ℕ → List Row) (blocks : List Block) (homes : (a : ℕ) → platform_of plan.graph a < length plan.graph.platforms)
+    (unique : (some others : List ToldTurn) (ends theirs : ℕ → State) → AreTold plan.graph blocks some → AreLawful plan.graph (level_of plan.ranks) rows some ends → AreTold plan.graph blocks others → AreLawful plan.graph (level_of plan.ranks) rows others theirs → some ≡ others) where
+  abbrev Told : ((ℕ → List Recorded) → (ℕ → State) → Type 0) → Type 0
+  Told Fact = TellsAll plan.graph (level_of plan.ranks) rows blocks Fact
+
+  tells_of : (Fact : (ℕ → List Recorded) → (ℕ → State) → Type 0) → Told Fact → Tells plan.graph (level_of plan.ranks) rows blocks
+  tells_of Fact t = (t.told, t.ends, t.are_told, t.lawful)
+
+  module _ (Some_fact Other_fact : (ℕ → List Recorded) → (ℕ → State) → Type 0) (t : Told Some_fact) (u : Told Other_fact) where
+    pub same_told : t.told ≡ u.told
+    same_told = unique t.told u.told t.ends u.ends t.are_told t.lawful u.are_told u.lawful
+
+    pub same_end : (i : ℕ) → i < length plan.graph.platforms → t.ends i ≡ u.ends i
+    same_end i lt =
+        let theirs = u.lawful.legal i lt in
+        legal_state plan.graph (level_of plan.ranks) i (opened plan.graph i rows) (turns_of i t.told) (t.ends i) (u.ends i) (t.lawful.legal i lt).leads
+        (subst (λ (ts : List ToldTurn). Legal plan.graph (level_of plan.ranks) i (opened plan.graph i rows) (turns_of i ts) (u.ends i)) (sym same_told) theirs.leads)
+
+    pub same_finished : (i : ℕ) → i < length plan.graph.platforms → IsFinished plan.graph i (u.ends i) → IsFinished plan.graph i (t.ends i)
+    same_finished i lt h = subst (IsFinished plan.graph i) (sym (same_end i lt)) h
+
+    pub same_linked : (l : ℕ) → IsLinked plan.graph (λ i. turns_of i u.told) l → IsLinked plan.graph (λ i. turns_of i t.told) l
+    same_linked l h = subst (λ (ts : List ToldTurn). IsLinked plan.graph (λ i. turns_of i ts) l) (sym same_told) h
+
+  abbrev Open : ℕ → (ℕ → List Recorded) → (ℕ → State) → Type 0
+  Open i histories ends = IsFirstUnfinished plan.graph i ends
+
+  abbrev Apart : ℕ → (ℕ → List Recorded) → (ℕ → State) → Type 0
+  Apart l histories ends = AreFinished plan.graph ends × IsFirstUnlinked plan.graph l histories
+
+  abbrev Done : (ℕ → List Recorded) → (ℕ → State) → Type 0
+  Done histories ends = AreFinished plan.graph ends × AreLinked plan.graph histories
+
+  open_once : (i j : ℕ) → Told (Open i) → Told (Open j) → i ≡ j
+  open_once i j t u =
+      let a = t.fact in
+      let b = u.fact in
+      ⊎_elim
+      (λ (lt : i < j). absurd (a.unfinished (same_finished (Open i) (Open j) t u i a.platform (b.first i lt))))
+      (λ (le : j ≤ i). ⊎_elim (λ (gt : j < i). absurd (b.unfinished (same_finished (Open j) (Open i) u t j b.platform (a.first j gt)))) (λ (ge : i ≤ j). omega (arith, le, ge)) (cases_lt j i))
+      (cases_lt i j)
+
+  open_or : (i : ℕ) (Fact : (ℕ → List Recorded) → (ℕ → State) → Type 0) → Told (Open i) → (u : Told Fact) → AreFinished plan.graph u.ends → ⊥
+  open_or i Fact t u all = let a = t.fact in a.unfinished (same_finished (Open i) Fact t u i a.platform (all i a.platform))
+
+  apart_once : (l m : ℕ) → Told (Apart l) → Told (Apart m) → l ≡ m
+  apart_once l m t u =
+      let a = t.fact.1 in
+      let b = u.fact.1 in
+      first_one (IsLinked plan.graph (λ i. turns_of i t.told)) l m a.unlinked a.first (λ h. b.unlinked (same_linked (Apart m) (Apart l) u t m h)) (λ k lt. same_linked (Apart l) (Apart m) t u k (b.first k lt))
+
+  apart_or_done : (l : ℕ) → Told (Apart l) → Told Done → ⊥
+  apart_or_done l t u = let a = t.fact.1 in a.unlinked (same_linked (Apart l) Done t u l (u.fact.1 l))
+
+  stops_not : (line : ℕ) (Fact : (ℕ → List Recorded) → (ℕ → State) → Type 0) → StopsAt plan.graph (level_of plan.ranks) rows line blocks → Told Fact → ⊥
+  stops_not line Fact s t = stops_or_tells plan.graph (level_of plan.ranks) rows blocks line s (tells_of Fact t)
+
+  pub verdict_once : (v w : Verdict) → IsVerdictOn plan rows blocks v → IsVerdictOn plan rows blocks w → v ≡ w
+  verdict_once TooLong w hv hw = absurd hv
+  verdict_once NoLog w hv hw = absurd hv
+  verdict_once Table w hv hw = absurd hv
+  verdict_once v TooLong hv hw = absurd hw
+  verdict_once v NoLog hv hw = absurd hw
+  verdict_once v Table hv hw = absurd hw
+  verdict_once (Turn l) (Turn m) hv hw = ap Turn (stops_once plan.graph (level_of plan.ranks) rows blocks l m hv hw)
+  verdict_once (Turn l) (Unfinished i) hv hw = absurd (stops_not l (Open i) hv hw)
+  verdict_once (Turn l) (Unlinked m) hv hw = absurd (stops_not l (Apart m) hv hw)
+  verdict_once (Turn l) Fine hv hw = absurd (stops_not l Done hv hw)
+  verdict_once (Unfinished i) (Turn m) hv hw = absurd (stops_not m (Open i) hw hv)
+  verdict_once (Unfinished i) (Unfinished j) hv hw = ap Unfinished (open_once i j hv hw)
+  verdict_once (Unfinished i) (Unlinked m) hv hw = absurd (open_or i (Apart m) hv hw hw.fact.0)
+  verdict_once (Unfinished i) Fine hv hw = absurd (open_or i Done hv hw hw.fact.0)
+  verdict_once (Unlinked l) (Turn m) hv hw = absurd (stops_not m (Apart l) hw hv)
+  verdict_once (Unlinked l) (Unfinished j) hv hw = absurd (open_or j (Apart l) hw hv hv.fact.0)
+  verdict_once (Unlinked l) (Unlinked m) hv hw = ap Unlinked (apart_once l m hv hw)
+  verdict_once (Unlinked l) Fine hv hw = absurd (apart_or_done l hv hw)
+  verdict_once Fine (Turn m) hv hw = absurd (stops_not m Done hw hv)
+  verdict_once Fine (Unfinished j) hv hw = absurd (open_or j Done hw hv hv.fact.0)
+  verdict_once Fine (Unlinked m) hv hw = absurd (apart_or_done m hw hv)
+  verdict_once Fine Fine hv hw = refl

@@ -1,0 +1,166 @@
+-- A log replayed one block further.
+use Rattle.std.proofs.Common.{◌≡◌, ◌≢◌, ℕ, ◌≤◌, true, List, [], ◌∷◌, ◌++◌, Option, Some, refl, sym, ap, subst, ◌∙◌, ⊎_elim, arith, set, slice_get}
+use Rattle.std.proofs.lemmas.List.{append_cancel_left, length-set}
+use Rattle.pt_tags.specs.declared.message.Message.{Message}
+use Rattle.pt_types.specs.declared.rows.Row.{Row}
+use Rattle.pt_semantics.specs.Kept.{kept_with, settled}
+use Rattle.pt_semantics.specs.Lists.{Each}
+use Rattle.pt_semantics.specs.Platform.{State}
+use Rattle.pt_semantics.specs.Turn.{Turn}
+use Rattle.pt_semantics.proofs.Lookups.{Each-from, Each-in}
+use Rattle.pt_causality.specs.Ranked.{level_of}
+use Rattle.pt_offsets.specs.Plans.{Parts}
+use Rattle.pt_turn.specs.All.{AreAll}
+use Rattle.pt_turn.specs.Platforms.{PlatformView, rows_at, state_at}
+use Rattle.pt_tables.specs.Log.{turn_lines}
+use Rattle.pt_hints.specs.Hints.{AreHints, IsTellable}
+use Rattle.pt_hints.specs.Lines.{Block}
+use Rattle.pt_hints.specs.declared.hints.Hints.{Hints}
+use Rattle.pt_retell.specs.Following.{CanFollow}
+use Rattle.pt_retell.specs.Lasts.{AreLast, KeepOthers}
+use Rattle.pt_retell.specs.Retold.{IsOnly, at_last}
+use Rattle.pt_audit.specs.Told.{AreLawful, AreTold, ToldTurn, turns_of}
+use Rattle.pt_audit.specs.Replaying.{HasMade, HaveReplayed, fresh_order, is_joined, quiet_count, with_turn, with_turns}
+use Rattle.pt_audit.specs.Retelling.{HasTold}
+use Rattle.pt_audit.specs.declared.order.Order.{Order}
+use Rattle.pt_audit.proofs.Changed.{set_cases}
+use Rattle.pt_audit.proofs.JoinedTurns.{joined_more, with_turns_push}
+use Rattle.pt_audit.proofs.Making.{made_more, step_of}
+use Rattle.pt_audit.proofs.Next.{IsEntered, may_follow, others_are, x as next}
+use Rattle.pt_audit.proofs.ToldTurns.{each_last, each_push, order_push, told_push, turns_here, turns_there}
+
+order_platform : (turns : List Turn) (order : Order) → (with_turns turns order).platform ≡ order.platform
+order_platform [] order = refl
+order_platform (x ∷ turns) order = order_platform turns (with_turn (quiet_count x) order)
+
+last_same : (x y : Turn) → x ∷ [] ≡ y ∷ [] → x ≡ y
+last_same x y e = cc
+
+-- two turns with the same hints, which a platform recorded as the same turn
+pub same_turn : (p q : ℕ) (a b : Turn) (hints : Hints) (turns kept : List Turn) → AreHints p a hints → AreHints q b hints → kept ≡ kept_with turns (at_last a) → kept ≡ kept_with turns (at_last b) → a ≡ b
+same_turn p q a b hints turns kept ha hb ka kb =
+    let e : at_last a ≡ at_last b = last_same (at_last a) (at_last b) (append_cancel_left (settled turns) (at_last a ∷ []) (at_last b ∷ []) (sym ka ∙ kb)) in
+    let first : a.first ≡ b.first = sym ha.first ∙ hb.first in
+    let last : a.last ≡ b.last = sym ha.last ∙ hb.last in
+    let count : a.count ≡ b.count = sym ha.count ∙ hb.count in
+    λ i. record { first = first i; last = last i; count = count i; posted = (e i).posted; rows = (e i).rows; taken = (e i).taken; claimed = (e i).claimed; sent = (e i).sent }
+
+module _ (plan : Parts) (rows : ℕ → List Row) (blocks : List Block) (order entered : Order) (last now : List (Option Message)) (platforms : List PlatformView) (r : HaveReplayed plan rows blocks order last platforms)
+    (b : Block) (p : ℕ) (old new : PlatformView) (hints : Hints) (quiet : Option ℕ) (at : slice_get platforms p ≡ Some old) (named : hints.platform ≡ p) (in_order : IsEntered r.told order p entered)
+    (told : HasTold b.text hints old new) (only : IsOnly hints old new) (back : (q : ℕ) (t : Turn) → IsTellable plan.graph q t → b.text ≡ turn_lines plan.graph q t → AreHints q t hints)
+    (tellable : (q : ℕ) (t : Turn) → AreHints q t hints → IsTellable plan.graph q t)
+    (lasts : AreLast old.plan.graph old.number (state_at new).taken now) (keeps : KeepOthers old.plan.graph old.number last now) (is_quiet : quiet ≡ quiet_count told.made.turn) where
+  plan_is : old.plan ≡ plan
+  plan_is = r.all.plans p old at
+
+  number_is : old.number ≡ p
+  number_is = r.all.numbers p old at
+
+  abbrev turn : Turn
+  turn = told.made.turn
+
+  abbrev t : ToldTurn
+  t = record { platform = p; turn = turn }
+
+  their_hints : AreHints p turn hints
+  their_hints = subst (λ n. AreHints n turn hints) number_is told.made.told
+
+  is_tellable : IsTellable plan.graph p turn
+  is_tellable = tellable p turn their_hints
+
+  text : b.text ≡ turn_lines plan.graph p turn
+  text = subst (λ (z : Parts). b.text ≡ turn_lines z.graph p turn) plan_is (subst (λ n. b.text ≡ turn_lines old.plan.graph n turn) number_is told.text_of)
+
+  more_made : HasMade plan.graph (level_of plan.ranks) p rows new (turns_of p r.told ++ turn ∷ [])
+  more_made =
+      let h = r.made p old at in
+      made_more plan.graph (level_of plan.ranks) p rows old new (turns_of p r.told) turn h told.made.no_fault (step_of plan p hints old new plan_is number_is told.made) told.made.kept told.counted
+      (joined_more (turns_of p r.told) turn p h.joined (subst (λ (o : Order). is_joined o.before o.last ≡ true) in_order.turns in_order.joins))
+
+  all_now : AreAll plan rows (set platforms p new)
+  all_now = record {
+    count = length-set platforms p new ∙ r.all.count;
+    plans = λ j v there.
+        ⊎_elim
+        (λ (here : (j ≡ p) × (v ≡ new)). ap (λ (z : PlatformView). z.plan) here.1 ∙ told.made.stays.plan ∙ plan_is)
+        (λ (other : (j ≢ p) × (slice_get platforms j ≡ Some v)). r.all.plans j v other.1)
+        (set_cases platforms p j new old v at there);
+    numbers = λ j v there.
+        ⊎_elim
+        (λ (here : (j ≡ p) × (v ≡ new)). ap (λ (z : PlatformView). z.number) here.1 ∙ told.made.stays.number ∙ number_is ∙ sym here.0)
+        (λ (other : (j ≢ p) × (slice_get platforms j ≡ Some v)). r.all.numbers j v other.1)
+        (set_cases platforms p j new old v at there);
+    opened = λ j a v there home.
+        ⊎_elim
+        (λ (here : (j ≡ p) × (v ≡ new)). ap (λ (z : PlatformView). rows_at z a) here.1 ∙ ap (λ (f : ℕ → List Row). f a) told.made.stays.rows ∙ r.all.opened p a old at (home ∙ here.0))
+        (λ (other : (j ≢ p) × (slice_get platforms j ≡ Some v)). r.all.opened j a v other.1 home)
+        (set_cases platforms p j new old v at there);
+  }
+
+  -- whoever tells the blocks and this one tells the turn that was made
+  only_now : (others : List ToldTurn) (ends : ℕ → State) → AreTold plan.graph (blocks ++ b ∷ []) others → AreLawful plan.graph (level_of plan.ranks) rows others ends → others ≡ r.told ++ t ∷ []
+  only_now others ends are lawful =
+      let u : ToldTurn = (next plan rows blocks order last platforms r b others ends are lawful).turn in
+      let theirs : AreHints u.platform u.turn hints = back u.platform u.turn (next plan rows blocks order last platforms r b others ends are lawful).tellable (next plan rows blocks order last platforms r b others ends are lawful).text in
+      let here : p ≡ u.platform = sym named ∙ theirs.platform in
+      let can : CanFollow old u.turn = may_follow plan rows blocks order last platforms r b others ends are lawful old (subst (λ n. slice_get platforms n ≡ Some old) here at) in
+      let made = only u.turn can.late can.new (subst (λ n. AreHints n u.turn hints) (sym here ∙ sym number_is) theirs) can.is in
+      let same : u.turn ≡ turn = same_turn u.platform p u.turn turn hints old.turns new.turns theirs their_hints made.0 told.made.kept in
+      let is : u ≡ t = λ i. record { platform = (sym here) i; turn = same i } in
+      others_are plan rows blocks order last platforms r b others ends are lawful ∙ ap (λ (z : ToldTurn). r.told ++ z ∷ []) is
+
+  at_p : (with_turn quiet entered).platform ≡ p
+  at_p = ap (λ (o : Order). o.platform) in_order.turns ∙ order_platform (turns_of p r.told) (fresh_order p)
+
+  up_to_p : Each (λ (u : ToldTurn). u.platform ≤ p) r.told
+  up_to_p = Each-from (λ (u : ToldTurn). u.platform ≤ p) r.told (λ u m.
+      let le : u.platform ≤ order.platform = Each-in (λ (z : ToldTurn). z.platform ≤ order.platform) r.told r.up_to u m in
+      let on : order.platform ≤ p = in_order.after in
+      omega (arith, le, on))
+
+  two_now : with_turn quiet entered ≡ with_turns (turns_of p (r.told ++ t ∷ [])) (fresh_order p)
+  two_now =
+      ap (λ q. with_turn q entered) is_quiet
+      ∙ ap (with_turn (quiet_count turn)) in_order.turns
+      ∙ sym (with_turns_push (turns_of p r.told) turn (fresh_order p))
+      ∙ ap (λ (ts : List Turn). with_turns ts (fresh_order p)) (sym (turns_here p r.told t refl))
+
+  last_here : AreLast plan.graph p (state_at new).taken now
+  last_here = subst (λ (z : Parts). AreLast z.graph p (state_at new).taken now) plan_is (subst (λ n. AreLast old.plan.graph n (state_at new).taken now) number_is lasts)
+
+  keeps_others : KeepOthers plan.graph p last now
+  keeps_others = subst (λ (z : Parts). KeepOthers z.graph p last now) plan_is (subst (λ n. KeepOthers old.plan.graph n last now) number_is keeps)
+
+  last_there : (j : ℕ) (v : PlatformView) → j ≢ p → slice_get platforms j ≡ Some v → AreLast plan.graph j (state_at v).taken now
+  last_there j v other there =
+      let was = r.lasts j v there in
+      record {
+        count = last_here.count;
+        is = λ l link found home. keeps_others l link found (λ e. other (sym home ∙ e)) ∙ was.is l link found home;
+      }
+
+  pub pushed : HaveReplayed plan rows (blocks ++ b ∷ []) (with_turn quiet entered) now (set platforms p new)
+  pushed = record {
+    all = all_now;
+    told = r.told ++ t ∷ [];
+    are_told = told_push plan.graph blocks r.told b t r.are_told text is_tellable;
+    only = only_now;
+    in_order = order_push r.told t r.in_order up_to_p;
+    up_to = subst (λ n. Each (λ (u : ToldTurn). u.platform ≤ n) (r.told ++ t ∷ [])) (sym at_p) (each_push (λ (u : ToldTurn). u.platform ≤ p) r.told t up_to_p (omega arith));
+    reached = λ i h. let le : p ≤ i = each_last (λ (u : ToldTurn). u.platform ≤ i) r.told t h in omega (arith, at_p, le);
+    two = subst (λ n. with_turn quiet entered ≡ with_turns (turns_of n (r.told ++ t ∷ [])) (fresh_order n)) (sym at_p) two_now;
+    lasts = λ j v there.
+        ⊎_elim
+        (λ (here : (j ≡ p) × (v ≡ new)). subst (λ (z : PlatformView). AreLast plan.graph j (state_at z).taken now) (sym here.1) (subst (λ n. AreLast plan.graph n (state_at new).taken now) (sym here.0) last_here))
+        (λ (other : (j ≢ p) × (slice_get platforms j ≡ Some v)). last_there j v other.0 other.1)
+        (set_cases platforms p j new old v at there);
+    made = λ j v there.
+        ⊎_elim
+        (λ (here : (j ≡ p) × (v ≡ new)).
+        subst (λ (z : PlatformView). HasMade plan.graph (level_of plan.ranks) j rows z (turns_of j (r.told ++ t ∷ []))) (sym here.1)
+        (subst (λ n. HasMade plan.graph (level_of plan.ranks) n rows new (turns_of n (r.told ++ t ∷ []))) (sym here.0)
+        (subst (λ (ts : List Turn). HasMade plan.graph (level_of plan.ranks) p rows new ts) (sym (turns_here p r.told t refl)) more_made)))
+        (λ (other : (j ≢ p) × (slice_get platforms j ≡ Some v)).
+        subst (λ (ts : List Turn). HasMade plan.graph (level_of plan.ranks) j rows v ts) (sym (turns_there j r.told t (λ e. other.0 (sym e)))) (r.made j v other.1))
+        (set_cases platforms p j new old v at there);
+  }

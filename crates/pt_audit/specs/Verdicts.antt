@@ -1,0 +1,92 @@
+-- The verdicts on a file. Each file has exactly one.
+use Rattle.std.specs.Prelude.{◌≡◌, ◌<◌, ◌≤◌, ◌+◌, ◌++◌, ◌∷◌, [], ℕ, List, None, Some, flat_map, length, slice_get}
+use Rattle.pt_types.specs.declared.graph.Graph.{Graph}
+use Rattle.pt_types.specs.declared.graph.Link.{Link}
+use Rattle.pt_types.specs.declared.rows.Row.{Row}
+use Rattle.pt_types.specs.Lookups.{platform_of}
+use Rattle.pt_semantics.specs.Linked.{AreLinked, IsFinished, all_sent, all_taken}
+use Rattle.pt_semantics.specs.Platform.{State}
+use Rattle.pt_semantics.specs.Turn.{Turn as Recorded}
+use Rattle.pt_causality.specs.Ranked.{level_of}
+use Rattle.pt_offsets.specs.Plans.{Parts}
+use Rattle.pt_confluence.specs.Gathered.{AreTables}
+use Rattle.pt_hints.specs.Lines.{Block, at_log, blocks_from, lines_of}
+use Rattle.pt_hints.specs.Places.{IsLogAt}
+use Rattle.pt_audit.specs.LawfulLogs.{most_bytes}
+use Rattle.pt_audit.specs.Told.{AreLawful, AreTold, Tells, ToldTurn, turns_of}
+use Rattle.pt_audit.specs.declared.verdict.Verdict.{Verdict}
+use Rattle.pt_audit.specs.declared.verdict.Verdict.TheVariants.{TooLong, NoLog, Turn, Unfinished, Unlinked, Fine}
+
+-- a file that is not too long and has a line `log`: the lines before it, and the blocks of the lines after it
+pub record HasLog (bytes : List ℕ) (Fact : List Block → Type 0) : Type 0 where
+  pub short : length bytes ≤ most_bytes
+  pub head : List (List ℕ)
+  pub rest : List (List ℕ)
+  pub lines : at_log (lines_of bytes) ≡ Some (head, rest)
+  pub fact : Fact (blocks_from (length head + 2) rest)
+
+-- a block that begins at this line is the first one that tells no turn that may follow those before
+pub record StopsAt (g : Graph) (level : ℕ → ℕ) (rows : ℕ → List Row) (line : ℕ) (blocks : List Block) : Type 0 where
+  pub before : List Block
+  pub bad : Block
+  pub after : List Block
+  pub is : blocks ≡ before ++ bad ∷ after
+  pub at : line ≡ bad.line
+  pub tells : Tells g level rows before
+  pub never : Tells g level rows (before ++ bad ∷ []) → ⊥
+
+-- all blocks tell lawful turns, and a fact holds of their histories and of the states after them
+pub record TellsAll (g : Graph) (level : ℕ → ℕ) (rows : ℕ → List Row) (blocks : List Block) (Fact : (ℕ → List Recorded) → (ℕ → State) → Type 0) : Type 0 where
+  pub told : List ToldTurn
+  pub ends : ℕ → State
+  pub are_told : AreTold g blocks told
+  pub lawful : AreLawful g level rows told ends
+  pub fact : Fact (λ i. turns_of i told) ends
+
+-- platform i is the first that is not finished
+pub record IsFirstUnfinished (g : Graph) (i : ℕ) (ends : ℕ → State) : Type 0 where
+  pub platform : i < length g.platforms
+  pub unfinished : IsFinished g i (ends i) → ⊥
+  pub first : (j : ℕ) → j < i → IsFinished g j (ends j)
+
+-- all platforms are finished
+abbrev pub AreFinished : Graph → (ℕ → State) → Type 0
+AreFinished g ends = (i : ℕ) → i < length g.platforms → IsFinished g i (ends i)
+
+-- the receiver of link l took all that its sender sent
+abbrev pub IsLinked : Graph → (ℕ → List Recorded) → ℕ → Type 0
+IsLinked g histories l = (link : Link) → slice_get g.links l ≡ Some link →
+    all_sent l (histories (platform_of g link.from)) ≡ all_taken l (histories (platform_of g link.to))
+
+-- link l is the first that is not linked
+pub record IsFirstUnlinked (g : Graph) (l : ℕ) (histories : ℕ → List Recorded) : Type 0 where
+  pub link : l < length g.links
+  pub unlinked : IsLinked g histories l → ⊥
+  pub first : (k : ℕ) → k < l → IsLinked g histories k
+
+-- the verdict on the blocks of a log
+abbrev pub IsVerdictOn : Parts → (ℕ → List Row) → List Block → Verdict → Type 0
+IsVerdictOn plan rows blocks (Turn line) = StopsAt plan.graph (level_of plan.ranks) rows line blocks
+IsVerdictOn plan rows blocks (Unfinished i) = TellsAll plan.graph (level_of plan.ranks) rows blocks (λ histories ends. IsFirstUnfinished plan.graph i ends)
+IsVerdictOn plan rows blocks (Unlinked l) = TellsAll plan.graph (level_of plan.ranks) rows blocks (λ histories ends. AreFinished plan.graph ends × IsFirstUnlinked plan.graph l histories)
+IsVerdictOn plan rows blocks Fine = TellsAll plan.graph (level_of plan.ranks) rows blocks (λ histories ends. AreFinished plan.graph ends × AreLinked plan.graph histories)
+IsVerdictOn plan rows blocks _ = ⊥
+
+-- the verdict on a file, with this plan and these rows. The head isn't judged here, so `Table` is no verdict of its own
+abbrev pub IsVerdict : Parts → (ℕ → List Row) → List ℕ → Verdict → Type 0
+IsVerdict plan rows bytes TooLong = most_bytes < length bytes
+IsVerdict plan rows bytes NoLog = (length bytes ≤ most_bytes) × (at_log (lines_of bytes) ≡ None)
+IsVerdict plan rows bytes v = HasLog bytes (λ blocks. IsVerdictOn plan rows blocks v)
+
+-- the lines before the first line `log` are the tables of the meaning
+pub record IsHead (plan : Parts) (rows : ℕ → List Row) (bytes : List ℕ) : Type 0 where
+  pub head : List (List ℕ)
+  pub rest : List (List ℕ)
+  pub lines : at_log (lines_of bytes) ≡ Some (head, rest)
+  pub tables : AreTables plan rows (flat_map (λ (line : List ℕ). line) head)
+
+-- where the first line `log` is; 0 if there is none, or if the file is too long
+abbrev pub BeginsAt : List ℕ → Verdict → ℕ → Type 0
+BeginsAt bytes TooLong place = place ≡ 0
+BeginsAt bytes NoLog place = place ≡ 0
+BeginsAt bytes _ place = (line : ℕ) × IsLogAt bytes place line

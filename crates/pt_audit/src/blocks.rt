@@ -1,0 +1,38 @@
+//! All blocks of a log, replayed.
+
+ghost use Rattle.std.specs.Prelude.{◌≡◌, [], ℕ, IfOk, List, MatchOption};
+ghost use Rattle.pt_types.specs.declared.rows.Row.{Row};
+ghost use Rattle.pt_causality.specs.Ranked.{level_of};
+ghost use Rattle.pt_audit.specs.Replaying.{HaveReplayed};
+ghost use Rattle.pt_audit.specs.Verdicts.{StopsAt};
+
+use crate::block::replay_block;
+use crate::order::Order;
+use crate::turn::Tools;
+use pt_blocks::Blocks;
+use pt_hints::Cursor;
+use pt_offsets::Plan;
+use pt_tags::{Memory, Message};
+use pt_turn::Platform;
+
+/// Replays a log, block by block. Returns the line of the first block that tells no turn that may follow those before.
+pub(crate) fn replay_blocks(
+    plan: &Plan,
+    platforms: &mut [Platform],
+    order: &mut Order,
+    last: &mut [Option<Message>],
+    tools: &mut Tools,
+    blocks: &Blocks,
+    log: Cursor,
+) -> Result<Option<u32>, Memory>
+    requires begun { (rows : ℕ → List Row) × HaveReplayed plan.now rows [] order.old last.old platforms.old }
+    ensures { (rows : ℕ → List Row) → HaveReplayed plan.now rows [] order.old last.old platforms.old → IfOk result (λ stop. MatchOption stop (HaveReplayed plan.now rows log.entry order.new last.new platforms.new) (λ line. StopsAt plan.now.graph (level_of plan.now.ranks) rows line log.entry)) }
+{
+    let mut rest = log;
+    while let Some(block) = rest.next() {
+        if !replay_block(plan, platforms, order, last, tools, blocks, block.text)? {
+            return Ok(Some(block.line));
+        }
+    }
+    Ok(None)
+}

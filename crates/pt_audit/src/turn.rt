@@ -1,0 +1,92 @@
+//! One told turn, made again.
+
+ghost use Rattle.std.specs.Prelude.{◌≡◌, ◌<◌, ◌↔◌, ◌-◌, ◌^◌, IfOk, Some, false, length, option_map, slice_get, true};
+ghost use Rattle.pt_semantics.specs.Turn.{Turn, is_quiet};
+ghost use Rattle.pt_tables.specs.Log.{turn_lines};
+ghost use Rattle.pt_turn.specs.Platforms.{state_at};
+ghost use Rattle.pt_hints.specs.Hints.{AreHints};
+ghost use Rattle.pt_retell.specs.Following.{CanFollow};
+ghost use Rattle.pt_retell.specs.Lasts.{AreLast, KeepOthers};
+ghost use Rattle.pt_retell.specs.Retold.{IsOnly};
+ghost use Rattle.pt_audit.specs.Retelling.{HasTold, NoneTold};
+ghost use Rattle.pt_audit.specs.Replaying.{quiet_count};
+
+use crate::telling::is_text_of;
+use pt_blocks::Blocks;
+use pt_hints::Hints;
+use pt_history::History;
+use pt_retell::{Retelling, retell};
+use pt_tags::{Memory, Message};
+use pt_turn::Platform;
+use std::alloc::Global;
+
+/// Memory that serves all turns.
+#[derive(Drop)]
+pub(crate) struct Tools {
+    pub hints: Hints,
+    pub desk: Retelling,
+    pub text: String,
+}
+
+impl Tools {
+    /// Without content. Allocates nothing.
+    pub fn new(alloc: Global) -> Tools {
+        Tools {
+            hints: Hints::new(alloc),
+            desk: Retelling::new(alloc),
+            text: String::new(alloc),
+        }
+    }
+}
+
+/// Makes the turn of this block, whose hints are given, and returns whether there is one that may follow.
+pub(crate) fn replay_turn(
+    platform: &mut Platform,
+    hints: &Hints,
+    last: &mut [Option<Message>],
+    desk: &mut Retelling,
+    text: &mut String,
+    blocks: &Blocks,
+    block: &[u8],
+) -> Result<bool, Memory>
+    requires named { hints.now.platform ≡ platform.old.number }
+    requires last { AreLast platform.old.plan.graph platform.old.number (state_at platform.old).taken last.old }
+    ensures told { IfOk result (λ told. told ≡ true → HasTold block.now hints.now platform.old platform.new) }
+    ensures only { IfOk result (λ told. told ≡ true → IsOnly hints.now platform.old platform.new) }
+    ensures none { IfOk result (λ told. told ≡ false → NoneTold block.now hints.now platform.old) }
+    ensures last { IfOk result (λ told. told ≡ true → AreLast platform.old.plan.graph platform.old.number (state_at platform.new).taken last.new) }
+    ensures others { IfOk result (λ told. told ≡ true → KeepOthers platform.old.plan.graph platform.old.number last.old last.new) }
+{
+    if !retell(platform, hints, last, desk, blocks)? {
+        return Ok(false);
+    }
+    let graph = platform.plan().graph();
+    let history = platform.history();
+    if !is_counted(hints.last, hints.count, history.was_quiet()) {
+        return Ok(false);
+    }
+    match is_text_of(text, graph, hints, history, block) {
+        Ok(same) => Ok(same),
+        Err(_) => Err(Memory),
+    }
+}
+
+/// Whether a turn may have this count: one in which something happened counts once.
+fn is_counted(last: u64, count: u64, quiet: bool) -> bool
+    ensures fits { (last < 2 ^ 64) × (count < 2 ^ 64) }
+    ensures counted { (result ≡ true) ↔ (quiet ≡ false → count ≡ 1) }
+{
+    quiet || count == 1
+}
+
+/// The count of the last recorded turn, if it is quiet; the count is given.
+pub(crate) fn quiet_count(history: &History, count: u64) -> Option<u64>
+    requires { 0 < length history.now.turns }
+    ensures { (turn : Turn) → slice_get history.now.turns (length history.now.turns - 1) ≡ Some turn → result ≡ quiet_count (record turn { count = count }) }
+{
+    if history.was_quiet() {
+        Some(count)
+    } else {
+        None
+    }
+}

@@ -1,0 +1,147 @@
+-- The turn that was made has the hints, and is the only one that has them.
+use Rattle.std.proofs.Common.{◌≡◌, ℕ, suc, ◌+◌, ◌≤◌, max, Bool, List, [], ◌∷◌, ◌++◌, None, length, map, refl, sym, ap, subst, ◌∙◌, append-nil, arith, length-append}
+use Rattle.std.proofs.lemmas.List.{append_cancel_left}
+use Rattle.pt_types.specs.declared.firing.Done.{Done}
+use Rattle.pt_types.specs.declared.firing.OnLink.{OnLink}
+use Rattle.pt_types.specs.declared.firing.Task.{Task}
+use Rattle.pt_history.specs.Lists.{on_last}
+use Rattle.pt_history.specs.Turns.{sending}
+use Rattle.pt_history.proofs.LastMember.{on_last-push}
+use Rattle.pt_semantics.specs.Closing.{Sends, on_link, unsent}
+use Rattle.pt_semantics.specs.Kept.{kept_with, settled}
+use Rattle.pt_semantics.specs.Platform.{State}
+use Rattle.pt_semantics.specs.Turn.{IsTurn, Turn}
+use Rattle.pt_post.specs.Posted.{AreDone}
+use Rattle.pt_state.specs.State.{busy_in}
+use Rattle.pt_turn.specs.Platforms.{PlatformView, level_at, state_at}
+use Rattle.pt_turn.specs.Turned.{IsTurned, StaysThere, is_late}
+use Rattle.pt_turn.proofs.Sending.{sends_more, taken_still}
+use Rattle.pt_visits.specs.Visited.{HasSent}
+use Rattle.pt_hints.specs.declared.hints.Hints.{Hints}
+use Rattle.pt_hints.specs.Hints.{AreHints}
+use Rattle.pt_retell.proofs.Results.{number_of}
+use Rattle.pt_retell.specs.Retold.{HasRetold, IsOnly, at_last}
+use Rattle.pt_retell.specs.Steps.{AreOf, CanSend, HasCounts, IsInForm}
+use Rattle.pt_retell.proofs.OneTurn.{new_state, same_claims, same_rows, took}
+use Rattle.pt_retell.proofs.Results.{numbers_are, posted_by_count, posts_open, same_numbers}
+use Rattle.pt_retell.proofs.Tidy.{IsTidy}
+use Rattle.pt_retell.proofs.Counts.{reading_is}
+
+-- what was left in the outboxes after the platform sent
+state_after : (mid : PlatformView) (ms outbox : List OnLink) → state_at (record mid { turns = on_last (sending ms) mid.turns; outbox = outbox }) ≡ unsent (state_at mid) (λ (l : ℕ). on_link l outbox)
+state_after mid ms outbox = ap (λ (z : List OnLink). record (state_at mid) { outbox = λ l. on_link l outbox; taken = λ l. on_link l z }) (taken_still mid.turns ms)
+
+-- the turn that was made, with the readings and the count of the hints, and with the messages sent after it
+module _ (hints : Hints) (old mid : PlatformView) (claims : List Task) (dones : List Done) (named : hints.platform ≡ old.number) (no_fault : old.fault ≡ None)
+    (tidy : IsTidy old.plan.graph (level_at old) old.number claims (state_at old)) (form : IsInForm old.reading hints)
+    (are : AreOf claims hints.posts.items dones) (done : AreDone old.plan.graph dones) (made : IsTurned old mid hints.last (max 1 hints.claims) dones hints.taken.items) (stays : StaysThere old mid) (counts : HasCounts hints made.turn) where
+  abbrev told_turn : Turn
+  told_turn = record made.turn { first = hints.first; count = hints.count; sent = made.turn.sent ++ hints.sent.items }
+
+  at_reading : made.turn.last ≡ hints.last
+  at_reading = made.at.1 ∙ reading_is old.reading hints form
+
+  posted_are : made.turn.posted ≡ dones
+  posted_are = posted_by_count old.plan.graph (busy_in old.open_claims) dones made.turn.posted made.posted (counts.posted ∙ sym are.count)
+
+  taken_are : hints.taken.items ≡ made.turn.taken
+  taken_are = made.taken.front ∙ ap (λ ms. made.turn.taken ++ ms) (no_more made.turn.taken made.taken.rest (ap length (sym made.taken.front) ∙ sym counts.taken)) ∙ append-nil made.turn.taken
+    where
+      no_more : (xs ys : List OnLink) → length (xs ++ ys) ≡ length xs → ys ≡ []
+      no_more xs [] e = refl
+      no_more xs (y ∷ ys) e = absurd (longer (length xs) (length ys) (sym (length-append xs (y ∷ ys)) ∙ e))
+        where
+          longer : (a b : ℕ) → a + suc b ≡ a → ⊥
+          longer a b e = omega (arith, e)
+
+  are_hints : AreHints old.number told_turn hints
+  are_hints = record {
+    platform = named;
+    first = refl;
+    last = sym at_reading;
+    count = refl;
+    posts = numbers_are old.plan.graph (level_at old) old.number claims (state_at old) hints.posts.items dones tidy are ∙ ap (map number_of) (sym posted_are);
+    taken = taken_are;
+    claims = sym counts.claimed;
+    sent = sym (ap (λ z. z ++ hints.sent.items) made.at.3);
+  }
+
+  told_sends : (outbox : List OnLink) → ((l : ℕ) → on_link l mid.outbox ≡ on_link l hints.sent.items ++ on_link l outbox) → ((l : ℕ) → length (on_link l hints.sent.items) ≤ 64)
+      → Sends made.is.done (made.turn.sent ++ hints.sent.items) (state_at (record mid { turns = on_last (sending hints.sent.items) mid.turns; outbox = outbox }))
+  told_sends outbox splits few =
+      subst (λ z. Sends made.is.done (made.turn.sent ++ hints.sent.items) z) (sym (state_after mid hints.sent.items outbox))
+      (sends_more made.is.done (state_at mid) made.turn.sent hints.sent.items (λ (l : ℕ). on_link l outbox) made.is.sends splits
+      (λ l lt. subst (λ z. length (on_link l (z ++ hints.sent.items)) ≤ 64) (sym made.at.3) (few l)))
+
+  abbrev is_told : (outbox : List OnLink) → ((l : ℕ) → on_link l mid.outbox ≡ on_link l hints.sent.items ++ on_link l outbox) → ((l : ℕ) → length (on_link l hints.sent.items) ≤ 64)
+      → IsTurn old.plan.graph (level_at old) old.number (state_at old) told_turn (is_late mid.fault) (state_at (record mid { turns = on_last (sending hints.sent.items) mid.turns; outbox = outbox }))
+  is_told outbox splits few = record {
+    rises = form.rises;
+    span = subst (λ r. hints.first ≤ r) (sym at_reading) form.span;
+    posted = made.is.posted;
+    posts = made.is.posts;
+    rows = made.is.rows;
+    got = made.is.got;
+    takes = made.is.takes;
+    ready = made.is.ready;
+    claims = made.is.claims;
+    idle_if_late = made.is.idle_if_late;
+    greedy = made.is.greedy;
+    at_most = made.is.at_most;
+    done = made.is.done;
+    closes = made.is.closes;
+    sends = told_sends outbox splits few;
+  }
+
+  at_last_is : at_last told_turn ≡ sending hints.sent.items made.turn
+  at_last_is =
+      let first : made.turn.last ≡ made.turn.first = made.at.1 ∙ sym made.at.0 in
+      let count : 1 ≡ made.turn.count = sym made.at.2 in
+      λ i. record (sending hints.sent.items made.turn) { first = first i; count = count i }
+
+  kept_as : on_last (sending hints.sent.items) mid.turns ≡ kept_with old.turns (at_last told_turn)
+  kept_as = ap (on_last (sending hints.sent.items)) made.turns ∙ on_last-push (sending hints.sent.items) (settled old.turns) made.turn ∙ ap (kept_with old.turns) (sym at_last_is)
+
+  retold_with : (outbox : List OnLink) → ((l : ℕ) → on_link l mid.outbox ≡ on_link l hints.sent.items ++ on_link l outbox) → ((l : ℕ) → length (on_link l hints.sent.items) ≤ 64)
+      → HasRetold hints old (record mid { turns = on_last (sending hints.sent.items) mid.turns; outbox = outbox })
+  retold_with outbox splits few = record {
+    no_fault = no_fault;
+    turn = told_turn;
+    told = are_hints;
+    counts = (form.counted, λ one. form.single one ∙ sym at_reading);
+    is = is_told outbox splits few;
+    last = made.last;
+    kept = kept_as;
+    stays = record { plan = stays.plan; number = stays.number; rows = stays.rows };
+  }
+
+  pub retold : (new : PlatformView) → HasSent mid new hints.sent.items → CanSend mid.outbox hints.sent.items → HasRetold hints old new
+  retold new sent can =
+      let is : new ≡ record mid { turns = on_last (sending hints.sent.items) mid.turns; outbox = new.outbox } = sent.stays ∙ ap (λ (ts : List Turn). record mid { turns = ts; outbox = new.outbox }) sent.turns in
+      subst (HasRetold hints old) (sym is) (retold_with new.outbox sent.rest can.few)
+
+-- each turn with these hints that leads from the old state is the one that was made
+pub only_one : (hints : Hints) (old new : PlatformView) (claims : List Task) → IsTidy old.plan.graph (level_at old) old.number claims (state_at old) → HasRetold hints old new → IsOnly hints old new
+only_one hints old new claims tidy h turn late s told is =
+    let last : h.turn.last ≡ turn.last = sym h.told.last ∙ told.last in
+    let posted : h.turn.posted ≡ turn.posted = same_numbers old.plan.graph (level_at old) old.number claims (state_at old) h.turn.posted turn.posted tidy (posts_open old.plan.graph h.turn.posted (state_at old) h.is.posted h.is.posts) (posts_open old.plan.graph turn.posted (state_at old) is.posted is.posts) (sym h.told.posts ∙ told.posts) in
+    let taken : h.turn.taken ≡ turn.taken = sym h.told.taken ∙ told.taken in
+    let count : length h.turn.claimed ≡ length turn.claimed = sym h.told.claims ∙ told.claims in
+    let sent : h.turn.sent ≡ turn.sent = sym h.told.sent ∙ told.sent in
+    let rows : h.turn.rows ≡ turn.rows = same_rows old.plan.graph (level_at old) old.number (state_at old) (state_at new) s h.turn turn (is_late new.fault) late h.is is last posted in
+    let both = took old.plan.graph (level_at old) old.number (state_at old) (state_at new) s h.turn turn (is_late new.fault) late h.is is last posted taken in
+    let claimed = same_claims old.plan.graph (level_at old) old.number (state_at old) (state_at new) s h.turn turn (is_late new.fault) late h.is is last posted taken count in
+    let state : state_at new ≡ s = new_state old.plan.graph (level_at old) old.number (state_at old) (state_at new) s h.turn turn (is_late new.fault) late h.is is last posted taken count sent in
+    let turn_is : at_last h.turn ≡ at_last turn = λ i. record { first = last i; last = last i; count = 1; posted = posted i; rows = rows i; taken = taken i; claimed = claimed.0 i; sent = sent i } in
+    (h.kept ∙ ap (kept_with old.turns) turn_is, sym both.0, sym state)
+
+-- so it is the turn that was made again
+pub same_turn : (hints : Hints) (old new : PlatformView) (h : HasRetold hints old new) → IsOnly hints old new → (turn : Turn) (late : Bool) (s : State) → AreHints old.number turn hints → IsTurn old.plan.graph (level_at old) old.number (state_at old) turn late s → turn ≡ h.turn
+same_turn hints old new h only turn late s told is =
+    let recorded : at_last turn ≡ at_last h.turn = one_end (settled old.turns) (at_last turn) (at_last h.turn) (sym (only turn late s told is).0 ∙ h.kept) in
+    let first : turn.first ≡ h.turn.first = sym told.first ∙ h.told.first in
+    let count : turn.count ≡ h.turn.count = sym told.count ∙ h.told.count in
+    λ i. record (recorded i) { first = first i; count = count i }
+  where
+    one_end : (before : List Turn) (x y : Turn) → before ++ x ∷ [] ≡ before ++ y ∷ [] → x ≡ y
+    one_end before x y e = let same : x ∷ [] ≡ y ∷ [] = append_cancel_left before (x ∷ []) (y ∷ []) e in cc
