@@ -1,0 +1,4 @@
+pub mod Arrived
+pub mod Flown
+pub mod Moving
+pub mod Replacing

@@ -1,0 +1,13 @@
+//! Visits of platforms whose messages travel with recorded transit times and whose clocks lag behind true time.
+//!
+//! A flight moves the messages that have arrived at a platform from the airways into the pipes of their links, visits the
+//! platform, and puts the messages in the pipes on their way. Between flights all pipes are empty.
+//!
+//! Read first: `fly`, then `specs/Skies.antt`.
+#![tactic(auto)]
+
+mod flying;
+mod landing;
+mod launching;
+
+pub use flying::fly;
