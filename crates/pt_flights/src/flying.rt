@@ -57,7 +57,7 @@ pub fn fly(
 }
 
 /// How far the clock of a platform lags behind true time, in microseconds.
-fn lag_of(air: &Air, number: u32) -> u64
+pub fn lag_of(air: &Air, number: u32) -> u64
     ensures { result ≡ lag_of air.now number }
 {
     air.lags

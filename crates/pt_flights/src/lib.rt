@@ -9,5 +9,7 @@
 mod flying;
 mod landing;
 mod launching;
+mod moments;
 
 pub use flying::fly;
+pub use moments::next_time;
