@@ -1,8 +1,8 @@
 -- What a visit sent is on its way, and the pipes are empty again.
-use Rattle.std.proofs.Common.{◌≡◌, ℕ, zero, suc, ◌+◌, ◌<◌, ◌≤◌, Bool, true, false, List, [], ◌∷◌, ◌++◌, Option, Some, None, ⊎_elim, length, map, take, get_or, refl, sym, ap, ap₂, subst, ◌∙◌, arith}
+use Rattle.std.proofs.Common.{◌≡◌, ℕ, zero, suc, ◌<◌, ◌≤◌, Bool, true, false, List, [], ◌∷◌, ◌++◌, Some, None, ⊎_elim, length, map, take, get_or, refl, sym, ap, ap₂, subst, ◌∙◌, arith}
 use Rattle.std.specs.Prelude.{if◌then◌else◌, slice_get, slice_index_or}
 use Rattle.std.proofs.lemmas.List.{get_or_past}
-use Rattle.std.proofs.lemmas.Option.{get_or_from_slice_get, slice_get_cases, slice_get_past}
+use Rattle.std.proofs.lemmas.Option.{get_or_from_slice_get, slice_get_cases}
 use Rattle.pt_tags.specs.declared.message.Message.{Message}
 use Rattle.pt_types.specs.declared.graph.Graph.{Graph}
 use Rattle.pt_types.specs.declared.firing.Done.{Done}
@@ -17,7 +17,7 @@ use Rattle.pt_visits.specs.Pipes.{HavePushed, emptied, leads_to}
 use Rattle.pt_visits.specs.Visited.{IsVisited}
 use Rattle.pt_flights.specs.Skies.{came, come_on, left_on, map_from, put_link, reading_at}
 use Rattle.pt_flights.specs.Flights.{IsFlight, flown_on}
-use Rattle.pt_flights.proofs.Replacing.{length-map_from, map_alike, map_both}
+use Rattle.pt_flights.proofs.Replacing.{map_alike, map_both}
 
 each_at : {X : Type 0} (P : X → Type 0) (xs : List X) (l : ℕ) (x : X) → Each P xs → slice_get xs l ≡ Some x → P x
 each_at P [] l x h at = cc

@@ -1,10 +1,10 @@
 -- The least of some numbers, or of none.
-use Rattle.std.proofs.Common.{◌≡◌, ℕ, zero, suc, ◌+◌, ◌<◌, ◌≤◌, ◌⊎◌, List, [], ◌∷◌, Option, Some, None, ⊎_elim, inl, inr, length, min, refl, sym, ap, subst, ◌∙◌, true, false, MatchOption, arith, eq-eqb}
-use Rattle.std.specs.Prelude.{option_map, slice_get, if◌then◌else◌, ◌==◌}
+use Rattle.std.proofs.Common.{◌≡◌, ℕ, ◌+◌, ◌<◌, ◌≤◌, ◌⊎◌, List, [], ◌∷◌, Option, Some, None, ⊎_elim, inl, inr, length, min, refl, sym, ap, subst, ◌∙◌, true, false, MatchOption, arith, eq-eqb}
+use Rattle.std.specs.Prelude.{option_map, slice_get, ◌==◌}
 use Rattle.std.proofs.lemmas.Bool.{cases_eq, cases_lt, cond-false, cond-true, false≢true, ne_eqb}
 use Rattle.std.proofs.lemmas.Option.{slice_get_within}
 use Rattle.pt_semantics.specs.Lists.{IsIn}
-use Rattle.pt_semantics.specs.Paced.{IsCandidate, IsNextReading}
+use Rattle.pt_semantics.specs.Paced.{IsNextReading}
 use Rattle.pt_semantics.proofs.Lookups.{same_some}
 use Rattle.pt_air.specs.declared.air.Air.{Air}
 use Rattle.pt_airways.specs.declared.in_air.InAir.{InAir}
@@ -101,6 +101,8 @@ arrival_here a next order is = with_first a.on_way a.latest order is
     with_first : (ms : List InAir) (latest : ℕ) → NeverFall 0 ms latest → next ≡ option_map (λ (m : InAir). m.arrives) (slice_get ms 0) → IsLeast (λ time. (m : InAir) × IsIn m ms × (time ≡ m.arrives)) next
     with_first [] latest order is = subst (IsLeast (λ time. (m : InAir) × IsIn m [] × (time ≡ m.arrives))) (sym is) (λ n h. h.1)
     with_first (x ∷ ms) latest order is =
-        subst (IsLeast (λ time. (m : InAir) × IsIn m (x ∷ ms) × (time ≡ m.arrives))) (sym is)
-        ((x, inl refl, refl), λ n h. subst (λ (k : ℕ). x.arrives ≤ k) (sym h.2)
-        (⊎_elim (λ (same : h.0 ≡ x). let e = ap (λ (y : InAir). y.arrives) same in omega (arith, e)) (λ (rest : IsIn h.0 ms). none_before x.arrives ms latest h.0 order.1 rest) h.1))
+        subst (IsLeast (λ time. (m : InAir) × IsIn m (x ∷ ms) × (time ≡ m.arrives))) (sym is) (
+          (x, inl refl, refl),
+          λ n h. subst (λ (k : ℕ). x.arrives ≤ k) (sym h.2)
+              (⊎_elim (λ (same : h.0 ≡ x). let e = ap (λ (y : InAir). y.arrives) same in omega (arith, e)) (λ (rest : IsIn h.0 ms). none_before x.arrives ms latest h.0 order.1 rest) h.1),
+        )

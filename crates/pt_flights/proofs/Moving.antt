@@ -1,5 +1,5 @@
 -- The messages of one link after the other are moved into the pipes and out of them.
-use Rattle.std.proofs.Common.{◌≡◌, ℕ, suc, ◌+◌, ◌<◌, List, [], ◌∷◌, ◌++◌, Some, length, map, get_or, take, drop, set, refl, sym, ap, ap₂, subst, ◌∙◌, add-one, arith, eq-eqb, length-set}
+use Rattle.std.proofs.Common.{◌≡◌, ℕ, suc, ◌+◌, ◌<◌, List, [], ◌∷◌, ◌++◌, Some, length, map, get_or, take, drop, set, refl, sym, ap, ap₂, subst, ◌∙◌, arith, eq-eqb, length-set}
 use Rattle.std.specs.Prelude.{◌==◌, slice_get, slice_index_or}
 use Rattle.std.proofs.lemmas.Bool.{cond-false, cond-true, ne_eqb}
 use Rattle.std.proofs.lemmas.List.{drop-set-lt, drop_more}

@@ -44,7 +44,13 @@ pub fn launch(
     let transits = air.transits.as_slice();
     for l in 0..links.len() {
         let recorded = transits[l].as_slice();
-        launch_from(&mut pipes[l], &mut airways[l], recorded, links[l].delay, now)?;
+        launch_from(
+            &mut pipes[l],
+            &mut airways[l],
+            recorded,
+            links[l].delay,
+            now,
+        )?;
     }
     Ok(())
 }

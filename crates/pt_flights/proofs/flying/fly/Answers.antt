@@ -1,11 +1,10 @@
-use Rattle.std.proofs.Common.{◌≡◌, ◌-◌, ℕ, List, [], Ok, Err, length, refl, sym, ap, ap₂, subst, ◌∙◌}
+use Rattle.std.proofs.Common.{◌≡◌, ◌-◌, ℕ, List, [], Ok, Err, length, sym, ap, ap₂, subst, ◌∙◌}
 use Rattle.std.specs.Prelude.{OnOk, Result, slice_index_or}
 use Rattle.pt_tags.specs.declared.message.Message.{Message}
 use Rattle.pt_types.specs.declared.graph.Graph.{Graph}
 use Rattle.pt_offsets.specs.Plans.{Parts}
 use Rattle.pt_airways.specs.Arrivals.{AirwayView}
 use Rattle.pt_visits.specs.Visited.{IsVisited}
-use Rattle.pt_flights.specs.Flights.{IsFlight}
 use Rattle.pt_flights.specs.Skies.{come_on, left_on, map_from, put_link, reading_at}
 use Rattle.pt_flights.proofs.Flown.{as_before, flight_of, length-emptied}
 use Rattle.pt_flights.proofs.Replacing.{length-map_from}

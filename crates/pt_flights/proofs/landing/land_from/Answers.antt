@@ -1,4 +1,4 @@
-use Rattle.std.proofs.Common.{◌≡◌, ◌+◌, ◌++◌, ◌∷◌, [], true, refl, sym, ap, subst, ◌∙◌, arith, Ok, Err}
+use Rattle.std.proofs.Common.{◌≡◌, ◌+◌, ◌++◌, ◌∷◌, [], true, refl, sym, subst, ◌∙◌, arith, Ok, Err}
 use Rattle.std.specs.Prelude.{OnOk, is_err, Result}
 use Rattle.pt_flights.proofs.Arrived.{Lands, all_came, all_places, has_place, one_more, still_all}
 use Rattle.pt_flights.proofs.landing.land_from.Goals as goal

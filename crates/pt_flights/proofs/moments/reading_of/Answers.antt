@@ -1,4 +1,4 @@
-use Rattle.std.proofs.Common.{◌≡◌, ℕ, Some, ap, ◌∙◌}
+use Rattle.std.proofs.Common.{ℕ, Some, ap, ◌∙◌}
 use Rattle.pt_flights.specs.Skies.{true_time}
 use Rattle.pt_flights.proofs.Leasts.{reading_here}
 use Rattle.pt_flights.proofs.moments.reading_of.Goals as goal
