@@ -1,8 +1,8 @@
 -- What a visit sent is on its way, and the pipes are empty again.
-use Rattle.std.proofs.Common.{◌≡◌, ℕ, zero, suc, ◌<◌, ◌≤◌, Bool, true, false, List, [], ◌∷◌, ◌++◌, Some, None, ⊎_elim, length, map, take, get_or, refl, sym, ap, ap₂, subst, ◌∙◌, arith}
+use Rattle.std.proofs.Common.{◌≡◌, ◌-◌, ℕ, zero, suc, ◌<◌, ◌≤◌, Bool, true, false, List, [], ◌∷◌, ◌++◌, Some, None, ⊎_elim, length, map, take, get_or, refl, sym, ap, ap₂, subst, ◌∙◌, arith}
 use Rattle.std.specs.Prelude.{if◌then◌else◌, slice_get, slice_index_or}
 use Rattle.std.proofs.lemmas.List.{get_or_past}
-use Rattle.std.proofs.lemmas.Option.{get_or_from_slice_get, slice_get_cases}
+use Rattle.std.proofs.lemmas.Option.{get_or_from_slice_get, slice_get-get_or, slice_get_cases}
 use Rattle.pt_tags.specs.declared.message.Message.{Message}
 use Rattle.pt_types.specs.declared.graph.Graph.{Graph}
 use Rattle.pt_types.specs.declared.firing.Done.{Done}
@@ -17,7 +17,7 @@ use Rattle.pt_visits.specs.Pipes.{HavePushed, emptied, leads_to}
 use Rattle.pt_visits.specs.Visited.{IsVisited}
 use Rattle.pt_flights.specs.Skies.{came, come_on, left_on, map_from, put_link, reading_at}
 use Rattle.pt_flights.specs.Flights.{IsFlight, flown_on}
-use Rattle.pt_flights.proofs.Replacing.{map_alike, map_both}
+use Rattle.pt_flights.proofs.Replacing.{length-map_from, map_alike, map_both}
 
 each_at : {X : Type 0} (P : X → Type 0) (xs : List X) (l : ℕ) (x : X) → Each P xs → slice_get xs l ≡ Some x → P x
 each_at P [] l x h at = cc
@@ -67,3 +67,14 @@ as_before [] [] h count = refl
 as_before [] (p ∷ pipes) h count = absurd (omega (arith, count))
 as_before (q ∷ piped) [] h count = absurd (omega (arith, count))
 as_before (q ∷ piped) (p ∷ pipes) h count = ap₂ (λ (x : List Message) (xs : List (List Message)). x ∷ xs) (sym h.0) (as_before piped pipes h.1 (omega (arith, count)))
+
+-- on each link a flight sends the first 64 messages of the outbox, or all
+pub sends_first : (air : Air) (now : ℕ) (dones results : List Done) (old new : PlatformView) (before after : List AirwayView) → (h : IsFlight air now dones results old new before after)
+    → (l : ℕ) → l < length before → on_link l h.visited.turn.sent ≡ take 64 (h.visited.is.done.outbox l)
+sends_first air now dones results old new before after h l below =
+    let came_on = map_from (come_on old.plan.graph old.number now) 0 before in
+    let pipes = emptied old.plan.graph old.number 0 came_on in
+    let count : length pipes ≡ length before = length-emptied old.plan.graph old.number 0 came_on ∙ length-map_from (come_on old.plan.graph old.number now) 0 before in
+    let at : slice_get pipes l ≡ Some (get_or pipes l []) = slice_get-get_or pipes l [] (omega (arith, below, count)) in
+    let none : get_or pipes l [] ≡ [] = each_at (λ (pipe : List Message). pipe ≡ []) pipes l (get_or pipes l []) (none_left old.plan.graph old.number now 0 before) at in
+    h.visited.sent.first l (get_or pipes l []) at ∙ ap (λ (pipe : List Message). take (64 - length pipe) (h.visited.is.done.outbox l)) none

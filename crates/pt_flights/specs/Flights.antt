@@ -11,12 +11,14 @@ use Rattle.pt_turn.specs.Platforms.{PlatformView}
 use Rattle.pt_visits.specs.Visited.{IsVisited}
 use Rattle.pt_flights.specs.Skies.{come_on, left_on, map_from, put_link, reading_at}
 
--- link l after platform i took from it what had come and sent these messages
+-- link l without what had come for platform i, and with the messages on it that the platform sent
 abbrev pub flown_on : Air → Graph → ℕ → ℕ → List OnLink → ℕ → AirwayView → AirwayView
 flown_on air g i now sent l a = put_link air g now l (on_link l sent) (left_on g i now l a)
 
--- at a true time, a platform was visited at the reading of its clock, with the messages that had come; what it sent is on its way
+-- at a true time a platform was visited at the reading of its clock, with the messages that had come, and what it sent is on
+-- its way. Messages that had come are no longer on their way, even if the platform took none of them after a late one
 pub record IsFlight (air : Air) (now : ℕ) (dones results : List Done) (old new : PlatformView) (before after : List AirwayView) : Type 0 where
+  -- what it pushed into the pipes
   pub piped : List (List Message)
   pub visited : IsVisited 64 (reading_at air old.number now) dones results old new (map_from (come_on old.plan.graph old.number now) 0 before) piped
   pub airways : after ≡ map_from (flown_on air old.plan.graph old.number now visited.turn.sent) 0 before

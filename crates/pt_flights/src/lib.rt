@@ -3,7 +3,7 @@
 //! A flight moves the messages that have arrived at a platform from the airways into the pipes of their links, visits the
 //! platform, and puts the messages in the pipes on their way. Between flights all pipes are empty.
 //!
-//! Read first: `fly`, then `specs/Skies.antt`.
+//! Read first: `fly` and `next_time`, then `specs/Skies.antt`, `specs/Flights.antt` and `specs/Moments.antt`.
 #![tactic(auto)]
 
 mod flying;
