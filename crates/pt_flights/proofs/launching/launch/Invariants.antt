@@ -1,0 +1,5 @@
+use Rattle.pt_flights.proofs.Moving.{PutsTo}
+use Rattle.pt_flights.proofs.launching.launch.Given as goal
+
+abbrev pub invariant-loop-l : goal.invariant-loop-l
+invariant-loop-l l = PutsTo l.air l.graph l.now l.l l.initial.airways l.airways l.initial.pipes l.pipes

@@ -1,0 +1,3 @@
+pub mod Skies
+pub mod Flights
+pub mod Moments

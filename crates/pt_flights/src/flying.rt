@@ -1,0 +1,68 @@
+//! A flight.
+
+ghost use Rattle.std.specs.Prelude.{◌≡◌, [], None, OnOk, length};
+ghost use Rattle.pt_semantics.specs.Lists.{Each};
+ghost use Rattle.pt_post.specs.Posted.{AreDone};
+ghost use Rattle.pt_turn.specs.Platforms.{level_at, state_at};
+ghost use Rattle.pt_turn.specs.Turned.{MayCome};
+ghost use Rattle.pt_visits.specs.Pipes.{arriving};
+ghost use Rattle.pt_flights.specs.Flights.{IsFlight};
+ghost use Rattle.pt_flights.specs.Skies.{come_on, lag_of, map_from};
+
+use crate::landing::land;
+use crate::launching::launch;
+use pt_actors::Done;
+use pt_air::Air;
+use pt_airways::Airway;
+use pt_blocks::Blocks;
+use pt_links::{PLACES, Pipe};
+use pt_tags::Memory;
+use pt_turn::Platform;
+use pt_visits::{Desk, visit};
+
+/// Visits a platform at a true time, in microseconds: it takes the messages that have arrived, link by link, at most 64 from
+/// each, makes one turn at the reading of its clock with the pending results, and at most 64 messages on each link are put on
+/// their way. It claims at most 64 tasks, which are fired: `results` then has their results, for the next visit.
+///
+/// The pipes carry messages within this call; they are empty before it and after it.
+///
+/// No further visit may follow if the platform then has a `fault`, or if memory ran out: messages already taken are lost
+/// then. An arrival that does not fit in 64 bits counts as out of memory.
+pub fn fly(
+    platform: &mut Platform,
+    airways: &mut [Airway],
+    pipes: &mut [Pipe],
+    results: &mut Vec<Done>,
+    desk: &mut Desk,
+    blocks: &Blocks,
+    air: &Air,
+    now: u64,
+) -> Result<(), Memory>
+    requires no_fault { platform.old.fault ≡ None }
+    requires airways { length airways.old ≡ length platform.old.plan.graph.links }
+    requires pipes { length pipes.old ≡ length platform.old.plan.graph.links }
+    requires empty { Each (λ pipe. pipe ≡ []) pipes.old }
+    requires transits { length air.now.transits ≡ length platform.old.plan.graph.links }
+    requires done { AreDone platform.old.plan.graph results.old.items }
+    requires taken { MayCome platform.old.plan.graph (level_at platform.old) platform.old.number (state_at platform.old)
+        (arriving platform.old.plan.graph platform.old.number 0 (map_from (come_on platform.old.plan.graph platform.old.number now) 0 airways.old)) }
+    ensures flown { OnOk result (IsFlight air.now now results.old.items results.new.items platform.old platform.new airways.old airways.new) }
+    ensures pipes { OnOk result (pipes.new ≡ pipes.old) }
+{
+    let number = platform.number();
+    land(platform.plan().graph(), number, airways, pipes, now);
+    let reading = now.saturating_sub(lag_of(air, number));
+    visit(platform, pipes, results, desk, blocks, reading, PLACES)?;
+    launch(platform.plan().graph(), air, pipes, airways, now)
+}
+
+/// How far the clock of a platform lags behind true time, in microseconds.
+pub fn lag_of(air: &Air, number: u32) -> u64
+    ensures { result ≡ lag_of air.now number }
+{
+    air.lags
+        .as_slice()
+        .get(number as usize)
+        .copied()
+        .unwrap_or(0)
+}

@@ -1,0 +1,41 @@
+//! Messages that have arrived.
+
+ghost use Rattle.std.specs.Prelude.{◌≡◌, [], drop, length, map, take};
+ghost use Rattle.pt_semantics.specs.Lists.{Each};
+ghost use Rattle.pt_airways.specs.declared.in_air.InAir.{InAir};
+ghost use Rattle.pt_flights.specs.Skies.{came, come_on, left_on, map_from};
+
+use pt_airways::Airway;
+use pt_links::{PLACES, Pipe};
+use pt_types::Graph;
+
+/// Moves the messages that have arrived from an airway into an empty pipe, as many as it holds.
+fn land_from(airway: &mut Airway, pipe: &mut Pipe, now: u64)
+    requires empty { pipe.old ≡ [] }
+    ensures pipe { pipe.new ≡ map (λ (m : InAir). m.message) (take (came now airway.old.on_way) airway.old.on_way) }
+    ensures airway { airway.new ≡ record airway.old { on_way = drop (came now airway.old.on_way) airway.old.on_way } }
+{
+    for _k in 0..PLACES {
+        let Some(message) = airway.arrived(now) else {
+            return;
+        };
+        let _ = pipe.push(message);
+    }
+}
+
+/// Moves the messages that have arrived at a platform from the airways into the pipes of their links, which are empty, as
+/// many as each pipe holds.
+pub fn land(graph: &Graph, number: u32, airways: &mut [Airway], pipes: &mut [Pipe], now: u64)
+    requires airways { length airways.old ≡ length graph.now.links }
+    requires pipes { length pipes.old ≡ length graph.now.links }
+    requires empty { Each (λ pipe. pipe ≡ []) pipes.old }
+    ensures pipes { pipes.new ≡ map_from (come_on graph.now number now) 0 airways.old }
+    ensures airways { airways.new ≡ map_from (left_on graph.now number now) 0 airways.old }
+{
+    let links = graph.links.as_slice();
+    for l in 0..links.len() {
+        if graph.platform_of(links[l].to) == number {
+            land_from(&mut airways[l], &mut pipes[l], now);
+        }
+    }
+}

@@ -1,0 +1,56 @@
+//! Messages that are put on their way.
+
+ghost use Rattle.std.specs.Prelude.{◌≡◌, [], OnOk, length, map, slice_index_or};
+ghost use Rattle.pt_flights.specs.Skies.{map_from, put_all, put_link};
+
+use pt_air::Air;
+use pt_airways::Airway;
+use pt_links::Pipe;
+use pt_tags::Memory;
+use pt_types::Graph;
+
+/// Puts all messages in a pipe on their way.
+fn launch_from(
+    pipe: &mut Pipe,
+    airway: &mut Airway,
+    transits: &[u64],
+    delay: u64,
+    now: u64,
+) -> Result<(), Memory>
+    ensures airway { OnOk result (airway.new ≡ put_all now transits.now delay pipe.old airway.old) }
+    ensures pipe { OnOk result (pipe.new ≡ []) }
+{
+    while let Some(message) = pipe.take() {
+        airway.put(now, transits, delay, message)?;
+    }
+    Ok(())
+}
+
+/// Puts all messages in the pipes on their way.
+pub fn launch(
+    graph: &Graph,
+    air: &Air,
+    pipes: &mut [Pipe],
+    airways: &mut [Airway],
+    now: u64,
+) -> Result<(), Memory>
+    requires airways { length airways.old ≡ length graph.now.links }
+    requires pipes { length pipes.old ≡ length graph.now.links }
+    requires transits { length air.now.transits ≡ length graph.now.links }
+    ensures airways { OnOk result (airways.new ≡ map_from (λ l. put_link air.now graph.now now l (slice_index_or pipes.old l [])) 0 airways.old) }
+    ensures pipes { OnOk result (pipes.new ≡ map (λ pipe. []) pipes.old) }
+{
+    let links = graph.links.as_slice();
+    let transits = air.transits.as_slice();
+    for l in 0..links.len() {
+        let recorded = transits[l].as_slice();
+        launch_from(
+            &mut pipes[l],
+            &mut airways[l],
+            recorded,
+            links[l].delay,
+            now,
+        )?;
+    }
+    Ok(())
+}
