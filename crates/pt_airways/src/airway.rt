@@ -95,7 +95,7 @@ impl Airway {
     }
 }
 
-/// How long a message takes that is put after so many events.
+/// How long a message takes that is put after this number of events.
 fn transit_of(transits: &[u64], delay: u64, events: u64, message: Message) -> u64
     ensures { result ≡ transit_of transits.now delay events message }
 {
