@@ -348,6 +348,14 @@ impl History {
         self.work.task_in(turn, number)
     }
 
+    /// Claim `number` of a recorded turn, counted from 0, without its inputs and its state.
+    pub fn claim_mark(&self, turn: usize, number: usize) -> Mark
+        requires { number < length (claimed_in self.now.turns turn) }
+        ensures { option_map mark_of (slice_get (claimed_in self.now.turns turn) number) ≡ Some result }
+    {
+        self.work.claim_mark(turn, number)
+    }
+
     /// The messages sent after a recorded turn and before the next one.
     pub fn sent(&self, number: usize) -> &[OnLink]
         requires { number < length self.now.turns }

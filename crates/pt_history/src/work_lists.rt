@@ -150,6 +150,15 @@ impl WorkLists {
         self.work.task(self.claimed.start(list) + number)
     }
 
+    /// Claim `number` of a list, counted from 0, without its inputs and its state.
+    pub fn claim_mark(&self, list: usize, number: usize) -> Mark
+        requires list { list < length self.now.claimed.lists }
+        requires number { number < length (slice_index_or self.now.claimed.lists list []) }
+        ensures { option_map mark_of (slice_get (slice_index_or self.now.claimed.lists list []) number) ≡ Some result }
+    {
+        self.work.mark(self.claimed.start(list) + number)
+    }
+
     /// The number of results in a list.
     pub fn posted(&self, list: usize) -> usize
         requires { list < length self.now.posted.lists }
