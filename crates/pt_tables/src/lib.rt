@@ -9,6 +9,7 @@
 #![tactic(auto)]
 
 mod actor_tables;
+mod fields;
 mod lines;
 mod margin_lines;
 mod meaning;

@@ -2,13 +2,15 @@
 
 ghost use Rattle.std.specs.Prelude.{◌≡◌, ◌++◌, OnOk, string_bytes};
 ghost use Rattle.pt_types.specs.declared.firing.Done.{Done};
+ghost use Rattle.pt_types.specs.declared.firing.Task.{Task};
 ghost use Rattle.pt_history.specs.Tasks.{mark_of};
 ghost use Rattle.pt_tables.specs.Log.{claim_line, message_line, post_line, row_line, sent_line, take_line, turn_line};
 
+use crate::fields::{push_end, push_name, push_number};
 use crate::names::{receiver_name, sender_name};
 use pt_history::Mark;
 use pt_tags::{Message, Tag};
-use pt_types::{Graph, OnLink, Row, RowAt, Task};
+use pt_types::{Graph, OnLink, Row, RowAt};
 use std::alloc::AllocError;
 
 /// Appends the line of a turn, or of a run of quiet turns: `turn,PLATFORM,FIRST,LAST,COUNT`.
@@ -21,15 +23,21 @@ pub fn push_turn_line(
 ) -> Result<(), AllocError>
     ensures { OnOk result (string_bytes text.new ≡ string_bytes text.old ++ turn_line platform.now first last count) }
 {
-    write!(text, "turn,{platform},{first},{last},{count}\n")
+    text.push_str("turn")?;
+    push_name(text, platform)?;
+    push_number(text, first)?;
+    push_number(text, last)?;
+    push_number(text, count)?;
+    push_end(text)
 }
 
 /// Appends the line of the posted result of a task, which is given without its inputs: `post,NUMBER`.
 pub(crate) fn push_post(text: &mut String, task: Mark) -> Result<(), AllocError>
     ensures { (done : Done) → mark_of done.task ≡ task → OnOk result (string_bytes text.new ≡ string_bytes text.old ++ post_line done) }
 {
-    let number = task.number;
-    write!(text, "post,{number}\n")
+    text.push_str("post")?;
+    push_number(text, task.number)?;
+    push_end(text)
 }
 
 /// Appends the line of a row that entered: `row,SENSOR,TIME,SEEN,VALUE`.
@@ -38,8 +46,12 @@ pub(crate) fn push_row(text: &mut String, graph: &Graph, at: &RowAt) -> Result<(
 {
     let RowAt { sensor, row } = *at;
     let Row { time, seen, value } = row;
-    let name = graph.actor_name(sensor);
-    write!(text, "row,{name},{time},{seen},{value}\n")
+    text.push_str("row")?;
+    push_name(text, graph.actor_name(sensor))?;
+    push_number(text, time)?;
+    push_number(text, seen)?;
+    push_number(text, value)?;
+    push_end(text)
 }
 
 /// Appends the line of a message taken: `take,RECEIVER,TIME,STEP,VALUE` or `take,RECEIVER,end`.
@@ -54,14 +66,16 @@ pub(crate) fn push_taken(text: &mut String, graph: &Graph, taken: &OnLink) -> Re
     )
 }
 
-/// Appends the line of a claim: `claim,NUMBER,ACTOR,TIME,STEP`.
-pub(crate) fn push_claim(text: &mut String, graph: &Graph, task: &Task) -> Result<(), AllocError>
-    ensures { OnOk result (string_bytes text.new ≡ string_bytes text.old ++ claim_line graph.now task.now) }
+/// Appends the line of a claim, which is given without its inputs: `claim,NUMBER,ACTOR,TIME,STEP`.
+pub(crate) fn push_claim(text: &mut String, graph: &Graph, claim: Mark) -> Result<(), AllocError>
+    ensures { (task : Task) → mark_of task ≡ claim → OnOk result (string_bytes text.new ≡ string_bytes text.old ++ claim_line graph.now task) }
 {
-    let number = task.number;
-    let name = graph.actor_name(task.actor);
-    let Tag { time, step } = task.tag;
-    write!(text, "claim,{number},{name},{time},{step}\n")
+    text.push_str("claim")?;
+    push_number(text, claim.number)?;
+    push_name(text, graph.actor_name(claim.actor))?;
+    push_number(text, claim.tag.time)?;
+    push_number(text, claim.tag.step)?;
+    push_end(text)
 }
 
 /// Appends the line of a message sent: `sent,SENDER,TIME,STEP,VALUE` or `sent,SENDER,end`.
@@ -82,7 +96,7 @@ fn push_message(
 {
     match message {
         Message::Event { tag, value } => push_event(text, word, name, tag, value),
-        Message::End => write!(text, "{word},{name},end\n"),
+        Message::End => push_last(text, word, name),
     }
 }
 
@@ -96,6 +110,19 @@ fn push_event(
 ) -> Result<(), AllocError>
     ensures { OnOk result (string_bytes text.new ≡ string_bytes text.old ++ message_line word.now name.now (Message.Event tag value)) }
 {
-    let Tag { time, step } = tag;
-    write!(text, "{word},{name},{time},{step},{value}\n")
+    text.push_str(word)?;
+    push_name(text, name)?;
+    push_number(text, tag.time)?;
+    push_number(text, tag.step)?;
+    push_number(text, value)?;
+    push_end(text)
+}
+
+/// Appends the line of the end of a link, at one end of it.
+fn push_last(text: &mut String, word: &str, name: &str) -> Result<(), AllocError>
+    ensures { OnOk result (string_bytes text.new ≡ string_bytes text.old ++ message_line word.now name.now Message.End) }
+{
+    text.push_str(word)?;
+    push_name(text, name)?;
+    text.push_str(",end\n")
 }

@@ -3,6 +3,7 @@
 ghost use Rattle.std.specs.Prelude.{◌≡◌, ◌++◌, OnOk, []};
 ghost use Rattle.pt_semantics.specs.Tables.{line};
 
+use crate::fields::{push_end, push_number};
 use pt_tags::Tag;
 use std::alloc::{AllocError, Global};
 use std::marker::Model;
@@ -35,8 +36,11 @@ impl Table {
     pub(crate) fn push_line(&mut self, name: &str, tag: Tag, value: i64) -> Result<(), AllocError>
         ensures { OnOk result (self.new ≡ self.old ++ line name.now tag value) }
     {
-        let Tag { time, step } = tag;
-        write!(self.text, "{name},{time},{step},{value}\n")
+        self.text.push_str(name)?;
+        push_number(&mut self.text, tag.time)?;
+        push_number(&mut self.text, tag.step)?;
+        push_number(&mut self.text, value)?;
+        push_end(&mut self.text)
     }
 
     /// All lines, as text.

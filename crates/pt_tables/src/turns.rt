@@ -116,7 +116,7 @@ fn push_claims(
     ensures { OnOk result (string_bytes text.new ≡ string_bytes text.old ++ flat_map (claim_line graph.now) (claimed_in history.now.turns turn)) }
 {
     for number in 0..history.claimed(turn) {
-        push_claim(text, graph, &history.task_in(turn, number))?;
+        push_claim(text, graph, history.claim_mark(turn, number))?;
     }
     Ok(())
 }
