@@ -72,6 +72,26 @@ visit_advances g level most room r x m y k = record {
   sends = k.sends;
 }
 
+-- a round of platforms, each at its own clock's reading: each of the next n, from i on, makes one turn, unless it is finished
+abbrev pub AdvanceRound : Graph → (ℕ → ℕ) → (ℕ → ℕ) → ℕ → ℕ → Together → List Made → Together → Type 0
+AdvanceRound g level c zero i x ms y = (ms ≡ []) × (y ≡ x)
+AdvanceRound g level c (suc n) i x ms y =
+    (IsFinished g i (x.at i) × AdvanceRound g level c n (suc i) x ms y)
+    ⊎ ((IsFinished g i (x.at i) → ⊥) × (m : Made) × (rest : List Made) × (mid : Together) × (ms ≡ m ∷ rest) × (m.platform ≡ i) × Advances g level (c m.platform) x m mid × AdvanceRound g level c n (suc i) mid rest y)
+
+pub makes_advances : (g : Graph) (level : ℕ → ℕ) (c : ℕ) (x : Together) (m : Made) (y : Together) → Makes g level c x m y → Advances g level c x m y
+makes_advances g level c x m y k = visit_advances g level 64 (λ l. 64 - length (x.on_way l)) c x m y k
+
+-- a round at one common reading is one
+pub round_advances : (g : Graph) (level : ℕ → ℕ) (c n i : ℕ) (x : Together) (ms : List Made) (y : Together) → Round g level c n i x ms y → AdvanceRound g level (λ j. c) n i x ms y
+round_advances g level c zero i x ms y r = r
+round_advances g level c (suc n) i x ms y r =
+    ⊎_elim
+    (λ (skip : IsFinished g i (x.at i) × Round g level c n (suc i) x ms y). inl (skip.0, round_advances g level c n (suc i) x ms y skip.1))
+    (λ (one : (IsFinished g i (x.at i) → ⊥) × (m : Made) × (rest : List Made) × (mid : Together) × (ms ≡ m ∷ rest) × (m.platform ≡ i) × Makes g level c x m mid × Round g level c n (suc i) mid rest y).
+    inr (one.0, one.1, one.2, one.3, one.4, one.5, makes_advances g level c x one.1 one.3 one.6, round_advances g level c n (suc i) one.3 one.2 y one.7))
+    r
+
 -- all platforms together, with other messages on their way
 abbrev pub with_way : Together → (ℕ → List Message) → Together
 with_way x way = record { at = x.at; did = x.did; on_way = way }
@@ -225,19 +245,21 @@ module _ (g : Graph) (level : ℕ → ℕ) (rows : ℕ → List Row) (offset : P
           ∙ ap (λ z. all_taken l (x.did (platform_of g link.to)) ++ z) (sym (tp.taken_own l link at (λ home. ne home))))
           (cases_same (platform_of g link.to) m.platform)
 
-module _ (g : Graph) (level : ℕ → ℕ) (rows : ℕ → List Row) (offset : Part → Option ℤ) (has : (u : Part) → HasOffset g u (offset u)) (wired : IsWired g) (feasible : IsFeasible g) (c : ℕ) where
-  pub makes_onward : (x y : Together) (m : Made) → m.platform < length g.platforms → Onward g level rows offset c x → Makes g level c x m y → (m.late ≡ false) × Onward g level rows offset c y
-  makes_onward x y m lt h k =
-      advance_onward g level rows offset has wired feasible (λ i. c) (one_is_near g c) x y m lt h (visit_advances g level 64 (λ l. 64 - length (x.on_way l)) c x m y k)
-
-  pub round_onward : (n i : ℕ) (x y : Together) (ms : List Made) → n + i ≤ length g.platforms → Onward g level rows offset c x → Round g level c n i x ms y → Each (λ (m : Made). m.late ≡ false) ms × Onward g level rows offset c y
-  round_onward zero i x y ms le h (e, same) = (subst (Each (λ (m : Made). m.late ≡ false)) (sym e) tt, subst (Onward g level rows offset c) (sym same) h)
-  round_onward (suc n) i x y ms le h r =
+  pub advance_round_onward : (n i : ℕ) (x y : Together) (ms : List Made) → n + i ≤ length g.platforms → OnwardNear g level rows offset c x → AdvanceRound g level c n i x ms y → Each (λ (m : Made). m.late ≡ false) ms × OnwardNear g level rows offset c y
+  advance_round_onward zero i x y ms le h (e, same) = (subst (Each (λ (m : Made). m.late ≡ false)) (sym e) tt, subst (OnwardNear g level rows offset c) (sym same) h)
+  advance_round_onward (suc n) i x y ms le h r =
       ⊎_elim
-      (λ (done : IsFinished g i (x.at i) × Round g level c n (suc i) x ms y). round_onward n (suc i) x y ms (omega arith) h done.1)
-      (λ (one : (IsFinished g i (x.at i) → ⊥) × (m : Made) × (rest : List Made) × (mid : Together) × (ms ≡ m ∷ rest) × (m.platform ≡ i) × Makes g level c x m mid × Round g level c n (suc i) mid rest y).
-      let lt : one.1.platform < length g.platforms = subst (λ z. z < length g.platforms) (sym one.5) (omega arith) in
-      let step = makes_onward x one.3 one.1 lt h one.6 in
-      let on = round_onward n (suc i) one.3 y one.2 (omega arith) step.1 one.7 in
+      (λ (done : IsFinished g i (x.at i) × AdvanceRound g level c n (suc i) x ms y). advance_round_onward n (suc i) x y ms (omega (arith, le)) h done.1)
+      (λ (one : (IsFinished g i (x.at i) → ⊥) × (m : Made) × (rest : List Made) × (mid : Together) × (ms ≡ m ∷ rest) × (m.platform ≡ i) × Advances g level (c m.platform) x m mid × AdvanceRound g level c n (suc i) mid rest y).
+      let lt : one.1.platform < length g.platforms = subst (λ z. z < length g.platforms) (sym one.5) (omega (arith, le)) in
+      let step = advance_onward x one.3 one.1 lt h one.6 in
+      let on = advance_round_onward n (suc i) one.3 y one.2 (omega (arith, le)) step.1 one.7 in
       (subst (Each (λ (m : Made). m.late ≡ false)) (sym one.4) (step.0, on.0), on.1))
       r
+
+module _ (g : Graph) (level : ℕ → ℕ) (rows : ℕ → List Row) (offset : Part → Option ℤ) (has : (u : Part) → HasOffset g u (offset u)) (wired : IsWired g) (feasible : IsFeasible g) (c : ℕ) where
+  pub makes_onward : (x y : Together) (m : Made) → m.platform < length g.platforms → Onward g level rows offset c x → Makes g level c x m y → (m.late ≡ false) × Onward g level rows offset c y
+  makes_onward x y m lt h k = advance_onward g level rows offset has wired feasible (λ i. c) (one_is_near g c) x y m lt h (makes_advances g level c x m y k)
+
+  pub round_onward : (n i : ℕ) (x y : Together) (ms : List Made) → n + i ≤ length g.platforms → Onward g level rows offset c x → Round g level c n i x ms y → Each (λ (m : Made). m.late ≡ false) ms × Onward g level rows offset c y
+  round_onward n i x y ms le h r = advance_round_onward g level rows offset has wired feasible (λ j. c) (one_is_near g c) n i x y ms le h (round_advances g level c n i x ms y r)

@@ -1,5 +1,5 @@
 -- A run stops for too many claims exactly where the meaning has that many unit firings on a platform.
-use Rattle.std.proofs.Common.{◌-◌, ◌≡◌, ℕ, zero, suc, ◌+◌, ◌<◌, ◌≤◌, ◌==◌, ◌≢◌, Bool, true, false, if◌then◌else◌, List, [], ◌∷◌, ◌++◌, Option, ℤ, length, arith, refl, sym, ap, subst, ◌∙◌, ⊎_elim, eqb-true, length-append}
+use Rattle.std.proofs.Common.{◌≡◌, ℕ, zero, suc, ◌+◌, ◌<◌, ◌≤◌, ◌==◌, ◌≢◌, Bool, true, false, if◌then◌else◌, List, [], ◌∷◌, ◌++◌, Option, ℤ, length, arith, refl, sym, ap, subst, ◌∙◌, ⊎_elim, eqb-true, length-append}
 use Rattle.std.proofs.lemmas.Bool.{cases_lt, false≢true}
 use Rattle.std.proofs.lemmas.Grind.{flat_map-append}
 use Rattle.pt_tags.specs.declared.tag.Tag.{Tag}
@@ -24,7 +24,6 @@ use Rattle.pt_semantics.specs.History.{LegalOnTime, claims_of}
 use Rattle.pt_semantics.specs.Linked.{IsFinished, all_claims}
 use Rattle.pt_semantics.specs.Counts.{actor_firings, unit_firings}
 use Rattle.pt_semantics.specs.Visits.{Together, Made, AreFinished}
-use Rattle.pt_semantics.specs.Rounds.{Makes, Round}
 use Rattle.pt_schedule.specs.PacedTheorems.{LongExactly}
 use Rattle.pt_semantics.proofs.Acyclic.{levels_are_small}
 use Rattle.pt_semantics.proofs.Longest.{levels_grow}
@@ -32,7 +31,7 @@ use Rattle.pt_semantics.proofs.Lookups.{none_some}
 use Rattle.pt_semantics.proofs.Claiming.{event_found}
 use Rattle.pt_laws.specs.NearClocks.{AreNear}
 use Rattle.pt_laws.proofs.NearClocks.{one_is_near}
-use Rattle.pt_laws.proofs.Onward.{Advances, Onward, OnwardNear, advance_onward, cases_same, makes_onward, round_onward, visit_advances}
+use Rattle.pt_laws.proofs.Onward.{AdvanceRound, Advances, Onward, OnwardNear, advance_onward, cases_same, round_advances, round_onward}
 use Rattle.pt_schedule.proofs.PacedRuns.{run_onward}
 use Rattle.pt_schedule.proofs.Prefix.{prefixes}
 use Rattle.pt_laws.proofs.Sums.{sum_same}
@@ -128,6 +127,19 @@ module _ (g : Graph) (level rank : ℕ → ℕ) (rows : ℕ → List Row) (offse
           sums : (a b p n : ℕ) → most_claims ≤ n → a ≡ n → a ≤ b → b < p → p ≤ most_claims → ⊥
           sums a b p n h1 h2 h3 h4 h5 = omega (arith, h1, h2, h3, h4, h5)
 
+  pub long_in_round : (n i : ℕ) (x y : Together) (ms : List Made) → n + i ≤ length g.platforms → OnwardNear g level rows offset c x → AdvanceRound g level c n i x ms y → Each (λ (m : Made). m.fault ≡ true → most_claims < unit_firings g m.platform (parts g xs)) ms
+  long_in_round zero i x y ms le h (none, same) = subst (Each (λ (m : Made). m.fault ≡ true → most_claims < unit_firings g m.platform (parts g xs))) (sym none) tt
+  long_in_round (suc n) i x y ms le h round =
+      ⊎_elim
+      (λ (skip : IsFinished g i (x.at i) × AdvanceRound g level c n (suc i) x ms y). long_in_round n (suc i) x y ms (omega (arith, le)) h skip.1)
+      (λ (one : (IsFinished g i (x.at i) → ⊥) × (m : Made) × (rest : List Made) × (mid : Together) × (ms ≡ m ∷ rest) × (m.platform ≡ i) × Advances g level (c m.platform) x m mid × AdvanceRound g level c n (suc i) mid rest y).
+      let lt : one.1.platform < length g.platforms = subst (λ j. j < length g.platforms) (sym one.5) (omega (arith, le)) in
+      subst (Each (λ (m : Made). m.fault ≡ true → most_claims < unit_firings g m.platform (parts g xs))) (sym one.4) (
+        long_of x one.3 one.1 lt h one.6,
+        long_in_round n (suc i) one.3 y one.2 (omega (arith, le)) (advance_onward g level rows offset has wired feasible c near x one.3 one.1 lt h one.6).1 one.7,
+      ))
+      round
+
   -- where all platforms are finished, no platform has too many
   pub none_long : (y : Together) → OnwardNear g level rows offset c y → AreFinished g y → (i : ℕ) → i < length g.platforms → unit_firings g i (parts g xs) ≤ most_claims
   none_long y h done i lt =
@@ -136,25 +148,11 @@ module _ (g : Graph) (level rank : ℕ → ℕ) (rows : ℕ → List Row) (offse
       subst (λ f. unit_firings g i f ≤ most_claims) same
       (subst (λ n. n ≤ most_claims) (sym (claims_are y h i lt)) (few_claims g level i (y.did i) (opened g i rows) (y.at i) (omega arith) (h.legal i lt)))
 
-module _ (g : Graph) (level rank : ℕ → ℕ) (rows : ℕ → List Row) (offset : Part → Option ℤ) (wired : IsWired g) (are : AreLevels g level) (ranks : AreRanks g rank) (fits : FitRows g rows) (feasible : IsFeasible g) (has : (u : Part) → HasOffset g u (offset u)) (xs : List ActorFiring) (meaning : IsMeaning g rank rows xs) (c : ℕ) where
-  long_in_round : (n i : ℕ) (x y : Together) (ms : List Made) → n + i ≤ length g.platforms → Onward g level rows offset c x → Round g level c n i x ms y → Each (λ (m : Made). m.fault ≡ true → most_claims < unit_firings g m.platform (parts g xs)) ms
-  long_in_round zero i x y ms le h (none, same) = subst (Each (λ (m : Made). m.fault ≡ true → most_claims < unit_firings g m.platform (parts g xs))) (sym none) tt
-  long_in_round (suc n) i x y ms le h round =
-      ⊎_elim
-      (λ (skip : IsFinished g i (x.at i) × Round g level c n (suc i) x ms y). long_in_round n (suc i) x y ms (omega (arith, le)) h skip.1)
-      (λ (one : (IsFinished g i (x.at i) → ⊥) × (m : Made) × (rest : List Made) × (mid : Together) × (ms ≡ m ∷ rest) × (m.platform ≡ i) × Makes g level c x m mid × Round g level c n (suc i) mid rest y).
-      let lt : one.1.platform < length g.platforms = subst (λ j. j < length g.platforms) (sym one.5) (omega (arith, le)) in
-      subst (Each (λ (m : Made). m.fault ≡ true → most_claims < unit_firings g m.platform (parts g xs))) (sym one.4) (
-        long_of g level rank rows offset wired are ranks fits feasible has xs meaning (λ i. c) (one_is_near g c) x one.3 one.1 lt h (visit_advances g level 64 (λ l. 64 - length (x.on_way l)) c x one.1 one.3 one.6),
-        long_in_round n (suc i) one.3 y one.2 (omega (arith, le)) (makes_onward g level rows offset has wired feasible c x one.3 one.1 lt h one.6).1 one.7,
-      ))
-      round
-
 pub long_exactly : LongExactly
 long_exactly g level rank rows offset rounds c n ms y xs wired are ranks fits feasible has r meaning =
     let some : n ≤ length g.platforms = r.some in
     let begin : Onward g level rows offset c r.before = run_onward g level rows offset wired are (levels_are_small g level wired are) fits feasible has rounds c r.before r.run in
     let on = round_onward g level rows offset has wired feasible c n 0 r.before y ms (omega (arith, some)) begin r.round in (
-      long_in_round g level rank rows offset wired are ranks fits feasible has xs meaning c n 0 r.before y ms (omega (arith, some)) begin r.round,
+      long_in_round g level rank rows offset wired are ranks fits feasible has xs meaning (λ i. c) (one_is_near g c) n 0 r.before y ms (omega (arith, some)) begin (round_advances g level c n 0 r.before ms y r.round),
       none_long g level rank rows offset wired are ranks fits feasible has xs meaning (λ i. c) (one_is_near g c) y on.1,
     )
