@@ -6,17 +6,15 @@ use Rattle.std.specs.List.{cons_option}
 use Rattle.pt_types.specs.declared.graph.Graph.{Graph}
 use Rattle.pt_types.specs.declared.graph.Link.{Link}
 use Rattle.pt_tags.specs.declared.tag.Tag.{Tag}
-use Rattle.pt_types.specs.declared.kind.Kind.TheVariants.{Send}
 use Rattle.pt_types.specs.declared.graph.Unit.{Unit as Part}
 use Rattle.pt_tags.specs.Tags.{plus, same_tag}
 use Rattle.pt_types.specs.Ports.{when, at_port}
 use Rattle.pt_semantics.specs.Lists.{IsIn, Each}
-use Rattle.pt_semantics.specs.Edges.{Edge, wires, of_link}
-use Rattle.pt_types.specs.Lookups.{kind_of, platform_of}
+use Rattle.pt_semantics.specs.Edges.{Edge, wires}
+use Rattle.pt_types.specs.Lookups.{platform_of}
 use Rattle.pt_semantics.specs.Units.{source, target, at_input, at_output, unit_of, first_port, leaves_unit}
 use Rattle.pt_semantics.specs.Ranks.{sum_along}
 use Rattle.pt_semantics.specs.Bounds.{Feeds, bound_by, link_bound}
-use Rattle.pt_types.specs.Lookups.{slack_of}
 use Rattle.pt_semantics.specs.Wired.{IsWired}
 use Rattle.pt_semantics.specs.Offsets.{HasOffset}
 use Rattle.pt_types.specs.declared.rows.Row.{Row}
@@ -40,7 +38,7 @@ use Rattle.pt_semantics.proofs.Tags.{same_tag-true}
 use Rattle.pt_semantics.proofs.Words.{when-true, when-false}
 use Rattle.pt_semantics.proofs.Lookups.{none_some, same_some, or_else_found, when_found, first_of_found, IsIn-append, IsIn-append_left, IsIn-append_right, same_part-true, cases_part}
 use Rattle.pt_laws.proofs.Rows.{due_split}
-use Rattle.pt_semantics.proofs.Floor.{going_found, end_is, plus_zero, put_none_found, put_same, put_other, sensor_unit}
+use Rattle.pt_semantics.proofs.Floor.{going_found, end_is, put_none_found, put_same, put_other, sensor_unit}
 use Rattle.pt_semantics.proofs.Claiming.{event_found, without_found}
 use Rattle.pt_laws.proofs.Steps.{sender_unit}
 use Rattle.pt_laws.proofs.PacedClosed.{along_wire, past_bound, there, zero_below}

@@ -37,7 +37,7 @@ use Rattle.pt_semantics.proofs.Tags.{Before-trans, cases_tags, same_tag-before}
 use Rattle.pt_semantics.proofs.Longest.{levels_grow, sum_time, sum_step}
 use Rattle.pt_semantics.proofs.Words.{when-false, when-true, first_of_same, when_same, eight_same}
 use Rattle.pt_laws.proofs.Agree.{brings_agree, at_end}
-use Rattle.pt_semantics.proofs.Lookups.{none_some, first_of_none, IsIn-append, cases_part, eight_below}
+use Rattle.pt_semantics.proofs.Lookups.{none_some, first_of_none, cases_part, eight_below}
 use Rattle.pt_semantics.proofs.Floor.{plus_zero, sensor_unit}
 use Rattle.pt_laws.proofs.Finish.{Unfed, came_is, source_kind}
 use Rattle.pt_laws.proofs.MeaningSteps.{meaning_behaves}

@@ -1,5 +1,5 @@
 -- The histories of a run, as they are kept, are legal. Those of a paced run are matched too, and linked at the end.
-use Rattle.std.proofs.Common.{◌^◌, ◌≡◌, ℕ, zero, suc, ◌<◌, ◌≤◌, ◌≢◌, Bool, false, List, [], ◌∷◌, ◌++◌, Some, length, slice_get, arith, refl, sym, ap, subst, ◌∙◌, inl, ⊎_elim, append-nil}
+use Rattle.std.proofs.Common.{◌≡◌, ℕ, zero, suc, ◌<◌, ◌≤◌, ◌≢◌, Bool, false, List, [], ◌∷◌, ◌++◌, Some, length, slice_get, arith, refl, sym, ap, subst, ◌∙◌, inl, ⊎_elim, append-nil}
 use Rattle.std.proofs.lemmas.Bool.{cases_lt, false≢true}
 use Rattle.pt_types.specs.declared.graph.Graph.{Graph}
 use Rattle.pt_types.specs.declared.graph.Link.{Link}

@@ -15,7 +15,6 @@ use Rattle.pt_semantics.specs.Behaviours.{Firing, Rising, firing_at, IsClosed}
 use Rattle.pt_semantics.specs.Ranks.{sum_along, AreLevels, AreRanks}
 use Rattle.pt_semantics.specs.Paths.{Goes}
 use Rattle.pt_semantics.specs.Bounds.{Feeds, bound_by, link_bound}
-use Rattle.pt_types.specs.Lookups.{slack_of}
 use Rattle.pt_semantics.specs.Wired.{IsWired}
 use Rattle.pt_semantics.specs.Offsets.{IsFeasible, HasOffset}
 use Rattle.pt_types.specs.declared.rows.Row.{Row}

@@ -10,7 +10,6 @@ use Rattle.pt_semantics.specs.Meaning.{ActorFiring, IsMeaning}
 use Rattle.pt_semantics.specs.Parts.{parts}
 use Rattle.pt_semantics.specs.Platform.{opened}
 use Rattle.pt_semantics.specs.Ranks.{AreRanks}
-use Rattle.pt_semantics.specs.Turn.{Turn}
 use Rattle.pt_semantics.specs.Visits.{AreFinished, Together}
 use Rattle.pt_schedule.specs.Schedule.{AreAllClaimed, AreClaimedAsMeant, AreMissedAsMeant, IsOnSchedule, SendsWithinSlack}
 use Rattle.pt_schedule.specs.WholeRuns.{kept_by}
