@@ -266,6 +266,10 @@ kept_joined history (turn ∷ turns) joined counted single h =
     (counted_push (settled history) turn (counted_settled history counted) (single_counted turn h.0))
     (ends_push (settled history) turn h.0.once) h.1
 
+-- as single turns are recorded, their counts are right
+pub kept_counted : (turns : List Turn) → Each IsSingle turns → Each IsCounted (kept turns)
+kept_counted turns single = (kept_joined [] turns tt tt tt single).0
+
 pub kept_is_legal : KeptIsLegal
 kept_is_legal g level i rows turns s wired are fits single =
     let up = levels_grow g level are in

@@ -21,6 +21,7 @@ pub mod Sorted
 pub mod Confluent
 pub mod ByActor
 pub mod PacedClosed
+pub mod NearClocks
 pub mod Candidates
 pub mod Stays
 pub mod Home

@@ -1,5 +1,5 @@
--- The units and tags whose paced reading is at most c are closed.
-use Rattle.std.proofs.Common.{◌≡◌, ℕ, ◌+◌, ◌≤◌, List, [], ◌∷◌, ◌++◌, Option, Some, None, ℤ, pos, negsuc, ◌+ℤ◌, ◌-ℤ◌, ◌≤ℤ◌, slice_get, arith, refl, sym, subst, ⊎_elim, leb-true, le-leb}
+-- Paced readings along wires, and at the ends of links.
+use Rattle.std.proofs.Common.{◌≡◌, ℕ, ◌+◌, ◌≤◌, List, [], ◌∷◌, ◌++◌, Option, Some, None, ℤ, pos, negsuc, ◌+ℤ◌, ◌-ℤ◌, ◌≤ℤ◌, slice_get, arith, refl, sym, subst}
 use Rattle.std.proofs.lemmas.Int.{ints}
 use Rattle.pt_tags.specs.declared.tag.Tag.{Tag}
 use Rattle.pt_types.specs.declared.graph.Graph.{Graph}
@@ -7,20 +7,18 @@ use Rattle.pt_types.specs.declared.graph.Link.{Link}
 use Rattle.pt_types.specs.declared.graph.Unit.{Unit as Part}
 use Rattle.pt_tags.specs.Tags.{plus}
 use Rattle.pt_semantics.specs.Lists.{IsIn}
-use Rattle.pt_semantics.specs.Edges.{Edge, wires, links, of_link}
-use Rattle.pt_semantics.specs.Units.{source, target, at_output}
+use Rattle.pt_semantics.specs.Edges.{Edge, wires}
+use Rattle.pt_semantics.specs.Units.{source, target, at_input, at_output}
 use Rattle.pt_semantics.specs.Ranks.{sum_along}
 use Rattle.pt_semantics.specs.Paths.{Goes}
 use Rattle.pt_semantics.specs.Bounds.{Feeds, link_bound}
-use Rattle.pt_types.specs.Lookups.{slack_of}
+use Rattle.pt_types.specs.declared.kind.Kind.TheVariants.{Send}
+use Rattle.pt_types.specs.Lookups.{kind_of}
 use Rattle.pt_semantics.specs.Offsets.{IsOffset, IsFeasible, HasOffset}
 use Rattle.pt_semantics.specs.Wired.{IsWired}
 use Rattle.pt_semantics.specs.Paced.{paced_by, at_least_zero}
-use Rattle.pt_laws.specs.PacedReadings.{PacedIsClosed}
-use Rattle.pt_semantics.proofs.Lookups.{IsIn-append}
 use Rattle.pt_semantics.proofs.Longest.{sum_time}
 use Rattle.pt_semantics.proofs.Floor.{bound_of_link, receiver_unit}
-use Rattle.pt_laws.proofs.Finish.{link_of}
 
 goes_push : (g : Graph) (x : Part) (path : List Edge) (e : Edge) → Goes g x path (source g e) → IsIn e (wires g) → Goes g x (path ++ e ∷ []) (target g e)
 goes_push g x [] e h m = (m, sym h, refl)
@@ -76,37 +74,26 @@ along_wire g offset has e s mem =
     step : (b d d2 w t : ℕ) (o r : ℤ) → (pos b -ℤ pos d) ≡ o → d2 ≡ d + w → (pos b -ℤ pos d2) ≤ℤ r → (pos t +ℤ o) ≤ℤ (pos (t + w) +ℤ r)
     step b d d2 w t o r e1 e2 h = omega (arith, ints)
 
-pub along_link : (g : Graph) (offset : Part → Option ℤ) → IsWired g → IsFeasible g → ((u : Part) → HasOffset g u (offset u)) → (l : ℕ) (link : Link) (s : Tag) → slice_get g.links l ≡ Some link → paced_by (offset (source g (of_link link))) s ≤ paced_by (offset (target g (of_link link))) (plus s (of_link link).weight)
-along_link g offset wired feasible has l link s at =
-    let send = wired.sends l link at in
-    paced_on (offset (source g (of_link link))) (offset (target g (of_link link))) s.time (s.time + 0)
-    (λ o is.
-    let from = from_some g (source g (of_link link)) (offset (source g (of_link link))) o (has (source g (of_link link))) is in
-    let w = from.some in
-    let enough : w.1 + 1 ≤ send.0 + (sum_along w.2).time = feasible link.from send.0 w.0 w.1 w.2 send.1 w.3 in
-    let feeds : Feeds g link.to (link_bound g link) [] (target g (of_link link)) = record { bound = bound_of_link g l link wired at; goes = sym (receiver_unit g link.to 0 (wired.receives l link at)) } in
-    let on = there g (target g (of_link link)) (offset (target g (of_link link))) (has (target g (of_link link))) link.to (link_bound g link) [] feeds in
-    let slack : send.0 ≤ link_bound g link = subst (λ k. slack_of k ≤ link_bound g link) send.1 (omega arith) in
-    (on.0, on.1, step w.1 (sum_along w.2).time send.0 (link_bound g link) s.time o on.0 w.4 enough slack on.2))
-    s (plus s (of_link link).weight) refl refl
+-- a receiver's paced reading is past its link's bound
+pub past_bound : (g : Graph) (offset : Part → Option ℤ) → IsWired g → ((u : Part) → HasOffset g u (offset u)) → (l : ℕ) (link : Link) (t : Tag) → slice_get g.links l ≡ Some link → t.time + link_bound g link + 1 ≤ paced_by (offset (at_input g link.to 0)) t
+past_bound g offset wired has l link t at =
+    let feeds : Feeds g link.to (link_bound g link) [] (at_input g link.to 0) = record { bound = bound_of_link g l link wired at; goes = sym (receiver_unit g link.to 0 (wired.receives l link at)) } in
+    let on = there g (at_input g link.to 0) (offset (at_input g link.to 0)) (has (at_input g link.to 0)) link.to (link_bound g link) [] feeds in
+    subst (λ z. t.time + link_bound g link + 1 ≤ paced_by z t) (sym on.1) (step t.time (link_bound g link) on.0 on.2)
   where
-    step : (b d slack bound t : ℕ) (o r : ℤ) → (pos b -ℤ pos d) ≡ o → b + 1 ≤ slack + d → slack ≤ bound → (pos bound -ℤ pos 0) ≤ℤ r → (pos t +ℤ o) ≤ℤ (pos (t + 0) +ℤ r)
-    step b d slack bound t o r e h k m = omega (arith, ints)
+    step : (time bound : ℕ) (r : ℤ) → (pos bound -ℤ pos 0) ≤ℤ r → time + bound + 1 ≤ at_least_zero ((pos time +ℤ r) +ℤ pos 1)
+    step time bound r h = zero_below (pos (time + bound + 1)) ((pos time +ℤ r) +ℤ pos 1) (omega (arith, ints))
 
-pub paced_is_closed : PacedIsClosed
-paced_is_closed g offset c wired feasible has = record {
-  earlier = λ u s t l d.
-      let le : paced_by (offset u) t ≤ c = leb-true (paced_by (offset u) t) c d in
-      let down : paced_by (offset u) s ≤ paced_by (offset u) t = paced_earlier (offset u) s t l.0 in
-      le-leb (paced_by (offset u) s) c (omega arith);
-  sources = λ e s mem d.
-      let le : paced_by (offset (target g e)) (plus s e.weight) ≤ c = leb-true (paced_by (offset (target g e)) (plus s e.weight)) c d in
-      let down : paced_by (offset (source g e)) s ≤ paced_by (offset (target g e)) (plus s e.weight) =
-      ⊎_elim
-      (λ (w : IsIn e (wires g)). along_wire g offset has e s w)
-      (λ (k : IsIn e (links g)).
-      let f = link_of g.links e k in
-      subst (λ x. paced_by (offset (source g x)) s ≤ paced_by (offset (target g x)) (plus s x.weight)) (sym f.3) (along_link g offset wired feasible has f.0 f.1 s f.2))
-      (IsIn-append e (wires g) (links g) mem) in
-      le-leb (paced_by (offset (source g e)) s) c (omega arith);
-}
+-- a sender's paced reading is within its slack
+within_slack : (t slack : ℕ) (o : ℤ) → (o +ℤ pos 1) ≤ℤ pos slack → at_least_zero ((pos t +ℤ o) +ℤ pos 1) ≤ t + slack
+within_slack t slack o h = zero_below ((pos t +ℤ o) +ℤ pos 1) (pos (t + slack)) (omega (arith, ints))
+
+pub sends_in_time : (g : Graph) (a slack : ℕ) (o : Option ℤ) (t : Tag) → IsFeasible g → kind_of g a ≡ Send slack → HasOffset g (at_output g a 0) o → paced_by o t ≤ t.time + slack
+sends_in_time g a slack None t feasible kind has = omega arith
+sends_in_time g a slack (Some o) t feasible kind has =
+    let w = has.some in
+    let enough : w.1 + 1 ≤ slack + (sum_along w.2).time = feasible a slack w.0 w.1 w.2 kind w.3 in
+    within_slack t.time slack o (step w.1 (sum_along w.2).time slack o w.4 enough)
+  where
+    step : (b d slack : ℕ) (o : ℤ) → (pos b -ℤ pos d) ≡ o → b + 1 ≤ slack + d → (o +ℤ pos 1) ≤ℤ pos slack
+    step b d slack o e h = omega (arith, ints)

@@ -6,19 +6,17 @@ use Rattle.std.specs.List.{cons_option}
 use Rattle.pt_types.specs.declared.graph.Graph.{Graph}
 use Rattle.pt_types.specs.declared.graph.Link.{Link}
 use Rattle.pt_tags.specs.declared.tag.Tag.{Tag}
-use Rattle.pt_types.specs.declared.kind.Kind.TheVariants.{Send}
 use Rattle.pt_types.specs.declared.graph.Unit.{Unit as Part}
 use Rattle.pt_tags.specs.Tags.{plus, same_tag}
 use Rattle.pt_types.specs.Ports.{when, at_port}
 use Rattle.pt_semantics.specs.Lists.{IsIn, Each}
-use Rattle.pt_semantics.specs.Edges.{Edge, wires, of_link}
-use Rattle.pt_types.specs.Lookups.{kind_of, platform_of}
+use Rattle.pt_semantics.specs.Edges.{Edge, wires}
+use Rattle.pt_types.specs.Lookups.{platform_of}
 use Rattle.pt_semantics.specs.Units.{source, target, at_input, at_output, unit_of, first_port, leaves_unit}
 use Rattle.pt_semantics.specs.Ranks.{sum_along}
 use Rattle.pt_semantics.specs.Bounds.{Feeds, bound_by, link_bound}
-use Rattle.pt_types.specs.Lookups.{slack_of}
 use Rattle.pt_semantics.specs.Wired.{IsWired}
-use Rattle.pt_semantics.specs.Offsets.{IsFeasible, HasOffset}
+use Rattle.pt_semantics.specs.Offsets.{HasOffset}
 use Rattle.pt_types.specs.declared.rows.Row.{Row}
 use Rattle.pt_semantics.specs.Meaning.{row_at, at_time, going}
 use Rattle.pt_types.specs.declared.firing.Task.{Task}
@@ -40,10 +38,10 @@ use Rattle.pt_semantics.proofs.Tags.{same_tag-true}
 use Rattle.pt_semantics.proofs.Words.{when-true, when-false}
 use Rattle.pt_semantics.proofs.Lookups.{none_some, same_some, or_else_found, when_found, first_of_found, IsIn-append, IsIn-append_left, IsIn-append_right, same_part-true, cases_part}
 use Rattle.pt_laws.proofs.Rows.{due_split}
-use Rattle.pt_semantics.proofs.Floor.{going_found, end_is, plus_zero, put_none_found, put_same, put_other, sensor_unit}
+use Rattle.pt_semantics.proofs.Floor.{going_found, end_is, put_none_found, put_same, put_other, sensor_unit}
 use Rattle.pt_semantics.proofs.Claiming.{event_found, without_found}
 use Rattle.pt_laws.proofs.Steps.{sender_unit}
-use Rattle.pt_laws.proofs.PacedClosed.{along_wire, along_link, there, zero_below}
+use Rattle.pt_laws.proofs.PacedClosed.{along_wire, past_bound, there, zero_below}
 
 -- on the links that don't lead from platform i
 abbrev pub IsForeign : Graph → ℕ → ℕ → Type 0
@@ -57,20 +55,6 @@ pub record Later (g : Graph) (offset : Part → Option ℤ) (c i : ℕ) (s : Sta
   pub outbox : (l : ℕ) (link : Link) (t : Tag) (v : ℤ) → slice_get g.links l ≡ Some link → IsIn (Event t v) (s.outbox l) → c ≤ paced_by (offset (at_output g link.from 0)) t
   pub foreign : (l : ℕ) → IsForeign g i l → s.outbox l ≡ []
   pub reading : (p : ℕ) → s.reading ≡ Some p → p ≤ c
-
--- a sender's paced reading is within its slack
-within_slack : (t slack : ℕ) (o : ℤ) → (o +ℤ pos 1) ≤ℤ pos slack → at_least_zero ((pos t +ℤ o) +ℤ pos 1) ≤ t + slack
-within_slack t slack o h = zero_below ((pos t +ℤ o) +ℤ pos 1) (pos (t + slack)) (omega (arith, ints))
-
-pub sends_in_time : (g : Graph) (a slack : ℕ) (o : Option ℤ) (t : Tag) → IsFeasible g → kind_of g a ≡ Send slack → HasOffset g (at_output g a 0) o → paced_by o t ≤ t.time + slack
-sends_in_time g a slack None t feasible kind has = omega arith
-sends_in_time g a slack (Some o) t feasible kind has =
-    let w = has.some in
-    let enough : w.1 + 1 ≤ slack + (sum_along w.2).time = feasible a slack w.0 w.1 w.2 kind w.3 in
-    within_slack t.time slack o (step w.1 (sum_along w.2).time slack o w.4 enough)
-  where
-    step : (b d slack : ℕ) (o : ℤ) → (pos b -ℤ pos d) ≡ o → b + 1 ≤ slack + d → (o +ℤ pos 1) ≤ℤ pos slack
-    step b d slack o e h = omega (arith, ints)
 
 -- a unit is safe no sooner than its paced reading
 at_most_reading : (r : ℕ) (z : ℤ) → z ≤ℤ pos r → at_least_zero z ≤ r
@@ -157,7 +141,7 @@ nil_right (x ∷ a) b e = absurd (never x (a ++ b) e)
     never : (x : Message) (c : List Message) → x ∷ c ≡ [] → ⊥
     never x c h = cc
 
-module _ (g : Graph) (offset : Part → Option ℤ) (has : (u : Part) → HasOffset g u (offset u)) (wired : IsWired g) (feasible : IsFeasible g) (c i : ℕ) where
+module _ (g : Graph) (offset : Part → Option ℤ) (has : (u : Part) → HasOffset g u (offset u)) (wired : IsWired g) (c i : ℕ) where
   later_post : (s : State) (d : Done) → Later g offset c i s → s.busy (unit_of g d.task) ≡ Some d.task → Later g offset c i (after_post g s d)
   later_post s d k busy = record {
     waits = λ a p t v found.
@@ -232,11 +216,11 @@ module _ (g : Graph) (offset : Part → Option ℤ) (has : (u : Part) → HasOff
     reading = k.reading;
   }
 
-  -- a message that a sender sent no sooner than its paced reading
-  abbrev pub SentLater : OnLink → Type 0
-  SentLater m = (link : Link) (t : Tag) (v : ℤ) → slice_get g.links m.link ≡ Some link → m.message ≡ Event t v → c ≤ paced_by (offset (at_output g link.from 0)) t
+  -- a message that comes within its link's bound
+  abbrev pub InBound : OnLink → Type 0
+  InBound m = (link : Link) (t : Tag) (v : ℤ) → slice_get g.links m.link ≡ Some link → m.message ≡ Event t v → c ≤ t.time + link_bound g link
 
-  later_message : (s : State) (l : ℕ) (link : Link) (m : Message) → Later g offset c i s → slice_get g.links l ≡ Some link → platform_of g link.to ≡ i → SentLater (record { link = l; message = m }) → Later g offset c i (after_message s l link m)
+  later_message : (s : State) (l : ℕ) (link : Link) (m : Message) → Later g offset c i s → slice_get g.links l ≡ Some link → platform_of g link.to ≡ i → InBound (record { link = l; message = m }) → Later g offset c i (after_message s l link m)
   later_message s l link m k at home sent = record {
     waits = λ a p t v found.
         ⊎_elim
@@ -245,11 +229,10 @@ module _ (g : Graph) (offset : Part → Option ℤ) (has : (u : Part) → HasOff
         let here = when_found (a == link.to && p == 0) (value_of t m) v new in
         let two = and_parts (a == link.to) (p == 0) here.0 in
         let to : at_input g a p ≡ at_input g link.to 0 = ap (λ b. at_input g b p) (eqb-true a link.to two.0) ∙ ap (at_input g link.to) (eqb-true p 0 two.1) in
-        let from : c ≤ paced_by (offset (at_output g link.from 0)) t = sent link t v at (event_is m t v here.1) in
-        let on : paced_by (offset (source g (of_link link))) t ≤ paced_by (offset (target g (of_link link))) (plus t (of_link link).weight) = along_link g offset wired feasible has l link t at in (
+        let bound : c ≤ t.time + link_bound g link = sent link t v at (event_is m t v here.1) in
+        let past : t.time + link_bound g link + 1 ≤ paced_by (offset (at_input g link.to 0)) t = past_bound g offset wired has l link t at in (
           ap (platform_of g) (eqb-true a link.to two.0) ∙ home,
-          subst (λ z. c ≤ paced_by (offset z) t) (sym to)
-              (subst (λ z. c ≤ paced_by (offset (at_input g link.to 0)) z) (plus_zero t) (both c _ _ from on)),
+          subst (λ z. c ≤ paced_by (offset z) t) (sym to) (omega (arith, bound, past)),
         ))
         (or_else_found (s.waits a p t) _ v found);
     busy = k.busy;
@@ -259,9 +242,6 @@ module _ (g : Graph) (offset : Part → Option ℤ) (has : (u : Part) → HasOff
     reading = k.reading;
   }
     where
-      both : (a b d : ℕ) → a ≤ b → b ≤ d → a ≤ d
-      both a b d x y = omega arith
-
       event_is : (m : Message) (t : Tag) (v : ℤ) → value_of t m ≡ Some v → m ≡ Event t v
       event_is End t v e = absurd (none_some v e)
       event_is (Event u w) t v e =
@@ -269,16 +249,11 @@ module _ (g : Graph) (offset : Part → Option ℤ) (has : (u : Part) → HasOff
           ap (λ z. Event z w) (same_tag-true u t f.0) ∙ ap (Event t) (same_some w v f.1)
 
   -- so each message that is taken is on time
-  timely : (s : State) (l : ℕ) (link : Link) (m : Message) → Later g offset c i s → slice_get g.links l ≡ Some link → SentLater (record { link = l; message = m }) → IsOnTime s.reading (link_bound g link) m
+  timely : (s : State) (l : ℕ) (link : Link) (m : Message) → Later g offset c i s → slice_get g.links l ≡ Some link → InBound (record { link = l; message = m }) → IsOnTime s.reading (link_bound g link) m
   timely s l link m k at sent =
-      on_time_of c (link_bound g link) s.reading m k.reading (λ t v e.
-      let send = wired.sends l link at in
-      let from : c ≤ paced_by (offset (at_output g link.from 0)) t = sent link t v at e in
-      let slack : paced_by (offset (at_output g link.from 0)) t ≤ t.time + send.0 = sends_in_time g link.from send.0 (offset (at_output g link.from 0)) t feasible send.1 (has (at_output g link.from 0)) in
-      let within : send.0 ≤ link_bound g link = subst (λ k2. slack_of k2 ≤ link_bound g link) send.1 (omega arith) in
-      omega arith)
+      on_time_of c (link_bound g link) s.reading m k.reading (λ t v e. sent link t v at e)
 
-  later_takes : (level : ℕ → ℕ) (ms : List OnLink) (late : Bool) (s new : State) → Later g offset c i s → Each SentLater ms → Takes g level i s ms late new → (late ≡ false) × Later g offset c i new
+  later_takes : (level : ℕ → ℕ) (ms : List OnLink) (late : Bool) (s new : State) → Later g offset c i s → Each InBound ms → Takes g level i s ms late new → (late ≡ false) × Later g offset c i new
   later_takes level [] late s new k sent (l, e) = (l, subst (Later g offset c i) (sym e) k)
   later_takes level (m ∷ ms) late s new k sent (link, at, home, orderly, next) =
       ⊎_elim
@@ -289,7 +264,7 @@ module _ (g : Graph) (offset : Part → Option ℤ) (has : (u : Part) → HasOff
       next
 
   -- what is taken came on a link to this platform
-  takes_own : (level : ℕ → ℕ) (ms : List OnLink) (late : Bool) (s new : State) (l : ℕ) (link : Link) → slice_get g.links l ≡ Some link → (platform_of g link.to ≡ i → ⊥) → Takes g level i s ms late new → on_link l ms ≡ []
+  pub takes_own : (level : ℕ → ℕ) (ms : List OnLink) (late : Bool) (s new : State) (l : ℕ) (link : Link) → slice_get g.links l ≡ Some link → (platform_of g link.to ≡ i → ⊥) → Takes g level i s ms late new → on_link l ms ≡ []
   takes_own level [] late s new l link at other h = refl
   takes_own level (m ∷ ms) late s new l link at other (to, at_to, home, orderly, next) =
       let here : when (m.link == l) (Some m.message) ≡ None =
@@ -366,7 +341,7 @@ module _ (g : Graph) (offset : Part → Option ℤ) (has : (u : Part) → HasOff
     pub sent_own : (l : ℕ) → IsForeign g i l → on_link l turn.sent ≡ []
     pub taken_own : (l : ℕ) (link : Link) → slice_get g.links l ≡ Some link → (platform_of g link.to ≡ i → ⊥) → on_link l turn.taken ≡ []
 
-  pub turn_paces : (level : ℕ → ℕ) (s new : State) (turn : Turn) (late : Bool) → Later g offset c i s → turn.last ≡ c → IsTurn g level i s turn late new → Each SentLater turn.taken → Paces level s turn late new
+  pub turn_paces : (level : ℕ → ℕ) (s new : State) (turn : Turn) (late : Bool) → Later g offset c i s → turn.last ≡ c → IsTurn g level i s turn late new → Each InBound turn.taken → Paces level s turn late new
   turn_paces level s new turn late k last is taken =
       let k1 = later_posts turn.posted s is.posted k is.posts in
       let k2 = later_rows is.posted k1.0 in

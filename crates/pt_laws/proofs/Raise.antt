@@ -1,5 +1,5 @@
 -- After a quiet round all is done whose paced reading is before the next common reading.
-use Rattle.std.proofs.Common.{take, ◌-◌, ◌≡◌, ℕ, ◌+◌, ◌<◌, ◌≤◌, ◌⊎◌, ◌&&◌, true, false, List, [], ◌∷◌, ◌++◌, Option, Some, None, ℤ, length, slice_get, arith, refl, sym, ap, subst, ◌∙◌, inl, inr, ⊎_elim, append-nil}
+use Rattle.std.proofs.Common.{take, ◌-◌, ◌≡◌, ℕ, zero, suc, ◌+◌, ◌<◌, ◌≤◌, ◌⊎◌, ◌&&◌, true, false, List, [], ◌∷◌, ◌++◌, Option, Some, None, ℤ, length, slice_get, arith, refl, sym, ap, subst, ◌∙◌, inl, inr, ⊎_elim, append-nil}
 use Rattle.std.proofs.lemmas.Bool.{cases_lt, and_parts, cases_Bool, false≢true}
 use Rattle.pt_types.specs.declared.graph.Graph.{Graph}
 use Rattle.pt_types.specs.declared.graph.Link.{Link}
@@ -12,7 +12,7 @@ use Rattle.pt_semantics.specs.Units.{at_input, HasEvent}
 use Rattle.pt_semantics.specs.Wired.{IsWired}
 use Rattle.pt_semantics.specs.Offsets.{HasOffset}
 use Rattle.pt_semantics.specs.Cycles.{HasLevels}
-use Rattle.pt_semantics.specs.Bounds.{bound_of}
+use Rattle.pt_semantics.specs.Bounds.{bound_of, link_bound}
 use Rattle.pt_types.specs.declared.rows.Row.{Row}
 use Rattle.pt_types.specs.declared.firing.Task.{Task}
 use Rattle.pt_semantics.specs.Platform.{State, raised, opened}
@@ -30,7 +30,7 @@ use Rattle.pt_tags.specs.declared.message.Message.TheVariants.{Event}
 use Rattle.pt_semantics.specs.Rows.{FitRows, NeverFalls}
 use Rattle.pt_semantics.specs.Paced.{paced_by, IsCandidate}
 use Rattle.pt_semantics.specs.Rounds.{Makes}
-use Rattle.pt_semantics.specs.Visits.{Together, Made}
+use Rattle.pt_semantics.specs.Visits.{IsVisit, Made, Together, together_at_start}
 use Rattle.pt_laws.proofs.Induction.{by_three, Lower}
 use Rattle.pt_semantics.proofs.Lookups.{none_some, Each-in}
 use Rattle.pt_semantics.proofs.Claiming.{has_event}
@@ -38,6 +38,7 @@ use Rattle.pt_laws.proofs.Walks.{Whole, on_time_history}
 use Rattle.pt_laws.proofs.Progress.{cases_before, lower_same}
 use Rattle.pt_laws.proofs.Home.{Home, home_on_time}
 use Rattle.pt_laws.proofs.PacedClosed.{paced_earlier}
+use Rattle.pt_laws.proofs.Onward.{OnwardNear}
 use Rattle.pt_laws.proofs.Paces.{Later}
 use Rattle.pt_types.specs.Limits.{most_claims}
 
@@ -142,8 +143,10 @@ safe_as g s outbox r u t k = record { event = k.event; least = k.least; free = k
 takes_busy : (g : Graph) (level : ℕ → ℕ) (i : ℕ) (s new : State) → Takes g level i s [] false new → new ≡ s
 takes_busy g level i s new h = h.1
 
-pub quiet_makes : (g : Graph) (level : ℕ → ℕ) (c : ℕ) (x y : Together) (m : Made) → is_quiet m.turn ≡ true → m.late ≡ false → m.fault ≡ false → (y.at m.platform).closed ≡ (x.at m.platform).closed → Makes g level c x m y → Rests g c m.platform (y.at m.platform) x.on_way × ((l : ℕ) → y.on_way l ≡ x.on_way l)
-quiet_makes g level c x y m quiet on_time fine closed k = (
+-- where a link has no room for a message, there are messages on their way
+pub quiet_visit : (g : Graph) (level : ℕ → ℕ) (most : ℕ) (room : ℕ → ℕ) (c : ℕ) (x y : Together) (m : Made) → ((l : ℕ) → room l ≡ 0 → x.on_way l ≡ [] → ⊥) → is_quiet m.turn ≡ true → m.late ≡ false → m.fault ≡ false → (y.at m.platform).closed ≡ (x.at m.platform).closed →
+    IsVisit g level most room c x m y → Rests g c m.platform (y.at m.platform) x.on_way × ((l : ℕ) → y.on_way l ≡ x.on_way l)
+quiet_visit g level most room c x y m full quiet on_time fine closed k = (
   record {
     free = λ u. ap (λ (z : State). z.busy u) new_is ∙ ap (λ (z : State). z.busy u) ready_is ∙ ap (λ (z : State). z.busy u) got_is ∙ k.handed u;
     unsafe = λ h. no_safe (λ n. h (λ u t safe. n u t (safe_as g k.is.ready rest c u t (subst (λ z. IsSafe g z.waits z.busy c u t) new_is safe))));
@@ -165,7 +168,7 @@ quiet_makes g level c x y m quiet on_time fine closed k = (
         k.is.closes;
     took_all = λ l link at home.
         k.takes l ∙ ap (λ z. z ++ k.rest l) (ap (on_link l) taken_none) ∙ k.takes_all on_time l link at home;
-    sent_all = λ l. unsent_stays l (x.on_way l) refl;
+    sent_all = λ l. unsent_stays l (room l) refl;
   },
   way_is,
 )
@@ -194,9 +197,9 @@ quiet_makes g level c x y m quiet on_time fine closed k = (
     rest : ℕ → List Message
     rest = k.is.sends.0
 
-    take_none : (xs : List Message) → take 64 xs ≡ [] → xs ≡ []
-    take_none [] h = refl
-    take_none (z ∷ zs) h = absurd (never z (take 63 zs) h)
+    take_none : (n : ℕ) (xs : List Message) → take (suc n) xs ≡ [] → xs ≡ []
+    take_none n [] h = refl
+    take_none n (z ∷ zs) h = absurd (never z (take n zs) h)
       where
         never : (z : Message) (zs : List Message) → z ∷ zs ≡ [] → ⊥
         never z zs h = cc
@@ -205,13 +208,9 @@ quiet_makes g level c x y m quiet on_time fine closed k = (
     outbox_is l = ap (λ (z : State). z.outbox l) k.is.sends.1 ∙ sym (k.is.sends.2 l ∙ ap (λ z. z ++ rest l) (ap (on_link l) sent_none))
 
     -- what is not sent finds the link full
-    unsent_stays : (l : ℕ) (way : List Message) → x.on_way l ≡ way → ((y.at m.platform).outbox l ≡ []) ⊎ (x.on_way l ≡ [] → ⊥)
-    unsent_stays l [] e =
-        inl (outbox_is l ∙ take_none (k.is.done.outbox l) (sym (ap (λ (w : List Message). take (64 - length w) (k.is.done.outbox l)) e) ∙ sym (k.sends_all l) ∙ ap (on_link l) sent_none))
-    unsent_stays l (z ∷ zs) e = inr (λ none. never z zs (sym e ∙ none))
-      where
-        never : (z : Message) (zs : List Message) → z ∷ zs ≡ [] → ⊥
-        never z zs h = cc
+    unsent_stays : (l n : ℕ) → room l ≡ n → ((y.at m.platform).outbox l ≡ []) ⊎ (x.on_way l ≡ [] → ⊥)
+    unsent_stays l zero e = inr (full l e)
+    unsent_stays l (suc n) e = inl (outbox_is l ∙ take_none n (k.is.done.outbox l) (sym (ap (λ j. take j (k.is.done.outbox l)) e) ∙ sym (k.sends_all l) ∙ ap (on_link l) sent_none))
 
     way_is : (l : ℕ) → y.on_way l ≡ x.on_way l
     way_is l =
@@ -248,3 +247,34 @@ quiet_makes g level c x y m quiet on_time fine closed k = (
         (λ (many : most_claims ≤ (x.at m.platform).claims). false≢true (sym fine ∙ k.faults.0 (inr (many, h))))
         o)
         (k.is.greedy claimed_none)
+
+pub quiet_makes : (g : Graph) (level : ℕ → ℕ) (c : ℕ) (x y : Together) (m : Made) → is_quiet m.turn ≡ true → m.late ≡ false → m.fault ≡ false → (y.at m.platform).closed ≡ (x.at m.platform).closed → Makes g level c x m y → Rests g c m.platform (y.at m.platform) x.on_way × ((l : ℕ) → y.on_way l ≡ x.on_way l)
+quiet_makes g level c x y m quiet on_time fine closed k = quiet_visit g level 64 (λ l. 64 - length (x.on_way l)) c x y m (λ l. full (x.on_way l)) quiet on_time fine closed k
+  where
+    full : (way : List Message) → 64 - length way ≡ 0 → way ≡ [] → ⊥
+    full [] e none = absurd (omega (arith, e))
+    full (z ∷ zs) e none = cc
+
+-- platforms that have nothing open and nothing to send go on to later readings, up to what they have still to do
+module _ (g : Graph) (level : ℕ → ℕ) (rows : ℕ → List Row) (offset : Part → Option ℤ) (has : (u : Part) → HasOffset g u (offset u)) (wired : IsWired g) (up : HasLevels g level) (fits : FitRows g rows) where
+  pub raise_near : (c b : ℕ → ℕ) (y : Together) → OnwardNear g level rows offset c y → ((i : ℕ) → i < length g.platforms → c i ≤ b i) → ((i : ℕ) → i < length g.platforms → (u : Part) → (y.at i).busy u ≡ None) → ((i : ℕ) → i < length g.platforms → (l : ℕ) → (y.at i).outbox l ≡ []) →
+      ((i : ℕ) → i < length g.platforms → (y.at i).closed ≡ false → (d : ℕ) → IsCandidate g i (y.at i) d → b i ≤ d) →
+      ((l : ℕ) (link : Link) (t : Tag) (v : ℤ) → slice_get g.links l ≡ Some link → IsIn (Event t v) (y.on_way l) → b (platform_of g link.to) ≤ t.time + link_bound g link) → OnwardNear g level rows offset b y
+  raise_near c b y h rises free sent next way = record {
+    legal = h.legal;
+    linked = h.linked;
+    timed = h.timed;
+    way = way;
+    later = λ i lt. later_from g level i rows (y.did i) (y.at i) (b i) offset has wired up fits (h.legal i lt) (free i lt) (sent i lt)
+        (λ p e. let le : p ≤ c i = (h.later i lt).reading p e in let more : c i ≤ b i = rises i lt in omega (arith, le, more))
+        (next i lt);
+  }
+
+  pub start_near : (b : ℕ → ℕ) → ((i : ℕ) → i < length g.platforms → (d : ℕ) → IsCandidate g i (opened g i rows) d → b i ≤ d) → OnwardNear g level rows offset b (together_at_start g rows)
+  start_near b next = record {
+    legal = λ i lt. refl;
+    later = λ i lt. later_from g level i rows [] (opened g i rows) (b i) offset has wired up fits refl (λ u. refl) (λ l. refl) (λ p e. absurd (none_some p e)) (λ e d cand. next i lt d cand);
+    way = λ l link t v at m. absurd m;
+    linked = λ l link at. refl;
+    timed = λ i lt. tt;
+  }

@@ -1,5 +1,5 @@
 -- Theorems about paced readings.
-use Rattle.std.specs.Prelude.{◌≡◌, ◌≤◌, ℕ, ℤ, List, Option}
+use Rattle.std.specs.Prelude.{◌≤◌, ℕ, ℤ, List, Option}
 use Rattle.pt_tags.specs.declared.tag.Tag.{Tag}
 use Rattle.pt_tags.specs.Tags.{UpTo, plus}
 use Rattle.pt_types.specs.declared.graph.Graph.{Graph}

@@ -18,7 +18,9 @@ pub use histories::{
 pub use meaning::{
     meaning_is_a_behaviour, meaning_is_unique, one_behaviour, sorted_behaviour_is_the_meaning,
 };
-pub use readings::{paced_readings_are_closed, paced_readings_rise_along_paths};
+pub use readings::{
+    near_readings_are_closed, paced_readings_are_closed, paced_readings_rise_along_paths,
+};
 pub use turns::{
     claims_are_fronts, claims_stand_apart, cut_candidates_are_claims, idle_before_the_next_reading,
     quiet_turns_are_joined, safe_units_stay_safe, safe_units_stay_safe_in_a_turn, turns_move,

@@ -1,4 +1,4 @@
--- In a paced run a unit that is safe has a firing in the meaning at its least tag, though it is not claimed.
+-- At any time in a run a unit that is safe has a firing in the meaning at its least tag, though it is not claimed.
 use Rattle.std.proofs.Common.{append-nil, length-append, ◌≡◌, ℕ, zero, suc, ◌+◌, ◌<◌, ◌≤◌, ◌==◌, ◌⊎◌, ◌≢◌, true, ◌&&◌, List, [], ◌∷◌, ◌++◌, Option, Some, None, ℤ, length, slice_get, nat_lt, arith, refl, sym, ap, subst, ◌∙◌, inl, inr, ⊎_elim, eqb-true, append_assoc}
 use Rattle.std.proofs.lemmas.Bool.{cases_lt, and_parts}
 use Rattle.pt_tags.specs.declared.tag.Tag.{Tag}
@@ -37,16 +37,17 @@ use Rattle.pt_semantics.proofs.Tags.{Before-trans, cases_tags, same_tag-before}
 use Rattle.pt_semantics.proofs.Longest.{levels_grow, sum_time, sum_step}
 use Rattle.pt_semantics.proofs.Words.{when-false, when-true, first_of_same, when_same, eight_same}
 use Rattle.pt_laws.proofs.Agree.{brings_agree, at_end}
-use Rattle.pt_semantics.proofs.Lookups.{none_some, first_of_none, IsIn-append, cases_part, eight_below}
+use Rattle.pt_semantics.proofs.Lookups.{none_some, first_of_none, cases_part, eight_below}
 use Rattle.pt_semantics.proofs.Floor.{plus_zero, sensor_unit}
 use Rattle.pt_laws.proofs.Finish.{Unfed, came_is, source_kind}
 use Rattle.pt_laws.proofs.MeaningSteps.{meaning_behaves}
-use Rattle.pt_laws.proofs.PacedClosed.{along_link}
+use Rattle.pt_laws.specs.NearClocks.{AreNear}
+use Rattle.pt_laws.proofs.NearClocks.{received_later, sent_in_bound}
 use Rattle.pt_laws.proofs.Progress.{goes_home}
 use Rattle.pt_semantics.proofs.Claiming.{event_found, has_event}
 use Rattle.pt_laws.proofs.Paces.{as_le, row_when_paced}
-use Rattle.pt_laws.proofs.Onward.{Onward}
-use Rattle.pt_schedule.proofs.Prefix.{Along, along_push, before_push, IsPast, Crosses, split, sooner_time, not_itself, not_one, paced_along, whole, in_bound, by_link, same_there, prefixes}
+use Rattle.pt_laws.proofs.Onward.{OnwardNear}
+use Rattle.pt_schedule.proofs.Prefix.{Along, along_push, before_push, IsPast, Crosses, split, sooner_time, not_itself, not_one, later_path, whole, in_bound, by_link, same_there, prefixes}
 
 -- what waits at v at t itself is left out
 pub record IsAhead (g : Graph) (y : Together) (v : Part) (t : Tag) (u : Part) (s : Tag) : Type 0 where
@@ -102,18 +103,23 @@ round_trip g level up v t s e path mem end sum go =
     cases_zero zero = inl refl
     cases_zero (suc n) = inr (λ e. absurd (omega (arith, e)))
 
-module _ (g : Graph) (level : ℕ → ℕ) (rows : ℕ → List Row) (offset : Part → Option ℤ) (wired : IsWired g) (are : AreLevels g level) (small : (a : ℕ) → level a ≤ length g.actors) (fits : FitRows g rows) (feasible : IsFeasible g) (has : (u : Part) → HasOffset g u (offset u)) (c : ℕ) (y : Together) (h : Onward g level rows offset c y) (v : Part) (t : Tag) (safe : IsSafe g (y.at (platform_of g v.actor)).waits (y.at (platform_of g v.actor)).busy c v t) where
-  -- a row or message that is not seen before the common reading comes past t
-  source_later : (a b : ℕ) (path : List Edge) → Feeds g a b path v → (n : ℕ) → c ≤ n + b → t.time < n + (sum_along path).time
+module _ (g : Graph) (level : ℕ → ℕ) (rows : ℕ → List Row) (offset : Part → Option ℤ) (wired : IsWired g) (are : AreLevels g level) (small : (a : ℕ) → level a ≤ length g.actors) (fits : FitRows g rows) (feasible : IsFeasible g) (has : (u : Part) → HasOffset g u (offset u)) (c : ℕ → ℕ) (near : AreNear g c) (y : Together) (h : OnwardNear g level rows offset c y) (v : Part) (t : Tag) (safe : IsSafe g (y.at (platform_of g v.actor)).waits (y.at (platform_of g v.actor)).busy (c (platform_of g v.actor)) v t) where
+  -- a row or message that is not seen before the platform's reading comes past t
+  source_later : (a b : ℕ) (path : List Edge) → Feeds g a b path v → (n : ℕ) → c (platform_of g v.actor) ≤ n + b → t.time < n + (sum_along path).time
   source_later a b path feeds n le =
-      let lt : t.time + b < c + (sum_along path).time = safe.bounds a b path feeds in
+      let lt : t.time + b < c (platform_of g v.actor) + (sum_along path).time = safe.bounds a b path feeds in
       omega (arith, lt, le)
 
-  crosses_later : (z : Part) (w : Tag) (path : List Edge) → Crosses g z path v → c ≤ paced_by (offset z) w → Before t (plus w (sum_along path))
+  -- what comes over a link within its bound comes past t
+  message_later : (l : ℕ) (link : Link) (w : Tag) (path : List Edge) → slice_get g.links l ≡ Some link → Goes g (at_input g link.to 0) path v → c (platform_of g link.to) ≤ w.time + link_bound g link → t.time < w.time + (sum_along path).time
+  message_later l link w path at go bound =
+      source_later link.to (link_bound g link) path (by_link g level rows offset wired are small fits feasible has c near y h l link path v at go) w.time
+      (subst (λ i. c i ≤ w.time + link_bound g link) (goes_home g wired path (at_input g link.to 0) v go) bound)
+
+  crosses_later : (z : Part) (w : Tag) (path : List Edge) → Crosses g z path v → c (platform_of g z.actor) ≤ paced_by (offset z) w → Before t (plus w (sum_along path))
   crosses_later z w path k le =
-      let on : paced_by (offset z) w ≤ paced_by (offset (at_output g k.link.from 0)) (plus w (sum_along k.before)) = paced_along g level rows offset wired are small fits feasible has c y h k.before z (source g (of_link k.link)) w k.first in
-      let bound : c ≤ (w.time + (sum_along k.before).time) + link_bound g k.link = in_bound g level rows offset wired are small fits feasible has c y h k.l k.link (plus w (sum_along k.before)) k.at (omega (arith, on, le)) in
-      let lt : t.time < (w.time + (sum_along k.before).time) + (sum_along k.after).time = source_later k.link.to (link_bound g k.link) k.after (by_link g level rows offset wired are small fits feasible has c y h k.l k.link k.after v k.at k.rest) (w.time + (sum_along k.before).time) bound in
+      let sent : c (platform_of g k.link.from) ≤ paced_by (offset (at_output g k.link.from 0)) (plus w (sum_along k.before)) = later_path g level rows offset wired are small fits feasible has c near y h k.before z (source g (of_link k.link)) w k.first le in
+      let lt : t.time < (w.time + (sum_along k.before).time) + (sum_along k.after).time = message_later k.l k.link (plus w (sum_along k.before)) k.after k.at k.rest (sent_in_bound g offset has wired feasible c near k.l k.link (plus w (sum_along k.before)) k.at sent) in
       let time : (sum_along path).time ≡ (sum_along k.before).time + (sum_along k.after).time = k.time in
       sooner_time t w (sum_along path) (omega (arith, lt, time))
 
@@ -144,31 +150,26 @@ module _ (g : Graph) (level : ℕ → ℕ) (rows : ℕ → List Row) (offset : P
         (λ (same : at_input g a p ≡ v). own_later w (sum_along path) (safe.least w (subst (λ u. HasEvent g (y.at (platform_of g v.actor)).waits u w) same event)) (other same))
         (λ (apart : at_input g a p ≢ v). safe.events (at_input g a p) w path apart event wire)
         (cases_part (at_input g a p) v))
-        (λ (cross : Crosses g (at_input g a p) path v). crosses_later (at_input g a p) w path cross k.1)
+        (λ (cross : Crosses g (at_input g a p) path v). crosses_later (at_input g a p) w path cross (subst (λ n. c n ≤ paced_by (offset (at_input g a p)) w) (sym k.0) k.1))
         (split g path (at_input g a p) v go);
     left = λ i a row lt m path go.
         let k = (h.later i lt).left a row m in
-        let seen : c ≤ row.seen = k.2 in
+        let seen : c (platform_of g a) ≤ row.seen = subst (λ n. c n ≤ row.seen) (sym k.1) k.2 in
         let in_time : row.seen ≤ row.time + k.0.bound = k.0.in_time in
         ⊎_elim
         (λ (wire : Goes g (at_input g a 0) path v).
         let feeds : Feeds g a k.0.bound path v = record { bound = ap (bound_by g a) k.0.sensor; goes = subst (λ z. Goes g z path v) (sensor_unit g k.0.file a 0 k.0.bound k.0.sensor) wire } in
-        sooner_time t (at_time row.time) (sum_along path) (source_later a k.0.bound path feeds row.time (omega (arith, seen, in_time))))
+        let here : c (platform_of g v.actor) ≤ row.seen = subst (λ n. c n ≤ row.seen) (goes_home g wired path (at_input g a 0) v wire) seen in
+        sooner_time t (at_time row.time) (sum_along path) (source_later a k.0.bound path feeds row.time (omega (arith, here, in_time))))
         (λ (cross : Crosses g (at_input g a 0) path v).
         let on : row.seen ≤ paced_by (offset (at_input g a 0)) (at_time row.time) = row_when_paced g a 0 row (offset (at_input g a 0)) k.0 (has (at_input g a 0)) in
         crosses_later (at_input g a 0) (at_time row.time) path cross (omega (arith, seen, on)))
         (split g path (at_input g a 0) v go);
     messages = λ l link w x at m path go.
-        let from : c ≤ paced_by (offset (at_output g link.from 0)) w =
+        let bound : c (platform_of g link.to) ≤ w.time + link_bound g link = in_bound g level rows offset wired are small fits feasible has c near y h l link w x at m in
         ⊎_elim
-        (λ (a : IsIn (Event w x) (y.on_way l)). h.way l link w x at a)
-        (λ (b : IsIn (Event w x) ((y.at (platform_of g link.from)).outbox l)). (h.later (platform_of g link.from) (wired.homes link.from)).outbox l link w x at b)
-        (IsIn-append (Event w x) (y.on_way l) ((y.at (platform_of g link.from)).outbox l) m) in
-        ⊎_elim
-        (λ (wire : Goes g (at_input g link.to 0) path v). sooner_time t w (sum_along path) (source_later link.to (link_bound g link) path (by_link g level rows offset wired are small fits feasible has c y h l link path v at wire) w.time (in_bound g level rows offset wired are small fits feasible has c y h l link w at from)))
-        (λ (cross : Crosses g (at_input g link.to 0) path v).
-        let on : paced_by (offset (at_output g link.from 0)) w ≤ paced_by (offset (at_input g link.to 0)) w = subst (λ z. paced_by (offset (at_output g link.from 0)) w ≤ paced_by (offset (at_input g link.to 0)) z) (plus_zero w) (along_link g offset wired feasible has l link w at) in
-        crosses_later (at_input g link.to 0) w path cross (omega (arith, from, on)))
+        (λ (wire : Goes g (at_input g link.to 0) path v). sooner_time t w (sum_along path) (message_later l link w path at wire bound))
+        (λ (cross : Crosses g (at_input g link.to 0) path v). crosses_later (at_input g link.to 0) w path cross (received_later g offset has wired feasible c l link w at bound))
         (split g path (at_input g link.to 0) v go);
     busy = λ i z task e path lt b go.
         let k = (h.later i lt).busy z task b in
@@ -176,7 +177,7 @@ module _ (g : Graph) (level : ℕ → ℕ) (rows : ℕ → List Row) (offset : P
         (λ (wire : Goes g z (e ∷ path) v).
         let home : i ≡ platform_of g v.actor = sym k.0 ∙ goes_home g wired (e ∷ path) z v wire in
         safe.claims z task (e ∷ path) (subst (λ n. (y.at n).busy z ≡ Some task) home b) wire)
-        (λ (cross : Crosses g z (e ∷ path) v). crosses_later z task.tag (e ∷ path) cross (as_le c _ k.1))
+        (λ (cross : Crosses g z (e ∷ path) v). crosses_later z task.tag (e ∷ path) cross (subst (λ n. c n ≤ paced_by (offset z) task.tag) (sym k.0) (as_le (c i) _ k.1)))
         (split g (e ∷ path) z v go);
   }
 
@@ -214,7 +215,7 @@ module _ (g : Graph) (level : ℕ → ℕ) (rows : ℕ → List Row) (offset : P
       first_of_none (λ (x : Firing). when (same_tag x.tag t) (Some x)) (all_claims g y.did v) (λ x m.
       when-false (same_tag x.tag t) (Some x)
       (same_tag-before x.tag t (subst (Before x.tag) (plus_zero t)
-      ((whole g level rows offset wired are small fits feasible has c y h v).sound.floor.waits v.actor at.port t at.value [] v x at.below at.waits_there at.unit m))))
+      ((whole g level rows offset wired are small fits feasible has c near y h v).sound.floor.waits v.actor at.port t at.value [] v x at.below at.waits_there at.unit m))))
 
   unfed_at : (a : ℕ) → Unfed g (IsAhead g y v t) (y.at (platform_of g a))
   unfed_at a = record {
@@ -234,8 +235,8 @@ module _ (g : Graph) (level : ℕ → ℕ) (rows : ℕ → List Row) (offset : P
   waits_come = eight_below _ _ (λ p lt.
       when_same (input_group (kind_of g v.actor) p == v.group) ((y.at (platform_of g v.actor)).waits v.actor p t) (comes g (opening g rows) (all_claims g y.did) v.actor p t) (λ eg.
       let unit : at_input g v.actor p ≡ v = unit_is p (eqb-true _ v.group eg) in
-      (whole g level rows offset wired are small fits feasible has c y h (record { actor = v.actor; group = 0 })).keeps.held.fresh v.actor p t lt (ap (λ u. firing_at (claims_of g (y.did (platform_of g v.actor)) u) t) unit ∙ not_claimed)
-      ∙ came_is g level rows y.did y.at wired fits (IsAhead g y v t) (ahead_is_closed g y v t) (λ a. whole g level rows offset wired are small fits feasible has c y h (record { actor = a; group = 0 })) (λ a. unfed_at a) caught v.actor p t (subst (λ u. IsAhead g y v t u t) (sym unit) ahead) (source_kind g v.actor)))
+      (whole g level rows offset wired are small fits feasible has c near y h (record { actor = v.actor; group = 0 })).keeps.held.fresh v.actor p t lt (ap (λ u. firing_at (claims_of g (y.did (platform_of g v.actor)) u) t) unit ∙ not_claimed)
+      ∙ came_is g level rows y.did y.at wired fits (IsAhead g y v t) (ahead_is_closed g y v t) (λ a. whole g level rows offset wired are small fits feasible has c near y h (record { actor = a; group = 0 })) (λ a. unfed_at a) caught v.actor p t (subst (λ u. IsAhead g y v t u t) (sym unit) ahead) (source_kind g v.actor)))
     where
       unit_is : (p : ℕ) → input_group (kind_of g v.actor) p ≡ v.group → at_input g v.actor p ≡ v
       unit_is p eg = λ i. record { actor = v.actor; group = eg i }
@@ -250,9 +251,9 @@ module _ (g : Graph) (level : ℕ → ℕ) (rows : ℕ → List Row) (offset : P
         when_same (e.to == v.actor && e.input == p) (comes_along (all_claims g y.did) g e t) (comes_along (parts g xs) g e t) (λ both.
         let ends = and_parts (e.to == v.actor) (e.input == p) both in
         brings_agree e.weight e.output t (all_claims g y.did (source g e)) (parts g xs (source g e))
-        ((whole g level rows offset wired are small fits feasible has c y h (source g e)).sound.floor.rises (source g e))
+        ((whole g level rows offset wired are small fits feasible has c near y h (source g e)).sound.floor.rises (source g e))
         ((meaning_behaves g rank rows xs wired ranks fits meaning).rising (source g e))
-        (λ s es. same_there g level rows offset wired are small fits feasible has c y h rank xs ranks meaning (source g e) s
+        (λ s es. same_there g level rows offset wired are small fits feasible has c near y h rank xs ranks meaning (source g e) s
         (past_source e s mem (at_end g e v p (eqb-true e.to v.actor ends.0) (eqb-true e.input p ends.1) (eqb-true _ v.group eg)) es)))))))
 
     pub some_part : (x : Firing) × (firing_at (parts g xs v) t ≡ Some x)
@@ -267,7 +268,7 @@ module _ (g : Graph) (level : ℕ → ℕ) (rows : ℕ → List Row) (offset : P
     -- so v has more firings in the meaning than it claimed
     pub has_more : length (all_claims g y.did v) < length (parts g xs v)
     has_more =
-        let front = (prefixes g level rows offset wired are small fits feasible has c y h rank xs ranks meaning v).0 in
+        let front = (prefixes g level rows offset wired are small fits feasible has c near y h rank xs ranks meaning v).0 in
         by_rest front.0 front.1
       where
         by_rest : (rest : List Firing) → parts g xs v ≡ all_claims g y.did v ++ rest → length (all_claims g y.did v) < length (parts g xs v)

@@ -1,5 +1,5 @@
 -- A history that is read by a list of readings records as many as the list has.
-use Rattle.std.proofs.Common.{◌≡◌, ℕ, suc, ◌+◌, List, [], ◌∷◌, ◌++◌, length, refl, sym, ap, ap₂, ◌∙◌, length-append}
+use Rattle.std.proofs.Common.{◌≡◌, ℕ, suc, ◌+◌, List, [], ◌∷◌, length, refl, sym, ap, ap₂, ◌∙◌, length-append}
 use Rattle.pt_semantics.specs.Readings.{ArePieces, IsReadBy, later_of, raised_from}
 use Rattle.pt_semantics.specs.Turn.{Turn}
 use Rattle.pt_schedule.specs.FixedOrderTheorems.{count_readings}

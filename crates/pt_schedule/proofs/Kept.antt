@@ -1,4 +1,4 @@
--- Whole paced runs, as their turns are kept.
+-- The end of a run of platforms whose clocks are near one another, as their turns are kept; and so of a whole paced run.
 use Rattle.std.proofs.Common.{◌≡◌, ℕ, ◌+◌, ◌<◌, true, false, List, ◌++◌, Option, None, Some, ℤ, ◌≤ℤ◌, length, slice_get, arith, refl, sym, ap, subst, ◌∙◌, ⊎_elim}
 use Rattle.std.proofs.lemmas.Bool.{cases_Bool}
 use Rattle.std.proofs.lemmas.Int.{ints}
@@ -16,27 +16,34 @@ use Rattle.pt_types.specs.Lookups.{slack_of}
 use Rattle.pt_types.specs.Lookups.{kind_of, platform_of}
 use Rattle.pt_semantics.specs.History.{IsCounted}
 use Rattle.pt_laws.specs.HistoryTheorems.{IsSame}
-use Rattle.pt_semantics.specs.Kept.{kept}
+use Rattle.pt_semantics.specs.Kept.{IsSingle, kept}
 use Rattle.pt_semantics.specs.Linked.{all_claims}
 use Rattle.pt_semantics.specs.Lists.{Each, IsIn}
 use Rattle.pt_semantics.specs.Meaning.{ActorFiring, IsMeaning}
 use Rattle.pt_semantics.specs.Missed.{IsMissed}
-use Rattle.pt_semantics.specs.Offsets.{HasOffset}
+use Rattle.pt_semantics.specs.Offsets.{HasOffset, IsFeasible}
+use Rattle.pt_semantics.specs.Rows.{FitRows}
+use Rattle.pt_semantics.specs.Wired.{IsWired}
 use Rattle.pt_semantics.specs.Paced.{IsPaced, paced_by}
 use Rattle.pt_semantics.specs.Parts.{parts}
-use Rattle.pt_semantics.specs.Ranks.{AreRanks}
-use Rattle.pt_semantics.specs.Rounds.{IsRunInRound, IsTimely}
+use Rattle.pt_semantics.specs.Ranks.{AreLevels, AreRanks}
+use Rattle.pt_semantics.specs.Rounds.{IsTimely}
 use Rattle.pt_semantics.specs.Turn.{Turn, is_quiet}
 use Rattle.pt_semantics.specs.Units.{at_input, first_port, unit_of}
 use Rattle.pt_types.specs.Groups.{input_group}
 use Rattle.pt_semantics.specs.Visits.{AreFinished, Together}
-use Rattle.pt_laws.proofs.KeptTurns.{kept_is_legal}
+use Rattle.pt_laws.proofs.KeptTurns.{kept_counted, kept_is_legal}
+use Rattle.pt_semantics.proofs.Acyclic.{levels_are_small}
 use Rattle.pt_semantics.proofs.Lookups.{Each-from, Each-in}
-use Rattle.pt_schedule.proofs.Missed.{missed_is_in_meaning}
-use Rattle.pt_schedule.proofs.PacedKept.{paced_are_legal}
-use Rattle.pt_schedule.proofs.PacedRuns.{missed_when_paced, none_late, timely_when_paced}
+use Rattle.pt_laws.specs.NearClocks.{AreNear}
+use Rattle.pt_laws.proofs.NearClocks.{one_is_near}
+use Rattle.pt_laws.proofs.Onward.{OnwardNear, round_onward}
 use Rattle.pt_laws.proofs.Paces.{in_on_link}
-use Rattle.pt_schedule.proofs.Prefix.{paced_is_prefix}
+use Rattle.pt_schedule.proofs.Long.{none_long}
+use Rattle.pt_schedule.proofs.Missed.{meant_is_missed, missed_is_meant}
+use Rattle.pt_schedule.proofs.PacedRuns.{missed_when_paced, run_onward}
+use Rattle.pt_schedule.proofs.Prefix.{prefixes}
+use Rattle.pt_schedule.specs.NearClocks.{KeepsPace}
 use Rattle.pt_schedule.specs.Schedule.{AreAllClaimed, AreClaimedAsMeant, HaveMissed, IsMissedByMeaning, IsOnSchedule, SendsWithinSlack}
 use Rattle.pt_schedule.specs.WholeRuns.{AllOnSchedule, AllWithinSlack, ClaimedAsMeant, IsEnd, MissedAsMeant, NoneIsLate, kept_by}
 use Rattle.pt_schedule.proofs.Members.{claims_nothing, each_kept, kept_was_made, made_is_kept, posts_nothing, sends_nothing}
@@ -58,23 +65,33 @@ actuator_unit g a p slack e =
     let same : input_group (kind_of g a) p ≡ input_group (kind_of g a) 0 = ap (λ k. input_group k p) e ∙ sym (ap (λ k. input_group k 0) e) in
     λ j. record { actor = a; group = same j }
 
-module _ (g : Graph) (level : ℕ → ℕ) (rows : ℕ → List Row) (y : Together) (end : IsEnd g level rows y) where
-  in_round : IsRunInRound g level rows end.run.rounds end.run.reading (length g.platforms) end.run.made y
-  in_round = record { before = end.run.before; run = end.run.run; some = omega arith; round = end.run.round }
+-- all platforms of a graph that can run, together, each at its own clock's reading: at the end of a run, or before
+pub record IsNearEnd (g : Graph) (level : ℕ → ℕ) (rows : ℕ → List Row) (y : Together) : Type 0 where
+  pub wired : IsWired g
+  pub levels : AreLevels g level
+  pub fit : FitRows g rows
+  pub feasible : IsFeasible g
+  pub offset : Part → Option ℤ
+  pub offsets : (u : Part) → HasOffset g u (offset u)
+  pub clock : ℕ → ℕ
+  pub near : AreNear g clock
+  pub onward : OnwardNear g level rows offset clock y
+  pub single : (i : ℕ) → Each IsSingle (y.did i)
 
+module _ (g : Graph) (level : ℕ → ℕ) (rows : ℕ → List Row) (y : Together) (end : IsNearEnd g level rows y) where
   timed : (i : ℕ) → i < length g.platforms → Each (IsTimely g end.offset) (y.did i)
-  timed = timely_when_paced g level rows end.offset end.run.rounds end.run.reading (length g.platforms) end.run.made y end.wired end.levels end.fit end.feasible end.offsets in_round
+  timed = end.onward.timed
 
-  counted : (i : ℕ) → i < length g.platforms → Each IsCounted (kept (y.did i))
-  counted i lt = ((paced_are_legal g level rows end.offset y end.wired end.levels end.fit end.feasible end.offsets end.run).0 i lt).counted
+  counted : (i : ℕ) → Each IsCounted (kept (y.did i))
+  counted i = kept_counted (y.did i) (end.single i)
 
   same : (i : ℕ) → IsSame g (kept (y.did i)) (y.did i)
-  same i = (kept_is_legal g level i rows (y.did i) (y.at i) end.wired end.levels end.fit (single_run g level rows y end.run i)).2
+  same i = (kept_is_legal g level i rows (y.did i) (y.at i) end.wired end.levels end.fit (end.single i)).2
 
   -- a turn that claims is one turn
   once : (i : ℕ) → i < length g.platforms → (turn : Turn) (task : Task) → IsIn turn (kept (y.did i)) → IsIn task turn.claimed → turn.first ≡ turn.last
   once i lt turn task m claimed =
-      let c = Each-in IsCounted (kept (y.did i)) (counted i lt) turn m in
+      let c = Each-in IsCounted (kept (y.did i)) (counted i) turn m in
       ⊎_elim
       (λ (quiet : is_quiet turn ≡ true). absurd (claims_nothing turn task quiet claimed))
       (λ (noisy : is_quiet turn ≡ false). c.3 (c.4 noisy))
@@ -108,7 +125,7 @@ module _ (g : Graph) (level : ℕ → ℕ) (rows : ℕ → List Row) (y : Togeth
 
   module _ (rank : ℕ → ℕ) (xs : List ActorFiring) (ranks : AreRanks g rank) (meaning : IsMeaning g rank rows xs) where
     prefix : (u : Part) → ((rest : List Firing) × (parts g xs u ≡ all_claims g y.did u ++ rest)) × (AreFinished g y → all_claims g y.did u ≡ parts g xs u)
-    prefix = paced_is_prefix g level rank rows end.offset end.run.rounds end.run.reading (length g.platforms) end.run.made y xs end.wired end.levels ranks end.fit end.feasible end.offsets in_round meaning
+    prefix = prefixes g level rows end.offset end.wired end.levels (levels_are_small g level end.wired end.levels) end.fit end.feasible end.offsets end.clock end.near y end.onward rank xs ranks meaning
 
     front : AreClaimedAsMeant g xs (kept_by y)
     front u = let p = prefix u in (p.0.0, p.0.1 ∙ ap (λ z. z ++ p.0.0) (sym (kept_claims u)))
@@ -149,7 +166,10 @@ module _ (g : Graph) (level : ℕ → ℕ) (rows : ℕ → List Row) (y : Togeth
     module _ (done : AreFinished g y) where
       both : ((i a limit : ℕ) (t : Tag) (turn : Turn) → i < length g.platforms → IsIn turn (y.did i) → IsMissed g turn a t limit → (z : ActorFiring) × IsIn z xs × (z.actor ≡ a) × (z.tag ≡ t) × ((slack : ℕ) × (kind_of g a ≡ Actuator slack) × (t.time + slack < paced_by (end.offset (at_input g a 0)) t)))
           × ((z : ActorFiring) (slack : ℕ) → IsIn z xs → kind_of g z.actor ≡ Actuator slack → z.tag.time + slack < paced_by (end.offset (at_input g z.actor 0)) z.tag → (turn : Turn) × IsIn turn (y.did (platform_of g z.actor)) × IsMissed g turn z.actor z.tag (z.tag.time + slack))
-      both = missed_is_in_meaning g level rank rows end.offset end.run.rounds end.run.reading (length g.platforms) end.run.made y xs end.wired end.levels ranks end.fit end.feasible end.offsets in_round done meaning
+      both = (
+        missed_is_meant g level rank rows end.offset end.wired end.levels ranks end.fit end.feasible end.offsets end.clock end.near y end.onward xs meaning done,
+        meant_is_missed g level rank rows end.offset end.wired end.levels ranks end.fit end.feasible end.offsets end.clock end.near y end.onward xs meaning done,
+      )
 
       there : (a : ℕ) (t : Tag) (reading limit : ℕ) → HaveMissed g (kept_by y) a t reading limit → IsMissedByMeaning g xs a t reading limit
       there a t reading limit (i, lt, turn, m, at, missed) =
@@ -192,20 +212,47 @@ module _ (g : Graph) (level : ℕ → ℕ) (rows : ℕ → List Row) (y : Togeth
           (λ (loud : is_quiet f.0 ≡ false). (i, lt, f.0, made_is_kept f.0 loud (y.did i) f.1, act.reading ∙ sym reads, missed))
           (cases_Bool (is_quiet f.0))
 
+-- it keeps the paced schedule, and does what the meaning does
+pub keeps_pace : (g : Graph) (level : ℕ → ℕ) (rows : ℕ → List Row) (y : Together) → IsNearEnd g level rows y → KeepsPace g level rows y
+keeps_pace g level rows y end = record {
+  none_late = λ i lt. (kept_is_legal g level i rows (y.did i) (y.at i) end.wired end.levels end.fit (end.single i)).1 (end.onward.legal i lt);
+  on_schedule = schedule g level rows y end;
+  within_slack = slack g level rows y end;
+  claimed_as_meant = λ rank xs ranks meaning. front g level rows y end rank xs ranks meaning;
+  all_claimed = λ done rank xs ranks meaning. whole g level rows y end rank xs ranks meaning done;
+  missed_as_meant = λ done rank xs ranks meaning a t reading limit. (there g level rows y end rank xs ranks meaning done a t reading limit, back g level rows y end rank xs ranks meaning done a t reading limit);
+  none_long = λ done rank xs ranks meaning. none_long g level rank rows end.offset end.wired end.levels ranks end.fit end.feasible end.offsets xs meaning end.clock end.near y end.onward done;
+}
+
+-- the end of a whole paced run is such an end, at one common reading
+near_end : (g : Graph) (level : ℕ → ℕ) (rows : ℕ → List Row) (y : Together) → IsEnd g level rows y → IsNearEnd g level rows y
+near_end g level rows y end = record {
+  wired = end.wired;
+  levels = end.levels;
+  fit = end.fit;
+  feasible = end.feasible;
+  offset = end.offset;
+  offsets = end.offsets;
+  clock = λ i. end.run.reading;
+  near = one_is_near g end.run.reading;
+  onward = (round_onward g level rows end.offset end.offsets end.wired end.feasible end.run.reading (length g.platforms) 0 end.run.before y end.run.made (omega arith)
+      (run_onward g level rows end.offset end.wired end.levels (levels_are_small g level end.wired end.levels) end.fit end.feasible end.offsets end.run.rounds end.run.reading end.run.before end.run.run) end.run.round).1;
+  single = single_run g level rows y end.run;
+}
+
 pub all_on_schedule : AllOnSchedule
-all_on_schedule g level rows y end i lt = schedule g level rows y end i lt
+all_on_schedule g level rows y end = (keeps_pace g level rows y (near_end g level rows y end)).on_schedule
 
 pub all_within_slack : AllWithinSlack
-all_within_slack g level rows y end i lt = slack g level rows y end i lt
+all_within_slack g level rows y end = (keeps_pace g level rows y (near_end g level rows y end)).within_slack
 
 pub none_is_late : NoneIsLate
-none_is_late g level rows y end i lt =
-    (kept_is_legal g level i rows (y.did i) (y.at i) end.wired end.levels end.fit (single_run g level rows y end.run i)).1
-    ((none_late g level rows end.offset end.run.rounds end.run.reading (length g.platforms) end.run.made y end.wired end.levels end.fit end.feasible end.offsets (in_round g level rows y end)).1 i lt)
+none_is_late g level rows y end = (keeps_pace g level rows y (near_end g level rows y end)).none_late
 
 pub claimed_as_meant : ClaimedAsMeant
-claimed_as_meant g level rank rows y xs end ranks meaning = (front g level rows y end rank xs ranks meaning, whole g level rows y end rank xs ranks meaning)
+claimed_as_meant g level rank rows y xs end ranks meaning =
+    let k = keeps_pace g level rows y (near_end g level rows y end) in
+    (k.claimed_as_meant rank xs ranks meaning, λ done. k.all_claimed done rank xs ranks meaning)
 
 pub missed_as_meant : MissedAsMeant
-missed_as_meant g level rank rows y xs end done ranks meaning a t reading limit =
-    (there g level rows y end rank xs ranks meaning done a t reading limit, back g level rows y end rank xs ranks meaning done a t reading limit)
+missed_as_meant g level rank rows y xs end done ranks meaning = (keeps_pace g level rows y (near_end g level rows y end)).missed_as_meant done rank xs ranks meaning

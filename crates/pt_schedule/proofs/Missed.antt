@@ -1,9 +1,16 @@
--- In a finished run each claim is posted, and so the missed entries of a paced one are told by the meaning.
-use Rattle.std.proofs.Common.{◌≡◌, ℕ, ◌+◌, ◌<◌, ◌≤◌, ◌⊎◌, ◌≢◌, Bool, true, false, List, [], ◌∷◌, ◌++◌, Option, Some, None, length, filter_map, arith, refl, sym, ap, subst, ◌∙◌, inl, inr, ⊎_elim, append-nil, append_assoc}
+-- In a finished run each claim is posted, and so the missed entries are told by the meaning and the paced readings.
+use Rattle.std.proofs.Common.{◌≡◌, ℕ, ◌+◌, ◌<◌, ◌≤◌, ◌⊎◌, ◌≢◌, Bool, true, false, List, [], ◌∷◌, ◌++◌, Option, Some, None, ℤ, length, filter_map, arith, refl, sym, ap, subst, ◌∙◌, inl, inr, ⊎_elim, append-nil, append_assoc}
 use Rattle.std.specs.List.{flat_map}
 use Rattle.pt_types.specs.declared.graph.Graph.{Graph}
 use Rattle.pt_types.specs.declared.kind.Kind.TheVariants.{Actuator}
 use Rattle.pt_types.specs.declared.graph.Unit.{Unit as Part}
+use Rattle.pt_tags.specs.declared.tag.Tag.{Tag}
+use Rattle.pt_semantics.specs.Wired.{IsWired}
+use Rattle.pt_semantics.specs.Ranks.{AreLevels, AreRanks}
+use Rattle.pt_semantics.specs.Offsets.{HasOffset, IsFeasible}
+use Rattle.pt_semantics.specs.Rows.{FitRows}
+use Rattle.pt_semantics.specs.Missed.{IsMissed}
+use Rattle.pt_semantics.specs.Visits.{AreFinished, Together}
 use Rattle.pt_semantics.specs.Lists.{IsIn}
 use Rattle.pt_types.specs.Lookups.{kind_of, platform_of}
 use Rattle.pt_semantics.specs.Units.{at_input, unit_of, first_port}
@@ -12,7 +19,7 @@ use Rattle.pt_types.specs.Ports.{at_port}
 use Rattle.pt_semantics.specs.Firing.{any_present}
 use Rattle.pt_semantics.specs.Behaviours.{Firing, Firings}
 use Rattle.pt_types.specs.declared.rows.Row.{Row}
-use Rattle.pt_semantics.specs.Meaning.{ActorFiring, at_start}
+use Rattle.pt_semantics.specs.Meaning.{ActorFiring, IsMeaning, at_start}
 use Rattle.pt_types.specs.declared.firing.Task.{Task}
 use Rattle.pt_types.specs.declared.firing.Done.{Done}
 use Rattle.pt_semantics.specs.Platform.{State, put_busy, raised, opened}
@@ -36,10 +43,12 @@ use Rattle.pt_laws.proofs.FloorHolds.{all_more}
 use Rattle.pt_laws.proofs.Progress.{takes_grown}
 use Rattle.pt_semantics.proofs.Longest.{levels_grow}
 use Rattle.pt_laws.proofs.Home.{home_on_time}
+use Rattle.pt_laws.specs.NearClocks.{AreNear}
+use Rattle.pt_laws.proofs.NearClocks.{one_is_near}
 use Rattle.pt_laws.proofs.ByActor.{full_runs, by_parts}
-use Rattle.pt_laws.proofs.Onward.{Onward, round_onward}
-use Rattle.pt_schedule.proofs.PacedRuns.{run_onward, whole_of, missed_when_paced}
-use Rattle.pt_schedule.proofs.Prefix.{prefixes}
+use Rattle.pt_laws.proofs.Onward.{Onward, OnwardNear, round_onward}
+use Rattle.pt_schedule.proofs.PacedRuns.{run_onward, missed_when_paced}
+use Rattle.pt_schedule.proofs.Prefix.{prefixes, whole_at}
 
 -- each claim is open or posted, and what is posted was claimed
 pub record Accounted (g : Graph) (busy : Part → Option Task) (c : Firings) (ds : List Done) : Type 0 where
@@ -167,9 +176,24 @@ actuator_unit g a p slack e =
     let same : input_group (kind_of g a) p ≡ input_group (kind_of g a) 0 = ap (λ k. input_group k p) e ∙ sym (ap (λ k. input_group k 0) e) in
     λ j. record { actor = a; group = same j }
 
-pub missed_is_in_meaning : MissedIsInMeaning
-missed_is_in_meaning g level rank rows offset rounds c n ms y xs wired are ranks fits feasible has r finished meaning = (
-  (λ i a limit t turn lt mem missed.
+module _ (g : Graph) (level rank : ℕ → ℕ) (rows : ℕ → List Row) (offset : Part → Option ℤ) (wired : IsWired g) (are : AreLevels g level) (ranks : AreRanks g rank) (fits : FitRows g rows) (feasible : IsFeasible g) (has : (u : Part) → HasOffset g u (offset u)) (c : ℕ → ℕ) (near : AreNear g c) (y : Together) (h : OnwardNear g level rows offset c y)
+    (xs : List ActorFiring) (meaning : IsMeaning g rank rows xs) (finished : AreFinished g y) where
+  firings : AreTheFirings g (all_claims g y.did) xs
+  firings = by_parts g rank rows (all_claims g y.did) xs meaning (λ u. (prefixes g level rows offset wired are (levels_are_small g level wired are) fits feasible has c near y h rank xs ranks meaning u).1 finished)
+
+  full : (z : ActorFiring) → IsIn z xs → IsFull g z
+  full z mem = Each-in (IsFull g) xs (full_runs g rank xs (at_start g rows) meaning) z mem
+
+  free : (i : ℕ) → i < length g.platforms → (u : Part) → (y.at i).busy u ≡ None
+  free i lt u = ((whole_at g level rows offset wired are (levels_are_small g level wired are) fits feasible has c near y h i lt).keeps.is_shut (finished i lt).closed).busy u
+
+  home_of : (i : ℕ) → i < length g.platforms → (d : Done) → IsIn d (all_posted (y.did i)) → i ≡ platform_of g d.task.actor
+  home_of i lt d mem =
+      sym ((home_on_time g level i rows (y.did i) (y.at i) wired (levels_grow g level are) fits (h.legal i lt)).claims (unit_of g d.task) (firing_by g d.task) ((accounted g level i rows (y.did i) (y.at i) (h.legal i lt)).back d mem))
+
+  -- each missed entry is an actuator's, whose paced reading is past its limit
+  pub missed_is_meant : (i a limit : ℕ) (t : Tag) (turn : Turn) → i < length g.platforms → IsIn turn (y.did i) → IsMissed g turn a t limit → (z : ActorFiring) × IsIn z xs × (z.actor ≡ a) × (z.tag ≡ t) × ((slack : ℕ) × (kind_of g a ≡ Actuator slack) × (t.time + slack < paced_by (offset (at_input g a 0)) t))
+  missed_is_meant i a limit t turn lt mem missed =
       let m = missed_when_paced g offset turn a t limit (Each-in (IsTimely g offset) (y.did i) (h.timed i lt) turn mem) missed in
       let slack = m.4 in
       let d : Done = m.0 in
@@ -186,8 +210,11 @@ missed_is_in_meaning g level rank rows offset rounds c n ms y xs wired are ranks
           slack.1,
           subst (λ k. k < paced_by (offset (at_input g a 0)) t) slack.2 (subst (λ v. limit < paced_by (offset v) t) unit m.5),
         ),
-      )),
-  (λ z slack mem kind over.
+      )
+
+  -- and each such firing of the meaning is missed
+  pub meant_is_missed : (z : ActorFiring) (slack : ℕ) → IsIn z xs → kind_of g z.actor ≡ Actuator slack → z.tag.time + slack < paced_by (offset (at_input g z.actor 0)) z.tag → (turn : Turn) × IsIn turn (y.did (platform_of g z.actor)) × IsMissed g turn z.actor z.tag (z.tag.time + slack)
+  meant_is_missed z slack mem kind over =
       let i : ℕ = platform_of g z.actor in
       let f = full z mem in
       let port = eight_found (λ p. at_port z.inputs p) (subst (λ w. any_present w ≡ true) f.ports f.present) in
@@ -204,21 +231,12 @@ missed_is_in_meaning g level rank rows offset rounds c n ms y xs wired are ranks
       let on : at.0.last ≡ paced_by (offset (unit_of g p.0.task)) p.0.task.tag = Each-in (λ (d : Done). at.0.last ≡ paced_by (offset (unit_of g d.task)) d.task.tag) at.0.posted (Each-in (IsTimely g offset) (y.did i) (h.timed i (wired.homes z.actor)) at.0 at.1).posts p.0 at.2 in
       let on2 : at.0.last ≡ paced_by (offset (at_input g z.actor 0)) z.tag = subst (λ w. at.0.last ≡ paced_by (offset (at_input g z.actor 0)) w) tag (subst (λ v. at.0.last ≡ paced_by (offset v) p.0.task.tag) unit on) in
       (at.0, at.1, (inl (p.0, at.2, actor, tag, (slack, kind, refl)), subst (λ k. z.tag.time + slack < k) (sym on2) over)))
-      (acc.all u x.0 x.1)),
-)
-  where
-    h : Onward g level rows offset c y
-    h = (round_onward g level rows offset has wired feasible c n 0 r.before y ms (let some : n ≤ length g.platforms = r.some in omega arith) (run_onward g level rows offset wired are (levels_are_small g level wired are) fits feasible has rounds c r.before r.run) r.round).1
+      (acc.all u x.0 x.1)
 
-    firings : AreTheFirings g (all_claims g y.did) xs
-    firings = by_parts g rank rows (all_claims g y.did) xs meaning (λ u. (prefixes g level rows offset wired are (levels_are_small g level wired are) fits feasible has c y h rank xs ranks meaning u).1 finished)
-
-    full : (z : ActorFiring) → IsIn z xs → IsFull g z
-    full z mem = Each-in (IsFull g) xs (full_runs g rank xs (at_start g rows) meaning) z mem
-
-    free : (i : ℕ) → i < length g.platforms → (u : Part) → (y.at i).busy u ≡ None
-    free i lt u = ((whole_of g level rows offset wired are (levels_are_small g level wired are) fits feasible has c y i lt h).keeps.is_shut (finished i lt).closed).busy u
-
-    home_of : (i : ℕ) → i < length g.platforms → (d : Done) → IsIn d (all_posted (y.did i)) → i ≡ platform_of g d.task.actor
-    home_of i lt d mem =
-        sym ((home_on_time g level i rows (y.did i) (y.at i) wired (levels_grow g level are) fits (h.legal i lt)).claims (unit_of g d.task) (firing_by g d.task) ((accounted g level i rows (y.did i) (y.at i) (h.legal i lt)).back d mem))
+pub missed_is_in_meaning : MissedIsInMeaning
+missed_is_in_meaning g level rank rows offset rounds c n ms y xs wired are ranks fits feasible has r finished meaning =
+    let some : n ≤ length g.platforms = r.some in
+    let h : Onward g level rows offset c y = (round_onward g level rows offset has wired feasible c n 0 r.before y ms (omega arith) (run_onward g level rows offset wired are (levels_are_small g level wired are) fits feasible has rounds c r.before r.run) r.round).1 in (
+      missed_is_meant g level rank rows offset wired are ranks fits feasible has (λ i. c) (one_is_near g c) y h xs meaning finished,
+      meant_is_missed g level rank rows offset wired are ranks fits feasible has (λ i. c) (one_is_near g c) y h xs meaning finished,
+    )

@@ -1,15 +1,12 @@
 -- Two runs in fixed order by the same clocks are the same.
-use Rattle.std.proofs.Common.{◌≡◌, ℕ, ◌<◌, ◌≤◌, ◌==◌, suc, arith, eqb-true, ◌⊎◌, ◌≢◌, Bool, true, false, List, [], ◌∷◌, ◌++◌, length, refl, sym, ap, ap₂, subst, ◌∙◌, inl, inr, ⊎_elim, if◌then◌else◌}
+use Rattle.std.proofs.Common.{◌≡◌, ℕ, ◌<◌, ◌≤◌, ◌==◌, suc, arith, true, false, List, [], ◌∷◌, ◌++◌, length, refl, sym, ap, ap₂, subst, ◌∙◌, inl, inr, ⊎_elim}
 use Rattle.std.proofs.lemmas.Bool.{cases_Bool, cases_lt, cond-false, cond-true, false≢true}
 use Rattle.pt_types.specs.declared.graph.Graph.{Graph}
-use Rattle.pt_types.specs.declared.rows.Row.{Row}
-use Rattle.pt_semantics.specs.FixedOrder.{AreInTurn, IsOver, Visits, platform_after, put_clock}
+use Rattle.pt_semantics.specs.FixedOrder.{IsOver, Visits, platform_after, put_clock}
 use Rattle.pt_semantics.specs.Kept.{kept}
 use Rattle.pt_semantics.specs.Readings.{later_of, raised_from, raised_list}
-use Rattle.pt_semantics.specs.Turn.{Turn}
 use Rattle.pt_semantics.specs.Visits.{IsVisit, Made, Together, together_at_start}
 use Rattle.pt_schedule.specs.FixedOrderTheorems.{AreOfOneClock, FixedOrderIsOne}
-use Rattle.pt_schedule.proofs.Fronts.{nothing_there}
 use Rattle.pt_schedule.proofs.SameTurn.{made, together}
 use Rattle.pt_schedule.proofs.SameLists.{eq_self}
 

@@ -1,5 +1,5 @@
--- The histories of a whole paced run, as they are kept, are legal, matched, and linked at the end.
-use Rattle.std.proofs.Common.{◌^◌, ◌≡◌, ℕ, zero, suc, ◌<◌, ◌≤◌, ◌≢◌, Bool, false, List, [], ◌∷◌, ◌++◌, Some, length, slice_get, arith, refl, sym, ap, subst, ◌∙◌, inl, ⊎_elim, append-nil}
+-- The histories of a run, as they are kept, are legal. Those of a paced run are matched too, and linked at the end.
+use Rattle.std.proofs.Common.{◌≡◌, ℕ, zero, suc, ◌<◌, ◌≤◌, ◌≢◌, Bool, false, List, [], ◌∷◌, ◌++◌, Some, length, slice_get, arith, refl, sym, ap, subst, ◌∙◌, inl, ⊎_elim, append-nil}
 use Rattle.std.proofs.lemmas.Bool.{cases_lt, false≢true}
 use Rattle.pt_types.specs.declared.graph.Graph.{Graph}
 use Rattle.pt_types.specs.declared.graph.Link.{Link}
@@ -10,15 +10,16 @@ use Rattle.pt_semantics.specs.Platform.{State, opened}
 use Rattle.pt_semantics.specs.Turn.{Turn, IsTurn, IsLast}
 use Rattle.pt_semantics.specs.History.{Legal, IsLegal}
 use Rattle.pt_semantics.specs.Linked.{IsFinished, all_sent, all_taken}
-use Rattle.pt_semantics.specs.Kept.{kept, IsSingle}
+use Rattle.pt_semantics.specs.Kept.{kept}
 use Rattle.pt_laws.specs.HistoryTheorems.{IsSame}
 use Rattle.pt_semantics.specs.Visits.{Together, together_at_start, Made}
-use Rattle.pt_semantics.specs.Rounds.{Makes, Round, Rounds}
+use Rattle.pt_semantics.specs.Rounds.{Rounds}
 use Rattle.pt_schedule.specs.PacedTheorems.{PacedAreLegal}
 use Rattle.pt_semantics.proofs.Acyclic.{levels_are_small}
 use Rattle.pt_laws.proofs.KeptTurns.{kept_is_legal}
-use Rattle.pt_laws.proofs.Onward.{Onward, round_onward, cases_same}
+use Rattle.pt_laws.proofs.Onward.{AdvanceRound, Advances, Onward, cases_same, round_advances, round_onward}
 use Rattle.pt_schedule.proofs.PacedRuns.{run_onward, way_empty}
+use Rattle.pt_schedule.proofs.Singles.{single_run}
 
 -- a history none of whose turns is a last one
 abbrev GoesOn : Graph → (ℕ → ℕ) → ℕ → State → List Turn → State → Type 0
@@ -38,35 +39,19 @@ push_on : (g : Graph) (level : ℕ → ℕ) (i : ℕ) (turns : List Turn) (turn 
 push_on g level i [] turn late s mid new e is on = subst (λ z. GoesOn g level i z (turn ∷ []) new) e (late, new, is, on, refl)
 push_on g level i (x ∷ turns) turn late s mid new (late2, one, ix, on2, rest) is on = (late2, one, ix, on2, push_on g level i turns turn late one mid new rest is on)
 
-single_push : (turns : List Turn) (turn : Turn) → Each IsSingle turns → IsSingle turn → Each IsSingle (turns ++ turn ∷ [])
-single_push [] turn h one = (one, tt)
-single_push (x ∷ turns) turn h one = (h.0, single_push turns turn h.1 one)
-
-module _ (g : Graph) (level : ℕ → ℕ) (rows : ℕ → List Row) (c : ℕ) where
-  abbrev Going : Together → ℕ → Type 0
+module _ (g : Graph) (level : ℕ → ℕ) (rows : ℕ → List Row) (c : ℕ → ℕ) where
+  -- none of this platform's turns is a last one
+  abbrev pub Going : Together → ℕ → Type 0
   Going x p = GoesOn g level p (opened g p rows) (x.did p) (x.at p)
 
-  abbrev Lawful : Together → ℕ → Type 0
+  abbrev pub Lawful : Together → ℕ → Type 0
   Lawful x p = Legal g level p (opened g p rows) (x.did p) (x.at p)
 
-  abbrev Singles : Together → Type 0
-  Singles x = (p : ℕ) → Each IsSingle (x.did p)
-
-  singles_make : (x y : Together) (m : Made) → Makes g level c x m y → Singles x → Singles y
-  singles_make x y m k h p =
-      ⊎_elim
-      (λ (here : p ≡ m.platform).
-      subst (λ q. Each IsSingle (y.did q)) (sym here)
-      (subst (Each IsSingle) (sym k.joins) (single_push (x.did m.platform) m.turn (h m.platform)
-      (record { once = k.once; one_reading = k.first ∙ sym k.last; fits = subst (λ n. n < 2 ^ 64) (sym k.last) k.fits }))))
-      (λ (there : p ≢ m.platform). subst (Each IsSingle) (sym (k.others p there).1) (h p))
-      (cases_same p m.platform)
-
-  not_last : (x y : Together) (m : Made) (k : Makes g level c x m y) → m.fault ≡ false → IsLast g (x.at m.platform) m.turn.last m.late k.is.ready → ⊥
+  not_last : (x y : Together) (m : Made) (k : Advances g level (c m.platform) x m y) → m.fault ≡ false → IsLast g (x.at m.platform) m.turn.last m.late k.is.ready → ⊥
   not_last x y m k fine last = false≢true (sym fine ∙ k.faults.0 (subst (λ r. IsLast g (x.at m.platform) r m.late k.is.ready) k.last last))
 
-  going_make : (x y : Together) (m : Made) → Makes g level c x m y → m.fault ≡ false → ((p : ℕ) → Going x p) → (p : ℕ) → Going y p
-  going_make x y m k fine h p =
+  going_advance : (x y : Together) (m : Made) → Advances g level (c m.platform) x m y → m.fault ≡ false → ((p : ℕ) → Going x p) → (p : ℕ) → Going y p
+  going_advance x y m k fine h p =
       ⊎_elim
       (λ (here : p ≡ m.platform).
       subst (Going y) (sym here)
@@ -85,40 +70,39 @@ module _ (g : Graph) (level : ℕ → ℕ) (rows : ℕ → List Row) (c : ℕ) w
   going_stays x y p same h = subst (λ l. GoesOn g level p (opened g p rows) l (y.at p)) (sym same.1) (subst (GoesOn g level p (opened g p rows) (x.did p)) (sym same.0) h)
 
   -- rounds without a fault
-  round_goes : (n i : ℕ) (x y : Together) (ms : List Made) → Round g level c n i x ms y → Each (λ (m : Made). m.fault ≡ false) ms → ((p : ℕ) → Going x p) → Singles x → ((p : ℕ) → Going y p) × Singles y
-  round_goes zero i x y ms (none, same) fine h s = (subst (λ z. (p : ℕ) → Going z p) (sym same) h, subst Singles (sym same) s)
-  round_goes (suc n) i x y ms r fine h s =
+  pub round_goes : (n i : ℕ) (x y : Together) (ms : List Made) → AdvanceRound g level c n i x ms y → Each (λ (m : Made). m.fault ≡ false) ms → ((p : ℕ) → Going x p) → (p : ℕ) → Going y p
+  round_goes zero i x y ms (none, same) fine h = subst (λ z. (p : ℕ) → Going z p) (sym same) h
+  round_goes (suc n) i x y ms r fine h =
       ⊎_elim
-      (λ (skip : IsFinished g i (x.at i) × Round g level c n (suc i) x ms y). round_goes n (suc i) x y ms skip.1 fine h s)
-      (λ (one : (IsFinished g i (x.at i) → ⊥) × (m : Made) × (rest : List Made) × (mid : Together) × (ms ≡ m ∷ rest) × (m.platform ≡ i) × Makes g level c x m mid × Round g level c n (suc i) mid rest y).
+      (λ (skip : IsFinished g i (x.at i) × AdvanceRound g level c n (suc i) x ms y). round_goes n (suc i) x y ms skip.1 fine h)
+      (λ (one : (IsFinished g i (x.at i) → ⊥) × (m : Made) × (rest : List Made) × (mid : Together) × (ms ≡ m ∷ rest) × (m.platform ≡ i) × Advances g level (c m.platform) x m mid × AdvanceRound g level c n (suc i) mid rest y).
       let fine2 : Each (λ (m : Made). m.fault ≡ false) (one.1 ∷ one.2) = subst (Each (λ (m : Made). m.fault ≡ false)) one.4 fine in
-      round_goes n (suc i) one.3 y one.2 one.7 fine2.1 (going_make x one.3 one.1 one.6 fine2.0 h) (singles_make x one.3 one.1 one.6 s))
+      round_goes n (suc i) one.3 y one.2 one.7 fine2.1 (going_advance x one.3 one.1 one.6 fine2.0 h))
       r
 
   -- the last round, with a fault or without
-  round_ends : (n i : ℕ) (x y : Together) (ms : List Made) → Round g level c n i x ms y → ((p : ℕ) → p < i → Lawful x p) → ((p : ℕ) → i ≤ p → Going x p) → Singles x → ((p : ℕ) → Lawful y p) × Singles y
-  round_ends zero i x y ms (none, same) before after s = (subst (λ z. (p : ℕ) → Lawful z p) (sym same) (λ p. all p), subst Singles (sym same) s)
+  pub round_ends : (n i : ℕ) (x y : Together) (ms : List Made) → AdvanceRound g level c n i x ms y → ((p : ℕ) → p < i → Lawful x p) → ((p : ℕ) → i ≤ p → Going x p) → (p : ℕ) → Lawful y p
+  round_ends zero i x y ms (none, same) before after = subst (λ z. (p : ℕ) → Lawful z p) (sym same) all
     where
       all : (p : ℕ) → Lawful x p
       all p = ⊎_elim (λ (l : p < i). before p l) (λ (k : i ≤ p). goes_legal g level p (x.did p) (opened g p rows) (x.at p) (after p k)) (cases_lt p i)
-  round_ends (suc n) i x y ms r before after s =
+  round_ends (suc n) i x y ms r before after =
       ⊎_elim
-      (λ (skip : IsFinished g i (x.at i) × Round g level c n (suc i) x ms y).
+      (λ (skip : IsFinished g i (x.at i) × AdvanceRound g level c n (suc i) x ms y).
       round_ends n (suc i) x y ms skip.1
       (λ p l. ⊎_elim (λ (k : p < i). before p k) (λ (k : i ≤ p). goes_legal g level p (x.did p) (opened g p rows) (x.at p) (after p k)) (cases_lt p i))
-      (λ p k. after p (omega (arith, k))) s)
-      (λ (one : (IsFinished g i (x.at i) → ⊥) × (m : Made) × (rest : List Made) × (mid : Together) × (ms ≡ m ∷ rest) × (m.platform ≡ i) × Makes g level c x m mid × Round g level c n (suc i) mid rest y).
+      (λ p k. after p (omega (arith, k))))
+      (λ (one : (IsFinished g i (x.at i) → ⊥) × (m : Made) × (rest : List Made) × (mid : Together) × (ms ≡ m ∷ rest) × (m.platform ≡ i) × Advances g level (c m.platform) x m mid × AdvanceRound g level c n (suc i) mid rest y).
       round_ends n (suc i) one.3 y one.2 one.7
-      (made_lawful x one.3 one.1 one.5 one.6 before after)
-      (λ p k. going_stays x one.3 p (one.6.others p (λ e. above p i one.1.platform k e one.5)) (after p (omega (arith, k))))
-      (singles_make x one.3 one.1 one.6 s))
+      (advance_lawful x one.3 one.1 one.5 one.6 before after)
+      (λ p k. going_stays x one.3 p (one.6.others p (λ e. above p i one.1.platform k e one.5)) (after p (omega (arith, k)))))
       r
     where
       above : (p i q : ℕ) → suc i ≤ p → p ≡ q → q ≡ i → ⊥
       above p i q k e f = omega (arith, k, e, f)
 
-      made_lawful : (x mid : Together) (m : Made) → m.platform ≡ i → Makes g level c x m mid → ((p : ℕ) → p < i → Lawful x p) → ((p : ℕ) → i ≤ p → Going x p) → (p : ℕ) → p < suc i → Lawful mid p
-      made_lawful x mid m home k before after p l =
+      advance_lawful : (x mid : Together) (m : Made) → m.platform ≡ i → Advances g level (c m.platform) x m mid → ((p : ℕ) → p < i → Lawful x p) → ((p : ℕ) → i ≤ p → Going x p) → (p : ℕ) → p < suc i → Lawful mid p
+      advance_lawful x mid m home k before after p l =
           ⊎_elim
           (λ (here : p ≡ m.platform).
           subst (Lawful mid) (sym here)
@@ -130,32 +114,31 @@ module _ (g : Graph) (level : ℕ → ℕ) (rows : ℕ → List Row) (c : ℕ) w
           less : (p i q : ℕ) → p < suc i → p ≢ q → q ≡ i → p < i
           less p i q l other e = ⊎_elim (λ (k : p < i). k) (λ (k : i ≤ p). absurd (other (omega (arith, k, l, e)))) (cases_lt p i)
 
-rounds_go : (g : Graph) (level : ℕ → ℕ) (rows : ℕ → List Row) (rounds : List (List Made)) (c d : ℕ) (x y : Together) → Rounds g level c x rounds d y → ((p : ℕ) → Going g level rows c x p) → Singles g level rows c x → ((p : ℕ) → Going g level rows d y p) × Singles g level rows d y
-rounds_go g level rows [] c d x y (e, same) h s = (subst (λ z. (p : ℕ) → GoesOn g level p (opened g p rows) (z.did p) (z.at p)) (sym same) h, subst (λ (z : Together). (p : ℕ) → Each IsSingle (z.did p)) (sym same) s)
-rounds_go g level rows (ms ∷ rounds) c d x y (b, mid, round, fine, going, follows, rest) h s =
-    let on = round_goes g level rows c (length g.platforms) 0 x mid ms round fine h s in
-    rounds_go g level rows rounds b d mid y rest on.0 on.1
+rounds_go : (g : Graph) (level : ℕ → ℕ) (rows : ℕ → List Row) (rounds : List (List Made)) (c d : ℕ) (x y : Together) → Rounds g level c x rounds d y → ((p : ℕ) → Going g level rows (λ i. c) x p) → (p : ℕ) → Going g level rows (λ i. d) y p
+rounds_go g level rows [] c d x y (e, same) h = subst (λ z. (p : ℕ) → GoesOn g level p (opened g p rows) (z.did p) (z.at p)) (sym same) h
+rounds_go g level rows (ms ∷ rounds) c d x y (b, mid, round, fine, going, follows, rest) h =
+    rounds_go g level rows rounds b d mid y rest (round_goes g level rows (λ i. c) (length g.platforms) 0 x mid ms (round_advances g level c (length g.platforms) 0 x ms mid round) fine h)
 
 pub paced_are_legal : PacedAreLegal
 paced_are_legal g level rows offset y wired are fits feasible has run = (
-  (λ i lt. (keep i).0 (ended.0 i)),
+  (λ i lt. (keep i).0 (ended i)),
   (λ l link at. (y.on_way l, matched l link at)),
   (λ done l link at. matched l link at
       ∙ ap (λ z. all_taken l (kept (y.did (platform_of g link.to))) ++ z) (way_empty g level rows offset wired are (levels_are_small g level wired are) fits feasible has run.reading y end (λ i lt. inl (done i lt)) l link at)
       ∙ append-nil (all_taken l (kept (y.did (platform_of g link.to))))),
 )
   where
-    begin : ((p : ℕ) → GoesOn g level p (opened g p rows) (run.before.did p) (run.before.at p)) × ((p : ℕ) → Each IsSingle (run.before.did p))
-    begin = rounds_go g level rows run.rounds run.run.begins run.reading (together_at_start g rows) run.before run.run.goes (λ p. refl) (λ p. tt)
+    begin : (p : ℕ) → GoesOn g level p (opened g p rows) (run.before.did p) (run.before.at p)
+    begin = rounds_go g level rows run.rounds run.run.begins run.reading (together_at_start g rows) run.before run.run.goes (λ p. refl)
 
-    ended : ((p : ℕ) → Legal g level p (opened g p rows) (y.did p) (y.at p)) × ((p : ℕ) → Each IsSingle (y.did p))
-    ended = round_ends g level rows run.reading (length g.platforms) 0 run.before y run.made run.round (λ p l. absurd (omega (arith, l))) (λ p k. begin.0 p) begin.1
+    ended : (p : ℕ) → Legal g level p (opened g p rows) (y.did p) (y.at p)
+    ended = round_ends g level rows (λ i. run.reading) (length g.platforms) 0 run.before y run.made (round_advances g level run.reading (length g.platforms) 0 run.before run.made y run.round) (λ p l. absurd (omega (arith, l))) (λ p k. begin p)
 
     end : Onward g level rows offset run.reading y
     end = (round_onward g level rows offset has wired feasible run.reading (length g.platforms) 0 run.before y run.made (omega arith) (run_onward g level rows offset wired are (levels_are_small g level wired are) fits feasible has run.rounds run.reading run.before run.run) run.round).1
 
     keep : (i : ℕ) → (Legal g level i (opened g i rows) (y.did i) (y.at i) → IsLegal g level i rows (kept (y.did i)) (y.at i)) × IsSame g (kept (y.did i)) (y.did i)
-    keep i = let k = kept_is_legal g level i rows (y.did i) (y.at i) wired are fits (ended.1 i) in (k.0, k.2)
+    keep i = let k = kept_is_legal g level i rows (y.did i) (y.at i) wired are fits (single_run g level rows y run i) in (k.0, k.2)
 
     matched : (l : ℕ) (link : Link) → slice_get g.links l ≡ Some link → all_sent l (kept (y.did (platform_of g link.from))) ≡ all_taken l (kept (y.did (platform_of g link.to))) ++ y.on_way l
     matched l link at =

@@ -17,7 +17,7 @@ use Rattle.pt_types.specs.Lookups.{slack_of}
 use Rattle.pt_semantics.specs.Ranks.{AreLevels}
 use Rattle.pt_types.specs.declared.rows.Row.{Row}
 use Rattle.pt_types.specs.declared.firing.Done.{Done}
-use Rattle.pt_semantics.specs.Platform.{State, opened}
+use Rattle.pt_semantics.specs.Platform.{State}
 use Rattle.pt_semantics.specs.Turn.{is_quiet}
 use Rattle.pt_tags.specs.declared.message.Message.{Message}
 use Rattle.pt_semantics.specs.Linked.{IsFinished, all_sent, all_taken}
@@ -31,7 +31,7 @@ use Rattle.pt_semantics.specs.Visits.{Together, together_at_start, Made}
 use Rattle.pt_schedule.specs.PacedTheorems.{NoneLate, TimelyWhenPaced, MissedWhenPaced}
 use Rattle.pt_semantics.proofs.Acyclic.{levels_are_small}
 use Rattle.pt_semantics.proofs.Longest.{levels_grow}
-use Rattle.pt_semantics.proofs.Lookups.{none_some, Each-in, IsIn-append_left, IsIn-append_right}
+use Rattle.pt_semantics.proofs.Lookups.{Each-in, IsIn-append_left, IsIn-append_right}
 use Rattle.pt_semantics.proofs.Claiming.{event_found, has_event}
 use Rattle.pt_laws.proofs.Once.{absent}
 use Rattle.pt_laws.proofs.Walks.{Whole, on_time_history}
@@ -40,7 +40,7 @@ use Rattle.pt_laws.proofs.Progress.{nothing_met, closing_bounds, goes_home, pace
 use Rattle.pt_laws.proofs.Home.{Home, home_on_time}
 use Rattle.pt_laws.proofs.Paces.{in_on_link}
 use Rattle.pt_laws.proofs.Onward.{Onward, cases_same, round_onward}
-use Rattle.pt_laws.proofs.Raise.{later_from, Rests, quiet_makes}
+use Rattle.pt_laws.proofs.Raise.{Rests, quiet_makes, raise_near, start_near}
 
 pub round_leaves : (g : Graph) (level : ℕ → ℕ) (c n i : ℕ) (x y : Together) (ms : List Made) → Round g level c n i x ms y → (j : ℕ) → j < i → y.at j ≡ x.at j
 round_leaves g level c zero i x y ms r j lt = ap (λ (z : Together). z.at j) r.1
@@ -134,13 +134,7 @@ module _ (g : Graph) (level : ℕ → ℕ) (rows : ℕ → List Row) (offset : P
   whole_of c x i lt h = on_time_history g level i rows wired up fits (x.did i) (x.at i) (h.legal i lt)
 
   pub start_onward : (b : ℕ) → IsLeastNext g (together_at_start g rows) b → Onward g level rows offset b (together_at_start g rows)
-  start_onward b next = record {
-    legal = λ i lt. refl;
-    later = λ i lt. later_from g level i rows [] (opened g i rows) b offset has wired up fits refl (λ u. refl) (λ l. refl) (λ p e. absurd (none_some p e)) (λ e d cand. next.least i d lt e cand);
-    way = λ l link t v at m. absurd m;
-    linked = λ l link at. refl;
-    timed = λ i lt. tt;
-  }
+  start_onward b next = start_near g level rows offset has wired up fits (λ i. b) (λ i lt d cand. next.least i d lt refl cand)
 
   -- where all platforms rest or are finished, no message is on its way
   pub way_empty : (c : ℕ) (y : Together) → Onward g level rows offset c y → ((i : ℕ) → i < length g.platforms → Settles g c y i) → (l : ℕ) (link : Link) → slice_get g.links l ≡ Some link → y.on_way l ≡ []
@@ -226,17 +220,9 @@ module _ (g : Graph) (level : ℕ → ℕ) (rows : ℕ → List Row) (offset : P
 
   pub raise_onward : (c b : ℕ) (y : Together) → Onward g level rows offset c y → ((i : ℕ) → i < length g.platforms → Settles g c y i) → IsLeastNext g y b → Onward g level rows offset b y
   raise_onward c b y h settled next =
-      let rises : c ≤ b = rises_to c b y h settled next in
-      record {
-        legal = h.legal;
-        linked = h.linked;
-        timed = h.timed;
-        way = λ l link t v at m. let none : IsIn (Event t v) [] = subst (IsIn (Event t v)) (way_empty c y h settled l link at) m in absurd none;
-        later = λ i lt. later_from g level i rows (y.did i) (y.at i) b offset has wired up fits (h.legal i lt)
-            (free_all c y h settled i lt) (outbox_empty c y h settled i lt)
-            (λ p e. let le : p ≤ c = (h.later i lt).reading p e in omega arith)
-            (λ e d cand. next.least i d lt e cand);
-      }
+      raise_near g level rows offset has wired up fits (λ i. c) (λ i. b) y h (λ i lt. rises_to c b y h settled next) (free_all c y h settled) (outbox_empty c y h settled)
+      (λ i lt still d cand. next.least i d lt still cand)
+      (λ l link t v at m. let none : IsIn (Event t v) [] = subst (IsIn (Event t v)) (way_empty c y h settled l link at) m in absurd none)
 
   pub rounds_onward : (rounds : List (List Made)) (c d : ℕ) (x y : Together) → Onward g level rows offset c x → Rounds g level c x rounds d y → Onward g level rows offset d y
   rounds_onward [] c d x y h (e, same) = subst (λ n. Onward g level rows offset n y) (sym e) (subst (Onward g level rows offset c) (sym same) h)

@@ -1,4 +1,4 @@
--- At any time in a paced run what each unit claimed is a front of its parts of the meaning.
+-- At any time in a run what each unit claimed is a front of its parts of the meaning.
 use Rattle.std.proofs.Common.{◌≡◌, ℕ, ◌+◌, ◌<◌, ◌≤◌, ◌⊎◌, ◌≢◌, true, false, List, [], ◌∷◌, ◌++◌, Option, Some, None, ℤ, length, slice_get, arith, refl, sym, ap, ap₂, subst, ◌∙◌, inl, inr, ⊎_elim, append_assoc}
 use Rattle.std.proofs.lemmas.Bool.{cases_Bool}
 use Rattle.pt_types.specs.declared.graph.Graph.{Graph}
@@ -15,7 +15,6 @@ use Rattle.pt_semantics.specs.Behaviours.{Firing, Rising, firing_at, IsClosed}
 use Rattle.pt_semantics.specs.Ranks.{sum_along, AreLevels, AreRanks}
 use Rattle.pt_semantics.specs.Paths.{Goes}
 use Rattle.pt_semantics.specs.Bounds.{Feeds, bound_by, link_bound}
-use Rattle.pt_types.specs.Lookups.{slack_of}
 use Rattle.pt_semantics.specs.Wired.{IsWired}
 use Rattle.pt_semantics.specs.Offsets.{IsFeasible, HasOffset}
 use Rattle.pt_types.specs.declared.rows.Row.{Row}
@@ -39,15 +38,16 @@ use Rattle.pt_semantics.proofs.Lookups.{none_some, IsIn-append, cases_part}
 use Rattle.pt_semantics.proofs.Floor.{plus_zero, plus_then, past_own, cycle_takes_time, sensor_unit, receiver_unit, bound_of_link}
 use Rattle.pt_laws.proofs.Once.{absent}
 use Rattle.pt_laws.proofs.Steps.{IsShut}
-use Rattle.pt_laws.proofs.Walks.{Whole}
+use Rattle.pt_laws.proofs.Walks.{Whole, on_time_history}
 use Rattle.pt_laws.proofs.Finish.{link_of, histories_behave_on}
 use Rattle.pt_laws.proofs.MeaningSteps.{meaning_behaves}
 use Rattle.pt_laws.proofs.Bounds.{outgoing_orderly}
-use Rattle.pt_laws.proofs.PacedClosed.{along_wire, along_link}
+use Rattle.pt_laws.specs.NearClocks.{AreNear}
+use Rattle.pt_laws.proofs.NearClocks.{later_along, one_is_near, received_later, sent_in_bound}
 use Rattle.pt_laws.proofs.Progress.{goes_home}
-use Rattle.pt_laws.proofs.Paces.{as_le, row_when_paced, sends_in_time}
-use Rattle.pt_laws.proofs.Onward.{Onward, round_onward}
-use Rattle.pt_schedule.proofs.PacedRuns.{run_onward, whole_of, nothing_after_end}
+use Rattle.pt_laws.proofs.Paces.{as_le, row_when_paced}
+use Rattle.pt_laws.proofs.Onward.{OnwardNear, round_onward}
+use Rattle.pt_schedule.proofs.PacedRuns.{run_onward, nothing_after_end}
 
 -- these edges, wires and links, lead from unit x to unit a
 abbrev pub Along : Graph → Part → List Edge → Part → Type 0
@@ -178,53 +178,52 @@ not_itself t h = grind arith
 pub not_one : (t : Tag) (d : Delay) → Before (plus t d) (plus t (then d zero_delay)) → ⊥
 not_one t d h = grind arith
 
-module _ (g : Graph) (level : ℕ → ℕ) (rows : ℕ → List Row) (offset : Part → Option ℤ) (wired : IsWired g) (are : AreLevels g level) (small : (a : ℕ) → level a ≤ length g.actors) (fits : FitRows g rows) (feasible : IsFeasible g) (has : (u : Part) → HasOffset g u (offset u)) (c : ℕ) (y : Together) (h : Onward g level rows offset c y) where
-  pub along_edge : (e : Edge) (s : Tag) → IsIn e (edges g) → paced_by (offset (source g e)) s ≤ paced_by (offset (target g e)) (plus s e.weight)
-  along_edge e s mem =
-      ⊎_elim
-      (λ (w : IsIn e (wires g)). along_wire g offset has e s w)
-      (λ (k : IsIn e (links g)).
-      let f = link_of g.links e k in
-      subst (λ z. paced_by (offset (source g z)) s ≤ paced_by (offset (target g z)) (plus s z.weight)) (sym f.3) (along_link g offset wired feasible has f.0 f.1 s f.2))
-      (IsIn-append e (wires g) (links g) mem)
+module _ (g : Graph) (level : ℕ → ℕ) (rows : ℕ → List Row) (offset : Part → Option ℤ) (wired : IsWired g) (are : AreLevels g level) (small : (a : ℕ) → level a ≤ length g.actors) (fits : FitRows g rows) (feasible : IsFeasible g) (has : (u : Part) → HasOffset g u (offset u)) (c : ℕ → ℕ) (near : AreNear g c) (y : Together) (h : OnwardNear g level rows offset c y) where
+  -- what is still to be done is no sooner than the reading at each unit to which it leads
+  pub later_path : (path : List Edge) (x u : Part) (w : Tag) → Along g x path u → c (platform_of g x.actor) ≤ paced_by (offset x) w → c (platform_of g u.actor) ≤ paced_by (offset u) (plus w (sum_along path))
+  later_path [] x u w go le = subst (λ z. c (platform_of g z.actor) ≤ paced_by (offset z) (plus w zero_delay)) go (subst (λ z. c (platform_of g x.actor) ≤ paced_by (offset x) z) (sym (plus_zero w)) le)
+  later_path (e ∷ path) x u w (mem, src, go) le =
+      let one : c (platform_of g e.to) ≤ paced_by (offset (target g e)) (plus w e.weight) = later_along g offset has wired feasible c near e w mem (subst (λ z. c (platform_of g z.actor) ≤ paced_by (offset z) w) (sym src) le) in
+      subst (λ z. c (platform_of g u.actor) ≤ paced_by (offset u) z) (plus_then w e.weight (sum_along path)) (later_path path (target g e) u (plus w e.weight) go one)
 
-  pub paced_along : (path : List Edge) (x u : Part) (w : Tag) → Along g x path u → paced_by (offset x) w ≤ paced_by (offset u) (plus w (sum_along path))
-  paced_along [] x u w go = subst (λ z. paced_by (offset x) w ≤ paced_by (offset z) (plus w zero_delay)) go (subst (λ z. paced_by (offset x) w ≤ paced_by (offset x) z) (sym (plus_zero w)) (omega arith))
-  paced_along (e ∷ path) x u w (mem, src, go) =
-      let one : paced_by (offset (source g e)) w ≤ paced_by (offset (target g e)) (plus w e.weight) = along_edge e w mem in
-      let on : paced_by (offset (target g e)) (plus w e.weight) ≤ paced_by (offset u) (plus (plus w e.weight) (sum_along path)) = paced_along path (target g e) u (plus w e.weight) go in
-      subst (λ z. paced_by (offset z) w ≤ paced_by (offset u) (plus w (sum_along (e ∷ path)))) src
-      (subst (λ z. paced_by (offset (source g e)) w ≤ paced_by (offset u) z) (plus_then w e.weight (sum_along path)) (omega arith))
+  pub whole_at : (i : ℕ) → i < length g.platforms → Whole g level i rows (y.at i) (y.at i).reading (claims_of g (y.did i)) (λ l. all_sent l (y.did i)) (λ l. all_taken l (y.did i))
+  whole_at i lt = on_time_history g level i rows wired (levels_grow g level are) fits (y.did i) (y.at i) (h.legal i lt)
 
   pub whole : (u : Part) → Whole g level (platform_of g u.actor) rows (y.at (platform_of g u.actor)) (y.at (platform_of g u.actor)).reading (claims_of g (y.did (platform_of g u.actor))) (λ l. all_sent l (y.did (platform_of g u.actor))) (λ l. all_taken l (y.did (platform_of g u.actor)))
-  whole u = whole_of g level rows offset wired are small fits feasible has c y (platform_of g u.actor) (wired.homes u.actor) h
+  whole u = whole_at (platform_of g u.actor) (wired.homes u.actor)
 
-  -- a row or message that is not seen before the common reading comes past a claim
-  source_past : (u : Part) (x : Firing) → IsIn x (all_claims g y.did u) → (a b : ℕ) (path : List Edge) → Feeds g a b path u → (n : ℕ) → c ≤ n + b → x.tag.time < n + (sum_along path).time
+  -- a row or message that is not seen before the platform's reading comes past a claim
+  source_past : (u : Part) (x : Firing) → IsIn x (all_claims g y.did u) → (a b : ℕ) (path : List Edge) → Feeds g a b path u → (n : ℕ) → c (platform_of g u.actor) ≤ n + b → x.tag.time < n + (sum_along path).time
   source_past u x mem a b path feeds n le =
       let from = (whole u).sound.floor.sources a b path u x feeds mem in
-      let reading : from.0 ≤ c = (h.later (platform_of g u.actor) (wired.homes u.actor)).reading from.0 from.1 in
+      let reading : from.0 ≤ c (platform_of g u.actor) = (h.later (platform_of g u.actor) (wired.homes u.actor)).reading from.0 from.1 in
       let lt : x.tag.time + b < from.0 + (sum_along path).time = from.2 in
-      omega arith
-
-  -- a sender sends in time for its receiver's bound
-  pub in_bound : (l : ℕ) (link : Link) (w : Tag) → slice_get g.links l ≡ Some link → c ≤ paced_by (offset (at_output g link.from 0)) w → c ≤ w.time + link_bound g link
-  in_bound l link w at le =
-      let send = wired.sends l link at in
-      let slack : paced_by (offset (at_output g link.from 0)) w ≤ w.time + send.0 = sends_in_time g link.from send.0 (offset (at_output g link.from 0)) w feasible send.1 (has (at_output g link.from 0)) in
-      let within : send.0 ≤ link_bound g link = subst (λ k. slack_of k ≤ link_bound g link) send.1 (omega arith) in
       omega arith
 
   pub by_link : (l : ℕ) (link : Link) (path : List Edge) (u : Part) → slice_get g.links l ≡ Some link → Goes g (at_input g link.to 0) path u → Feeds g link.to (link_bound g link) path u
   by_link l link path u at go = record { bound = bound_of_link g l link wired at; goes = subst (λ z. Goes g z path u) (receiver_unit g link.to 0 (wired.receives l link at)) go }
 
-  crosses_past : (u z : Part) (x : Firing) (w : Tag) (path : List Edge) → IsIn x (all_claims g y.did u) → Crosses g z path u → c ≤ paced_by (offset z) w → Before x.tag (plus w (sum_along path))
+  -- what comes over a link within its bound comes past a claim that it leads to
+  message_past : (u : Part) (x : Firing) (l : ℕ) (link : Link) (w : Tag) (path : List Edge) → IsIn x (all_claims g y.did u) → slice_get g.links l ≡ Some link → Goes g (at_input g link.to 0) path u → c (platform_of g link.to) ≤ w.time + link_bound g link → x.tag.time < w.time + (sum_along path).time
+  message_past u x l link w path mem at go bound =
+      source_past u x mem link.to (link_bound g link) path (by_link l link path u at go) w.time
+      (subst (λ i. c i ≤ w.time + link_bound g link) (goes_home g wired path (at_input g link.to 0) u go) bound)
+
+  crosses_past : (u z : Part) (x : Firing) (w : Tag) (path : List Edge) → IsIn x (all_claims g y.did u) → Crosses g z path u → c (platform_of g z.actor) ≤ paced_by (offset z) w → Before x.tag (plus w (sum_along path))
   crosses_past u z x w path mem k le =
-      let on : paced_by (offset z) w ≤ paced_by (offset (at_output g k.link.from 0)) (plus w (sum_along k.before)) = paced_along k.before z (source g (of_link k.link)) w k.first in
-      let bound : c ≤ (w.time + (sum_along k.before).time) + link_bound g k.link = in_bound k.l k.link (plus w (sum_along k.before)) k.at (omega arith) in
-      let lt : x.tag.time < (w.time + (sum_along k.before).time) + (sum_along k.after).time = source_past u x mem k.link.to (link_bound g k.link) k.after (by_link k.l k.link k.after u k.at k.rest) (w.time + (sum_along k.before).time) bound in
+      let sent : c (platform_of g k.link.from) ≤ paced_by (offset (at_output g k.link.from 0)) (plus w (sum_along k.before)) = later_path k.before z (source g (of_link k.link)) w k.first le in
+      let lt : x.tag.time < (w.time + (sum_along k.before).time) + (sum_along k.after).time = message_past u x k.l k.link (plus w (sum_along k.before)) k.after mem k.at k.rest (sent_in_bound g offset has wired feasible c near k.l k.link (plus w (sum_along k.before)) k.at sent) in
       let time : (sum_along path).time ≡ (sum_along k.before).time + (sum_along k.after).time = k.time in
-      sooner_time x.tag w (sum_along path) (omega arith)
+      sooner_time x.tag w (sum_along path) (omega (arith, lt, time))
+
+  -- what is on its way or still to be sent comes within its link's bound
+  pub in_bound : (l : ℕ) (link : Link) (w : Tag) (v : ℤ) → slice_get g.links l ≡ Some link → IsIn (Event w v) (y.on_way l ++ (y.at (platform_of g link.from)).outbox l) → c (platform_of g link.to) ≤ w.time + link_bound g link
+  in_bound l link w v at m =
+      ⊎_elim
+      (λ (a : IsIn (Event w v) (y.on_way l)). h.way l link w v at a)
+      (λ (b : IsIn (Event w v) ((y.at (platform_of g link.from)).outbox l)).
+      sent_in_bound g offset has wired feasible c near l link w at ((h.later (platform_of g link.from) (wired.homes link.from)).outbox l link w v at b))
+      (IsIn-append (Event w v) (y.on_way l) ((y.at (platform_of g link.from)).outbox l) m)
 
   claim_past : (u : Part) (x : Firing) (t : Tag) → IsIn x (all_claims g y.did u) → UpTo t x.tag → IsPast g y u t
   claim_past u x t mem le = record {
@@ -236,33 +235,28 @@ module _ (g : Graph) (level : ℕ → ℕ) (rows : ℕ → List Row) (offset : P
           (λ (wire : Goes g (at_input g a p) path u).
           let home : i ≡ platform_of g u.actor = sym k.0 ∙ goes_home g wired path (at_input g a p) u wire in
           (whole u).sound.floor.waits a p w v path u x below (subst (λ n. (y.at n).waits a p w ≡ Some v) home there) wire mem)
-          (λ (cross : Crosses g (at_input g a p) path u). crosses_past u (at_input g a p) x w path mem cross k.1)
+          (λ (cross : Crosses g (at_input g a p) path u). crosses_past u (at_input g a p) x w path mem cross (subst (λ n. c n ≤ paced_by (offset (at_input g a p)) w) (sym k.0) k.1))
           (split g path (at_input g a p) u go));
       left = λ i a row lt m path go.
           up_before t x.tag (plus (at_time row.time) (sum_along path)) le
           (let k = (h.later i lt).left a row m in
-          let seen : c ≤ row.seen = k.2 in
+          let seen : c (platform_of g a) ≤ row.seen = subst (λ n. c n ≤ row.seen) (sym k.1) k.2 in
           let in_time : row.seen ≤ row.time + k.0.bound = k.0.in_time in
           ⊎_elim
           (λ (wire : Goes g (at_input g a 0) path u).
           let feeds : Feeds g a k.0.bound path u = record { bound = ap (bound_by g a) k.0.sensor; goes = subst (λ z. Goes g z path u) (sensor_unit g k.0.file a 0 k.0.bound k.0.sensor) wire } in
-          sooner_time x.tag (at_time row.time) (sum_along path) (source_past u x mem a k.0.bound path feeds row.time (omega arith)))
+          let here : c (platform_of g u.actor) ≤ row.seen = subst (λ n. c n ≤ row.seen) (goes_home g wired path (at_input g a 0) u wire) seen in
+          sooner_time x.tag (at_time row.time) (sum_along path) (source_past u x mem a k.0.bound path feeds row.time (omega (arith, here, in_time))))
           (λ (cross : Crosses g (at_input g a 0) path u).
           let on : row.seen ≤ paced_by (offset (at_input g a 0)) (at_time row.time) = row_when_paced g a 0 row (offset (at_input g a 0)) k.0 (has (at_input g a 0)) in
-          crosses_past u (at_input g a 0) x (at_time row.time) path mem cross (omega arith))
+          crosses_past u (at_input g a 0) x (at_time row.time) path mem cross (omega (arith, seen, on)))
           (split g path (at_input g a 0) u go));
       messages = λ l link w v at m path go.
           up_before t x.tag (plus w (sum_along path)) le
-          (let from : c ≤ paced_by (offset (at_output g link.from 0)) w =
+          (let bound : c (platform_of g link.to) ≤ w.time + link_bound g link = in_bound l link w v at m in
           ⊎_elim
-          (λ (a : IsIn (Event w v) (y.on_way l)). h.way l link w v at a)
-          (λ (b : IsIn (Event w v) ((y.at (platform_of g link.from)).outbox l)). (h.later (platform_of g link.from) (wired.homes link.from)).outbox l link w v at b)
-          (IsIn-append (Event w v) (y.on_way l) ((y.at (platform_of g link.from)).outbox l) m) in
-          ⊎_elim
-          (λ (wire : Goes g (at_input g link.to 0) path u). sooner_time x.tag w (sum_along path) (source_past u x mem link.to (link_bound g link) path (by_link l link path u at wire) w.time (in_bound l link w at from)))
-          (λ (cross : Crosses g (at_input g link.to 0) path u).
-          let on : paced_by (offset (at_output g link.from 0)) w ≤ paced_by (offset (at_input g link.to 0)) w = subst (λ z. paced_by (offset (at_output g link.from 0)) w ≤ paced_by (offset (at_input g link.to 0)) z) (plus_zero w) (along_link g offset wired feasible has l link w at) in
-          crosses_past u (at_input g link.to 0) x w path mem cross (omega arith))
+          (λ (wire : Goes g (at_input g link.to 0) path u). sooner_time x.tag w (sum_along path) (message_past u x l link w path mem at wire bound))
+          (λ (cross : Crosses g (at_input g link.to 0) path u). crosses_past u (at_input g link.to 0) x w path mem cross (received_later g offset has wired feasible c l link w at bound))
           (split g path (at_input g link.to 0) u go));
     };
     busy = λ i z task e path lt b go.
@@ -279,7 +273,7 @@ module _ (g : Graph) (level : ℕ → ℕ) (rows : ℕ → List Row) (offset : P
         (cycle_takes_time g level (levels_grow g level are) e path u (subst (λ n. Goes g n (e ∷ path) u) same wire)))
         (λ (other : z ≢ u). (whole u).sound.floor.open_elsewhere z task (e ∷ path) u x here other wire mem)
         (cases_part z u))
-        (λ (cross : Crosses g z (e ∷ path) u). crosses_past u z x task.tag (e ∷ path) mem cross (as_le c _ k.1))
+        (λ (cross : Crosses g z (e ∷ path) u). crosses_past u z x task.tag (e ∷ path) mem cross (subst (λ n. c n ≤ paced_by (offset z) task.tag) (sym k.0) (as_le (c i) _ k.1)))
         (split g (e ∷ path) z u go));
   }
 
@@ -314,17 +308,14 @@ module _ (g : Graph) (level : ℕ → ℕ) (rows : ℕ → List Row) (offset : P
     busy = λ i z task e path lt b go. absurd (none_some task (sym ((shut_at i lt).busy z) ∙ b));
   }
     where
-      at_platform : (i : ℕ) → i < length g.platforms → Whole g level i rows (y.at i) (y.at i).reading (claims_of g (y.did i)) (λ l. all_sent l (y.did i)) (λ l. all_taken l (y.did i))
-      at_platform i lt = whole_of g level rows offset wired are small fits feasible has c y i lt h
-
       shut_at : (i : ℕ) → i < length g.platforms → IsShut g i (y.at i)
-      shut_at i lt = (at_platform i lt).keeps.is_shut (done i lt).closed
+      shut_at i lt = (whole_at i lt).keeps.is_shut (done i lt).closed
 
       way_none : (l : ℕ) (link : Link) → slice_get g.links l ≡ Some link → y.on_way l ≡ []
       way_none l link at =
           let order : IsOrderly g level link (all_sent l (y.did (platform_of g link.from)) ++ (y.at (platform_of g link.from)).outbox l) =
           outgoing_orderly g level (platform_of g link.from) rows (y.did (platform_of g link.from)) (y.at (platform_of g link.from)) wired are fits (h.legal (platform_of g link.from) (wired.homes link.from)) l link at refl in
-          let ends : IsIn End (all_taken l (y.did (platform_of g link.to))) = subst (IsIn End) ((at_platform (platform_of g link.to) (wired.homes link.to)).keeps.taken_is l) ((done (platform_of g link.to) (wired.homes link.to)).ends l link at refl) in
+          let ends : IsIn End (all_taken l (y.did (platform_of g link.to))) = subst (IsIn End) ((whole_at (platform_of g link.to) (wired.homes link.to)).keeps.taken_is l) ((done (platform_of g link.to) (wired.homes link.to)).ends l link at refl) in
           nothing_after_end (all_taken l (y.did (platform_of g link.to))) (y.on_way l) ((y.at (platform_of g link.from)).outbox l) ends
           (subst (λ z. InOrder (z ++ (y.at (platform_of g link.from)).outbox l)) (h.linked l link at) order.0)
 
@@ -339,6 +330,6 @@ module _ (g : Graph) (level : ℕ → ℕ) (rows : ℕ → List Row) (offset : P
 pub paced_is_prefix : PacedIsPrefix
 paced_is_prefix g level rank rows offset rounds c n ms y xs wired are ranks fits feasible has r meaning u =
     let some : n ≤ length g.platforms = r.some in
-    prefixes g level rows offset wired are (levels_are_small g level wired are) fits feasible has c y
+    prefixes g level rows offset wired are (levels_are_small g level wired are) fits feasible has (λ i. c) (one_is_near g c) y
     (round_onward g level rows offset has wired feasible c n 0 r.before y ms (omega arith) (run_onward g level rows offset wired are (levels_are_small g level wired are) fits feasible has rounds c r.before r.run) r.round).1
     rank xs ranks meaning u

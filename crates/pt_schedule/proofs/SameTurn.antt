@@ -1,5 +1,5 @@
 -- What was before a visit determines it: two visits of one platform at one reading are the same, whether late or not.
-use Rattle.std.proofs.Common.{◌≡◌, ℕ, suc, ◌+◌, ◌≤◌, ◌⊎◌, ◌≢◌, Bool, true, false, List, [], ◌∷◌, ◌++◌, Option, Some, None, length, slice_get, take, arith, refl, sym, ap, ap₂, subst, ◌∙◌, inl, inr, ⊎_elim, append-nil}
+use Rattle.std.proofs.Common.{◌≡◌, ℕ, suc, ◌+◌, ◌≤◌, ◌⊎◌, ◌≢◌, Bool, true, false, List, [], ◌∷◌, ◌++◌, Some, None, length, slice_get, take, arith, refl, sym, ap, ap₂, subst, ◌∙◌, inl, inr, ⊎_elim, append-nil}
 use Rattle.std.proofs.lemmas.Bool.{cases_Bool, false≢true}
 use Rattle.std.proofs.lemmas.List.{append_cancel_left}
 use Rattle.pt_tags.specs.declared.message.Message.{Message}
@@ -26,7 +26,7 @@ use Rattle.pt_semantics.specs.Visits.{Together, Made, IsVisit, NumbersRise}
 use Rattle.pt_semantics.proofs.Lookups.{none_some, cases_part, IsIn-append_right}
 use Rattle.pt_semantics.proofs.Floor.{put_none_found, put_other}
 use Rattle.pt_laws.proofs.Onward.{cases_same}
-use Rattle.pt_schedule.proofs.SameLists.{rise_same, links_same, on_link_none}
+use Rattle.pt_schedule.proofs.SameLists.{rise_same, links_same}
 use Rattle.pt_schedule.proofs.Fronts.{decided, nothing_after, nothing_left, nothing_there, one_is_front}
 use Rattle.pt_types.specs.Limits.{most_claims}
 

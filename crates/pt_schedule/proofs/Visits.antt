@@ -20,7 +20,7 @@ use Rattle.pt_semantics.specs.Visits.{Made, Together}
 use Rattle.pt_semantics.specs.Wired.{IsWired}
 use Rattle.pt_semantics.proofs.Lookups.{Each-from, IsIn-append_left, none_some, same_some}
 use Rattle.pt_laws.proofs.Onward.{Onward, cases_same, makes_onward}
-use Rattle.pt_laws.proofs.Paces.{IsForeign, Paces, SentLater, in_on_link, turn_paces}
+use Rattle.pt_laws.proofs.Paces.{InBound, IsForeign, Paces, in_on_link, turn_paces}
 use Rattle.pt_laws.proofs.Sums.{sum_le, sum_lt}
 use Rattle.pt_schedule.proofs.Turns.{turn_does}
 use Rattle.pt_schedule.proofs.Moves.{AreFew, Falls, IsStill, to_do, turn_falls}
@@ -46,14 +46,14 @@ module _ (g : Graph) (level : ℕ → ℕ) (rows : ℕ → List Row) (offset : P
       (link : Link) × (slice_get g.links o.link ≡ Some link) × (platform_of g link.from ≡ m.platform)
   sent_on c x y m h k lt o mem = by_link (slice_get g.links o.link) refl
     where
-      from_way : Each (SentLater g offset has wired feasible c m.platform) m.turn.taken
-      from_way = Each-from (SentLater g offset has wired feasible c m.platform) m.turn.taken (λ p inside link t v at e.
+      from_way : Each (InBound g offset has wired c m.platform) m.turn.taken
+      from_way = Each-from (InBound g offset has wired c m.platform) m.turn.taken (λ p inside link t v at e.
           h.way p.link link t v at (subst (IsIn _) (sym (k.takes p.link))
           (IsIn-append_left _ (on_link p.link m.turn.taken) (k.rest p.link)
           (subst (λ z. IsIn z (on_link p.link m.turn.taken)) e (in_on_link p m.turn.taken inside)))))
 
-      paces : Paces g offset has wired feasible c m.platform level (x.at m.platform) m.turn m.late (y.at m.platform)
-      paces = turn_paces g offset has wired feasible c m.platform level (x.at m.platform) (y.at m.platform) m.turn m.late (h.later m.platform lt) k.last k.is from_way
+      paces : Paces g offset has wired c m.platform level (x.at m.platform) m.turn m.late (y.at m.platform)
+      paces = turn_paces g offset has wired c m.platform level (x.at m.platform) (y.at m.platform) m.turn m.late (h.later m.platform lt) k.last k.is from_way
 
       never : IsForeign g m.platform o.link → ⊥
       never foreign = let none : IsIn o.message [] = subst (IsIn o.message) (paces.sent_own o.link foreign) (in_on_link o m.turn.sent mem) in absurd none

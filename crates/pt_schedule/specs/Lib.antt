@@ -4,3 +4,4 @@ pub mod FixedOrderTheorems
 pub mod Schedule
 pub mod WholeRuns
 pub mod PacedTheorems
+pub mod NearClocks

@@ -1,4 +1,4 @@
-use Rattle.pt_laws.proofs.PacedClosed.{paced_is_closed}
+use Rattle.pt_laws.proofs.NearClocks.{paced_is_closed}
 use Rattle.pt_laws.proofs.readings.paced_readings_are_closed.Goals as goal
 
 pub returns : goal.returns
