@@ -12,6 +12,7 @@ use Rattle.pt_tags.specs.declared.tag.Tag.{Tag}
 use Rattle.pt_tags.specs.Tags.{same_tag}
 use Rattle.std.proofs.lemmas.Bool.{cases_lt}
 use Rattle.std.proofs.lemmas.List.{get_or_default}
+use Rattle.std.proofs.Math.Seq.{take-length, drop-length}
 use Rattle.std.proofs.lemmas.Bool.Decides.{nat_tests}
 use Rattle.std.proofs.lemmas.Grind.{common_steps}
 use Rattle.pt_types.specs.Ports.{when}
@@ -38,6 +39,10 @@ eq_of : (o : Ordering) → is_eq o ≡ true → o ≡ Equal
 eq_of Less h = absurd cc
 eq_of Equal h = refl
 eq_of Greater h = absurd cc
+
+-- an event at the end
+pub at_the_end : (es : List Sent) (x : Sent) → take (length es) es ++ x ∷ drop (length es) es ≡ es ++ x ∷ []
+at_the_end es x = rw (take-length es, drop-length es) refl
 
 module _ (R : Place → Place → Ordering) (o : IsTotalOrder R) where
   -- where all are after a place, nothing is at it
@@ -115,6 +120,41 @@ module _ (R : Place → Place → Ordering) (o : IsTotalOrder R) where
           (λ (low : k < length es - 1). by k d h (inl low))
           (λ (high : length es - 1 ≤ k). let at : k ≡ length es - 1 = omega (arith, h, high) in by k d h (inr at))
           (cases_lt k (length es - 1))
+
+  -- a place between two neighbours has its gap there
+  pub gap_between : (es : List Sent) (p : Place) (i : ℕ) (x y : Sent) → IsRising R es → 0 < i → i < length es → x ≡ get_or es (i - 1) x → y ≡ get_or es i y
+      → R x.place p ≡ Less → R p y.place ≡ Less → IsGap R p es i
+  gap_between es p i x y rising low high x_is y_is before after = record {
+    in_range = omega (arith, high);
+    before = λ k d h. first_part k d h;
+    after = λ k d from within. last_part k d from within;
+  }
+    where
+      x_at : (d : Sent) → R (get_or es (i - 1) d).place p ≡ Less
+      x_at d = subst (λ (e : Sent). R e.place p ≡ Less) (x_is ∙ get_or_default es (i - 1) x d (omega (arith, low, high))) before
+
+      y_at : (d : Sent) → R p (get_or es i d).place ≡ Less
+      y_at d = subst (λ (e : Sent). R p e.place ≡ Less) (y_is ∙ get_or_default es i y d high) after
+
+      up_to : (k : ℕ) (d : Sent) → (k < i - 1) ⊎ (k ≡ i - 1) → R (get_or es k d).place p ≡ Less
+      up_to k d (inl lower) = o.trans (get_or es k d).place (get_or es (i - 1) d).place p (ordered es rising k (i - 1) d lower (omega (arith, low, high))) (x_at d)
+      up_to k d (inr at) = subst (λ n. R (get_or es n d).place p ≡ Less) (sym at) (x_at d)
+
+      from_on : (k : ℕ) (d : Sent) → k < length es → (i < k) ⊎ (k ≡ i) → R (get_or es k d).place p ≡ Greater
+      from_on k d within (inl higher) = back_from_less p (get_or es k d).place (o.trans p (get_or es i d).place (get_or es k d).place (y_at d) (ordered es rising i k d higher within))
+      from_on k d within (inr at) = back_from_less p (get_or es k d).place (subst (λ n. R p (get_or es n d).place ≡ Less) (sym at) (y_at d))
+
+      first_part : (k : ℕ) (d : Sent) → k < i → R (get_or es k d).place p ≡ Less
+      first_part k d h = ⊎_elim
+          (λ (lower : k < i - 1). up_to k d (inl lower))
+          (λ (higher : i - 1 ≤ k). let at : k ≡ i - 1 = omega (arith, h, higher) in up_to k d (inr at))
+          (cases_lt k (i - 1))
+
+      last_part : (k : ℕ) (d : Sent) → i ≤ k → k < length es → R (get_or es k d).place p ≡ Greater
+      last_part k d from within = ⊎_elim
+          (λ (higher : i < k). from_on k d within (inl higher))
+          (λ (lower : k ≤ i). let at : k ≡ i = omega (arith, from, lower) in from_on k d within (inr at))
+          (cases_lt i k)
 
   -- in an empty line every place has
   pub gap_in_none : (es : List Sent) (p : Place) → length es ≡ 0 → IsGap R p es (length es)

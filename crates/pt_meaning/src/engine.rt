@@ -1,8 +1,9 @@
 //! The global list: the actor of the first event fires, until nothing waits.
 
-ghost use Rattle.std.specs.Prelude.{◌≡◌, ◌<◌, ◌≤◌, ◌+◌, ◌^◌, ℕ, true, IfOk, length, filter, map};
+ghost use Rattle.std.specs.Prelude.{◌≡◌, ◌<◌, ◌≤◌, ◌+◌, ◌^◌, ℕ, true, IfOk, OnOk, length, filter, map};
 ghost use Rattle.pt_semantics.specs.Edges.{edges};
 ghost use Rattle.pt_types.specs.Lookups.{kind_of};
+ghost use Rattle.pt_types.specs.Ports.{eight, nothing};
 ghost use Rattle.pt_semantics.specs.Lists.{Each};
 ghost use Rattle.pt_semantics.specs.Meaning.{Fires, IsFirst, after_firing, at_start, leaves_actor, put_state, rows_until, waiting};
 ghost use Rattle.pt_semantics.specs.Firing.{any_present, fired};
@@ -70,23 +71,33 @@ pub fn begin(
     Ok(GlobalList { waiting, states })
 }
 
-/// The firing of an actor at a tag with these inputs.
-fn firing(graph: &Graph, states: &[i64], actor: u32, tag: Tag, inputs: Ports) -> ActorFiring
-    requires runnable { IsRunnable graph.now }
-    requires actor { actor < length graph.now.actors }
-    requires states { length states.now ≡ length graph.now.actors }
-    ensures { result ≡ firing_of graph.now (states_in states.now) actor tag inputs }
+/// No values, of actor 0 at the start.
+pub fn no_firing() -> ActorFiring
+    ensures inputs { result.inputs ≡ eight nothing }
+    ensures outputs { result.outputs ≡ eight nothing }
 {
-    let before = states[actor as usize];
-    let fired = fire_actor(graph, actor, before, &inputs);
     ActorFiring {
-        actor,
-        tag,
-        inputs,
-        before,
-        after: fired.state,
-        outputs: fired.outputs,
+        actor: 0,
+        tag: Tag { time: 0, step: 0 },
+        inputs: Ports::new(),
+        before: 0,
+        after: 0,
+        outputs: Ports::new(),
     }
+}
+
+/// Fires an actor at a tag with the inputs of a firing, which gets the results.
+fn fire(graph: &Graph, states: &[i64], firing: &mut ActorFiring)
+    requires runnable { IsRunnable graph.now }
+    requires actor { firing.old.actor < length graph.now.actors }
+    requires states { length states.now ≡ length graph.now.actors }
+    ensures { firing.new ≡ firing_of graph.now (states_in states.now) firing.old.actor firing.old.tag firing.old.inputs }
+{
+    let before = states[firing.actor as usize];
+    let fired = fire_actor(graph, firing.actor, before, &firing.inputs);
+    firing.before = before;
+    firing.after = fired.state;
+    firing.outputs = fired.outputs;
 }
 
 /// The new state and the outputs of an actor that fires in a state with these inputs.
@@ -108,7 +119,8 @@ fn set_state(states: &mut Vec<i64>, actor: u32, value: i64)
     states[actor as usize] = value;
 }
 
-/// Fires an actor, which must be the first, at its tag: takes its events, sets its state, and sends its outputs.
+/// Fires an actor, which must be the first, at its tag: takes its events, sets its state, and sends its outputs. The firing is
+/// written over `firing`.
 pub fn fire_next(
     list: &mut GlobalList,
     graph: &Graph,
@@ -116,7 +128,8 @@ pub fn fire_next(
     leaving: &[Edge],
     tag: Tag,
     actor: u32,
-) -> Result<ActorFiring, Memory>
+    firing: &mut ActorFiring,
+) -> Result<(), Memory>
     requires runnable { IsRunnable graph.now }
     requires leaving { leaving.now ≡ filter (leaves_actor actor) (edges graph.now) }
     requires actor { actor < length graph.now.actors }
@@ -125,15 +138,17 @@ pub fn fire_next(
     requires sound { (steps : ℕ) × AreSound (rank_in ranks.now) (length graph.now.actors) steps list.old.waiting }
     requires first { IsFirst (rank_in ranks.now) (all_waits (rank_in ranks.now) list.old.waiting) actor tag }
     requires present { any_present (waiting (all_waits (rank_in ranks.now) list.old.waiting) actor tag) ≡ true }
-    ensures fires { IfOk result (λ x. Fires graph.now (rank_in ranks.now) (world_in ranks.now list.old.waiting list.old.states.items) x) }
-    ensures after { IfOk result (λ x. world_in ranks.now list.new.waiting list.new.states.items ≡ after_firing graph.now (world_in ranks.now list.old.waiting list.old.states.items) x) }
-    ensures states { IfOk result (λ x. length list.new.states.items ≡ length graph.now.actors) }
-    ensures sound { IfOk result (λ x. (steps : ℕ) → tag.step + 1 ≤ steps → AreSound (rank_in ranks.now) (length graph.now.actors) steps list.old.waiting → AreSound (rank_in ranks.now) (length graph.now.actors) steps list.new.waiting) }
+    ensures fires { OnOk result (Fires graph.now (rank_in ranks.now) (world_in ranks.now list.old.waiting list.old.states.items) firing.new) }
+    ensures after { OnOk result (world_in ranks.now list.new.waiting list.new.states.items ≡ after_firing graph.now (world_in ranks.now list.old.waiting list.old.states.items) firing.new) }
+    ensures states { OnOk result (length list.new.states.items ≡ length graph.now.actors) }
+    ensures sound { OnOk result ((steps : ℕ) → tag.step + 1 ≤ steps → AreSound (rank_in ranks.now) (length graph.now.actors) steps list.old.waiting → AreSound (rank_in ranks.now) (length graph.now.actors) steps list.new.waiting) }
 {
-    let inputs = list.waiting.take(tag, actor);
-    let firing = firing(graph, list.states.as_slice(), actor, tag, inputs);
+    firing.actor = actor;
+    firing.tag = tag;
+    firing.inputs = Ports::new();
+    list.waiting.take(tag, actor, &mut firing.inputs);
+    fire(graph, list.states.as_slice(), firing);
     set_state(&mut list.states, actor, firing.after);
-    let outputs = &firing.outputs;
     emit(
         &mut list.waiting.late,
         ranks,
@@ -141,7 +156,7 @@ pub fn fire_next(
         actor,
         leaving,
         tag,
-        outputs,
+        &firing.outputs,
     )?;
-    Ok(firing)
+    Ok(())
 }

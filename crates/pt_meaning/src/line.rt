@@ -27,6 +27,8 @@ pub struct Sent {
 #[derive(Drop)]
 pub struct Line {
     events: VecDeque<Sent>,
+    /// The index after the last event that was put between others, where the next one mostly belongs.
+    next: usize,
 }
 
 impl Model for Line {
@@ -49,6 +51,7 @@ impl Line {
     {
         Line {
             events: VecDeque::new(alloc),
+            next: 0,
         }
     }
 
@@ -66,6 +69,10 @@ impl Line {
     pub fn enter(&mut self, place: Place, value: i64) -> Result<bool, Memory>
         ensures { IfOk result (λ entered. MatchBool entered (Enters place value (in_line place_cmp self.old) (in_line place_cmp self.new)) (self.new ≡ self.old)) }
     {
+        if self.is_past(place) {
+            self.events.push_back(Sent { place, value })?;
+            return Ok(true);
+        }
         let Err(index) = self.find(place) else {
             return Ok(true);
         };
@@ -73,6 +80,7 @@ impl Line {
             return Ok(false);
         }
         self.events.insert(index, Sent { place, value })?;
+        self.next = index + 1;
         Ok(true)
     }
 
@@ -81,10 +89,26 @@ impl Line {
         ensures there { IfOk result (IsThere place_cmp place self.now) }
         ensures gap { IfErr result (IsGap place_cmp place self.now) }
     {
-        if self.is_past(place) {
-            return Err(self.events.len());
+        if self.fits(self.next, place) {
+            return Err(self.next);
         }
         self.events.binary_search_by_key(&place, |sent| sent.place)
+    }
+
+    /// Whether a place is between the event before an index and the one at it.
+    fn fits(&self, index: usize, place: Place) -> bool
+        ensures { IsTrue result → IsGap place_cmp place self.now index }
+    {
+        if index == 0 {
+            return false;
+        }
+        let Some(before) = self.events.get(index - 1) else {
+            return false;
+        };
+        match self.events.get(index) {
+            Some(after) => before.place < place && place < after.place,
+            None => false,
+        }
     }
 
     /// Whether a place is after all events, as that of a new one often is.
@@ -109,6 +133,7 @@ impl Front for Line {
             return None;
         }
         let sent = self.events.pop_front()?;
+        self.next = self.next.saturating_sub(1);
         Some((sent.place.port, sent.value))
     }
 }

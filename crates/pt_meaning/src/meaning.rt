@@ -10,7 +10,7 @@ ghost use Rattle.pt_meaning.specs.Running.{IsRunnable, Handed};
 ghost use Rattle.pt_causality.specs.Wiring.{IsWiring};
 
 use crate::Receiver;
-use crate::engine::{begin, fire_next};
+use crate::engine::{begin, fire_next, no_firing};
 use pt_causality::{all_edges, outgoing};
 use pt_sensors::SensorRows;
 use pt_tags::List;
@@ -83,13 +83,15 @@ fn run<R: Receiver>(
     let Ok(mut list) = begin(alloc, graph, ranks, sensors) else {
         return Err(MeaningFault::Memory);
     };
+    let mut firing = no_firing();
     let mut count = 0;
     while let Some(next) = list.waiting.first() {
         if count >= most {
             return Err(MeaningFault::Long);
         }
         let leaving = outgoing[next.actor as usize].as_slice();
-        let Ok(firing) = fire_next(&mut list, graph, ranks, leaving, next.tag, next.actor) else {
+        let (tag, actor) = (next.tag, next.actor);
+        let Ok(()) = fire_next(&mut list, graph, ranks, leaving, tag, actor, &mut firing) else {
             return Err(MeaningFault::Memory);
         };
         let Ok(()) = receiver.take(&firing) else {

@@ -2,6 +2,7 @@
 
 ghost use Rattle.std.specs.Prelude.{◌≡◌, ℕ, IfSome, IfNone, OnOk, None, true};
 ghost use Rattle.pt_tags.specs.declared.tag.Tag.{Tag};
+ghost use Rattle.pt_types.specs.Ports.{eight, nothing};
 ghost use Rattle.pt_semantics.specs.Meaning.{IsFirst, added, waiting, without};
 ghost use Rattle.pt_semantics.specs.Firing.{any_present};
 ghost use Rattle.pt_meaning.specs.Waiting.{waits_in, value_at, IsPlaced, IsSound};
@@ -70,15 +71,14 @@ impl Pending {
         self.later.enter(place, value)
     }
 
-    /// Takes an actor's events of a tag, which must be the first, and returns the values at its inputs.
-    pub fn take(&mut self, tag: Tag, actor: u32) -> Ports
-        ensures inputs { (rank : ℕ → ℕ) (actors steps : ℕ) → IsSound rank actors steps (held self.old) → IsFirst rank (waits_in rank (held self.old)) actor tag → result ≡ waiting (waits_in rank (held self.old)) actor tag }
+    /// Takes an actor's events of a tag, which must be the first, and writes their values at its inputs, which had none.
+    pub fn take(&mut self, tag: Tag, actor: u32, inputs: &mut Ports)
+        requires { inputs.old ≡ eight nothing }
+        ensures inputs { (rank : ℕ → ℕ) (actors steps : ℕ) → IsSound rank actors steps (held self.old) → IsFirst rank (waits_in rank (held self.old)) actor tag → inputs.new ≡ waiting (waits_in rank (held self.old)) actor tag }
         ensures waits { (rank : ℕ → ℕ) (actors steps : ℕ) → IsSound rank actors steps (held self.old) → IsFirst rank (waits_in rank (held self.old)) actor tag → waits_in rank (held self.new) ≡ without (waits_in rank (held self.old)) actor tag }
         ensures sound { (rank : ℕ → ℕ) (actors steps : ℕ) → IsSound rank actors steps (held self.old) → IsSound rank actors steps (held self.new) }
     {
-        let mut inputs = Ports::new();
-        take_all(&mut self.later, tag, actor, &mut inputs);
-        take_all(&mut self.line, tag, actor, &mut inputs);
-        inputs
+        take_all(&mut self.later, tag, actor, inputs);
+        take_all(&mut self.line, tag, actor, inputs);
     }
 }

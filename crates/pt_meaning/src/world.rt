@@ -2,6 +2,7 @@
 
 ghost use Rattle.std.specs.Prelude.{◌≡◌, ℕ, IfSome, IfNone, None, true};
 ghost use Rattle.pt_tags.specs.declared.tag.Tag.{Tag};
+ghost use Rattle.pt_types.specs.Ports.{eight, nothing};
 ghost use Rattle.pt_semantics.specs.Firing.{any_present};
 ghost use Rattle.pt_semantics.specs.Meaning.{IsFirst, waiting, without};
 ghost use Rattle.pt_meaning.specs.Waiting.{IsPlaced};
@@ -38,16 +39,16 @@ impl Waiting {
         Some(sooner(early, late))
     }
 
-    /// Takes an actor's events of a tag, which must be the first, and returns the values at its inputs.
-    pub fn take(&mut self, tag: Tag, actor: u32) -> Ports
-        ensures inputs { (rank : ℕ → ℕ) (actors steps : ℕ) → AreSound rank actors steps self.old → IsFirst rank (all_waits rank self.old) actor tag → result ≡ waiting (all_waits rank self.old) actor tag }
+    /// Takes an actor's events of a tag, which must be the first, and writes their values at its inputs, which had none.
+    pub fn take(&mut self, tag: Tag, actor: u32, inputs: &mut Ports)
+        requires { inputs.old ≡ eight nothing }
+        ensures inputs { (rank : ℕ → ℕ) (actors steps : ℕ) → AreSound rank actors steps self.old → IsFirst rank (all_waits rank self.old) actor tag → inputs.new ≡ waiting (all_waits rank self.old) actor tag }
         ensures waits { (rank : ℕ → ℕ) (actors steps : ℕ) → AreSound rank actors steps self.old → IsFirst rank (all_waits rank self.old) actor tag → all_waits rank self.new ≡ without (all_waits rank self.old) actor tag }
         ensures sound { (rank : ℕ → ℕ) (actors steps : ℕ) → AreSound rank actors steps self.old → AreSound rank actors steps self.new }
     {
         let early = self.early.take(tag, actor);
-        let mut inputs = self.late.take(tag, actor);
-        put_first(&mut inputs, early);
-        inputs
+        self.late.take(tag, actor, inputs);
+        put_first(inputs, early);
     }
 }
 

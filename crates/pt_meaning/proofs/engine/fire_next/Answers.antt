@@ -22,24 +22,24 @@ pub returns-clause-fires : goal.returns-clause-fires
 returns-clause-fires c =
     let g = c.args.graph.now in
     let w = world_in c.args.ranks.now c.args.list.now.waiting c.args.list.now.states.items in
-    let is : c.firing-firing.result ≡ firing_of c.args.graph.now (states_in c.args.list.now.states.items) c.args.actor c.args.tag (waiting (all_waits (rank_in c.args.ranks.now) c.args.list.now.waiting) c.args.actor c.args.tag) =
-    c.firing-firing.ensures ∙ ap₂ (λ kept inputs. firing_of g (states_in kept) c.args.actor c.args.tag inputs) c.as_slice.ensures.value (c.take-inputs.ensures.inputs (rank_in c.args.ranks.now) (length c.args.graph.now.actors) c.requires.sound.0 c.requires.sound.1 c.requires.first) in
+    let is : c.fire.new.firing ≡ firing_of c.args.graph.now (states_in c.args.list.now.states.items) c.args.actor c.args.tag (waiting (all_waits (rank_in c.args.ranks.now) c.args.list.now.waiting) c.args.actor c.args.tag) =
+    c.fire.ensures ∙ ap₂ (λ kept inputs. firing_of g (states_in kept) c.args.actor c.args.tag inputs) c.as_slice.ensures.value (c.take.ensures.inputs (rank_in c.args.ranks.now) (length c.args.graph.now.actors) c.requires.sound.0 c.requires.sound.1 c.requires.first) in
     subst (Fires g (rank_in c.args.ranks.now) w) (sym is) (fires_by g (rank_in c.args.ranks.now) w c.args.actor c.args.tag c.requires.first c.requires.present)
 
 pub returns-clause-after : goal.returns-clause-after
 returns-clause-after c =
     let g = c.args.graph.now in
     let w = world_in c.args.ranks.now c.args.list.now.waiting c.args.list.now.states.items in
-    let kept : states_in c.set_state.new.states.items ≡ put_state (states_in c.args.list.now.states.items) c.args.actor c.firing-firing.result.after = search rules in
+    let kept : states_in c.set_state.new.states.items ≡ put_state (states_in c.args.list.now.states.items) c.args.actor c.fire.new.firing.after = search rules in
     let rank = rank_in c.args.ranks.now in
-    let sent = ap (added (early_waits (left c.take-inputs.new.self.early))) (c.in_ok-emit.ensures.waits g refl)
-    ∙ added_late (early_waits (left c.take-inputs.new.self.early)) (waits_in rank (held c.take-inputs.new.self.late)) (going g c.args.leaving.now (leaves_actor c.args.actor) c.args.tag c.firing-firing.result.outputs) in
-    after_by g w c.firing-firing.result c.args.actor c.args.tag (all_waits rank c.take-inputs.new.self) (added (early_waits (left c.take-inputs.new.self.early)) (waits_in rank (held c.emit.new.pending)))
-    (states_in c.set_state.new.states.items) c.args.leaving.now (ap (λ (x : ActorFiring). x.actor) c.firing-firing.ensures) (ap (λ (x : ActorFiring). x.tag) c.firing-firing.ensures)
-    (c.take-inputs.ensures.waits rank (length g.actors) c.requires.sound.0 c.requires.sound.1 c.requires.first) c.requires.leaving sent kept
+    let sent = ap (added (early_waits (left c.take.new.self.early))) (c.in_ok-emit.ensures.waits g refl)
+    ∙ added_late (early_waits (left c.take.new.self.early)) (waits_in rank (held c.take.new.self.late)) (going g c.args.leaving.now (leaves_actor c.args.actor) c.args.tag c.fire.new.firing.outputs) in
+    after_by g w c.fire.new.firing c.args.actor c.args.tag (all_waits rank c.take.new.self) (added (early_waits (left c.take.new.self.early)) (waits_in rank (held c.emit.new.pending)))
+    (states_in c.set_state.new.states.items) c.args.leaving.now (ap (λ (x : ActorFiring). x.actor) c.fire.ensures) (ap (λ (x : ActorFiring). x.tag) c.fire.ensures)
+    (c.take.ensures.waits rank (length g.actors) c.requires.sound.0 c.requires.sound.1 c.requires.first) c.requires.leaving sent kept
 
 pub returns-clause-sound : goal.returns-clause-sound
 returns-clause-sound c = λ steps later was.
     let usable = subst (Each (IsUsable (length c.args.graph.now.actors))) (sym c.requires.leaving) (each_filter (IsUsable (length c.args.graph.now.actors)) (leaves_actor c.args.actor) (edges c.args.graph.now) c.requires.runnable.edges) in
-    let taken = c.take-inputs.ensures.sound (rank_in c.args.ranks.now) (length c.args.graph.now.actors) steps was in
+    let taken = c.take.ensures.sound (rank_in c.args.ranks.now) (length c.args.graph.now.actors) steps was in
     record { early = taken.early; late = c.in_ok-emit.ensures.sound (length c.args.graph.now.actors) steps usable later taken.late }

@@ -52,9 +52,9 @@ loop-next-preserved g c =
     let later : c.in-Some.next.tag.step + 1 ≤ c.loop-next.count + 1 = omega (arith, here.step) in
     record {
       went = record {
-        firings = went.firings ++ c.in-Ok-fire_next.firing ∷ [];
-        len = length_push went.firings c.in-Ok-fire_next.firing ∙ ap (λ n. n + 1) went.len;
-        steps = steps_push graph rank start went.firings before c.in-Ok-fire_next.firing after went.steps c.in-Ok-fire_next.ensures.fires c.in-Ok-fire_next.ensures.after;
+        firings = went.firings ++ c.fire_next.new.firing ∷ [];
+        len = length_push went.firings c.fire_next.new.firing ∙ ap (λ n. n + 1) went.len;
+        steps = steps_push graph rank start went.firings before c.fire_next.new.firing after went.steps c.in-Ok-fire_next.ensures.fires c.in-Ok-fire_next.ensures.after;
         took = c.in-Ok-take.ensures c.args.receiver.now went.firings went.took;
       };
       states = c.in-Ok-fire_next.ensures.states;

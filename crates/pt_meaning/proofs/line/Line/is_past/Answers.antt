@@ -1,7 +1,6 @@
 use Rattle.std.proofs.Common.{◌≡◌, ◌-◌, length, get_or, true, subst, rules}
 use Rattle.std.specs.Ordering.{is_lt}
 use Rattle.pt_meaning.specs.Waiting.{place_cmp}
-use Rattle.pt_meaning.specs.declared.line.Sent.{Sent}
 use Rattle.pt_meaning.proofs.Lines.{place_total, gap_at_end, gap_in_none, lt_of}
 use Rattle.pt_meaning.proofs.line.Line.is_past.Goals as goal
 
