@@ -136,6 +136,9 @@ fn unit_holds_up(
 
 /// The last unit that holds up this one, of those with a bit in `word`: bit `n` is that of the unit with place
 /// `64 * index + n`. `None` if none of these holds it up.
+///
+/// It stays apart from the loop over all words, most of which are 0, so that this one is short.
+#[inline(never)]
 fn holder_in_word(
     table: &[Groups],
     tags: &LeastTags,
@@ -157,6 +160,25 @@ fn holder_in_word(
         left -= 1 << bit;
     }
     None
+}
+
+/// As `holder_in_word`; quick if no bit is set.
+fn holder_in(
+    table: &[Groups],
+    tags: &LeastTags,
+    unit: Unit,
+    tag: Tag,
+    least: &Least,
+    index: usize,
+    word: u64,
+) -> Option<Unit>
+    requires { 64 * index ≤ most_places }
+    ensures { IsHolderIn table.now (least_of least.now) unit tag tags.now index word result }
+{
+    if last_bit(word).is_none() {
+        return None;
+    }
+    holder_in_word(table, tags, unit, tag, least, index, word)
 }
 
 /// A word of `before`; all bits are set in a word past its end, since of the units there nothing is known.
@@ -186,7 +208,7 @@ fn holder_marked(
     for behind in 0..marks.len() {
         let index = marks.len() - behind - 1;
         let word = marks[index] & word_before(before, index);
-        let found = holder_in_word(table, tags, unit, tag, least, index, word);
+        let found = holder_in(table, tags, unit, tag, least, index, word);
         if found.is_some() {
             return found;
         }

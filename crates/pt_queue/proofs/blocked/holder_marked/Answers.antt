@@ -12,7 +12,7 @@ loop-behind-preserved c = λ n le.
     let marks = c.marks-marks.result.now in
     word_done c.args.table.now (least_of c.args.least.now) c.args.unit c.args.tag c.args.tags.now marks c.marks-marks.ensures.marks c.args.before.now c.requires
     (length marks - c.loop-behind.behind - 1) _ c.word_before.result refl c.word_before.ensures (length marks) c.loop-behind.behind c.loop-behind-test.true refl
-    (subst (IsHolderIn c.args.table.now (least_of c.args.least.now) c.args.unit c.args.tag c.args.tags.now (length marks - c.loop-behind.behind - 1) _) (none_found c.holder_in_word-found.result (sym c.is_some.ensures ∙ c.if-is_some.false)) c.holder_in_word-found.ensures)
+    (subst (IsHolderIn c.args.table.now (least_of c.args.least.now) c.args.unit c.args.tag c.args.tags.now (length marks - c.loop-behind.behind - 1) _) (none_found c.holder_in-found.result (sym c.is_some.ensures ∙ c.if-is_some.false)) c.holder_in-found.ensures)
     c.loop-behind.invariant n le
 
 pub returns : goal.returns
