@@ -1,4 +1,6 @@
+pub mod Calm
 pub mod Pushing
+pub mod Quiet
 pub mod Replays
 pub mod Sound
 pub mod Ways

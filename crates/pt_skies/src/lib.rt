@@ -6,4 +6,4 @@
 
 mod laws;
 
-pub use laws::replayed_histories_are_legal;
+pub use laws::{flights_keep, replayed_histories_are_legal};
