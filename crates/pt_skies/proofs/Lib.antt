@@ -1,4 +1,6 @@
 pub mod Calm
+pub mod Closing
+pub mod Ended
 pub mod Pushing
 pub mod Quiet
 pub mod Replays

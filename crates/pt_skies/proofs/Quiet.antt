@@ -130,7 +130,7 @@ link_at (x ∷ xs) (suc l) lt = link_at xs l (omega (arith, lt))
 
 -- all platforms after a quiet round
 module _ (g : Graph) (level : ℕ → ℕ) (rows : ℕ → List Row) (air : Air) (wired : IsWired g) (are : AreLevels g level) (fits : FitRows g rows) (now : ℕ) (y : Sky) (h : IsSound g level rows 0 y) (settled : (j : ℕ) → j < length g.platforms → IsSettled g air now y j) where
-  legal_of : (p : ℕ) → LegalOnTime g level p (opened g p rows) (y.did p) (y.at p)
+  pub legal_of : (p : ℕ) → LegalOnTime g level p (opened g p rows) (y.did p) (y.at p)
   legal_of p = goes_on_time g level p (y.did p) (opened g p rows) (y.at p) (h.goes p (omega arith))
 
   -- nothing is on the way to a finished platform
