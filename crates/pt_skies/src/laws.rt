@@ -1,7 +1,7 @@
 //! Theorems on replayed runs.
 
 ghost use Rattle.pt_skies.specs.Between.{FlightsKeep, ReplaysAreLegal};
-ghost use Rattle.pt_skies.specs.Ending.{QuietEndsReplay, ReplaysBegin};
+ghost use Rattle.pt_skies.specs.Ending.{QuietEndsReplay, ReplaysBegin, ReplaysEnd};
 
 /// Between any two flights of a replayed run the turns so far are legal, and what was sent on a link was taken or is on its
 /// way, in order, even if a message was late in the last round.
@@ -22,4 +22,10 @@ pub fn replays_begin()
 /// A quiet round of a replayed run after which nothing can happen is its last one, and all platforms are finished.
 pub fn quiet_rounds_end_replays()
     ensures { QuietEndsReplay }
+{}
+
+/// A replayed run has a bounded number of rounds, as a paced run: after a round in which a platform moves there is at most one
+/// that only posts and one that is quiet.
+pub fn replays_end()
+    ensures { ReplaysEnd }
 {}

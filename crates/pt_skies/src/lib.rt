@@ -8,4 +8,5 @@ mod laws;
 
 pub use laws::{
     flights_keep, quiet_rounds_end_replays, replayed_histories_are_legal, replays_begin,
+    replays_end,
 };
