@@ -1,5 +1,5 @@
 -- True times of a replay.
-use Rattle.std.proofs.Common.{ℕ, length, arith}
+use Rattle.std.proofs.Common.{length, arith}
 use Rattle.pt_skies.specs.Times.{ArrivalsNeverFall, HappensLater, TimeNeverFalls}
 use Rattle.pt_skies.proofs.Quiet.{happens_later}
 use Rattle.pt_skies.proofs.Replays.{rises, round_fine, round_sound, run_sound, settled}
