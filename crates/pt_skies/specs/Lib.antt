@@ -1,0 +1,5 @@
+pub mod Between
+pub mod Ending
+pub mod Flights
+pub mod Sky
+pub mod Times
