@@ -15,6 +15,7 @@ use Rattle.pt_semantics.specs.History.{IsLegal}
 use Rattle.pt_semantics.specs.Kept.{kept}
 use Rattle.pt_semantics.specs.Linked.{AreLinked, AreMatched, all_sent, all_taken}
 use Rattle.pt_semantics.specs.Readings.{IsReadBy, greatest_of, later_of}
+use Rattle.pt_semantics.specs.Rows.{FitRows}
 use Rattle.pt_semantics.specs.Turn.{Turn}
 use Rattle.pt_semantics.specs.Platform.{opened}
 use Rattle.pt_semantics.specs.Visits.{AreFinished, IsVisit, Made, Together}
@@ -34,25 +35,23 @@ use Rattle.pt_visits.specs.Visited.{IsVisited}
 use Rattle.pt_fixed_order.specs.Going.{Went, with_reading}
 use Rattle.pt_fixed_order.proofs.Going.{links_are_free, links_stay_free, visits_end, visits_go_on}
 use Rattle.pt_fixed_order.specs.Sound.{Sound}
-use Rattle.pt_fixed_order.proofs.Sound.{Own, goes_on_time, own_turn, room_changes, sound_after, turn_reading}
+use Rattle.pt_fixed_order.proofs.Sound.{Own, goes_on_time, own_turn, sound_after, turn_reading}
 use Rattle.pt_fixed_order.proofs.Whole.{fixed_order_is_legal}
 use Rattle.pt_together.specs.Shown.{is_fault}
 use Rattle.pt_together.proofs.Changed.{set_cases, set_elsewhere, set_here}
 use Rattle.pt_together.specs.Showing.{OnTimeSoFar, ShowsVisit}
-use Rattle.pt_together.proofs.Showing.{visit_shows}
+use Rattle.pt_together.proofs.Showing.{all_on_time, visit_shows}
 use Rattle.pt_together.proofs.Views.{all_finished, below, each_finished, finished_here, history}
-use Rattle.pt_together.specs.Asked.{AreAllFinished}
-use Rattle.pt_alone.specs.HasGone.{EndsAt, HasGone, LastVisitEnds}
+use Rattle.pt_together.specs.Asked.{AreAllFinished, EndsAt}
+use Rattle.pt_alone.specs.HasGone.{HasGone, LastVisitEnds}
 use Rattle.pt_alone.specs.Between.{AreRead, IsLastOf, BeforeVisit, AfterVisit}
 use Rattle.pt_alone.proofs.Counting.{last_more, raised_is, raised_small, with_here, with_there}
 
 -- between two visits in fixed order all is as between two visits of any engine
-pub so_far : (g : Graph) (level : ℕ → ℕ) (rows : ℕ → List Row) (x : Together) → Sound g level rows x → OnTimeSoFar g level rows x
-so_far g level rows x s = record {
-  legal = λ p lt. goes_on_time g level p (x.did p) (opened g p rows) (x.at p) (s.goes p);
-  linked = s.linked;
-  own = λ p lt. s.own p;
-}
+pub so_far : (plan : Parts) (rows : ℕ → List Row) (x : Together) → IsAdmitted plan → FitRows plan.graph rows → Sound plan.graph (level_of plan.ranks) rows x → (i : ℕ) → i < length plan.graph.platforms → OnTimeSoFar plan.graph (level_of plan.ranks) rows i x
+so_far plan rows x admitted fits s i lt =
+    all_on_time plan.graph (level_of plan.ranks) rows x (wired plan.graph admitted.lawful) admitted.levels fits
+    (λ p within. goes_on_time plan.graph (level_of plan.ranks) p (x.did p) (opened plan.graph p rows) (x.at p) (s.goes p)) s.linked i lt (s.own i)
 
 -- the two platforms of a link
 homes : (g : Graph) → IsWired g → ((l : ℕ) (link : Link) → slice_get g.links l ≡ Some link → platform_of g link.from ≡ platform_of g link.to → ⊥) →
@@ -74,16 +73,13 @@ module _ (plan : Parts) (rows : ℕ → List Row) (most j : ℕ) (began now : Li
   raised : raised_to v.reading r ≡ later_of (greatest_of 0 (s.readings j)) r
   raised = raised_is (s.readings j) v.reading r last
 
-  showing : ShowsVisit plan rows most (raised_to v.reading r) j s.together w visited.turn (set platforms j w) piped (set results j next)
-  showing = visit_shows plan rows s.together platforms pipes results s.admitted s.fit (so_far plan.graph (level_of plan.ranks) rows s.together s.sound) s.shown most r j v w dones next piped there pending (raised_small (s.readings j) v.reading r last small) visited
-
-  free_here : (l : ℕ) (link : Link) → slice_get plan.graph.links l ≡ Some link → platform_of plan.graph link.from ≡ j → s.together.on_way l ≡ []
-  free_here = links_are_free plan.graph j s.together (plan_homes plan s.admitted) s.free
+  -- nothing that the platform sent before is on its way, so each pipe is empty
+  showing : ShowsVisit plan rows most (λ l. 64) (raised_to v.reading r) j s.together w visited.turn (set platforms j w) piped (set results j next)
+  showing = visit_shows plan rows s.together platforms pipes results s.admitted s.fit s.shown most r j v w dones next piped there pending (so_far plan rows s.together s.admitted s.fit s.sound j s.next)
+      (λ l. 64) (λ l link at home. sym (ap (λ (z : List Message). 64 - length z) (links_are_free plan.graph j s.together (plan_homes plan s.admitted) s.free l link at home))) (raised_small (s.readings j) v.reading r last small) visited
 
   visit_64 : IsVisit plan.graph (level_of plan.ranks) most (λ l. 64) (later_of (greatest_of 0 (s.readings j)) r) s.together showing.made showing.together
-  visit_64 = subst (λ n. IsVisit plan.graph (level_of plan.ranks) most (λ l. 64) n s.together showing.made showing.together) raised
-      (room_changes plan.graph (level_of plan.ranks) rows (wired plan.graph s.admitted.lawful) s.admitted.levels s.fit most (raised_to v.reading r) (λ l. 64 - length (s.together.on_way l)) s.together showing.together showing.made s.sound showing.makes
-      (λ l. 64) (λ l link at home. ap (λ (z : List Message). 64 - length z) (free_here l link at (home ∙ showing.platform))))
+  visit_64 = subst (λ n. IsVisit plan.graph (level_of plan.ranks) most (λ l. 64) n s.together showing.made showing.together) raised showing.makes
 
   one_clock : (i : ℕ) (b n : ClockView) → slice_get began i ≡ Some b → slice_get (set now j new) i ≡ Some n → (n.ahead ≡ b.ahead) × HandedOut b.told n.told (with_reading s.readings j r i) × AreAsAhead b.ahead b.told n.told (with_reading s.readings j r i)
   one_clock i b n at_b at_n = ⊎_elim

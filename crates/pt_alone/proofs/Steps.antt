@@ -48,7 +48,7 @@ module _ {C : Type 0} (told : C → Option (List ℕ)) (ahead : C → Option (�
   has_links = s.shown.links ∙ ap (λ (p : Parts). length p.graph.links) (sym (s.shown.all.plans j v there))
 
   pub has_come : MayCome v.plan.graph (level_at v) v.number (state_at v) (arriving v.plan.graph v.number 0 pipes)
-  has_come = may_come plan rows s.together platforms pipes (lists_of results) s.admitted s.fit (so_far plan.graph (level_of plan.ranks) rows s.together s.sound) s.shown j v there
+  has_come = may_come plan rows s.together platforms pipes (lists_of results) s.admitted s.fit s.shown j v there (so_far plan rows s.together s.admitted s.fit s.sound j s.next)
 
   module _ (dones : Vec Done) (pending : slice_get results j ≡ Some dones) where
     pub are_done : AreDone v.plan.graph dones.items

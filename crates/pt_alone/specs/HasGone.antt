@@ -1,11 +1,10 @@
 -- Platforms after a run in fixed order.
-use Rattle.std.specs.Prelude.{◌≡◌, ◌<◌, ◌∷◌, [], ℕ, List, Option, None, Some, false, true, length, slice_get}
+use Rattle.std.specs.Prelude.{◌≡◌, ◌∷◌, [], ℕ, List, Option, None, Some, false, true, length, slice_get}
 use Rattle.pt_io.specs.Told.{AreAsAhead, ClockView, HandedOut}
-use Rattle.pt_types.specs.declared.graph.Graph.{Graph}
 use Rattle.pt_types.specs.declared.rows.Row.{Row}
 use Rattle.pt_semantics.specs.FixedOrder.{AreInTurn}
 use Rattle.pt_semantics.specs.History.{IsLegal}
-use Rattle.pt_semantics.specs.Linked.{AreLinked, AreMatched, IsFinished}
+use Rattle.pt_semantics.specs.Linked.{AreLinked, AreMatched}
 use Rattle.pt_semantics.specs.Readings.{IsReadBy}
 use Rattle.pt_semantics.specs.Rows.{FitRows}
 use Rattle.pt_semantics.specs.Visits.{Made}
@@ -13,15 +12,9 @@ use Rattle.pt_causality.specs.Ranked.{level_of}
 use Rattle.pt_offsets.specs.Plans.{IsAdmitted, Parts}
 use Rattle.pt_turn.specs.declared.fault.TurnFault.{TurnFault}
 use Rattle.pt_turn.specs.Platforms.{PlatformView, state_at}
-use Rattle.pt_turn.specs.Running.{Shows}
 use Rattle.pt_turn.specs.Turned.{is_late}
 use Rattle.pt_turn.specs.All.{AreAll, histories_of}
-
--- with no fault, no platform has one and all are finished; otherwise this platform has this fault, its turns show it, and no
--- platform before it has one
-abbrev pub EndsAt : Graph → List PlatformView → Option (ℕ × TurnFault) → Type 0
-EndsAt g platforms None = (i : ℕ) (v : PlatformView) → slice_get platforms i ≡ Some v → (v.fault ≡ None) × IsFinished g i (state_at v)
-EndsAt g platforms (Some f) = (v : PlatformView) × (slice_get platforms f.0 ≡ Some v) × (v.fault ≡ Some f.1) × Shows g v.turns (state_at v) f.1 × ((j : ℕ) (w : PlatformView) → j < f.0 → slice_get platforms j ≡ Some w → w.fault ≡ None)
+use Rattle.pt_together.specs.Asked.{EndsAt}
 
 -- all platforms of a plan after a run over these rows, each by its own clock, whatever the order of the visits. The clocks were
 -- `began` before the run and are `now` after it

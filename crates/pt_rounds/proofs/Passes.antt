@@ -23,7 +23,7 @@ use Rattle.pt_turn.specs.declared.fault.TurnFault.{TurnFault}
 use Rattle.pt_turn.specs.declared.fault.TurnFault.TheVariants.{Late, Long}
 use Rattle.pt_turn.specs.Platforms.{PlatformView, state_at}
 use Rattle.pt_turn.specs.Turned.{is_late}
-use Rattle.pt_rounds.specs.Asked.{HaveNoFault}
+use Rattle.pt_together.specs.Asked.{HaveNoFault}
 use Rattle.pt_rounds.specs.Passing.{HavePassed, IsLong, Stands, WasVisited}
 use Rattle.pt_together.specs.Shown.{is_fault}
 use Rattle.pt_together.proofs.Changed.{set_elsewhere, set_here}

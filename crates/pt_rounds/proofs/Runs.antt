@@ -35,8 +35,8 @@ use Rattle.pt_offsets.specs.Plans.{Parts}
 use Rattle.pt_offsets.specs.Timings.{offset_of}
 use Rattle.pt_turn.specs.All.{histories_of}
 use Rattle.pt_turn.specs.Platforms.{PlatformView, state_at}
-use Rattle.pt_together.specs.Asked.{AreAllFinished}
-use Rattle.pt_rounds.specs.Asked.{HaveNoFault, IsFirstFault, IsLeastOf, NoneIsOpen}
+use Rattle.pt_together.specs.Asked.{AreAllFinished, HaveNoFault}
+use Rattle.pt_rounds.specs.Asked.{IsFirstFault, IsLeastOf, NoneIsOpen}
 use Rattle.pt_rounds.specs.HaveRun.{EndsWith, HaveRun, IsLongOn}
 use Rattle.pt_rounds.specs.Passing.{HavePassed, IsLong, Stands}
 use Rattle.pt_together.specs.Shown.{AreShown, AreThere}

@@ -3,10 +3,6 @@ use Rattle.std.specs.Prelude.{◌≡◌, ◌<◌, ◌≤◌, ℕ, List, None, Op
 use Rattle.pt_semantics.specs.Paced.{IsCandidate}
 use Rattle.pt_turn.specs.Platforms.{PlatformView, state_at}
 
--- no platform has a fault
-abbrev pub HaveNoFault : List PlatformView → Type 0
-HaveNoFault platforms = (i : ℕ) (v : PlatformView) → slice_get platforms i ≡ Some v → v.fault ≡ None
-
 -- platform i is the first with a fault
 pub record IsFirstFault (platforms : List PlatformView) (i : ℕ) : Type 0 where
   pub view : PlatformView

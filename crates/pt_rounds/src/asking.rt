@@ -1,18 +1,10 @@
 //! What the engine asks the platforms between rounds.
 
-ghost use Rattle.std.specs.Prelude.{◌≡◌, ◌<◌, ◌∷◌, ◌++◌, [], ℕ, List, MatchOption, None, length, true};
-ghost use Rattle.pt_semantics.specs.Turn.{Turn, is_quiet};
-ghost use Rattle.pt_rounds.specs.Asked.{HaveNoFault, IsFirstFault, IsLeastOf, NoneIsOpen, lesser};
+ghost use Rattle.std.specs.Prelude.{◌≡◌, MatchOption, length};
+ghost use Rattle.pt_rounds.specs.Asked.{IsFirstFault, IsLeastOf, NoneIsOpen, lesser};
+ghost use Rattle.pt_together.specs.Asked.{HaveNoFault};
 
 use pt_turn::Platform;
-
-/// Whether nothing was posted, entered, taken, claimed or sent in the last turn.
-pub fn was_quiet(platform: &Platform) -> bool
-    requires begun { 0 < length platform.now.turns }
-    ensures { (before : List Turn) (turn : Turn) → platform.now.turns ≡ before ++ turn ∷ [] → result ≡ is_quiet turn }
-{
-    platform.history().was_quiet()
-}
 
 /// The first platform that has a fault.
 pub fn first_fault(platforms: &[Platform]) -> Option<usize>

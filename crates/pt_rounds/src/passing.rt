@@ -10,11 +10,11 @@ ghost use Rattle.pt_visits.specs.Pipes.{arriving};
 ghost use Rattle.pt_together.specs.Asked.{lists_of};
 ghost use Rattle.pt_rounds.specs.Passing.{HavePassed, Stands, WasVisited};
 
-use crate::asking::was_quiet;
 use pt_actors::Done;
 use pt_blocks::Blocks;
 use pt_links::Pipe;
 use pt_tags::Memory;
+use pt_together::was_quiet;
 use pt_turn::Platform;
 use pt_visits::{Desk, visit};
 

@@ -16,7 +16,7 @@ use Rattle.pt_turn.specs.declared.fault.TurnFault.TheVariants.{Long}
 use Rattle.pt_turn.specs.Platforms.{PlatformView, rows_at, state_at}
 use Rattle.pt_turn.specs.All.{AreAll}
 use Rattle.pt_turn.specs.Running.{Shows}
-use Rattle.pt_alone.specs.HasGone.{EndsAt}
+use Rattle.pt_together.specs.Asked.{EndsAt}
 use Rattle.pt_confluence.specs.Gathered.{AreLegal}
 use Rattle.pt_rounds.specs.HaveRun.{HaveRun}
 use Rattle.pt_run.specs.Runs.{RunsPaced, WentBy, paced_by}

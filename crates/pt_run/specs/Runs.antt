@@ -16,7 +16,7 @@ use Rattle.pt_turn.specs.declared.fault.TurnFault.{TurnFault}
 use Rattle.pt_turn.specs.declared.fault.TurnFault.TheVariants as turn
 use Rattle.pt_turn.specs.All.{AreAll, AreReady, histories_of}
 use Rattle.pt_turn.specs.Platforms.{PlatformView, state_at}
-use Rattle.pt_alone.specs.HasGone.{EndsAt}
+use Rattle.pt_together.specs.Asked.{EndsAt}
 use Rattle.pt_monitors.specs.Platforms.{missed_by}
 use Rattle.pt_tables.specs.Log.{log_text}
 use Rattle.pt_tables.specs.Misses.{miss_line}

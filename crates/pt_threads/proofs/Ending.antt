@@ -22,13 +22,13 @@ use Rattle.pt_turn.specs.All.{AreAll, AreReady, histories_of}
 use Rattle.pt_turn.specs.Platforms.{PlatformView, rows_at, state_at}
 use Rattle.pt_turn.specs.Running.{Shows}
 use Rattle.pt_fixed_order.proofs.Whole.{linked_if_finished}
-use Rattle.pt_together.specs.Asked.{AreLegal}
+use Rattle.pt_together.specs.Asked.{AreLegal, EndsAt}
 use Rattle.pt_links.specs.Ends.{LinkId}
 use Rattle.pt_pool.specs.Station.{AreRead, StationView}
 use Rattle.pt_pool.proofs.Lanes.{get_here, get_map, got_map, same_some}
 use Rattle.pt_free.specs.Orders.{AllDone, AreUnmarked, HasFailed}
 use Rattle.pt_ends.specs.Settled.{AreInOrder, AreStations, IsStation, platform_of_station, told_of_station}
-use Rattle.pt_alone.specs.HasGone.{EndsAt, HaveGone}
+use Rattle.pt_alone.specs.HasGone.{HaveGone}
 use Rattle.pt_threads.specs.Opened.{AreBegun}
 use Rattle.pt_threads.specs.Reported.{IsReported}
 

@@ -1,5 +1,5 @@
 -- The lemma of one visit among all platforms.
-use Rattle.std.proofs.Common.{◌≡◌, ℕ, ◌-◌, ◌<◌, ◌≤◌, ◌^◌, ◌⊎◌, ◌≢◌, ◌==◌, if◌then◌else◌, Bool, true, false, cond, List, [], ◌∷◌, ◌++◌, Option, Some, None, length, length-set, set, take, slice_get, refl, sym, ap, ap₂, subst, ◌∙◌, ⊎_elim, append_assoc, eq-eqb, eqb-true}
+use Rattle.std.proofs.Common.{◌≡◌, ℕ, ◌-◌, ◌<◌, ◌≤◌, ◌^◌, ◌⊎◌, ◌≢◌, ◌==◌, if◌then◌else◌, Bool, true, false, cond, List, [], ◌∷◌, ◌++◌, Option, Some, None, length, length-set, set, take, slice_get, refl, sym, ap, ap₂, subst, ◌∙◌, ⊎_elim, append-nil, append_assoc, eq-eqb, eqb-true}
 use Rattle.std.proofs.Math.Path.{fun_ext}
 use Rattle.std.proofs.Math.Seq.{take-nil}
 use Rattle.std.proofs.lemmas.Bool.{cases_Bool, cond-true, cond-false, false≢true, ne_eqb}
@@ -16,13 +16,14 @@ use Rattle.pt_semantics.specs.Claiming.{Claims}
 use Rattle.pt_semantics.specs.Closing.{CanClose, Sends, on_link, shut}
 use Rattle.pt_types.specs.Lookups.{platform_of}
 use Rattle.pt_semantics.specs.Entering.{after_rows, all_due}
-use Rattle.pt_semantics.specs.History.{Legal}
+use Rattle.pt_semantics.specs.History.{Legal, LegalOnTime}
 use Rattle.pt_semantics.specs.Kept.{kept, kept_with}
 use Rattle.pt_semantics.specs.Linked.{all_sent, all_taken}
 use Rattle.pt_semantics.specs.Lists.{Each}
 use Rattle.pt_semantics.specs.Orderly.{ComesAfter, FitsStep, InOrder, IsOrderly}
 use Rattle.pt_semantics.specs.Platform.{State, opened, raised}
 use Rattle.pt_semantics.specs.Posting.{Posts}
+use Rattle.pt_semantics.specs.Ranks.{AreLevels}
 use Rattle.pt_semantics.specs.Rows.{FitRows}
 use Rattle.pt_semantics.specs.Safe.{NothingSafe}
 use Rattle.pt_semantics.specs.Turn.{IsLast, IsTurn, Turn}
@@ -48,11 +49,11 @@ use Rattle.pt_turn.specs.All.{AreAll}
 use Rattle.pt_visits.specs.Pipes.{arriving, emptied, leads_to}
 use Rattle.pt_visits.specs.Visited.{IsVisited}
 use Rattle.pt_fixed_order.proofs.Fronts.{fronts_are_by_link}
-use Rattle.pt_fixed_order.specs.Sound.{IsForeign}
+use Rattle.pt_fixed_order.specs.Sound.{IsForeign, SendsNothingElse}
 use Rattle.pt_fixed_order.proofs.Sound.{Own, turn_own}
 use Rattle.pt_types.specs.Limits.{most_claims}
-use Rattle.pt_together.specs.Shown.{AreOpen, AreResults, AreShown, AreThere, is_fault}
-use Rattle.pt_together.specs.Showing.{MayComeTo, OnTimeSoFar, ShowsVisit, StartShows, VisitShows}
+use Rattle.pt_together.specs.Shown.{AreOpen, ArePending, AreResults, AreShown, AreThere, is_fault}
+use Rattle.pt_together.specs.Showing.{IsRoomFrom, MayComeTo, OnTimeSoFar, ShowsVisit, StartShows, VisitShows}
 use Rattle.pt_together.proofs.Changed.{set_cases, set_elsewhere, set_here}
 use Rattle.pt_together.proofs.Piping.{both_parts, by_link, held, held_emptied, held_none, held_pushed, held_some, in_arriving, lead_of, leads_elsewhere, leads_there, length-emptied, on_arriving, there_or_not}
 use Rattle.pt_together.proofs.Opening.{all_posted, claims_open, none_open, numbers_rise, takes_busy, tasks_of}
@@ -66,7 +67,7 @@ order_front : (xs ys : List Message) → InOrder (xs ++ ys) → InOrder xs
 order_front [] ys h = tt
 order_front (x ∷ xs) ys h = (each_front (ComesAfter x) xs ys h.0, order_front xs ys h.1)
 
-orderly_front : (g : Graph) (level : ℕ → ℕ) (link : Link) (xs ys : List Message) → IsOrderly g level link (xs ++ ys) → IsOrderly g level link xs
+pub orderly_front : (g : Graph) (level : ℕ → ℕ) (link : Link) (xs ys : List Message) → IsOrderly g level link (xs ++ ys) → IsOrderly g level link xs
 orderly_front g level link xs ys h = (order_front xs ys h.0, each_front (FitsStep g.until (length g.actors) (level link.to)) xs ys h.1)
 
 -- and a front of messages that are sorted by link is sorted by link
@@ -111,11 +112,25 @@ way_is plan rows x platforms pipes results shown l =
     (λ (at : (pipe : List Message) × (slice_get pipes l ≡ Some pipe)). shown.on_way l at.0 at.1 ∙ sym (held_some pipes l at.0 at.1))
     (there_or_not (slice_get pipes l))
 
+-- no platform took a late message so far, and a visit sees all that is on its way
+module _ (g : Graph) (level : ℕ → ℕ) (rows : ℕ → List Row) (x : Together) (is_wired : IsWired g) (are : AreLevels g level) (fits : FitRows g rows)
+    (legal : (p : ℕ) → p < length g.platforms → LegalOnTime g level p (opened g p rows) (x.did p) (x.at p))
+    (linked : (l : ℕ) (link : Link) → slice_get g.links l ≡ Some link → all_sent l (x.did (platform_of g link.from)) ≡ all_taken l (x.did (platform_of g link.to)) ++ x.on_way l) where
+  pub all_on_time : (i : ℕ) → i < length g.platforms → SendsNothingElse g i (x.at i) → OnTimeSoFar g level rows i x
+  all_on_time i lt own = record {
+    legal = legal i lt;
+    own = own;
+    orderly = λ l link at home.
+        let from : ℕ = platform_of g link.from in
+        orderly_front g level link (all_sent l (x.did from)) ((x.at from).outbox l) (outgoing_orderly g level from rows (x.did from) (x.at from) is_wired are fits (legal from (is_wired.homes link.from)) l link at refl);
+    linked = λ l link at home. ([], linked l link at ∙ ap (λ n. all_taken l (x.did n) ++ x.on_way l) home ∙ sym (append-nil (all_taken l (x.did i) ++ x.on_way l)));
+  }
+
 -- all platforms before a visit of the one with this view
 record IsBefore (rows : ℕ → List Row) (x : Together) (platforms : List PlatformView) (pipes : List (List Message)) (results : List (List Done)) (v : PlatformView) : Type 0 where
   admitted : IsAdmitted v.plan
   fits : FitRows v.plan.graph rows
-  so_far : OnTimeSoFar v.plan.graph (level_at v) rows x
+  so_far : OnTimeSoFar v.plan.graph (level_at v) rows v.number x
   shown : AreShown v.plan rows x platforms pipes results
   there : slice_get platforms v.number ≡ Some v
 
@@ -143,23 +158,18 @@ module _ (rows : ℕ → List Row) (x : Together) (platforms : List PlatformView
   comes = record {
     links = λ m mem. lead_of v.plan.graph v.number (slice_get v.plan.graph.links m.link) (in_arriving v.plan.graph v.number 0 pipes m mem);
     orderly = λ l link at home.
-        let from : ℕ = platform_of v.plan.graph link.from in
-        let lt : from < length v.plan.graph.platforms = graph_wired.homes link.from in
-        let all : IsOrderly v.plan.graph (level_at v) link (all_sent l (x.did from) ++ (x.at from).outbox l) =
-        outgoing_orderly v.plan.graph (level_at v) from rows (x.did from) (x.at from) graph_wired h.admitted.levels h.fits (h.so_far.legal from lt) l link at refl in
-        let sent : IsOrderly v.plan.graph (level_at v) link (all_sent l (x.did from)) = orderly_front v.plan.graph (level_at v) link (all_sent l (x.did from)) ((x.at from).outbox l) all in
+        let (behind, linked) = h.so_far.linked l link at home in
         let taken : (x.at v.number).taken l ≡ all_taken l (x.did v.number) =
-        (on_time_history v.plan.graph (level_at v) v.number rows graph_wired (levels_grow v.plan.graph (level_at v) h.admitted.levels) h.fits (x.did v.number) (x.at v.number) (h.so_far.legal v.number on_graph)).keeps.taken_is l in
-        let same : all_sent l (x.did from) ≡ (state_at v).taken l ++ on_link l (arriving v.plan.graph v.number 0 pipes) =
-        h.so_far.linked l link at
-        ∙ ap (λ n. all_taken l (x.did n) ++ x.on_way l) home
-        ∙ ap (λ z. z ++ x.on_way l) (sym taken ∙ ap (λ (z : State). z.taken l) state_is)
+        (on_time_history v.plan.graph (level_at v) v.number rows graph_wired (levels_grow v.plan.graph (level_at v) h.admitted.levels) h.fits (x.did v.number) (x.at v.number) h.so_far.legal).keeps.taken_is l in
+        let same : all_taken l (x.did v.number) ++ x.on_way l ≡ (state_at v).taken l ++ on_link l (arriving v.plan.graph v.number 0 pipes) =
+        ap (λ z. z ++ x.on_way l) (sym taken ∙ ap (λ (z : State). z.taken l) state_is)
         ∙ ap (λ z. (state_at v).taken l ++ z) (sym (arrives l (leads_there v.plan.graph v.number (slice_get v.plan.graph.links l) link at home))) in
-        subst (IsOrderly v.plan.graph (level_at v) link) same sent;
+        subst (IsOrderly v.plan.graph (level_at v) link) same
+        (orderly_front v.plan.graph (level_at v) link (all_taken l (x.did v.number) ++ x.on_way l) behind (subst (IsOrderly v.plan.graph (level_at v) link) linked (h.so_far.orderly l link at home)));
   }
 
 module _ (rows : ℕ → List Row) (x : Together) (platforms : List PlatformView) (pipes : List (List Message)) (results : List (List Done)) (v : PlatformView) (h : IsBefore rows x platforms pipes results v)
-    (most c : ℕ) (small : raised_to v.reading c < 2 ^ 64) (w : PlatformView) (dones next : List Done) (piped : List (List Message)) (mine_at : slice_get results v.number ≡ Some dones) (k : IsVisited most c dones next v w pipes piped) where
+    (most c : ℕ) (room : ℕ → ℕ) (rooms : IsRoomFrom v.plan.graph v.number x room) (small : raised_to v.reading c < 2 ^ 64) (w : PlatformView) (dones next : List Done) (piped : List (List Message)) (mine_at : slice_get results v.number ≡ Some dones) (k : IsVisited most c dones next v w pipes piped) where
   -- the messages of a link that stay there: those that arrived and were not taken, or, if it leads elsewhere, all
   abbrev stays : ℕ → List Message
   stays l = on_link l k.taken.rest ++ held (emptied v.plan.graph v.number 0 pipes) l
@@ -209,8 +219,8 @@ module _ (rows : ℕ → List Row) (x : Together) (platforms : List PlatformView
 
   own_turn : Own v.plan.graph (level_at v) v.number (x.at v.number) k.turn (after.at v.number)
   own_turn = turn_own v.plan.graph (level_at v) v.number (x.at v.number) (after.at v.number) k.turn (is_late w.fault)
-      (home_on_time v.plan.graph (level_at v) v.number rows (x.did v.number) (x.at v.number) is_wired (levels_grow v.plan.graph (level_at v) h.admitted.levels) h.fits (h.so_far.legal v.number is_there)).busy
-      (h.so_far.own v.number is_there) turn_is
+      (home_on_time v.plan.graph (level_at v) v.number rows (x.did v.number) (x.at v.number) is_wired (levels_grow v.plan.graph (level_at v) h.admitted.levels) h.fits h.so_far.legal).busy
+      h.so_far.own turn_is
 
   in_order : LinkByLink (k.turn.taken ++ k.taken.rest)
   in_order = subst LinkByLink k.taken.front (by_link v.plan.graph v.number pipes)
@@ -253,12 +263,10 @@ module _ (rows : ℕ → List Row) (x : Together) (platforms : List PlatformView
       ∙ sym (ap (λ (z : State). z.outbox l) turn_is.sends.1)
       ∙ own_turn.left l foreign
 
-  sent_foreign : (l : ℕ) → IsForeign v.plan.graph v.number l → on_link l k.turn.sent ≡ take (64 - length (x.on_way l)) (k.is.done.outbox l)
-  sent_foreign l foreign =
-      own_turn.sent l foreign
-      ∙ sym (ap (take (64 - length (x.on_way l))) (foreign_outbox l foreign) ∙ take-nil (64 - length (x.on_way l)))
+  sent_foreign : (l : ℕ) → IsForeign v.plan.graph v.number l → on_link l k.turn.sent ≡ take (room l) (k.is.done.outbox l)
+  sent_foreign l foreign = own_turn.sent l foreign ∙ sym (ap (take (room l)) (foreign_outbox l foreign) ∙ take-nil (room l))
 
-  sent_own : (l : ℕ) (link : Link) → slice_get v.plan.graph.links l ≡ Some link → platform_of v.plan.graph link.from ≡ v.number → on_link l k.turn.sent ≡ take (64 - length (x.on_way l)) (k.is.done.outbox l)
+  sent_own : (l : ℕ) (link : Link) → slice_get v.plan.graph.links l ≡ Some link → platform_of v.plan.graph link.from ≡ v.number → on_link l k.turn.sent ≡ take (room l) (k.is.done.outbox l)
   sent_own l link at home =
       let elsewhere : platform_of v.plan.graph link.to ≡ v.number → ⊥ = λ e. ((joined v.plan.graph h.admitted.lawful).linked l link at).elsewhere (home ∙ sym e) in
       let kept_there : held (emptied v.plan.graph v.number 0 pipes) l ≡ held pipes l =
@@ -271,10 +279,11 @@ module _ (rows : ℕ → List Row) (x : Together) (platforms : List PlatformView
       (λ (none : slice_get (emptied v.plan.graph v.number 0 pipes) l ≡ None). absurd (none_some _ (sym none ∙ slice_get-get_or (emptied v.plan.graph v.number 0 pipes) l [] within)))
       (λ (pipe : (ms : List Message) × (slice_get (emptied v.plan.graph v.number 0 pipes) l ≡ Some ms)).
       k.sent.first l pipe.0 pipe.1
-      ∙ ap (λ (z : List Message). take (64 - length z) (k.is.done.outbox l)) (sym (held_some (emptied v.plan.graph v.number 0 pipes) l pipe.0 pipe.1) ∙ kept_there ∙ sym (held_way l)))
+      ∙ ap (λ (z : List Message). take (64 - length z) (k.is.done.outbox l)) (sym (held_some (emptied v.plan.graph v.number 0 pipes) l pipe.0 pipe.1) ∙ kept_there ∙ sym (held_way l))
+      ∙ ap (λ n. take n (k.is.done.outbox l)) (sym (rooms l link at home)))
       (there_or_not (slice_get (emptied v.plan.graph v.number 0 pipes) l))
 
-  sent_all : (l : ℕ) → on_link l k.turn.sent ≡ take (64 - length (x.on_way l)) (k.is.done.outbox l)
+  sent_all : (l : ℕ) → on_link l k.turn.sent ≡ take (room l) (k.is.done.outbox l)
   sent_all l =
       ⊎_elim
       (λ (none : slice_get v.plan.graph.links l ≡ None). sent_foreign l (λ link at home. none_some link (sym none ∙ at)))
@@ -291,7 +300,7 @@ module _ (rows : ℕ → List Row) (x : Together) (platforms : List PlatformView
       (subst (λ n. Ends w.fault (IsLast v.plan.graph (x.at v.number) n (is_late w.fault) k.is.ready)) last_is
       (subst (λ (z : State). Ends w.fault (IsLast v.plan.graph z k.turn.last (is_late w.fault) k.is.ready)) (sym was) k.last))
 
-  makes_it : IsVisit v.plan.graph (level_at v) most (λ l. 64 - length (x.on_way l)) (raised_to v.reading c) x visit_made after
+  makes_it : IsVisit v.plan.graph (level_at v) most room (raised_to v.reading c) x visit_made after
   makes_it = record {
     fits = small;
     once = k.at.2;
@@ -387,16 +396,10 @@ module _ (rows : ℕ → List Row) (x : Together) (platforms : List PlatformView
       ap (λ z. (z ++ held (emptied v.plan.graph v.number 0 pipes) l) ++ on_link l k.turn.sent) (none_left on_time l)
       ∙ sym (held_pushed k.is.done.outbox (emptied v.plan.graph v.number 0 pipes) piped k.turn.sent k.sent l)
 
-  shown_after : is_late w.fault ≡ false → AreShown v.plan rows after (set platforms v.number w) piped (set results v.number next)
-  shown_after on_time = record {
-    all = all_after;
-    states = there_after.states;
-    kept_turns = there_after.kept_turns;
-    links = k.sent.count ∙ length-emptied v.plan.graph v.number 0 pipes ∙ h.shown.links;
-    on_way = λ l pipe at. way_after on_time l ∙ held_some piped l pipe at;
-    nowhere_else = λ l none. way_after on_time l ∙ held_none piped l none;
+  pending_after : ArePending v.plan.graph (set platforms v.number w) (set results v.number next)
+  pending_after = record {
     count = length-set results v.number next ∙ h.shown.count ∙ sym (length-set platforms v.number w);
-    pending = λ j u ds at mine.
+    each = λ j u ds at mine.
         ⊎_elim
         (λ (here : (j ≡ v.number) × (u ≡ w)).
         let same : ds ≡ next = same_some ds next (sym mine ∙ ap (slice_get (set results v.number next)) here.0 ∙ set_here results v.number next dones mine_at) in
@@ -405,7 +408,19 @@ module _ (rows : ℕ → List Row) (x : Together) (platforms : List PlatformView
         (after_cases j u at);
   }
 
-  shows_here : ShowsVisit v.plan rows most (raised_to v.reading c) v.number x w k.turn (set platforms v.number w) piped (set results v.number next)
+  shown_after : is_late w.fault ≡ false → AreShown v.plan rows after (set platforms v.number w) piped (set results v.number next)
+  shown_after on_time = record {
+    all = all_after;
+    states = there_after.states;
+    kept_turns = there_after.kept_turns;
+    links = k.sent.count ∙ length-emptied v.plan.graph v.number 0 pipes ∙ h.shown.links;
+    on_way = λ l pipe at. way_after on_time l ∙ held_some piped l pipe at;
+    nowhere_else = λ l none. way_after on_time l ∙ held_none piped l none;
+    count = pending_after.count;
+    pending = pending_after.each;
+  }
+
+  shows_here : ShowsVisit v.plan rows most room (raised_to v.reading c) v.number x w k.turn (set platforms v.number w) piped (set results v.number next)
   shows_here = record {
     made = visit_made;
     together = after;
@@ -415,31 +430,35 @@ module _ (rows : ℕ → List Row) (x : Together) (platforms : List PlatformView
     fault = refl;
     makes = makes_it;
     there = there_after;
+    pending = pending_after;
     shown = shown_after;
   }
 
 -- the same by the plan and the number of the platform's view
-before_of : (plan : Parts) (rows : ℕ → List Row) (x : Together) (platforms : List PlatformView) (pipes : List (List Message)) (results : List (List Done)) → IsAdmitted plan → FitRows plan.graph rows → OnTimeSoFar plan.graph (level_of plan.ranks) rows x → AreShown plan rows x platforms pipes results → (i : ℕ) (v : PlatformView) → slice_get platforms i ≡ Some v → IsBefore rows x platforms pipes results v
-before_of plan rows x platforms pipes results admitted fits so_far shown i v there =
+before_of : (plan : Parts) (rows : ℕ → List Row) (x : Together) (platforms : List PlatformView) (pipes : List (List Message)) (results : List (List Done)) → IsAdmitted plan → FitRows plan.graph rows → AreShown plan rows x platforms pipes results → (i : ℕ) (v : PlatformView) → slice_get platforms i ≡ Some v → OnTimeSoFar plan.graph (level_of plan.ranks) rows i x → IsBefore rows x platforms pipes results v
+before_of plan rows x platforms pipes results admitted fits shown i v there so_far =
     let plan_is : plan ≡ v.plan = sym (shown.all.plans i v there) in
+    let number_is : i ≡ v.number = sym (shown.all.numbers i v there) in
     record {
       admitted = subst IsAdmitted plan_is admitted;
       fits = subst (λ (p : Parts). FitRows p.graph rows) plan_is fits;
-      so_far = subst (λ (p : Parts). OnTimeSoFar p.graph (level_of p.ranks) rows x) plan_is so_far;
+      so_far = subst (λ (p : Parts). OnTimeSoFar p.graph (level_of p.ranks) rows v.number x) plan_is (subst (λ n. OnTimeSoFar plan.graph (level_of plan.ranks) rows n x) number_is so_far);
       shown = subst (λ (p : Parts). AreShown p rows x platforms pipes results) plan_is shown;
-      there = subst (λ n. slice_get platforms n ≡ Some v) (sym (shown.all.numbers i v there)) there;
+      there = subst (λ n. slice_get platforms n ≡ Some v) number_is there;
     }
 
 pub may_come : MayComeTo
-may_come plan rows x platforms pipes results admitted fits so_far shown i v there = comes rows x platforms pipes results v (before_of plan rows x platforms pipes results admitted fits so_far shown i v there)
+may_come plan rows x platforms pipes results admitted fits shown i v there so_far = comes rows x platforms pipes results v (before_of plan rows x platforms pipes results admitted fits shown i v there so_far)
 
 -- a visit of a platform by an engine is one by the definitions
 pub visit_shows : VisitShows
-visit_shows plan rows x platforms pipes results admitted fits so_far shown most c i v w dones next piped there mine_at small visited =
+visit_shows plan rows x platforms pipes results admitted fits shown most c i v w dones next piped there mine_at so_far room rooms small visited =
+    let plan_is : plan ≡ v.plan = sym (shown.all.plans i v there) in
     let number_is : v.number ≡ i = shown.all.numbers i v there in
-    subst (λ (p : Parts). ShowsVisit p rows most (raised_to v.reading c) i x w visited.turn (set platforms i w) piped (set results i next)) (shown.all.plans i v there)
-    (subst (λ n. ShowsVisit v.plan rows most (raised_to v.reading c) n x w visited.turn (set platforms n w) piped (set results n next)) number_is
-    (shows_here rows x platforms pipes results v (before_of plan rows x platforms pipes results admitted fits so_far shown i v there) most c small w dones next piped (subst (λ n. slice_get results n ≡ Some dones) (sym number_is) mine_at) visited))
+    let rooms_here : IsRoomFrom v.plan.graph v.number x room = subst (λ (p : Parts). IsRoomFrom p.graph v.number x room) plan_is (subst (λ n. IsRoomFrom plan.graph n x room) (sym number_is) rooms) in
+    subst (λ (p : Parts). ShowsVisit p rows most room (raised_to v.reading c) i x w visited.turn (set platforms i w) piped (set results i next)) (sym plan_is)
+    (subst (λ n. ShowsVisit v.plan rows most room (raised_to v.reading c) n x w visited.turn (set platforms n w) piped (set results n next)) number_is
+    (shows_here rows x platforms pipes results v (before_of plan rows x platforms pipes results admitted fits shown i v there so_far) most c room rooms_here small w dones next piped (subst (λ n. slice_get results n ≡ Some dones) (sym number_is) mine_at) visited))
 
 same_opened : (g : Graph) (i : ℕ) (some others : ℕ → List Row) → ((a : ℕ) → platform_of g a ≡ i → some a ≡ others a) → opened g i some ≡ opened g i others
 same_opened g i some others same =

@@ -33,6 +33,11 @@ pub record AreResults (g : Graph) (v : PlatformView) (dones : List Done) : Type 
   pub open_claims : AreOpen g (busy_in v.open_claims) (map (λ (d : Done). d.task) dones)
   pub rise : NumbersRise dones
 
+-- there is a list of pending results for each platform: those of its open claims
+pub record ArePending (g : Graph) (platforms : List PlatformView) (results : List (List Done)) : Type 0 where
+  pub count : length results ≡ length platforms
+  pub each : (i : ℕ) (v : PlatformView) (dones : List Done) → slice_get platforms i ≡ Some v → slice_get results i ≡ Some dones → AreResults g v dones
+
 -- the platforms, pipes and pending results represent all platforms together
 pub record AreShown (plan : Parts) (rows : ℕ → List Row) (x : Together) (platforms : List PlatformView) (pipes : List (List Message)) (results : List (List Done)) : Type 0 where
   pub all : AreAll plan rows platforms

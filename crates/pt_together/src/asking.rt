@@ -1,6 +1,7 @@
 //! What an engine asks all platforms.
 
-ghost use Rattle.std.specs.Prelude.{◌≡◌, ◌↔◌, true};
+ghost use Rattle.std.specs.Prelude.{◌≡◌, ◌<◌, ◌↔◌, ◌∷◌, ◌++◌, [], List, length, true};
+ghost use Rattle.pt_semantics.specs.Turn.{Turn, is_quiet};
 ghost use Rattle.pt_together.specs.Asked.{AreAllFinished};
 
 use pt_turn::Platform;
@@ -15,4 +16,12 @@ pub fn are_finished(platforms: &[Platform]) -> bool
         }
     }
     true
+}
+
+/// Whether nothing was posted, entered, taken, claimed or sent in the last turn.
+pub fn was_quiet(platform: &Platform) -> bool
+    requires begun { 0 < length platform.now.turns }
+    ensures { (before : List Turn) (turn : Turn) → platform.now.turns ≡ before ++ turn ∷ [] → result ≡ is_quiet turn }
+{
+    platform.history().was_quiet()
 }

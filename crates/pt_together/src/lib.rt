@@ -8,6 +8,6 @@ mod asking;
 mod laws;
 mod starting;
 
-pub use asking::are_finished;
+pub use asking::{are_finished, was_quiet};
 pub use laws::{may_come, start_shows, visit_shows};
 pub use starting::{no_results, pipes};

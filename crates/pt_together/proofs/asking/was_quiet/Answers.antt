@@ -2,7 +2,7 @@ use Rattle.std.proofs.Common.{◌≡◌, ◌+◌, ◌-◌, ◌∷◌, ◌++◌, 
 use Rattle.std.specs.Prelude.{option_map, slice_get}
 use Rattle.pt_semantics.specs.Turn.{Turn, is_quiet}
 use Rattle.pt_semantics.proofs.Lookups.{same_some}
-use Rattle.pt_rounds.proofs.asking.was_quiet.Goals as goal
+use Rattle.pt_together.proofs.asking.was_quiet.Goals as goal
 
 last_of : (before : List Turn) (turn : Turn) → slice_get (before ++ turn ∷ []) (length before) ≡ Some turn
 last_of [] turn = refl
