@@ -1,5 +1,5 @@
 -- Replayed runs: rounds at a true time, with clocks that lag and messages that take their time.
-use Rattle.std.specs.Prelude.{◌≡◌, ◌<◌, ◌≤◌, ◌×◌, ◌⊎◌, ◌∷◌, [], zero, suc, ℕ, List, false, length, true}
+use Rattle.std.specs.Prelude.{◌≡◌, ◌<◌, ◌≤◌, ◌⊎◌, ◌∷◌, [], zero, suc, ℕ, List, false, length, true}
 use Rattle.pt_types.specs.declared.graph.Graph.{Graph}
 use Rattle.pt_types.specs.declared.rows.Row.{Row}
 use Rattle.pt_semantics.specs.Kept.{kept}

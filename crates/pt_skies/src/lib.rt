@@ -1,4 +1,9 @@
-//! Replayed runs: their definition, and what is true of them.
+//! Replayed runs: their definition, and what is true of them. This crate has no code that runs: each function has a theorem as
+//! its contract.
 //!
 //! Read first: `specs/Sky.antt`, then `specs/Flights.antt`.
 #![tactic(auto)]
+
+mod laws;
+
+pub use laws::replayed_histories_are_legal;

@@ -1,0 +1,4 @@
+pub mod Pushing
+pub mod Replays
+pub mod Sound
+pub mod Ways
