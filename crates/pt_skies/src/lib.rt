@@ -6,4 +6,6 @@
 
 mod laws;
 
-pub use laws::replayed_histories_are_legal;
+pub use laws::{
+    flights_keep, quiet_rounds_end_replays, replayed_histories_are_legal, replays_begin,
+};
