@@ -1,8 +1,13 @@
 pub mod Calm
 pub mod Closing
 pub mod Ended
+pub mod Ending
+pub mod Falling
+pub mod Few
 pub mod Pushing
 pub mod Quiet
 pub mod Replays
 pub mod Sound
+pub mod Times
+pub mod Twice
 pub mod Ways
