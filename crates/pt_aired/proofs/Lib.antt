@@ -1,0 +1,6 @@
+mod Moments
+mod Opening
+mod Passes
+mod Runs
+mod Showing
+mod Steps

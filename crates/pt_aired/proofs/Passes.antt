@@ -1,0 +1,273 @@
+-- A round passes one platform more.
+use Rattle.std.proofs.Common.{◌≡◌, ◌≢◌, ◌∙◌, ℕ, suc, ◌+◌, ◌<◌, ◌≤◌, ◌^◌, ◌⊎◌, Bool, true, false, List, [], ◌∷◌, ◌++◌, Option, Some, None, length, set, slice_get, refl, sym, ap, ap₂, subst, arith, inl, inr, ⊎_elim, append_assoc}
+use Rattle.std.proofs.lemmas.Bool.{cases_Bool, false≢true}
+use Rattle.std.proofs.lemmas.Option.{slice_get_within}
+use Rattle.pt_tags.specs.declared.message.Message.{Message}
+use Rattle.pt_types.specs.declared.firing.Done.{Done}
+use Rattle.pt_types.specs.declared.rows.Row.{Row}
+use Rattle.pt_types.specs.Lookups.{platform_of}
+use Rattle.pt_semantics.specs.Linked.{IsFinished, all_sent, all_taken}
+use Rattle.pt_semantics.specs.Lists.{Each, IsIn}
+use Rattle.pt_semantics.specs.Platform.{State}
+use Rattle.pt_semantics.specs.Turn.{is_quiet}
+use Rattle.pt_semantics.specs.Visits.{Made}
+use Rattle.pt_semantics.proofs.LawfulEdges.{wired}
+use Rattle.pt_semantics.proofs.Lookups.{Each-append, IsIn-append, IsIn-append_left, IsIn-append_right, same_some}
+use Rattle.pt_laws.proofs.Onward.{cases_same}
+use Rattle.pt_causality.specs.Ranked.{level_of}
+use Rattle.pt_offsets.specs.Plans.{Parts}
+use Rattle.pt_air.specs.declared.air.Air.{Air}
+use Rattle.pt_airways.specs.Arrivals.{AirwayView}
+use Rattle.pt_turn.specs.declared.fault.TurnFault.{TurnFault}
+use Rattle.pt_turn.specs.Platforms.{PlatformView, level_at, state_at}
+use Rattle.pt_turn.specs.Turned.{MayCome, is_late}
+use Rattle.pt_visits.specs.Pipes.{arriving}
+use Rattle.pt_flights.specs.Skies.{come_on, map_from}
+use Rattle.pt_skies.specs.Between.{AreBetween}
+use Rattle.pt_skies.specs.Flights.{IsQuiet}
+use Rattle.pt_skies.specs.Sky.{come_to}
+use Rattle.pt_skies.proofs.Replays.{flights_keep}
+use Rattle.pt_skies.proofs.Ways.{come_front}
+use Rattle.pt_together.specs.Asked.{HaveNoFault}
+use Rattle.pt_together.specs.Shown.{is_fault}
+use Rattle.pt_together.specs.Showing.{OnTimeSoFar}
+use Rattle.pt_together.proofs.Changed.{set_elsewhere, set_here}
+use Rattle.pt_together.proofs.Showing.{orderly_front}
+use Rattle.pt_aired.specs.Passing.{HasAnswered, HasFlown, HavePassed, Stands}
+use Rattle.pt_aired.proofs.Showing.{ShowsFlight, flight_shows, may_come}
+use Rattle.pt_aired.proofs.Steps.{flown_below, fly_one, pass_by}
+
+-- a fault or none
+fault_is : (fault : Option TurnFault) → (fault ≡ None) ⊎ (is_fault fault ≡ true)
+fault_is None = inl refl
+fault_is (Some fault) = inr refl
+
+module _ (plan : Parts) (rows : ℕ → List Row) (air : Air) (count now : ℕ) (olds : List PlatformView) (old_airways : List AirwayView) (old_results : List (List Done)) (s : Stands plan rows air count now olds old_airways old_results) where
+  pub none_passed : HavePassed plan rows air now s.sky 0 olds old_airways old_results true
+  none_passed = record {
+    made = [];
+    sky = s.sky;
+    round = (refl, refl);
+    shown = s.shown;
+    rest_stays = λ j le. refl;
+    is_quiet_round = λ e. record { quiet = tt; closed = λ i. refl };
+    no_quiet_round = λ e. absurd (false≢true (sym e));
+    faults = λ j v at. inl (s.no_fault j v at);
+    fine = λ none. tt;
+    answered = λ j v at m mem home. absurd mem;
+  }
+
+  module _ (n : ℕ) (platforms : List PlatformView) (airways : List AirwayView) (results : List (List Done)) (quiet : Bool) (h : HavePassed plan rows air now s.sky n platforms airways results quiet) where
+    -- in the round so far all is as the laws on flights say
+    pub between : n ≤ length platforms → AreBetween plan.graph (level_of plan.ranks) air rows now h.made h.sky
+    between le =
+        flights_keep plan.graph (level_of plan.ranks) air rows s.rounds now n h.made h.sky (wired plan.graph s.admitted.lawful) s.admitted.levels s.fit
+        (record { before = s.sky; run = s.run; some = subst (λ k. n ≤ k) h.shown.all.count le; round = h.round })
+
+    module _ (v : PlatformView) (there : slice_get platforms n ≡ Some v) where
+      below : n < length platforms
+      below = slice_get_within platforms n v there
+
+      in_graph : n < length plan.graph.platforms
+      in_graph = subst (λ k. n < k) h.shown.all.count below
+
+      are : AreBetween plan.graph (level_of plan.ranks) air rows now h.made h.sky
+      are = between (let lt = below in omega (arith, lt))
+
+      -- what a platform answers is so of all platforms together
+      finished_here : IsFinished v.plan.graph v.number (state_at v) → IsFinished plan.graph n (h.sky.at n)
+      finished_here done =
+          subst (IsFinished plan.graph n) (sym (h.shown.states n v there))
+          (subst (λ k. IsFinished plan.graph k (state_at v)) (h.shown.all.numbers n v there)
+          (subst (λ (p : Parts). IsFinished p.graph v.number (state_at v)) (h.shown.all.plans n v there) done))
+
+      going_here : (IsFinished v.plan.graph v.number (state_at v) → ⊥) → IsFinished plan.graph n (h.sky.at n) → ⊥
+      going_here going done = going
+          (subst (λ (p : Parts). IsFinished p.graph v.number (state_at v)) (sym (h.shown.all.plans n v there))
+          (subst (λ k. IsFinished plan.graph k (state_at v)) (sym (h.shown.all.numbers n v there))
+          (subst (IsFinished plan.graph n) (h.shown.states n v there) done)))
+
+      pub not_faulty : v.fault ≡ None
+      not_faulty = ⊎_elim (λ (e : v.fault ≡ None). e) (λ (answered : (n < n) × HasAnswered h.made n). absurd (apart n answered.0)) (h.faults n v there)
+        where
+          apart : (k : ℕ) → k < k → ⊥
+          apart k lt = omega arith
+
+      -- a platform that did not fly yet in this round is on time
+      so_far : OnTimeSoFar plan.graph (level_of plan.ranks) rows n (come_to plan.graph n now h.sky)
+      so_far = record {
+        legal = are.on_time n in_graph (λ m mem home. (h.answered n v there m mem home).1 ∙ ap is_late not_faulty);
+        own = are.own n in_graph;
+        orderly = λ l link at home.
+            let from : ℕ = platform_of plan.graph link.from in
+            orderly_front plan.graph (level_of plan.ranks) link (all_sent l (h.sky.did from)) ((h.sky.at from).outbox l) (are.orderly l link at);
+        linked = λ l link at home.
+            let (behind, split) = come_front plan.graph n now l (h.sky.airways l) in (
+              behind,
+              are.linked l link at
+                  ∙ ap₂ (λ (a b : List Message). a ++ b) (ap (λ p. all_taken l (h.sky.did p)) home) split
+                  ∙ sym (append_assoc (all_taken l (h.sky.did n)) (come_on plan.graph n now l (h.sky.airways l)) behind),
+            );
+      }
+
+      pub comes : MayCome v.plan.graph (level_at v) v.number (state_at v) (arriving v.plan.graph v.number 0 (map_from (come_on v.plan.graph v.number now) 0 airways))
+      comes = may_come plan rows now h.sky platforms airways results s.admitted s.fit h.shown n v there not_faulty so_far
+
+      pub one_by : IsFinished v.plan.graph v.number (state_at v) → HavePassed plan rows air now s.sky (suc n) platforms airways results quiet
+      one_by done = record {
+        made = h.made;
+        sky = h.sky;
+        round = pass_by plan.graph (level_of plan.ranks) air now n 0 n s.sky h.sky h.made (omega arith) h.round (finished_here done);
+        shown = h.shown;
+        rest_stays = λ j le. h.rest_stays j (omega (arith, le));
+        is_quiet_round = h.is_quiet_round;
+        no_quiet_round = λ e.
+            ⊎_elim
+            (λ (one : (m : Made) × IsIn m h.made × (is_quiet m.turn ≡ false)). inl one)
+            (λ (one : (j : ℕ) × (j < n) × ((h.sky.at j).closed ≡ (s.sky.at j).closed → ⊥)). inr (one.0, (let lt : one.0 < n = one.1 in omega arith), one.2))
+            (h.no_quiet_round e);
+        faults = λ j w at.
+            ⊎_elim
+            (λ (none : w.fault ≡ None). inl none)
+            (λ (answered : (j < n) × HasAnswered h.made j). inr ((let lt : j < n = answered.0 in omega arith), answered.1))
+            (h.faults j w at);
+        fine = h.fine;
+        answered = h.answered;
+      }
+
+      module _ (w : PlatformView) (dones next : List Done) (after_airways : List AirwayView) (still after : Bool) (small : now < 2 ^ 64) (mine : slice_get results n ≡ Some dones) (going : IsFinished v.plan.graph v.number (state_at v) → ⊥)
+          (was : HasFlown air now dones next v w airways after_airways still) (if_quiet : after ≡ true → (quiet ≡ true) × (still ≡ true)) (if_not : after ≡ false → (quiet ≡ false) ⊎ (still ≡ false)) where
+        shows : ShowsFlight plan rows air now n h.sky w was.flown.visited.turn (set platforms n w) after_airways (set results n next)
+        shows = flight_shows plan rows now h.sky platforms airways results s.admitted s.fit h.shown n v there not_faulty so_far air w dones next after_airways mine was.flown
+            (λ p e. are.readings n p in_graph (ap (λ (z : State). z.reading) (h.shown.states n v there) ∙ e))
+            (omega (arith, small))
+
+        stays : (j : ℕ) → j ≢ n → shows.sky.at j ≡ h.sky.at j
+        stays j ne = ap (λ (at : ℕ → State). at j) shows.flies.states ∙ (shows.flies.visit.others j (λ e. ne (e ∙ shows.platform))).0
+
+        changed : slice_get (set platforms n w) n ≡ Some w
+        changed = set_here platforms n w v there
+
+        -- whether the platform closed
+        closes_here : (shows.sky.at n).closed ≡ w.closed
+        closes_here = ap (λ (z : State). z.closed) (shows.shown.states n w changed)
+
+        closed_before : (h.sky.at n).closed ≡ v.closed
+        closed_before = ap (λ (z : State). z.closed) (h.shown.states n v there)
+
+        quiet_now : after ≡ true → IsQuiet s.sky (h.made ++ shows.made ∷ []) shows.sky
+        quiet_now e =
+            let so = was.still_is.0 (if_quiet e).1 in
+            let before = h.is_quiet_round (if_quiet e).0 in
+            record {
+              quiet = Each-append (λ (m : Made). is_quiet m.turn ≡ true) h.made (shows.made ∷ []) before.quiet (ap is_quiet shows.turn_is ∙ so.0, tt);
+              closed = λ j.
+                  ⊎_elim
+                  (λ (here : j ≡ n). subst (λ k. (shows.sky.at k).closed ≡ (s.sky.at k).closed) (sym here) (closes_here ∙ so.1 ∙ sym closed_before ∙ before.closed n))
+                  (λ (other : j ≢ n). ap (λ (z : State). z.closed) (stays j other) ∙ before.closed j)
+                  (cases_same j n);
+            }
+
+        not_quiet : after ≡ false → ((m : Made) × IsIn m (h.made ++ shows.made ∷ []) × (is_quiet m.turn ≡ false)) ⊎ ((j : ℕ) × (j < suc n) × ((shows.sky.at j).closed ≡ (s.sky.at j).closed → ⊥))
+        not_quiet e =
+            ⊎_elim
+            (λ (noisy : quiet ≡ false).
+            ⊎_elim
+            (λ (one : (m : Made) × IsIn m h.made × (is_quiet m.turn ≡ false)). inl (one.0, IsIn-append_left one.0 h.made (shows.made ∷ []) one.1, one.2))
+            (λ (one : (j : ℕ) × (j < n) × ((h.sky.at j).closed ≡ (s.sky.at j).closed → ⊥)).
+            let lt : one.0 < n = one.1 in
+            inr (one.0, omega arith, λ same. one.2 (sym (ap (λ (z : State). z.closed) (stays one.0 (λ here. apart one.0 n lt here))) ∙ same)))
+            (h.no_quiet_round noisy))
+            (λ (moved : still ≡ false).
+            ⊎_elim
+            (λ (calm : is_quiet was.flown.visited.turn ≡ true).
+            inr (n, omega arith, λ same. false≢true (sym moved ∙ was.still_is.1 (calm, sym closes_here ∙ same ∙ ap (λ (z : State). z.closed) (sym (h.rest_stays n (omega arith))) ∙ closed_before))))
+            (λ (noisy : is_quiet was.flown.visited.turn ≡ false). inl (shows.made, IsIn-append_right shows.made h.made (shows.made ∷ []) (inl refl), ap is_quiet shows.turn_is ∙ noisy))
+            (cases_Bool (is_quiet was.flown.visited.turn)))
+            (if_not e)
+          where
+            apart : (j k : ℕ) → j < k → j ≡ k → ⊥
+            apart j k lt e = omega arith
+
+        -- the platform that was visited is the one with view w
+        same_view : (j : ℕ) (u : PlatformView) → j ≡ n → slice_get (set platforms n w) j ≡ Some u → u ≡ w
+        same_view j u here at = same_some u w (sym (subst (λ k. slice_get (set platforms n w) k ≡ Some u) here at) ∙ changed)
+
+        faults_now : (j : ℕ) (u : PlatformView) → slice_get (set platforms n w) j ≡ Some u → (u.fault ≡ None) ⊎ ((j < suc n) × HasAnswered (h.made ++ shows.made ∷ []) j)
+        faults_now j u at =
+            ⊎_elim
+            (λ (here : j ≡ n).
+            ⊎_elim
+            (λ (none : u.fault ≡ None). inl none)
+            (λ (some : is_fault u.fault ≡ true).
+            inr (
+              omega (arith, here),
+              (
+                shows.made,
+                IsIn-append_right shows.made h.made (shows.made ∷ []) (inl refl),
+                shows.platform ∙ sym here,
+                shows.fault ∙ ap (λ (z : PlatformView). is_fault z.fault) (sym (same_view j u here at)) ∙ some,
+              ),
+            ))
+            (fault_is u.fault))
+            (λ (other : j ≢ n).
+            ⊎_elim
+            (λ (none : u.fault ≡ None). inl none)
+            (λ (answered : (j < n) × HasAnswered h.made j).
+            let lt : j < n = answered.0 in
+            inr (omega arith, (answered.1.0, IsIn-append_left answered.1.0 h.made (shows.made ∷ []) answered.1.1, answered.1.2, answered.1.3)))
+            (h.faults j u (sym (set_elsewhere platforms n j w other) ∙ at)))
+            (cases_same j n)
+
+        fine_now : HaveNoFault (set platforms n w) → Each (λ (m : Made). m.fault ≡ false) (h.made ++ shows.made ∷ [])
+        fine_now none =
+            Each-append (λ (m : Made). m.fault ≡ false) h.made (shows.made ∷ [])
+            (h.fine (λ j u at.
+            ⊎_elim
+            (λ (here : j ≡ n). ap (λ (z : PlatformView). z.fault) (same_some u v (sym (subst (λ k. slice_get platforms k ≡ Some u) here at) ∙ there)) ∙ not_faulty)
+            (λ (other : j ≢ n). none j u (set_elsewhere platforms n j w other ∙ at))
+            (cases_same j n)))
+            (shows.fault ∙ ap is_fault (none n w changed), tt)
+
+        -- a platform that is visited did not fly before in this round
+        none_before : (m : Made) → IsIn m h.made → m.platform ≡ n → ⊥
+        none_before m mem home = past m.platform n (flown_below plan.graph (level_of plan.ranks) air now n 0 s.sky h.sky h.made h.round m mem) home
+          where
+            past : (j k : ℕ) → j < k + 0 → j ≡ k → ⊥
+            past j k lt e = omega arith
+
+        answered_now : (j : ℕ) (u : PlatformView) → slice_get (set platforms n w) j ≡ Some u → (m : Made) → IsIn m (h.made ++ shows.made ∷ []) → m.platform ≡ j → (m.fault ≡ is_fault u.fault) × (m.late ≡ is_late u.fault)
+        answered_now j u at m mem home =
+            ⊎_elim
+            (λ (old : IsIn m h.made).
+            ⊎_elim
+            (λ (here : j ≡ n). absurd (none_before m old (home ∙ here)))
+            (λ (other : j ≢ n). h.answered j u (sym (set_elsewhere platforms n j w other) ∙ at) m old home)
+            (cases_same j n))
+            (λ (new : IsIn m (shows.made ∷ [])).
+            ⊎_elim
+            (λ (e : m ≡ shows.made).
+            let here : j ≡ n = sym home ∙ ap (λ (z : Made). z.platform) e ∙ shows.platform in
+            let same : w ≡ u = sym (same_view j u here at) in
+            (ap (λ (z : Made). z.fault) e ∙ shows.fault ∙ ap (λ (z : PlatformView). is_fault z.fault) same, ap (λ (z : Made). z.late) e ∙ shows.late ∙ ap (λ (z : PlatformView). is_late z.fault) same))
+            (λ (never : ⊥). absurd never)
+            new)
+            (IsIn-append m h.made (shows.made ∷ []) mem)
+
+        pub one_flown : HavePassed plan rows air now s.sky (suc n) (set platforms n w) after_airways (set results n next) after
+        one_flown = record {
+          made = h.made ++ shows.made ∷ [];
+          sky = shows.sky;
+          round = fly_one plan.graph (level_of plan.ranks) air now n 0 s.sky h.sky shows.sky h.made shows.made (let e = shows.platform in omega (arith, e)) h.round
+              (λ done. going_here going (subst (λ k. IsFinished plan.graph k (h.sky.at k)) shows.platform done)) shows.flies;
+          shown = shows.shown;
+          rest_stays = λ j le. stays j (λ e. past j n le e) ∙ h.rest_stays j (omega (arith, le));
+          is_quiet_round = quiet_now;
+          no_quiet_round = not_quiet;
+          faults = faults_now;
+          fine = fine_now;
+          answered = answered_now;
+        }
+          where
+            past : (j k : ℕ) → suc k ≤ j → j ≡ k → ⊥
+            past j k le e = omega arith

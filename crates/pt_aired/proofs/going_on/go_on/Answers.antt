@@ -1,0 +1,65 @@
+use Rattle.std.proofs.Common.{◌∙◌, Some, arith, sym, subst}
+use Rattle.std.proofs.lemmas.Bool.{false≢true}
+use Rattle.pt_semantics.proofs.LawfulEdges.{wired}
+use Rattle.pt_causality.specs.Ranked.{level_of}
+use Rattle.pt_flights.specs.Moments.{IsLeast, IsMoment}
+use Rattle.pt_together.specs.Asked.{lists_of}
+use Rattle.pt_rounds.proofs.Few.{rounds_are_few}
+use Rattle.pt_aired.specs.Passing.{AreEmpty}
+use Rattle.pt_skies.proofs.Ending.{replays_end}
+use Rattle.pt_aired.proofs.Runs.{ended_fault, ended_finished, moment_after_quiet, stands_next}
+use Rattle.pt_aired.proofs.going_on.go_on.Goals as goal
+use Rattle.pt_aired.proofs.going_on.go_on.Goals.{then-quiet+in_ok-now, else-quiet}
+
+pub pass-requires : goal.pass-requires
+pass-requires g c = record {
+  begun =
+      let (plan, rows, start, empty) = c.requires.begun in
+      (plan, rows, c.loop-round._round, c.loop-round.invariant.stands plan rows start, subst (AreEmpty plan.graph) (sym c.loop-round.invariant.pipes) empty);
+}
+
+pub returns-in-Some : goal.returns-in-Some
+returns-in-Some g c = record {
+  flown = λ plan rows start.
+      let s = c.loop-round.invariant.stands plan rows start in
+      ended_fault plan rows c.args.air.now c.loop-round._round c.loop-round.now c.loop-round.platforms c.loop-round.airways (lists_of c.loop-round.results) s c.pass.new.platforms c.pass.new.airways (lists_of c.pass.new.results) c.in_ok-quiet.quiet
+      (c.in_ok-quiet.ensures.passed plan rows c.loop-round._round s) c.in-Some.fault c.in-Some.ensures;
+}
+
+pub returns-then-are_finished : goal.returns-then-are_finished
+returns-then-are_finished g c = record {
+  flown = λ plan rows start.
+      let s = c.loop-round.invariant.stands plan rows start in
+      ended_finished plan rows c.args.air.now c.loop-round._round c.loop-round.now c.loop-round.platforms c.loop-round.airways (lists_of c.loop-round.results) s c.pass.new.platforms c.pass.new.airways (lists_of c.pass.new.results) c.in_ok-quiet.quiet
+      (c.in_ok-quiet.ensures.passed plan rows c.loop-round._round s) c.in_default.ensures (c.are_finished.ensures.0 c.if-are_finished.true);
+}
+
+pub time_after-requires : goal.time_after-requires
+time_after-requires g c = record {
+  some =
+      let (plan, rows, start, empty) = c.requires.begun in
+      let s = c.loop-round.invariant.stands plan rows start in
+      moment_after_quiet plan rows c.args.air.now c.loop-round._round c.loop-round.now c.loop-round.platforms c.loop-round.airways (lists_of c.loop-round.results) s c.pass.new.platforms c.pass.new.airways (lists_of c.pass.new.results) c.in_ok-quiet.quiet
+      (c.in_ok-quiet.ensures.passed plan rows c.loop-round._round s)
+      c.if-quiet.true c.in_default.ensures (λ done. false≢true (sym c.if-are_finished.false ∙ c.are_finished.ensures.1 done));
+}
+
+pub loop-round-preserved : goal.loop-round-preserved
+loop-round-preserved g c = record {
+  stands = λ plan rows start.
+      let s = c.loop-round.invariant.stands plan rows start in
+      stands_next plan rows c.args.air.now c.loop-round._round c.loop-round.now c.loop-round.platforms c.loop-round.airways (lists_of c.loop-round.results) s c.pass.new.platforms c.pass.new.airways (lists_of c.pass.new.results) c.in_ok-quiet.quiet
+      (c.in_ok-quiet.ensures.passed plan rows c.loop-round._round s)
+      c.if-quiet.now c.in_default.ensures (λ done. false≢true (sym c.if-are_finished.false ∙ c.are_finished.ensures.1 done))
+      (elim c.if-quiet.branch [ then-quiet+in_ok-now w ↦ λ e. subst (λ n. IsLeast (IsMoment c.args.air.now c.pass.new.platforms c.pass.new.airways) (Some n)) (sym w.now-is) w.in_ok-now.ensures | else-quiet w ↦ λ e. absurd (false≢true (sym w.if-quiet.false ∙ e)) ])
+      (elim c.if-quiet.branch [ then-quiet+in_ok-now w ↦ λ e. absurd (false≢true (sym e ∙ w.if-quiet.true)) | else-quiet w ↦ λ e. w.now-is ]);
+  pipes = c.in_ok-quiet.ensures.pipes ∙ c.loop-round.invariant.pipes;
+}
+
+pub unreachable-requires : goal.unreachable-requires
+unreachable-requires g c =
+    let (plan, rows, start, empty) = c.requires.begun in
+    let s = c.loop-round.invariant.stands plan rows start in
+    let most = replays_end plan.graph (level_of plan.ranks) c.args.air.now rows s.rounds c.loop-round.now s.sky (wired plan.graph s.admitted.lawful) s.admitted.levels s.fit s.run in
+    let few = rounds_are_few plan.graph rows s.admitted.lawful s.fit in
+    omega (arith, most, few, s.rounds_made, c.loop-round-test.false)

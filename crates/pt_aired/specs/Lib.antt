@@ -1,0 +1,4 @@
+pub mod Asked
+pub mod HaveFlown
+pub mod InFlight
+pub mod Passing

@@ -1,0 +1,88 @@
+//! One round.
+
+ghost use Rattle.std.specs.Prelude.{◌≡◌, [], IfOk, ℕ, List, None, OnOk, length};
+ghost use Rattle.pt_types.specs.declared.rows.Row.{Row};
+ghost use Rattle.pt_offsets.specs.Plans.{Parts};
+ghost use Rattle.pt_semantics.specs.Lists.{Each};
+ghost use Rattle.pt_post.specs.Posted.{AreDone};
+ghost use Rattle.pt_turn.specs.Platforms.{level_at, state_at};
+ghost use Rattle.pt_turn.specs.Turned.{MayCome};
+ghost use Rattle.pt_visits.specs.Pipes.{arriving};
+ghost use Rattle.pt_flights.specs.Skies.{come_on, map_from};
+ghost use Rattle.pt_together.specs.Asked.{lists_of};
+ghost use Rattle.pt_aired.specs.Passing.{AreEmpty, HasFlown, HavePassed, Stands};
+
+use pt_actors::Done;
+use pt_air::Air;
+use pt_airways::Airway;
+use pt_blocks::Blocks;
+use pt_flights::fly;
+use pt_links::Pipe;
+use pt_tags::Memory;
+use pt_together::was_quiet;
+use pt_turn::Platform;
+use pt_visits::Desk;
+
+/// Lets a platform make a flight, and returns whether only its reading changed.
+fn fly_one(
+    platform: &mut Platform,
+    airways: &mut [Airway],
+    pipes: &mut [Pipe],
+    results: &mut Vec<Done>,
+    desk: &mut Desk,
+    blocks: &Blocks,
+    air: &Air,
+    now: u64,
+) -> Result<bool, Memory>
+    requires no_fault { platform.old.fault ≡ None }
+    requires airways { length airways.old ≡ length platform.old.plan.graph.links }
+    requires pipes { length pipes.old ≡ length platform.old.plan.graph.links }
+    requires empty { Each (λ pipe. pipe ≡ []) pipes.old }
+    requires transits { length air.now.transits ≡ length platform.old.plan.graph.links }
+    requires done { AreDone platform.old.plan.graph results.old.items }
+    requires taken { MayCome platform.old.plan.graph (level_at platform.old) platform.old.number (state_at platform.old)
+        (arriving platform.old.plan.graph platform.old.number 0 (map_from (come_on platform.old.plan.graph platform.old.number now) 0 airways.old)) }
+    ensures flown { IfOk result (λ still. HasFlown air.now now results.old.items results.new.items platform.old platform.new airways.old airways.new still) }
+    ensures pipes { OnOk result (pipes.new ≡ pipes.old) }
+{
+    let closed = platform.closed();
+    fly(platform, airways, pipes, results, desk, blocks, air, now)?;
+    Ok(platform.closed() == closed && was_quiet(platform))
+}
+
+/// A round at a true time, in microseconds: each platform that is not finished makes a flight, in order. Returns whether the
+/// round was quiet. The pipes, which carry messages within a flight, are empty before it and after it.
+pub fn pass(
+    platforms: &mut [Platform],
+    airways: &mut [Airway],
+    pipes: &mut [Pipe],
+    results: &mut [Vec<Done>],
+    desk: &mut Desk,
+    blocks: &Blocks,
+    air: &Air,
+    now: u64,
+) -> Result<bool, Memory>
+    requires begun { (plan : Parts) × (rows : ℕ → List Row) × (count : ℕ) × Stands plan rows air.now count now platforms.old airways.old (lists_of results.old) × AreEmpty plan.graph pipes.old }
+    ensures passed { IfOk result (λ quiet. (plan : Parts) (rows : ℕ → List Row) (count : ℕ) (s : Stands plan rows air.now count now platforms.old airways.old (lists_of results.old)) →
+        HavePassed plan rows air.now now s.sky (length platforms.old) platforms.new airways.new (lists_of results.new) quiet) }
+    ensures pipes { OnOk result (pipes.new ≡ pipes.old) }
+{
+    let mut quiet = true;
+    for i in 0..platforms.len() {
+        if platforms[i].finished() {
+            continue;
+        }
+        let still = fly_one(
+            &mut platforms[i],
+            airways,
+            pipes,
+            &mut results[i],
+            desk,
+            blocks,
+            air,
+            now,
+        )?;
+        quiet = quiet && still;
+    }
+    Ok(quiet)
+}

@@ -1,0 +1,21 @@
+//! An engine's airways at the start of a run.
+
+ghost use Rattle.std.specs.Prelude.{◌≡◌, IfOk, replicate};
+ghost use Rattle.pt_airways.specs.Arrivals.{nothing};
+
+use pt_airways::Airway;
+use pt_tags::Memory;
+use std::alloc::Global;
+
+/// `count` airways on which nothing was put.
+pub fn airways(alloc: Global, count: usize) -> Result<Vec<Airway>, Memory>
+    ensures { IfOk result (λ airways. airways.items ≡ replicate count nothing) }
+{
+    let mut airways = Vec::new(alloc);
+    for _ in 0..count {
+        if airways.push(Airway::new(alloc)).is_err() {
+            return Err(Memory);
+        }
+    }
+    Ok(airways)
+}
