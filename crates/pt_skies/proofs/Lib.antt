@@ -1,0 +1,12 @@
+pub mod Calm
+pub mod Closing
+pub mod Ended
+pub mod Ending
+pub mod Falling
+pub mod Few
+pub mod Pushing
+pub mod Quiet
+pub mod Replays
+pub mod Sound
+pub mod Twice
+pub mod Ways

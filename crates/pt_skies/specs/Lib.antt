@@ -1,0 +1,4 @@
+pub mod Between
+pub mod Ending
+pub mod Flights
+pub mod Sky

@@ -1,0 +1,31 @@
+//! Theorems on replayed runs.
+
+ghost use Rattle.pt_skies.specs.Between.{FlightsKeep, ReplaysAreLegal};
+ghost use Rattle.pt_skies.specs.Ending.{QuietEndsReplay, ReplaysBegin, ReplaysEnd};
+
+/// Between any two flights of a replayed run the turns so far are legal, and what was sent on a link was taken or is on its
+/// way, in order, even if a message was late in the last round.
+pub fn flights_keep()
+    ensures { FlightsKeep }
+{}
+
+/// As they are recorded, the histories of a whole replayed run are legal and matched, and linked if all platforms are finished.
+pub fn replayed_histories_are_legal()
+    ensures { ReplaysAreLegal }
+{}
+
+/// Something can happen after the start of a replayed run, unless the graph has no platforms.
+pub fn replays_begin()
+    ensures { ReplaysBegin }
+{}
+
+/// A quiet round of a replayed run after which nothing can happen is its last one, and all platforms are finished.
+pub fn quiet_rounds_end_replays()
+    ensures { QuietEndsReplay }
+{}
+
+/// A replayed run has a bounded number of rounds, as a paced run: after a round in which a platform moves there is at most one
+/// that only posts and one that is quiet.
+pub fn replays_end()
+    ensures { ReplaysEnd }
+{}
