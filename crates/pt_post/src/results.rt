@@ -47,10 +47,7 @@ pub fn posts(
     for done in dones {
         let record = done.as_record();
         if post(fields, graph, branches, record) {
-            match kept.push(*record) {
-                Ok(()) => (),
-                Err(_) => unreachable!(),
-            }
+            kept.push_reserved(*record);
         }
     }
 }

@@ -1,5 +1,5 @@
 -- A platform after its flight in a quiet round, and the airways that lead to it.
-use Rattle.std.proofs.Common.{◌≡◌, ◌≢◌, ℕ, ◌<◌, ◌≤◌, ◌+◌, ◌-◌, ◌==◌, ◌&&◌, zero, suc, ◌⊎◌, Bool, true, false, if◌then◌else◌, List, [], ◌∷◌, ◌++◌, Option, None, Some, filter, length, map, min, nat_le, slice_get, take, refl, sym, ap, ap₂, subst, ◌∙◌, inl, inr, ⊎_elim, append-nil, arith, eq-eqb, eqb-true, le-leb}
+use Rattle.std.proofs.Common.{◌≡◌, ℕ, ◌<◌, ◌≤◌, ◌+◌, ◌-◌, ◌==◌, ◌&&◌, zero, suc, true, false, List, [], ◌∷◌, ◌++◌, None, Some, filter, length, map, nat_le, slice_get, take, refl, sym, ap, ap₂, subst, ◌∙◌, ⊎_elim, arith, eq-eqb, eqb-true, le-leb}
 use Rattle.std.proofs.Math.Seq.{take-nil}
 use Rattle.std.proofs.lemmas.Bool.{and_parts, cases_Bool, cases_lt, cond-false, cond-true, false≢true}
 use Rattle.pt_tags.specs.declared.message.Message.{Message}
@@ -14,7 +14,7 @@ use Rattle.pt_semantics.specs.Lists.{IsIn}
 use Rattle.pt_semantics.specs.Platform.{State}
 use Rattle.pt_semantics.specs.Safe.{NothingSafe}
 use Rattle.pt_semantics.specs.Turn.{Turn, is_empty, is_quiet}
-use Rattle.pt_semantics.specs.Visits.{IsVisit, Made, Together}
+use Rattle.pt_semantics.specs.Visits.{IsVisit, Made}
 use Rattle.pt_laws.proofs.Raise.{Rests, nothing_in, quiet_makes}
 use Rattle.pt_schedule.proofs.Turns.{turn_does}
 use Rattle.pt_air.specs.declared.air.Air.{Air}

@@ -8,5 +8,6 @@ pub mod Pushing
 pub mod Quiet
 pub mod Replays
 pub mod Sound
+pub mod Times
 pub mod Twice
 pub mod Ways

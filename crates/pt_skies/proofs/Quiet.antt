@@ -1,5 +1,5 @@
 -- After a quiet round each platform is calm or finished, and nothing could have happened before its true time.
-use Rattle.std.proofs.Common.{◌≡◌, ◌≢◌, ℕ, ◌<◌, ◌≤◌, ◌+◌, zero, suc, ◌⊎◌, Bool, true, false, List, [], ◌∷◌, ◌++◌, Option, None, Some, length, map, slice_get, refl, sym, ap, subst, ◌∙◌, inl, inr, ⊎_elim, arith}
+use Rattle.std.proofs.Common.{◌≡◌, ◌≢◌, ℕ, ◌<◌, ◌≤◌, ◌+◌, zero, suc, ◌⊎◌, true, false, List, [], ◌∷◌, ◌++◌, None, Some, length, map, slice_get, refl, sym, ap, subst, ◌∙◌, inl, inr, ⊎_elim, arith}
 use Rattle.std.proofs.lemmas.Bool.{cases_lt, false≢true}
 use Rattle.pt_tags.specs.declared.message.Message.{Message}
 use Rattle.pt_tags.specs.declared.message.Message.TheVariants.{End}
@@ -37,7 +37,7 @@ use Rattle.pt_airways.specs.Arrivals.{AirwayView}
 use Rattle.pt_flights.specs.Skies.{reading_at, true_time}
 use Rattle.pt_fixed_order.proofs.Sound.{goes_on_time}
 use Rattle.pt_skies.specs.Between.{under_way}
-use Rattle.pt_skies.specs.Flights.{FlightRound, IsQuiet}
+use Rattle.pt_skies.specs.Flights.{FlightRound}
 use Rattle.pt_skies.specs.Sky.{CanHappen, Flies, Sky}
 use Rattle.pt_skies.proofs.Calm.{IsCalm, arrives_later, calm_airways, calm_flight, has_come}
 use Rattle.pt_skies.proofs.Sound.{IsSound, not_late, others}

@@ -4,7 +4,6 @@ use Rattle.std.proofs.lemmas.Bool.{false≢true}
 use Rattle.pt_types.specs.declared.graph.Graph.{Graph}
 use Rattle.pt_types.specs.declared.graph.Unit.{Unit as Part}
 use Rattle.pt_types.specs.declared.rows.Row.{Row}
-use Rattle.pt_types.specs.Limits.{most_claims}
 use Rattle.pt_semantics.specs.Candidates.{HasMoved}
 use Rattle.pt_semantics.specs.Candidates.HasMoved.{Claimed, Closed, Entered, Full, Posted}
 use Rattle.pt_semantics.specs.History.{Legal}
@@ -25,7 +24,7 @@ use Rattle.pt_airways.specs.declared.in_air.InAir.{InAir}
 use Rattle.pt_airways.specs.Arrivals.{AirwayView}
 use Rattle.pt_flights.specs.Skies.{reading_at, true_time}
 use Rattle.pt_skies.specs.Flights.{FlightRound, IsQuiet}
-use Rattle.pt_skies.specs.Sky.{CanHappen, Flies, IsNextTime, Sky}
+use Rattle.pt_skies.specs.Sky.{Flies, IsNextTime, Sky}
 use Rattle.pt_skies.proofs.Calm.{HasNothing, IsCalm, has_come, quiet_parts, read_then}
 use Rattle.pt_skies.proofs.Quiet.{Begins, IsSettled, arrivals_later, quiet_round, round_leaves}
 use Rattle.pt_skies.proofs.Replays.{round_fine, settled}

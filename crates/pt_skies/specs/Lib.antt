@@ -2,3 +2,4 @@ pub mod Between
 pub mod Ending
 pub mod Flights
 pub mod Sky
+pub mod Times

@@ -2,6 +2,7 @@
 
 ghost use Rattle.pt_skies.specs.Between.{FlightsKeep, ReplaysAreLegal};
 ghost use Rattle.pt_skies.specs.Ending.{QuietEndsReplay, ReplaysBegin, ReplaysEnd};
+ghost use Rattle.pt_skies.specs.Times.{ArrivalsNeverFall, HappensLater, TimeNeverFalls};
 
 /// Between any two flights of a replayed run the turns so far are legal, and what was sent on a link was taken or is on its
 /// way, in order, even if a message was late in the last round.
@@ -28,4 +29,19 @@ pub fn quiet_rounds_end_replays()
 /// that only posts and one that is quiet.
 pub fn replays_end()
     ensures { ReplaysEnd }
+{}
+
+/// After a quiet round of a replayed run all that can still happen is later, so the next round is later.
+pub fn quiet_rounds_leave_what_is_later()
+    ensures { HappensLater }
+{}
+
+/// No round of a replayed run is earlier than the one before it.
+pub fn true_time_never_falls()
+    ensures { TimeNeverFalls }
+{}
+
+/// No message of a replayed run overtakes the one before it on its link.
+pub fn arrivals_never_fall()
+    ensures { ArrivalsNeverFall }
 {}

@@ -7,6 +7,6 @@
 mod laws;
 
 pub use laws::{
-    flights_keep, quiet_rounds_end_replays, replayed_histories_are_legal, replays_begin,
-    replays_end,
+    arrivals_never_fall, flights_keep, quiet_rounds_end_replays, quiet_rounds_leave_what_is_later,
+    replayed_histories_are_legal, replays_begin, replays_end, true_time_never_falls,
 };

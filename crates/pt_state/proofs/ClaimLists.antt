@@ -1,6 +1,6 @@
 -- Open claims: one is closed, one is found, and one more is made. And numbers of actors: one is set.
 use Rattle.std.proofs.Common.{◌≡◌, ℕ, zero, suc, ◌+◌, ◌⊎◌, ◌==◌, ◌<◌, Bool, true, false, not, cond, List, [], ◌∷◌, ◌++◌, Option, Some, None, ℤ, pos, filter, get_or, set, length, slice_index_or, remove, refl, sym, ap, ap₂, subst, ◌∙◌, inl, inr, ⊎_elim, if◌then◌else◌, eqb-true, eq-eqb, get_or-set_same, get_or-set_other, take, arith}
-use Rattle.std.specs.Option.{is_some, OnSome}
+use Rattle.std.specs.Option.{is_some}
 use Rattle.std.proofs.lemmas.Bool.{cases_Bool, false≢true, cond-true, cond-false}
 use Rattle.std.proofs.lemmas.List.{take_more}
 use Rattle.pt_types.specs.declared.graph.Graph.{Graph}
@@ -221,8 +221,3 @@ busy_some u (o ∷ os) (suc k) h = some_else (when (same_part o.unit u) (Some o.
 pub busy_place : (u : Part) (claims : List OpenClaim) (place : Option ℕ) → IsPlaceOf claims u place → is_some place ≡ is_some (busy_in claims u)
 busy_place u claims None h = sym (ap is_some (busy_none u claims h))
 busy_place u claims (Some k) h = sym (busy_some u claims k h)
-
--- what is said of a claim that was there
-pub of_some : (P : Type 0) (r : Option OpenClaim) → is_some r ≡ true → OnSome r P → P
-of_some P None h p = absurd (false≢true h)
-of_some P (Some c) h p = p

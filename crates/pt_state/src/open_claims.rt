@@ -1,7 +1,8 @@
 //! The open claims: those whose results are not posted yet.
 
-ghost use Rattle.std.specs.Prelude.{◌≡◌, ◌+◌, ◌<◌, ◌≤◌, ◌==◌, ◌++◌, ◌∷◌, [], None, Some, filter, length, IsOk, OnOk, OnErr, option_map, slice_get};
+ghost use Rattle.std.specs.Prelude.{◌≡◌, ◌+◌, ◌<◌, ◌≤◌, ◌==◌, ◌++◌, ◌∷◌, [], None, Some, filter, length, remove, IsOk, OnOk, OnErr, option_map, slice_get};
 ghost use Rattle.std.specs.Option.{is_some};
+ghost use Rattle.std.specs.VecDeque.{deque_len, deque_capacity};
 ghost use Rattle.pt_types.specs.declared.graph.Graph.{Graph};
 ghost use Rattle.pt_semantics.specs.Lists.{Each};
 ghost use Rattle.pt_semantics.specs.Platform.{put_busy};
@@ -50,6 +51,20 @@ fn place_of(claims: &VecDeque<OpenClaim>, unit: Unit) -> Option<usize>
         }
     }
     None
+}
+
+/// Removes the open claim at an index, which is mostly the first.
+fn remove_at(claims: &mut VecDeque<OpenClaim>, place: usize)
+    requires { place < length claims.old.items }
+    ensures items { claims.new.items ≡ remove claims.old.items place }
+    ensures len { deque_len claims.new + 1 ≡ deque_len claims.old }
+    ensures capacity { deque_capacity claims.old ≤ deque_capacity claims.new }
+{
+    if place == 0 {
+        claims.pop_front();
+        return;
+    }
+    claims.remove(place);
 }
 
 impl OpenClaims {
@@ -106,9 +121,7 @@ impl OpenClaims {
     {
         match place_of(&self.claims, unit) {
             None => (),
-            Some(place) => {
-                self.claims.remove(place);
-            }
+            Some(place) => remove_at(&mut self.claims, place),
         }
     }
 

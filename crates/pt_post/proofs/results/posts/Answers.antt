@@ -6,7 +6,7 @@ use Rattle.pt_post.specs.Room.{leaving_open}
 use Rattle.pt_post.specs.Posted.{Posted, IsDone}
 use Rattle.pt_post.proofs.Posting.{fit_found, read_each, posted_more, posted_same}
 use Rattle.pt_post.proofs.results.posts.Goals as goal
-use Rattle.pt_post.proofs.results.posts.Goals.{then-post+in-Ok, else-post}
+use Rattle.pt_post.proofs.results.posts.Goals.{then-post, else-post}
 
 pub post-requires-clause-fits : goal.post-requires-clause-fits
 post-requires-clause-fits c = λ busy. fit_found c.args.graph.now c.loop-done.fields.open_claims.items _ _ c.loop-done.invariant.so_far.fit busy
@@ -25,16 +25,16 @@ loop-done-preserved c =
     let frame : (c.post.new.fields.sensors ≡ c.args.fields.now.sensors) × (c.post.new.fields.reading ≡ c.args.fields.now.reading) × (c.post.new.fields.closed ≡ c.args.fields.now.closed) × (c.post.new.fields.claims ≡ c.args.fields.now.claims) = (c.post.ensures.frame.0 ∙ c.loop-done.invariant.frame.0, c.post.ensures.frame.1 ∙ c.loop-done.invariant.frame.1, c.post.ensures.frame.2 ∙ c.loop-done.invariant.frame.2, c.post.ensures.frame.3 ∙ c.loop-done.invariant.frame.3) in
     let groups = c.post.ensures.groups ∙ c.loop-done.invariant.groups in
     elim c.if-post.branch [
-      | then-post+in-Ok w ↦
-          let items : c.if-post.kept.items ≡ c.loop-done.kept.items ++ c.as_record-record.result.now ∷ [] = ap (λ v. v.items) w.kept-is ∙ w.in-Ok.ensures.items in
+      | then-post w ↦
+          let items : c.if-post.kept.items ≡ c.loop-done.kept.items ++ c.as_record-record.result.now ∷ [] = ap (λ v. v.items) w.kept-is ∙ w.push_reserved.ensures.items in
           record {
             sound = c.post.ensures.sound;
             so_far = subst (λ ds. Posted c.args.graph.now c.args.fields.now c.post.new.fields ds c.args.kept.now.items c.if-post.kept.items) (sym handed)
                 (posted_more c.args.graph.now c.args.fields.now c.loop-done.fields c.post.new.fields (take c.loop-done.done-index c.args.dones.now) c.args.kept.now.items c.loop-done.kept.items c.if-post.kept.items c.as_record-record.result.now c.loop-done.invariant.so_far items
                 (subst (IsDone c.args.graph.now) (sym item) (read_each (IsDone c.args.graph.now) c.args.dones.now c.loop-done.done-index c.done-item.result c.requires.dones c.loop-done-test.true))
                 (c.post.ensures.claimed.0 w.if-post.true) c.post.ensures.sound.open_claims (c.post.ensures.posted w.if-post.true));
-            kept = omega (arith, ap (λ v. vec_len v) w.kept-is, w.push.ensures.upper_bound, c.loop-done.invariant.kept);
-            kept_room = omega (arith, ap (λ v. vec_capacity v) w.kept-is, w.push.ensures.capacity, c.loop-done.invariant.kept_room);
+            kept = omega (arith, ap (λ v. vec_len v) w.kept-is, w.push_reserved.ensures.len, c.loop-done.invariant.kept);
+            kept_room = omega (arith, ap (λ v. vec_capacity v) w.kept-is, w.push_reserved.ensures.capacity, c.loop-done.invariant.kept_room);
             events = events;
             messages = messages;
             messages_room = room;

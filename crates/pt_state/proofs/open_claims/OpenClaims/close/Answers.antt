@@ -1,20 +1,14 @@
-use Rattle.std.proofs.Common.{◌≡◌, ◌+◌, true, remove, ap, ◌∙◌, subst, sym, arith, deque_len}
-use Rattle.std.specs.Option.{is_some}
+use Rattle.std.proofs.Common.{◌≡◌, ap, ◌∙◌, subst, sym, arith}
 use Rattle.pt_semantics.specs.Lists.{Each}
 use Rattle.pt_state.specs.State.{busy_in, IsOpen}
 use Rattle.pt_state.specs.Unposted.{AreApart, Unposted}
-use Rattle.pt_state.proofs.ClaimLists.{apart_others, busy_others, none_goes, of_some, one_goes, others, sound_others}
+use Rattle.pt_state.proofs.ClaimLists.{apart_others, busy_others, none_goes, one_goes, others, sound_others}
 use Rattle.pt_state.proofs.open_claims.OpenClaims.close.Goals as goal
 
-was_there : (c : goal.After-remove) → is_some c.remove.result ≡ true
-was_there c = c.remove.ensures.variant.1 (omega (arith, c.in-Some.ensures.0, c.self.inside.claims.ok.0))
+left_inside : (c : goal.After-remove_at) → c.remove_at.new.claims.items ≡ others c.args.unit c.self.inside.claims.items
+left_inside c = c.remove_at.ensures.items ∙ one_goes c.args.unit c.self.inside.claims.items c.in-Some.place c.self.invariant.0 c.in-Some.ensures
 
-left_inside : (c : goal.After-remove) → c.remove.new.self.items ≡ others c.args.unit c.self.inside.claims.items
-left_inside c =
-    of_some (c.remove.new.self.items ≡ remove c.self.inside.claims.items c.in-Some.place) c.remove.result (was_there c) c.remove.ensures.items
-    ∙ one_goes c.args.unit c.self.inside.claims.items c.in-Some.place c.self.invariant.0 c.in-Some.ensures
-
-left : (c : goal.After-remove) → c.remove.new.self.items ≡ others c.args.unit c.args.self.now.items
+left : (c : goal.After-remove_at) → c.remove_at.new.claims.items ≡ others c.args.unit c.args.self.now.items
 left c = left_inside c ∙ ap (λ (v : Unposted). others c.args.unit v.items) c.self.view_is
 
 none : (c : goal.In-None) → c.args.self.now.items ≡ others c.args.unit c.args.self.now.items
@@ -22,8 +16,7 @@ none c = subst (λ (v : Unposted). v.items ≡ others c.args.unit v.items) c.sel
 
 pub invariant_of-self : goal.invariant_of-self
 invariant_of-self c =
-    let len : deque_len c.remove.new.self + 1 ≡ deque_len c.self.inside.claims = of_some (deque_len c.remove.new.self + 1 ≡ deque_len c.self.inside.claims) c.remove.result (was_there c) c.remove.ensures.len in
-    (subst AreApart (sym (left_inside c)) (apart_others c.args.unit c.self.inside.claims.items c.self.invariant.0), omega (arith, c.self.invariant.1, len, c.remove.ensures.capacity))
+    (subst AreApart (sym (left_inside c)) (apart_others c.args.unit c.self.inside.claims.items c.self.invariant.0), omega (arith, c.self.invariant.1, c.remove_at.ensures.len, c.remove_at.ensures.capacity))
 
 pub returns-in-None-clause-items : goal.returns-in-None-clause-items
 returns-in-None-clause-items c = none c
