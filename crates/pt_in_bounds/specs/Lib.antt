@@ -1,0 +1,2 @@
+pub mod AsPaced
+pub mod InBounds
