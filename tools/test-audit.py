@@ -217,7 +217,9 @@ def test_cut(tester, logs, seed):
     count = 0
     for folder, data in [shortest, *pick.sample(logs, min(len(logs), 10))]:
         case = Case(tester, folder, data)
-        places = range(len(data)) if (folder, data) == shortest else [pick.randrange(len(data)) for _ in range(40)]
+        places = [pick.randrange(len(data)) for _ in range(40)]
+        if (folder, data) == shortest:
+            places = range(min(len(data), 1000))
         for place in places:
             count += 1
             log = Log(data[:place])

@@ -18,6 +18,7 @@
 set -u
 here=$(realpath -- "$0") || exit 1
 . "${here%/*}/common.sh"
+make_work
 if [ $# -gt 0 ]; then
     program=$(realpath -- "$(of_caller "$1")") || exit 1
 else
@@ -33,7 +34,6 @@ skip() { # MESSAGE
 
 [[ $("$program" 2>&1 </dev/null) == *' | audit GRAPH LOG'* ]] || skip "all, since $program has no command audit"
 command -v python3 >/dev/null || skip "all, since python3 isn't there"
-make_work
 # In the background, so that a signal is answered at once.
 python3 -B tools/test-audit.py "$program" "$work" "${TIMES:-1}" "${SEED:-1}" &
 running=$!
