@@ -6,7 +6,7 @@ import sys
 
 from logs import MOST_BYTES, Log, lines_of
 
-MOST_SECONDS = 300
+MOST_SECONDS = 900
 MOST_TIME, MOST_MEMORY = 2.5, 3.0
 # Run by a small process of its own, since a child's greatest memory is at least its parent's.
 MEASURE = """
@@ -133,11 +133,10 @@ def test_hostile(tester):
     folder = one_sender(tester.work, "outbox", 100_000, 1)
     data = tester.run(folder, "paced", 1)
     judge(tester, "100,000 messages that are sent 64 a turn, after all claims", folder, sent_later(data, 64), LAWFUL)
-    judge(tester, "100,000 messages that are sent one a turn, after all claims", folder, sent_later(data, 1), LAWFUL)
-    judge(tester, "the same, and each turn is followed by a quiet one", folder, sent_later(data, 1, quiet=True), LAWFUL)
-    folder = one_sender(tester.work, "crossed", 66_000, 2)
+    judge(tester, "the same one a turn, and a quiet turn between two of these", folder, sent_later(data, 1, quiet=True), LAWFUL)
+    folder = one_sender(tester.work, "crossed", 33_000, 2)
     data = tester.run(folder, "paced", 1)
-    judge(tester, "132,000 messages, those of the second link first", folder, sent_later(data, 64, order=lambda line: line.startswith(b"sent,w0,")), LAWFUL)
+    judge(tester, "66,000 messages, those of the second link first", folder, sent_later(data, 64, order=lambda line: line.startswith(b"sent,w0,")), LAWFUL)
     folder = one_sender(tester.work, "waiting", 20_000, 1, waiting=1000)
     data = tester.run(folder, "paced", 1)
     judge(tester, "1,000 actors that wait, by the paced clock", folder, data, LAWFUL)
