@@ -301,7 +301,8 @@ def test_words(tester):
     tester.expect("from standard input", (b"lawful\n", b"", 0), (done.stdout, done.stderr, done.returncode))
     if os.access("/dev/full", os.W_OK):
         with open("/dev/full", "wb") as full:
-            done = subprocess.run([tester.program, "audit", "graph.json", "log"], cwd=folder, stdin=subprocess.DEVNULL, stdout=full, stderr=subprocess.PIPE)
+            done = subprocess.run([tester.program, "audit", "graph.json", "log"], cwd=folder, stdin=subprocess.DEVNULL, stdout=full,
+                                  stderr=subprocess.PIPE)
         tester.expect("a full disk", (b"write fault\n", 8), (done.stderr, done.returncode))
     # The same log, and another row.
     with open(os.path.join(folder, "s.csv"), "w", encoding="ascii") as file:
