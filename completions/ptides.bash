@@ -48,7 +48,7 @@ _ptides() {
     done
     command=${COMP_WORDS[first]}
     if ((COMP_CWORD == first)); then
-        mapfile -t COMPREPLY < <(compgen -W "run check meaning make migrate slacks help $(_ptides_companions "${COMP_WORDS[0]}")" -- "$current")
+        mapfile -t COMPREPLY < <(compgen -W "run check meaning make migrate slacks audit help $(_ptides_companions "${COMP_WORDS[0]}")" -- "$current")
         [[ $current != -* ]] || mapfile -t COMPREPLY < <(compgen -W '-C --help --version' -- "$current")
     elif [[ $before == -C && $command == -C ]]; then
         mapfile -t COMPREPLY < <(
@@ -67,7 +67,7 @@ _ptides() {
         case $command in
             run) options='--workers --clock --log' ;;
             make) options=--workers ;;
-            check | meaning | migrate | slacks) ;;
+            check | meaning | migrate | slacks | audit) ;;
             *) options=-h ;;
         esac
         for option in $options; do
@@ -78,6 +78,13 @@ _ptides() {
         done
     elif [[ $command == make ]]; then
         mapfile -t COMPREPLY < <(compgen -W "$(seq 1 100)" -- "$current")
+    elif [[ $command == audit ]] && ((COMP_CWORD > first + 1)); then
+        # A log has any name.
+        mapfile -t COMPREPLY < <(
+            unset CDPATH
+            cd -- "$folder" 2>/dev/null && compgen -f -- "$current"
+        )
+        compopt -o filenames 2>/dev/null
     else
         mapfile -t COMPREPLY < <(_ptides_files "$folder" "$current")
         compopt -o filenames 2>/dev/null

@@ -109,6 +109,7 @@ check_example() { # NAME FOLDER
         compare_status "$name with --log" "$wanted"
         cat "$folder/expected.csv" "$folder/expected.log" >"$work/whole"
         compare "$name: expected.log" "$work/whole" "$work/output"
+        check_audit "$name"
     fi
     if [ -e "$folder/expected.check" ]; then
         start check graph.json
@@ -128,6 +129,14 @@ check_example() { # NAME FOLDER
     if [ -e "$folder/expected.csv" ]; then
         check_text "$name" "$folder/expected.csv"
     fi
+}
+
+# What the run wrote is a lawful log.
+check_audit() { # NAME
+    start audit graph.json "$work/whole"
+    compare_status "$1: audit" 0
+    echo lawful >"$work/wanted"
+    compare "$1: audit" "$work/wanted" "$work/output"
 }
 
 # The text of a graph says the same as its file, and is the text of itself.

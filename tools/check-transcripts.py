@@ -18,7 +18,7 @@ from typing import List, NamedTuple
 LAUNCHER = os.path.join(os.path.dirname(os.path.dirname(os.path.realpath(__file__))), "ptides")
 # A path to ptides, folders to go to first, and the next word.
 PTIDES = re.compile(r"(?<!\S)(?:\./|(?:\.\./)+)ptides(?P<folders>(?: -C \S+)*)(?= (?P<word>\S+))")
-COMMANDS = {"run", "check", "meaning", "make", "migrate", "slacks"}
+COMMANDS = {"run", "check", "meaning", "make", "migrate", "slacks", "audit"}
 
 
 class Transcript(NamedTuple):

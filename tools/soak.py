@@ -104,6 +104,19 @@ class Program:
         if log is not None and "".join(self.misses_of(log)) != result.notes:
             raise Difference("the lines of what was missed are not those that follow from the log")
 
+    def judge_by_audit(self, result, pick):
+        """Raises a difference if the audit doesn't find the log lawful, or still does with a line less."""
+        lines = result.output.splitlines(keepends=True)
+        place = pick.randrange(len(lines))
+        shorter = lines[:place] + lines[place + 1:]
+        for text, wanted in (result.output, (0, "lawful\n")), ("".join(shorter), (10, "")):
+            with open(os.path.join(self.folder, "log"), "w", encoding="ascii") as file:
+                file.write(text)
+            found = self.call("audit", "graph.json", "log")
+            # A quiet turn less is often as lawful.
+            if (found.status, found.output) != wanted and not (wanted[0] == 10 and lines[place].startswith("turn,") and found.status == 0):
+                raise Difference(f"audit ends with {found.status}: {found.output.strip()}{found.notes.strip()}")
+
     def misses_of(self, log):
         """The lines of what was missed by a log. Raises a difference if a unit is claimed before its offset is over."""
         reading, claims = 0, {}
@@ -157,9 +170,13 @@ class Program:
             raise Difference(f"{notes.strip()} under the paced clock")
 
 
+def usage_of(program):
+    return subprocess.run([program], stdin=subprocess.DEVNULL, capture_output=True, check=False).stderr.decode()
+
+
 def clocks_of(program):
     """The clocks that the usage line names, as they are written there."""
-    line = subprocess.run([program], stdin=subprocess.DEVNULL, capture_output=True, check=False).stderr.decode()
+    line = usage_of(program)
     found = re.search(r"--clock ([^\]]*)\]", line)
     if not found:
         sys.exit(f"{program} names no clock in its usage line")
@@ -185,7 +202,8 @@ class Soak:
     def __init__(self, program, folder):
         self.program, self.folder = program, folder
         self.clocks = clocks_of(program)
-        self.graphs = self.runs = self.late_messages = self.differences = 0
+        self.audits = " | audit GRAPH LOG" in usage_of(program)
+        self.graphs = self.runs = self.late_messages = self.audited = self.differences = 0
         self.statuses = collections.Counter()
 
     def report(self, seed, place, words, what):
@@ -221,6 +239,9 @@ class Soak:
         self.runs += 1
         self.statuses[result.status] += 1
         self.late_messages += program.judge(result, clock)
+        if self.audits and log and result.status in (0, 5):
+            program.judge_by_audit(result, random.Random(self.runs))
+            self.audited += 1
         if clock != "machine":
             # Under the other clocks the number of workers changes nothing.
             for key, found in (((clock,), result.ending), ((clock, log), result.output)):
@@ -230,7 +251,7 @@ class Soak:
     def summary(self):
         statuses = ", ".join(f"{count} with {status}" for status, count in sorted(self.statuses.items()))
         print(f"{self.graphs} graphs, {self.runs} runs under {' and '.join(self.clocks)}: {statuses or 'none ended'}; "
-              f"{self.late_messages} late messages, {self.differences} differences")
+              f"{self.late_messages} late messages, {self.audited} logs are lawful, {self.differences} differences")
 
 
 def generator():

@@ -9,6 +9,7 @@
 #            unit is claimed before its offset is over
 #   5        each line of what was missed is past its limit, which is the tag's time and the slack
 #   4        each late row is the first one of its graph; each late message is past its limit, the tag's time and the receiver's bound
+#   audit    if the program has this command: what a run with --log wrote at 0 and 5 is lawful, and isn't with one line less
 #   paced    no message is late, and status and notes are the same for every number of workers; with --log, the output too
 #   step     the same, but a message can be late
 # Every other status, a run of more than 5 minutes and a text on standard error that isn't of its status are differences.

@@ -13,8 +13,8 @@
 #   of it. A read or write of one byte changes nothing at all, and what fails on standard error nothing else.
 # So that it takes less than a minute, only the short commands have each call refused. If a command makes more than MOST
 # allocations, each STRIDEth is refused, beginning with the first, where STRIDE is the least number with which they are MOST at
-# most; in a run that ends with 6, which takes long, they are LONG at most. MOST and LONG are 100 and 8, or what the environment
-# says: MOST=1000000 LONG=1000000 refuses all of them.
+# most; in a run that ends with 6 and in the audit of a file that is too long, which take long, they are LONG at most. MOST and LONG
+# are 100 and 8, or what the environment says: MOST=1000000 LONG=1000000 refuses all of them.
 #
 # Without cc, or where nothing can be preloaded, the test is skipped by name. The last line is `N passed, M failed, K skipped`.
 set -u
@@ -115,9 +115,17 @@ try() { # WHAT WORD..
     [ "$wanted" -eq 6 ] || try_files "$@"
 }
 
+# How many calls of one kind are refused.
+most_for() { # WHAT
+    case $wanted/$1 in
+        6/* | */refused/log_too_long) echo "$most_of_long" ;;
+        *) echo "$most_refused" ;;
+    esac
+}
+
 try_memory() { # WHAT WORD..
-    local most=$most_refused stride many
-    [ "$wanted" -ne 6 ] || most=$most_of_long
+    local most stride many
+    most=$(most_for "$1")
     stride=$(((counts[0] + most - 1) / most))
     for many in 1 0; do
         refuse_each "memory 1-${counts[0]}/$stride $many ENOMEM" "$same|9 none (none|other: memory)" "$@"
@@ -125,8 +133,9 @@ try_memory() { # WHAT WORD..
 }
 
 try_files() { # WHAT WORD..
-    local way read_fault='7 none other: read fault: (graph|sensor [A-Za-z0-9_]+)' stride
-    stride=$(((counts[2] + most_refused - 1) / most_refused))
+    local way read_fault='7 none other: read fault: (graph|sensor [A-Za-z0-9_]+|log)' most stride
+    most=$(most_for "$1")
+    stride=$(((counts[2] + most - 1) / most))
     for way in EACCES EMFILE ENOMEM; do
         refuse_each "open 1-${counts[1]}/1 1 $way" "$same|$read_fault" "$@"
     done
@@ -174,6 +183,10 @@ try_example() { # FOLDER
         cat "$folder/expected.csv" "$folder/expected.log" >"$work/whole"
         want "$status" "$work/whole" "$folder/expected.notes"
         try "$name with --log" run graph.json --log
+        echo lawful >"$work/lawful"
+        cp -- "$work/whole" "$copy/whole.log"
+        want 0 "$work/lawful" /dev/null
+        try "$name: audit" audit graph.json whole.log
     fi
     if [ -e "$folder/expected.check" ]; then
         want 0 "$folder/expected.check" /dev/null

@@ -90,7 +90,9 @@ class Explain(Case):
                  ("check graph.json --log", 25, "--log", "no option `--log`"), ("run graph.json --log --log", 29, "--log", "there already"),
                  ("run graph.json --clock step:0:0", 31, "step:0:0", "STEP from 1"), ("run graph.json other.json", 23, "other.json", "a word too many"),
                  ("make 101", 13, "101", "a number from 1 to 100"), ("run --log", 18, "", "the path of a graph is missing"),
-                 ("run graph.json --workers", 33, "", "1 to 64"), ("run graph.json --log=1", 23, "--log=1", "takes no value")]
+                 ("run graph.json --workers", 33, "", "1 to 64"), ("run graph.json --log=1", 23, "--log=1", "takes no value"),
+                 ("audit", 14, "", "the path of a graph is missing"), ("audit graph.json", 25, "", "the path of a log is missing"),
+                 ("audit graph.json a b", 27, "b", "a word too many"), ("audit --log graph.json a", 14, "--log", "no option `--log`")]
         for line, column, underlined, words in cases:
             with self.subTest(line=line):
                 done = companion("explain", *line.split(), folder=GOOD)
