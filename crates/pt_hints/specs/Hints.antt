@@ -1,25 +1,12 @@
 -- What the lines of a turn say of it, and the turns of which they say it.
-use Rattle.std.specs.Prelude.{◌≡◌, ℕ, ◌<◌, ◌^◌, FitsSigned, length, map}
-use Rattle.std.specs.Int.{w64}
-use Rattle.pt_tags.specs.Tags.{Fits}
-use Rattle.pt_tags.specs.declared.message.Message.{Message}
-use Rattle.pt_tags.specs.declared.message.Message.TheVariants.{End, Event}
+use Rattle.std.specs.Prelude.{◌≡◌, ℕ, ◌<◌, ◌^◌, length, map}
 use Rattle.pt_types.specs.declared.firing.Done.{Done}
 use Rattle.pt_types.specs.declared.firing.OnLink.{OnLink}
 use Rattle.pt_types.specs.declared.graph.Graph.{Graph}
 use Rattle.pt_semantics.specs.Lists.{Each}
 use Rattle.pt_semantics.specs.Turn.{Turn}
+use Rattle.pt_tables.specs.Held.{FitsTag, IsHeld, IsHeldResult}
 use Rattle.pt_hints.specs.declared.hints.Hints.{Hints}
-
--- the value of a message is one that 64 bits hold, with a sign
-abbrev pub IsHeld : Message → Type 0
-IsHeld (Event tag value) = FitsSigned w64 value
-IsHeld End = Unit {0}
-
--- the tag of a message fits in 64 bits
-abbrev pub FitsTag : Message → Type 0
-FitsTag (Event tag value) = Fits tag
-FitsTag End = Unit {0}
 
 -- a message on a link of the graph, with numbers that 64 bits hold
 pub record IsTellableOn (g : Graph) (x : OnLink) : Type 0 where
@@ -33,7 +20,7 @@ pub record IsTellable (g : Graph) (p : ℕ) (t : Turn) : Type 0 where
   pub first : t.first < 2 ^ 64
   pub last : t.last < 2 ^ 64
   pub count : t.count < 2 ^ 64
-  pub posted : Each (λ (done : Done). done.task.number < 2 ^ 64) t.posted
+  pub posted : Each IsHeldResult t.posted
   pub taken : Each (IsTellableOn g) t.taken
   pub sent : Each (IsTellableOn g) t.sent
 

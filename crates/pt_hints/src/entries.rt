@@ -4,8 +4,9 @@ ghost use Rattle.std.specs.Prelude.{◌≡◌, ◌++◌, ◌∷◌, [], Some, sl
 ghost use Rattle.pt_tags.specs.declared.message.Message.{Message};
 ghost use Rattle.pt_types.specs.declared.firing.OnLink.{OnLink};
 ghost use Rattle.pt_types.specs.Lawful.{IsLawful};
+ghost use Rattle.pt_tables.specs.Held.{FitsTag, IsHeld};
 ghost use Rattle.pt_tables.specs.Names.{receiver_name, sender_name};
-ghost use Rattle.pt_hints.specs.Hints.{FitsTag, IsHeld, IsTellableOn};
+ghost use Rattle.pt_hints.specs.Hints.{IsTellableOn};
 ghost use Rattle.pt_hints.specs.Items.{IsTellableItem, Item, entry_of, item_line, message_fields, message_text, word_is};
 
 use crate::fields::cut;

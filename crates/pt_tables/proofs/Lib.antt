@@ -1,4 +1,5 @@
 pub mod Histories
 pub mod InOrder
+pub mod Members
 pub mod Written
 pub mod Gathering

@@ -70,3 +70,7 @@ all_put f xs n text past = ap (λ l. text ++ flat_map f l) (drop_all n xs past) 
 pub mapped : {X Y : Type 0} (f : X → Y) (o : Option X) (y : Y) → option_map f o ≡ Some y → (x : X) × (o ≡ Some x) × (f x ≡ y)
 mapped f None y is = absurd (none_some y is)
 mapped f (Some x) y is = (x, refl, same_some (f x) y is)
+
+-- what is read of a turn that is there
+pub read_of : {X Y : Type 0} (f : X → Y) (o : Option X) (x : X) (y : Y) → o ≡ Some x → option_map f o ≡ Some y → y ≡ f x
+read_of f o x y at is = sym (same_some (f x) y (ap (option_map f) (sym at) ∙ is))

@@ -1,3 +1,4 @@
+pub mod Held
 pub mod Log
 pub mod Misses
 pub mod Names

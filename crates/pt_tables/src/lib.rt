@@ -10,6 +10,7 @@
 
 mod actor_tables;
 mod fields;
+mod held;
 mod lines;
 mod margin_lines;
 mod meaning;
@@ -21,6 +22,7 @@ mod text;
 mod turns;
 
 pub use actor_tables::{ActorTables, has_table};
+pub use held::holds;
 pub use lines::push_turn_line;
 pub use margin_lines::margins;
 pub use meaning::tables_of_meaning;

@@ -2,6 +2,8 @@
 
 ghost use Rattle.std.specs.Prelude.{◌≡◌, ◌++◌, OnOk, flat_map, string_bytes};
 ghost use Rattle.pt_types.specs.declared.graph.Graph.{Graph};
+ghost use Rattle.pt_semantics.specs.Lists.{Each};
+ghost use Rattle.pt_tables.specs.Held.{IsHeldTurn};
 ghost use Rattle.pt_tables.specs.Log.{log_head, log_text};
 ghost use Rattle.pt_tables.specs.Platforms.{AreInOrder, histories, platform_lines};
 
@@ -16,6 +18,9 @@ pub fn push_log(text: &mut String, platforms: &[Platform]) -> Result<(), AllocEr
 
     // For the first platforms of a graph, or all of them, this is the log of their histories.
     ensures log { OnOk result ((g : Graph) → AreInOrder g platforms.now → string_bytes text.new ≡ string_bytes text.old ++ log_text g (histories platforms.now)) }
+
+    // 64 bits hold the numbers in all turns.
+    ensures held { OnOk result (Each (Each IsHeldTurn) (histories platforms.now)) }
 {
     push_head(text)?;
     for platform in platforms {

@@ -2,10 +2,13 @@
 
 ghost use Rattle.std.specs.Prelude.{◌≡◌, ◌++◌, ◌∷◌, ◌<◌, [], List, OnOk, Some, length, option_map, slice_get, string_bytes};
 ghost use Rattle.std.specs.List.{flat_map};
+ghost use Rattle.pt_semantics.specs.Lists.{Each};
 ghost use Rattle.pt_semantics.specs.Turn.{Turn};
 ghost use Rattle.pt_history.specs.Turns.{claimed_in, posted_in};
+ghost use Rattle.pt_tables.specs.Held.{HasHeldLists, IsHeldMessage, IsHeldResult, IsHeldTurn};
 ghost use Rattle.pt_tables.specs.Log.{claim_line, history_lines, list_lines, log_head, log_text, post_line, row_line, sent_line, take_line, turn_lines};
 
+use crate::held::holds;
 use crate::lines::{push_claim, push_post, push_row, push_sent, push_taken, push_turn_line};
 use pt_history::History;
 use pt_types::{Graph, OnLink, RowAt};
@@ -29,6 +32,7 @@ pub fn push_history(
 
     // The log of the platforms before this one becomes the log of those and this one.
     ensures log { OnOk result ((before : List (List Turn)) → length before ≡ platform → string_bytes text.old ≡ log_text graph.now before → string_bytes text.new ≡ log_text graph.now (before ++ history.now.turns ∷ [])) }
+    ensures held { OnOk result (Each IsHeldTurn history.now.turns) }
 {
     for number in 0..history.turns() {
         push_turn(text, graph, platform, history, number)?;
@@ -45,7 +49,8 @@ pub fn push_turn(
     number: usize,
 ) -> Result<(), AllocError>
     requires { number < length history.now.turns }
-    ensures { OnOk result (option_map (λ turn. string_bytes text.old ++ turn_lines graph.now platform turn) (slice_get history.now.turns number) ≡ Some (string_bytes text.new)) }
+    ensures lines { OnOk result (option_map (λ turn. string_bytes text.old ++ turn_lines graph.now platform turn) (slice_get history.now.turns number) ≡ Some (string_bytes text.new)) }
+    ensures held { OnOk result ((turn : Turn) → slice_get history.now.turns number ≡ Some turn → IsHeldTurn turn) }
 {
     push_turn_line(
         text,
@@ -65,7 +70,8 @@ pub fn push_lists(
     number: usize,
 ) -> Result<(), AllocError>
     requires { number < length history.now.turns }
-    ensures { OnOk result (option_map (λ turn. string_bytes text.old ++ list_lines graph.now turn) (slice_get history.now.turns number) ≡ Some (string_bytes text.new)) }
+    ensures lines { OnOk result (option_map (λ turn. string_bytes text.old ++ list_lines graph.now turn) (slice_get history.now.turns number) ≡ Some (string_bytes text.new)) }
+    ensures held { OnOk result ((turn : Turn) → slice_get history.now.turns number ≡ Some turn → HasHeldLists turn) }
 {
     push_posts(text, history, number)?;
     push_rows(text, graph, history.rows(number))?;
@@ -77,7 +83,8 @@ pub fn push_lists(
 /// Appends the lines of the results that a recorded turn posted.
 fn push_posts(text: &mut String, history: &History, turn: usize) -> Result<(), AllocError>
     requires { turn < length history.now.turns }
-    ensures { OnOk result (string_bytes text.new ≡ string_bytes text.old ++ flat_map post_line (posted_in history.now.turns turn)) }
+    ensures lines { OnOk result (string_bytes text.new ≡ string_bytes text.old ++ flat_map post_line (posted_in history.now.turns turn)) }
+    ensures held { OnOk result (Each IsHeldResult (posted_in history.now.turns turn)) }
 {
     for number in 0..history.posted(turn) {
         push_post(text, history.done_mark(turn, number))?;
@@ -97,9 +104,11 @@ fn push_rows(text: &mut String, graph: &Graph, rows: &[RowAt]) -> Result<(), All
 
 /// Appends the lines of messages taken.
 fn push_all_taken(text: &mut String, graph: &Graph, taken: &[OnLink]) -> Result<(), AllocError>
-    ensures { OnOk result (string_bytes text.new ≡ string_bytes text.old ++ flat_map (take_line graph.now) taken.now) }
+    ensures lines { OnOk result (string_bytes text.new ≡ string_bytes text.old ++ flat_map (take_line graph.now) taken.now) }
+    ensures held { OnOk result (Each IsHeldMessage taken.now) }
 {
     for message in taken {
+        holds(message.message);
         push_taken(text, graph, message)?;
     }
     Ok(())
@@ -123,9 +132,11 @@ fn push_claims(
 
 /// Appends the lines of messages sent.
 fn push_all_sent(text: &mut String, graph: &Graph, sent: &[OnLink]) -> Result<(), AllocError>
-    ensures { OnOk result (string_bytes text.new ≡ string_bytes text.old ++ flat_map (sent_line graph.now) sent.now) }
+    ensures lines { OnOk result (string_bytes text.new ≡ string_bytes text.old ++ flat_map (sent_line graph.now) sent.now) }
+    ensures held { OnOk result (Each IsHeldMessage sent.now) }
 {
     for message in sent {
+        holds(message.message);
         push_sent(text, graph, message)?;
     }
     Ok(())

@@ -1,7 +1,12 @@
-use Rattle.std.proofs.Common.{◌≡◌, ◌++◌, drop, string_bytes}
+use Rattle.std.proofs.Common.{◌≡◌, ◌++◌, ◌<◌, ℕ, Some, drop, slice_get, string_bytes}
 use Rattle.std.specs.List.{flat_map}
+use Rattle.pt_types.specs.declared.firing.OnLink.{OnLink}
+use Rattle.pt_tables.specs.Held.{IsHeldMessage}
 use Rattle.pt_tables.specs.Log.{sent_line}
 use Rattle.pt_tables.proofs.turns.push_all_sent.Given as goal
 
 abbrev pub invariant-loop-message : goal.invariant-loop-message
-invariant-loop-message l = string_bytes l.text ++ flat_map (sent_line l.graph) (drop l.message-index l.sent) ≡ string_bytes l.fn.text ++ flat_map (sent_line l.graph) l.sent
+invariant-loop-message l = record {
+  lines : string_bytes l.text ++ flat_map (sent_line l.graph) (drop l.message-index l.sent) ≡ string_bytes l.fn.text ++ flat_map (sent_line l.graph) l.sent;
+  held : (k : ℕ) (x : OnLink) → k < l.message-index → slice_get l.sent k ≡ Some x → IsHeldMessage x;
+}
