@@ -22,7 +22,8 @@ use Rattle.pt_run.specs.Causes.{CauseOfGraph, Writing}
 use Rattle.pt_run.specs.Faults.{fault_of_rows}
 use Rattle.pt_run.specs.Making.{AsksOf}
 use Rattle.pt_run.specs.Texts.{Answers, AsksAfterGraph, AsksFor, AsksInOrder, EndsOver, HasEnded, MeaningFails, PutBy, fault_in, files_for, is_refused}
-use Rattle.pt_run.specs.Words.{Order, make, migrate, over}
+use Rattle.pt_run.specs.Auditing.{AsksAudit}
+use Rattle.pt_run.specs.Words.{Order, audit, make, migrate, over}
 use Rattle.pt_run.specs.Written.{Leaves}
 use Rattle.pt_run.proofs.Ending.{never}
 
@@ -46,6 +47,7 @@ asked_nothing None outcome tells blocks r is h = h
 asked_nothing (Some (over command name)) outcome tells blocks r is h = subst (λ o. AsksInOrder o command tells blocks name r.asked_before r.asked_now) (sym is) (inl h)
 asked_nothing (Some (make number workers)) outcome tells blocks r is h = h
 asked_nothing (Some (migrate name)) outcome tells blocks r is h = inl h
+asked_nothing (Some (audit name log)) outcome tells blocks r is h = subst (λ o. AsksAudit o name log tells blocks r.asked_before r.asked_now) (sym is) (inl (inl h))
 
 -- the files of a graph that is not refused
 not_refused : (outcome : Option Fault) (g : Graph) (before now : Option (List (List ℕ))) → is_refused outcome ≡ false → AsksFiles g before now → (n : ℕ) × Asks before now (if is_refused outcome then [] else files_before g n)
@@ -79,6 +81,8 @@ meaning_asks tells g r made before now fails files = not_refused (fault_in made)
     by_fault (fault.Cycle actors) h = absurd h
     by_fault (fault.Infeasible send offset slack) h = absurd h
     by_fault (fault.Ring sends gain) h = absurd h
+    by_fault fault.ReadLog h = absurd h
+    by_fault (fault.Unlawful v) h = absurd h
     by_fault (fault.Sensor actor e) h = refl
     by_fault (fault.LateRow actor row seen limit) h = refl
     by_fault (fault.LateMessage platform actor tag reading limit) h = refl
@@ -96,7 +100,7 @@ pub whatever_clock : (command : Command) (workers : ℕ) (clock other : ClockCho
 whatever_clock command workers clock other log outcome g before now is h = subst (λ d. AsksFor d outcome g before now) (sym is) h
 
 -- if there is no memory for the line of a fault
-memory_asks : (c : Command) (f : Fault) (g : Graph) (before now : Option (List (List ℕ))) → AsksFor c (Some f) g before now → AsksFor c (Some fault.Memory) g before now
+pub memory_asks : (c : Command) (f : Fault) (g : Graph) (before now : Option (List (List ℕ))) → AsksFor c (Some f) g before now → AsksFor c (Some fault.Memory) g before now
 memory_asks Check f g before now h = h
 memory_asks Slacks f g before now h = h
 memory_asks (Run workers clock log) f g before now (n, h) = by_bool (is_refused (Some f)) h
@@ -142,6 +146,8 @@ asked_in_order c outcome left tells told blocks name g r w first asked now read 
     by_fault (fault.Cycle actors) h all = all
     by_fault (fault.Infeasible send offset slack) h all = all
     by_fault (fault.Ring sends gain) h all = all
+    by_fault fault.ReadLog h all = all
+    by_fault (fault.Unlawful v) h all = all
     by_fault (fault.Sensor actor e) h all = all
     by_fault (fault.LateRow actor row seen limit) h all = all
     by_fault (fault.LateMessage platform actor tag reading limit) h all = all
@@ -173,6 +179,8 @@ asked_for_graph c outcome f told tells blocks name r first now is tell cause ask
     by_fault (fault.Cycle actors) h one = absurd h
     by_fault (fault.Infeasible send offset slack) h one = absurd h
     by_fault (fault.Ring sends gain) h one = absurd h
+    by_fault fault.ReadLog h one = absurd h
+    by_fault (fault.Unlawful v) h one = absurd h
     by_fault (fault.Sensor actor e) h one = absurd h
     by_fault (fault.LateRow actor row seen limit) h one = absurd h
     by_fault (fault.LateMessage platform actor tag reading limit) h one = absurd h

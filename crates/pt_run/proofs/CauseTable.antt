@@ -2,6 +2,7 @@
 use Rattle.std.proofs.Common.{◌≡◌, ◌≢◌, ℕ, List, [], ◌∷◌, Option, Some, None, Err, IfSome, ℤ, refl, sym, ap, subst, ◌∙◌, arith}
 use Rattle.std.specs.Prelude.{flat_map}
 use Rattle.pt_io.specs.Causes.{Rose}
+use Rattle.pt_audit.specs.declared.verdict.Verdict.{Verdict}
 use Rattle.pt_types.specs.declared.graph.Graph.{Graph}
 use Rattle.pt_blocks.specs.declared.blocks.Named.{Named}
 use Rattle.pt_graph_text.specs.declared.fault.GraphFault.{GraphFault}
@@ -28,12 +29,15 @@ use Rattle.pt_turn.specs.Platforms.{state_at}
 use Rattle.pt_turn.specs.Running.{Shows, ShowsLate, ShowsLong}
 use Rattle.pt_words.specs.declared.orders.ClockChoice.{ClockChoice}
 use Rattle.pt_words.specs.declared.orders.ClockChoice.TheVariants.{Paced}
-use Rattle.pt_run.specs.Causes.{CauseOfText, MeansLong, RunStops, Writing}
-use Rattle.pt_run.specs.CauseTable.{AsksFeasible, CauseTable, IsAccepted, IsNotPaced, IsRunCommand, OfRows, OnPlatform, OverFile, OverGraph}
+use Rattle.pt_run.specs.Causes.{CauseOfText, IsCause, MeansLong, RunStops, Writing}
+use Rattle.pt_run.specs.CauseTable.{AsksFeasible, CauseTable, IsAccepted, IsNotPaced, IsRunCommand, OfRows, OnPlatform, OverFile, OverGraph, OverLog}
 use Rattle.pt_run.specs.Making.{Ends}
 use Rattle.pt_run.specs.Statuses.{status_of, status_of_fault}
-use Rattle.pt_run.specs.Words.{Order, over, make, migrate}
-use Rattle.pt_run.specs.Written.{Leaves, WritesText}
+use Rattle.pt_run.specs.Auditing.{Accepts, IsUnlawful, LogFails, OnLog}
+use Rattle.pt_run.specs.Headline.{RunWith}
+use Rattle.pt_run.specs.Words.{Order, over, make, migrate, audit, paced_run}
+use Rattle.pt_run.specs.Written.{GraphWith, Leaves, WritesText}
+use Rattle.pt_run.proofs.Auditing.{not_before}
 
 -- the status of a fault is not 5
 not_missed : (f : Fault) → status_of_fault f ≡ 5 → ⊥
@@ -42,6 +46,8 @@ not_missed (fault.Graph f) e = omega (arith, e)
 not_missed (fault.Cycle actors) e = omega (arith, e)
 not_missed (fault.Infeasible send offset slack) e = omega (arith, e)
 not_missed (fault.Ring sends gain) e = omega (arith, e)
+not_missed fault.ReadLog e = omega (arith, e)
+not_missed (fault.Unlawful v) e = omega (arith, e)
 not_missed (fault.Sensor actor f) e = omega (arith, e)
 not_missed (fault.LateRow actor row seen limit) e = omega (arith, e)
 not_missed (fault.LateMessage platform actor tag reading limit) e = omega (arith, e)
@@ -65,36 +71,44 @@ module _ (left : Leaves) (tells : Contents) (blocks : List Named) (r : Reading) 
   usage (Some (over command name)) k = absurd k
   usage (Some (make n workers)) k = absurd k
   usage (Some (migrate name)) k = absurd k.1
+  usage (Some (audit name log)) k = absurd (not_before k.0)
 
   graph_unread : (order : Option Order) → Ends (Some (fault.Read None)) left order tells blocks r w → OverFile order (λ name. ReadFails [] name r)
   graph_unread None k = absurd (let e = k.0 in cc)
   graph_unread (Some (over command name)) k = k.0
   graph_unread (Some (make n workers)) k = absurd k
   graph_unread (Some (migrate name)) k = k.1
+  graph_unread (Some (audit name log)) k = k.2.0
 
   graph : (f : GraphFault) (order : Option Order) → Ends (Some (fault.Graph f)) left order tells blocks r w → OverFile order (λ name. IfSome (tells name) (λ bytes. graph_of blocks bytes ≡ Err f))
   graph f None k = absurd (let e = k.0 in cc)
   graph f (Some (over command name)) k = k.0
   graph f (Some (make n workers)) k = absurd k
   graph f (Some (migrate name)) k = k.1
+  graph f (Some (audit name log)) k = k.2.0
 
   cycle : (actors : List ℕ) (order : Option Order) → Ends (Some (fault.Cycle actors)) left order tells blocks r w → OverGraph order tells blocks (λ command name g. IsFreeCycle g actors)
   cycle actors None k = absurd (let e = k.0 in cc)
   cycle actors (Some (over command name)) (k, same) = (k.0, k.1, k.2.0)
   cycle actors (Some (make n workers)) k = absurd k
   cycle actors (Some (migrate name)) k = absurd k.1
+  cycle actors (Some (audit name log)) (is, none, (k, same)) = (k.0, k.1, k.2.0)
 
-  infeasible : (send : ℕ) (offset : ℤ) (slack : ℕ) (order : Option Order) → Ends (Some (fault.Infeasible send offset slack)) left order tells blocks r w → OverGraph order tells blocks (λ command name g. AsksFeasible command × NoFreeCycle g × IsFirstInfeasible g send offset slack)
-  infeasible send offset slack None k = absurd (let e = k.0 in cc)
-  infeasible send offset slack (Some (over command name)) (k, same) = (k.0, k.1, of command k.0 k.2.0 k.2.1)
+  infeasible_over : (send : ℕ) (offset : ℤ) (slack : ℕ) (command : Command) (name : List ℕ) → IsCause (fault.Infeasible send offset slack) left command tells blocks name r w → GraphWith tells blocks name (λ g. AsksFeasible command × NoFreeCycle g × IsFirstInfeasible g send offset slack)
+  infeasible_over send offset slack command name (k, same) = (k.0, k.1, of command k.0 k.2.0 k.2.1)
     where
       of : (c : Command) (g : Graph) → NoFreeCycle g → CauseOfText c (fault.Infeasible send offset slack) left tells g (name ∷ []) r → AsksFeasible c × NoFreeCycle g × IsFirstInfeasible g send offset slack
       of (Run workers clock log) g free h = (tt, free, h.0)
       of Check g free h = (tt, free, h.0)
       of Meaning g free h = absurd h.0
       of Slacks g free h = absurd h.0
+
+  infeasible : (send : ℕ) (offset : ℤ) (slack : ℕ) (order : Option Order) → Ends (Some (fault.Infeasible send offset slack)) left order tells blocks r w → OverGraph order tells blocks (λ command name g. AsksFeasible command × NoFreeCycle g × IsFirstInfeasible g send offset slack)
+  infeasible send offset slack None k = absurd (let e = k.0 in cc)
+  infeasible send offset slack (Some (over command name)) k = infeasible_over send offset slack command name k
   infeasible send offset slack (Some (make n workers)) k = absurd k
   infeasible send offset slack (Some (migrate name)) k = absurd k.1
+  infeasible send offset slack (Some (audit name log)) k = infeasible_over send offset slack paced_run name k.2
 
   ring : (sends : List ℕ) (gain : ℕ) (order : Option Order) → Ends (Some (fault.Ring sends gain)) left order tells blocks r w → OverGraph order tells blocks (λ command name g. (command ≡ Slacks) × NoFreeCycle g × IsRing g sends gain)
   ring sends gain None k = absurd (let e = k.0 in cc)
@@ -107,42 +121,55 @@ module _ (left : Leaves) (tells : Contents) (blocks : List Named) (r : Reading) 
       of Slacks g free h = (refl, free, h.0)
   ring sends gain (Some (make n workers)) k = absurd k
   ring sends gain (Some (migrate name)) k = absurd k.1
+  ring sends gain (Some (audit name log)) k = absurd (not_before k.0)
 
-  sensor_unread : (actor : ℕ) (order : Option Order) → Ends (Some (fault.Read (Some actor))) left order tells blocks r w → OverGraph order tells blocks (λ command name g. IsAccepted command g × OfRows command (λ late. SensorUnread late tells g actor (name ∷ []) r))
-  sensor_unread actor None k = absurd (let e = k.0 in cc)
-  sensor_unread actor (Some (over command name)) (k, same) = (k.0, k.1, of command k.0 k.2.0 k.2.1)
+  sensor_unread_over : (actor : ℕ) (command : Command) (name : List ℕ) → IsCause (fault.Read (Some actor)) left command tells blocks name r w → GraphWith tells blocks name (λ g. IsAccepted command g × OfRows command (λ late. SensorUnread late tells g actor (name ∷ []) r))
+  sensor_unread_over actor command name (k, same) = (k.0, k.1, of command k.0 k.2.0 k.2.1)
     where
       of : (c : Command) (g : Graph) → NoFreeCycle g → CauseOfText c (fault.Read (Some actor)) left tells g (name ∷ []) r → IsAccepted c g × OfRows c (λ late. SensorUnread late tells g actor (name ∷ []) r)
       of (Run workers clock log) g free h = ((free, λ reads. h.0), h.1)
       of Check g free h = absurd h.0
       of Meaning g free h = ((free, λ reads. absurd reads), h.0)
       of Slacks g free h = absurd h.0
+
+  sensor_unread : (actor : ℕ) (order : Option Order) → Ends (Some (fault.Read (Some actor))) left order tells blocks r w → OverGraph order tells blocks (λ command name g. IsAccepted command g × OfRows command (λ late. SensorUnread late tells g actor (name ∷ []) r))
+  sensor_unread actor None k = absurd (let e = k.0 in cc)
+  sensor_unread actor (Some (over command name)) k = sensor_unread_over actor command name k
   sensor_unread actor (Some (make n workers)) k = absurd k
   sensor_unread actor (Some (migrate name)) k = absurd k.1
+  sensor_unread actor (Some (audit name log)) k = sensor_unread_over actor paced_run name k.2
 
-  sensor : (actor : ℕ) (f : RowFault) (order : Option Order) → Ends (Some (fault.Sensor actor f)) left order tells blocks r w → OverGraph order tells blocks (λ command name g. IsAccepted command g × OfRows command (λ late. SensorFails late tells g actor f))
-  sensor actor f None k = absurd (let e = k.0 in cc)
-  sensor actor f (Some (over command name)) (k, same) = (k.0, k.1, of command k.0 k.2.0 k.2.1)
+  sensor_over : (actor : ℕ) (f : RowFault) (command : Command) (name : List ℕ) → IsCause (fault.Sensor actor f) left command tells blocks name r w → GraphWith tells blocks name (λ g. IsAccepted command g × OfRows command (λ late. SensorFails late tells g actor f))
+  sensor_over actor f command name (k, same) = (k.0, k.1, of command k.0 k.2.0 k.2.1)
     where
       of : (c : Command) (g : Graph) → NoFreeCycle g → CauseOfText c (fault.Sensor actor f) left tells g (name ∷ []) r → IsAccepted c g × OfRows c (λ late. SensorFails late tells g actor f)
       of (Run workers clock log) g free h = ((free, λ reads. h.0), h.1)
       of Check g free h = absurd h.0
       of Meaning g free h = ((free, λ reads. absurd reads), h.0)
       of Slacks g free h = absurd h.0
+
+  sensor : (actor : ℕ) (f : RowFault) (order : Option Order) → Ends (Some (fault.Sensor actor f)) left order tells blocks r w → OverGraph order tells blocks (λ command name g. IsAccepted command g × OfRows command (λ late. SensorFails late tells g actor f))
+  sensor actor f None k = absurd (let e = k.0 in cc)
+  sensor actor f (Some (over command name)) k = sensor_over actor f command name k
   sensor actor f (Some (make n workers)) k = absurd k
   sensor actor f (Some (migrate name)) k = absurd k.1
+  sensor actor f (Some (audit name log)) k = sensor_over actor f paced_run name k.2
 
-  late_row : (actor row seen limit : ℕ) (order : Option Order) → Ends (Some (fault.LateRow actor row seen limit)) left order tells blocks r w → OverGraph order tells blocks (λ command name g. IsRunCommand command × IsAccepted command g × SensorLate tells g actor row seen limit)
-  late_row actor row seen limit None k = absurd (let e = k.0 in cc)
-  late_row actor row seen limit (Some (over command name)) (k, same) = (k.0, k.1, of command k.0 k.2.0 k.2.1)
+  late_row_over : (actor row seen limit : ℕ) (command : Command) (name : List ℕ) → IsCause (fault.LateRow actor row seen limit) left command tells blocks name r w → GraphWith tells blocks name (λ g. IsRunCommand command × IsAccepted command g × SensorLate tells g actor row seen limit)
+  late_row_over actor row seen limit command name (k, same) = (k.0, k.1, of command k.0 k.2.0 k.2.1)
     where
       of : (c : Command) (g : Graph) → NoFreeCycle g → CauseOfText c (fault.LateRow actor row seen limit) left tells g (name ∷ []) r → IsRunCommand c × IsAccepted c g × SensorLate tells g actor row seen limit
       of (Run workers clock log) g free h = (tt, (free, λ reads. h.0), h.1)
       of Check g free h = absurd h.0
       of Meaning g free h = absurd h.0
       of Slacks g free h = absurd h.0
+
+  late_row : (actor row seen limit : ℕ) (order : Option Order) → Ends (Some (fault.LateRow actor row seen limit)) left order tells blocks r w → OverGraph order tells blocks (λ command name g. IsRunCommand command × IsAccepted command g × SensorLate tells g actor row seen limit)
+  late_row actor row seen limit None k = absurd (let e = k.0 in cc)
+  late_row actor row seen limit (Some (over command name)) k = late_row_over actor row seen limit command name k
   late_row actor row seen limit (Some (make n workers)) k = absurd k
   late_row actor row seen limit (Some (migrate name)) k = absurd k.1
+  late_row actor row seen limit (Some (audit name log)) k = late_row_over actor row seen limit paced_run name k.2
 
   -- the platform that stopped a run, as its recorded turns show
   pub stopped : (g : Graph) (workers : ℕ) (clock : ClockChoice) (platform : ℕ) (f : TurnFault) → RunStops tells g workers clock left platform f → OnPlatform left g platform (λ v. Shows g v.turns (state_at v) f)
@@ -171,6 +198,7 @@ module _ (left : Leaves) (tells : Contents) (blocks : List Named) (r : Reading) 
       of Slacks g free h = absurd h.0
   late_message platform actor tag reading limit (Some (make n workers)) k = absurd k
   late_message platform actor tag reading limit (Some (migrate name)) k = absurd k.1
+  late_message platform actor tag reading limit (Some (audit name log)) k = absurd (not_before k.0)
 
   long : (platform : ℕ) (order : Option Order) → Ends (Some (fault.Long (Some platform))) left order tells blocks r w → OverGraph order tells blocks (λ command name g. IsRunCommand command × IsAccepted command g × OnPlatform left g platform (λ v. ShowsLong g (state_at v)))
   long platform None k = absurd (let e = k.0 in cc)
@@ -183,6 +211,7 @@ module _ (left : Leaves) (tells : Contents) (blocks : List Named) (r : Reading) 
       of Slacks g free h = absurd h.0
   long platform (Some (make n workers)) k = absurd k
   long platform (Some (migrate name)) k = absurd k.1
+  long platform (Some (audit name log)) k = absurd (not_before k.0)
 
   long_meaning : (order : Option Order) → Ends (Some (fault.Long None)) left order tells blocks r w → OverGraph order tells blocks (λ command name g. (command ≡ Meaning) × NoFreeCycle g × MeansLong tells g)
   long_meaning None k = absurd (let e = k.0 in cc)
@@ -195,12 +224,44 @@ module _ (left : Leaves) (tells : Contents) (blocks : List Named) (r : Reading) 
       of Slacks g free h = absurd h.0
   long_meaning (Some (make n workers)) k = absurd k
   long_meaning (Some (migrate name)) k = absurd k.1
+  long_meaning (Some (audit name log)) k = absurd (not_before k.0)
+
+  -- the log could not be read, and no other order asks for one
+  log_unread : (order : Option Order) → Ends (Some fault.ReadLog) left order tells blocks r w → OverLog order (λ name log. RunWith tells blocks name (λ plan rows. LogFails plan.graph (name ∷ []) log r))
+  log_unread None k = absurd (let e = k.0 in cc)
+  log_unread (Some (over command name)) (k, same) = of command k.0 k.2.1
+    where
+      of : (c : Command) (g : Graph) → CauseOfText c fault.ReadLog left tells g (name ∷ []) r → ⊥
+      of (Run workers clock log) g h = h
+      of Check g h = h.0
+      of Meaning g h = h.0
+      of Slacks g h = h.0
+  log_unread (Some (make n workers)) k = absurd k
+  log_unread (Some (migrate name)) k = absurd k.1
+  log_unread (Some (audit name log)) k = k.1
+
+  unlawful : (v : Verdict) (order : Option Order) → Ends (Some (fault.Unlawful v)) left order tells blocks r w → OverLog order (λ name log. RunWith tells blocks name (OnLog tells log (λ plan rows bytes. IsUnlawful plan rows bytes v)))
+  unlawful v None k = absurd (let e = k.0 in cc)
+  unlawful v (Some (over command name)) (k, same) = of command k.0 k.2.1
+    where
+      of : (c : Command) (g : Graph) → CauseOfText c (fault.Unlawful v) left tells g (name ∷ []) r → ⊥
+      of (Run workers clock log) g h = h
+      of Check g h = h.0
+      of Meaning g h = h.0
+      of Slacks g h = h.0
+  unlawful v (Some (make n workers)) k = absurd k
+  unlawful v (Some (migrate name)) k = absurd k.1
+  unlawful v (Some (audit name log)) k = k.1
+
+  lawful : (order : Option Order) (name log : List ℕ) → order ≡ Some (audit name log) → Ends None left order tells blocks r w → RunWith tells blocks name (OnLog tells log Accepts)
+  lawful order name log is k = let h = subst (λ o. Ends None left o tells blocks r w) is k in h.1
 
   write : (order : Option Order) → Ends (Some fault.Write) left order tells blocks r w → Rose w.before w.now
   write None k = absurd (let e = k.0 in cc)
   write (Some (over command name)) k = k.0
   write (Some (make n workers)) k = k.0
   write (Some (migrate name)) k = k.1
+  write (Some (audit name log)) k = k.2
 
   unwritten : (f : Fault) (order : Option Order) → f ≢ fault.Write → Ends (Some f) left order tells blocks r w → w.written_now ≡ w.written_before
   unwritten fault.Memory None never k = k.1
@@ -209,6 +270,8 @@ module _ (left : Leaves) (tells : Contents) (blocks : List Named) (r : Reading) 
   unwritten (fault.Cycle actors) None never k = k.2
   unwritten (fault.Infeasible send offset slack) None never k = k.2
   unwritten (fault.Ring sends gain) None never k = k.2
+  unwritten fault.ReadLog None never k = k.2
+  unwritten (fault.Unlawful v) None never k = k.2
   unwritten (fault.Sensor actor f) None never k = k.2
   unwritten (fault.LateRow actor row seen limit) None never k = k.2
   unwritten (fault.LateMessage platform actor tag reading limit) None never k = k.2
@@ -221,6 +284,8 @@ module _ (left : Leaves) (tells : Contents) (blocks : List Named) (r : Reading) 
   unwritten (fault.Cycle actors) (Some (over command name)) never k = k.1
   unwritten (fault.Infeasible send offset slack) (Some (over command name)) never k = k.1
   unwritten (fault.Ring sends gain) (Some (over command name)) never k = k.1
+  unwritten fault.ReadLog (Some (over command name)) never k = k.1
+  unwritten (fault.Unlawful v) (Some (over command name)) never k = k.1
   unwritten (fault.Sensor actor f) (Some (over command name)) never k = k.1
   unwritten (fault.LateRow actor row seen limit) (Some (over command name)) never k = k.1
   unwritten (fault.LateMessage platform actor tag reading limit) (Some (over command name)) never k = k.1
@@ -238,7 +303,11 @@ module _ (left : Leaves) (tells : Contents) (blocks : List Named) (r : Reading) 
   unwritten (fault.Infeasible send offset slack) (Some (make n workers)) never k = absurd k
   unwritten (fault.Infeasible send offset slack) (Some (migrate name)) never k = k.2
   unwritten (fault.Ring sends gain) (Some (make n workers)) never k = absurd k
+  unwritten fault.ReadLog (Some (make n workers)) never k = absurd k
+  unwritten (fault.Unlawful v) (Some (make n workers)) never k = absurd k
   unwritten (fault.Ring sends gain) (Some (migrate name)) never k = k.2
+  unwritten fault.ReadLog (Some (migrate name)) never k = k.2
+  unwritten (fault.Unlawful v) (Some (migrate name)) never k = k.2
   unwritten (fault.Sensor actor f) (Some (make n workers)) never k = absurd k
   unwritten (fault.Sensor actor f) (Some (migrate name)) never k = k.2
   unwritten (fault.LateRow actor row seen limit) (Some (make n workers)) never k = absurd k
@@ -249,6 +318,20 @@ module _ (left : Leaves) (tells : Contents) (blocks : List Named) (r : Reading) 
   unwritten (fault.Long platform) (Some (migrate name)) never k = k.2
   unwritten (fault.Read file) (Some (make n workers)) never k = absurd k
   unwritten (fault.Read file) (Some (migrate name)) never k = k.2
+  unwritten fault.Memory (Some (audit name log)) never k = k.1
+  unwritten (fault.Unlawful v) (Some (audit name log)) never k = k.2
+  unwritten fault.ReadLog (Some (audit name log)) never k = k.2
+  unwritten (fault.Graph f) (Some (audit name log)) never k = k.2.2
+  unwritten (fault.Read None) (Some (audit name log)) never k = k.2.2
+  unwritten (fault.Read (Some actor)) (Some (audit name log)) never k = k.2.1
+  unwritten (fault.Cycle actors) (Some (audit name log)) never k = k.2.1
+  unwritten (fault.Infeasible send offset slack) (Some (audit name log)) never k = k.2.1
+  unwritten (fault.Sensor actor f) (Some (audit name log)) never k = k.2.1
+  unwritten (fault.LateRow actor row seen limit) (Some (audit name log)) never k = k.2.1
+  unwritten fault.Usage (Some (audit name log)) never k = absurd (not_before k.0)
+  unwritten (fault.Ring sends gain) (Some (audit name log)) never k = absurd (not_before k.0)
+  unwritten (fault.LateMessage platform actor tag reading limit) (Some (audit name log)) never k = absurd (not_before k.0)
+  unwritten (fault.Long platform) (Some (audit name log)) never k = absurd (not_before k.0)
 
   missed_are : (order : Option Order) → Ends None left order tells blocks r w → left.misses ≡ flat_map missed_by left.platforms
   missed_are None k = absurd (let e = k.0 in cc)
@@ -261,6 +344,7 @@ module _ (left : Leaves) (tells : Contents) (blocks : List Named) (r : Reading) 
       of Slacks h = h.0.0 ∙ sym (ap (flat_map missed_by) h.0.1)
   missed_are (Some (make n workers)) (none, text, run, appends) = none ∙ sym run.none_missed
   missed_are (Some (migrate name)) k = k.0.0 ∙ sym (ap (flat_map missed_by) k.0.1)
+  missed_are (Some (audit name log)) k = k.0.0 ∙ sym (ap (flat_map missed_by) k.0.1)
 
 pub caused : (status : ℕ) (o : Option Fault) (left : Leaves) (order : Option Order) (tells : Contents) (blocks : List Named) (r : Reading) (w : Writing) → status ≡ status_of o left.misses → Ends o left order tells blocks r w → CauseTable status o left order tells blocks r w
 caused status o left order tells blocks r w is ends = record {
@@ -276,6 +360,9 @@ caused status o left order tells blocks r w is ends = record {
   late_message = λ platform actor tag reading limit e. late_message left tells blocks r w platform actor tag reading limit order (by (fault.LateMessage platform actor tag reading limit) e);
   long = λ platform e. long left tells blocks r w platform order (by (fault.Long (Some platform)) e);
   long_meaning = λ e. long_meaning left tells blocks r w order (by (fault.Long None) e);
+  log_unread = λ e. log_unread left tells blocks r w order (by fault.ReadLog e);
+  unlawful = λ v e. unlawful left tells blocks r w v order (by (fault.Unlawful v) e);
+  lawful = λ name log words e. lawful left tells blocks r w order name log words (subst (λ z. Ends z left order tells blocks r w) e ends);
   write = λ e. write left tells blocks r w order (by fault.Write e);
   unwritten = λ f e never. unwritten left tells blocks r w f order never (by f e);
   missed = (λ five. none_misses o left.misses (sym is ∙ five), λ h. is ∙ ap (λ z. status_of z left.misses) h.0 ∙ is_missed left.misses h.1);

@@ -119,6 +119,8 @@ module _ (tells : Contents) (blocks : List Named) (name : List ℕ) (g : Graph) 
         on_graph (fault.Long (Some platform)) k = stopped_at left tells blocks r w g workers clock platform turn.Long k.1
         on_graph (fault.Long None) k = absurd k.1
         on_graph (fault.Ring sends gain) k = absurd k.1
+        on_graph fault.ReadLog k = absurd k.1
+        on_graph (fault.Unlawful v) k = absurd k.1
         on_graph (fault.Read None) k = absurd k.1
         on_graph fault.Usage k = absurd k.1
         on_graph (fault.Graph e) k = absurd k.1
@@ -134,6 +136,8 @@ module _ (tells : Contents) (blocks : List Named) (name : List ℕ) (g : Graph) 
     own_outcome (Some (fault.Cycle actors)) k = own_cause (fault.Cycle actors) k.0
     own_outcome (Some (fault.Infeasible send offset slack)) k = own_cause (fault.Infeasible send offset slack) k.0
     own_outcome (Some (fault.Ring sends gain)) k = own_cause (fault.Ring sends gain) k.0
+    own_outcome (Some fault.ReadLog) k = own_cause fault.ReadLog k.0
+    own_outcome (Some (fault.Unlawful v)) k = own_cause (fault.Unlawful v) k.0
     own_outcome (Some (fault.Read (Some actor))) k = own_cause (fault.Read (Some actor)) k.0
     own_outcome (Some (fault.Sensor actor e)) k = own_cause (fault.Sensor actor e) k.0
     own_outcome (Some (fault.LateRow actor row seen limit)) k = own_cause (fault.LateRow actor row seen limit) k.0
@@ -202,6 +206,8 @@ module _ (tells : Contents) (blocks : List Named) (name : List ℕ) (g : Graph) 
           on_graph (fault.Long (Some platform)) is k = stopped status workers left platform turn.Long is k.1
           on_graph (fault.Long None) is k = absurd k.1
           on_graph (fault.Ring sends gain) is k = absurd k.1
+          on_graph fault.ReadLog is k = absurd k.1
+          on_graph (fault.Unlawful v) is k = absurd k.1
           on_graph (fault.Read None) is k = absurd k.1
           on_graph fault.Usage is k = absurd k.1
           on_graph (fault.Graph e) is k = absurd k.1
@@ -217,6 +223,8 @@ module _ (tells : Contents) (blocks : List Named) (name : List ℕ) (g : Graph) 
       by_outcome (Some (fault.Cycle actors)) is k = by_cause (fault.Cycle actors) is k.0
       by_outcome (Some (fault.Infeasible send offset slack)) is k = by_cause (fault.Infeasible send offset slack) is k.0
       by_outcome (Some (fault.Ring sends gain)) is k = by_cause (fault.Ring sends gain) is k.0
+      by_outcome (Some fault.ReadLog) is k = by_cause fault.ReadLog is k.0
+      by_outcome (Some (fault.Unlawful v)) is k = by_cause (fault.Unlawful v) is k.0
       by_outcome (Some (fault.Read (Some actor))) is k = by_cause (fault.Read (Some actor)) is k.0
       by_outcome (Some (fault.Sensor actor e)) is k = by_cause (fault.Sensor actor e) is k.0
       by_outcome (Some (fault.LateRow actor row seen limit)) is k = by_cause (fault.LateRow actor row seen limit) is k.0

@@ -65,6 +65,8 @@ module _ (tells : Contents) (g : Graph) (left : Leaves) (name : List ℕ) (first
   of_run workers clock (fault.Cycle actors) h = h
   of_run workers clock (fault.Infeasible send offset slack) h = h
   of_run workers clock (fault.Ring sends gain) h = h
+  of_run workers clock fault.ReadLog h = h
+  of_run workers clock (fault.Unlawful v) h = h
   of_run workers clock (fault.Sensor actor e) h = h
   of_run workers clock (fault.LateRow actor row seen limit) h = h
   of_run workers clock (fault.LateMessage platform actor tag reading limit) h = h
@@ -81,6 +83,8 @@ module _ (tells : Contents) (g : Graph) (left : Leaves) (name : List ℕ) (first
   of_meaning (fault.Cycle actors) h = h
   of_meaning (fault.Infeasible send offset slack) h = h
   of_meaning (fault.Ring sends gain) h = h
+  of_meaning fault.ReadLog h = h
+  of_meaning (fault.Unlawful v) h = h
   of_meaning (fault.Sensor actor e) h = h
   of_meaning (fault.LateRow actor row seen limit) h = h
   of_meaning (fault.LateMessage platform actor tag reading limit) h = h
@@ -103,6 +107,8 @@ module _ (tells : Contents) (g : Graph) (left : Leaves) (name : List ℕ) (first
   after_file c (fault.Cycle actors) h = h
   after_file c (fault.Infeasible send offset slack) h = (h.0, of_text c (fault.Infeasible send offset slack) h.1)
   after_file c (fault.Ring sends gain) h = (h.0, of_text c (fault.Ring sends gain) h.1)
+  after_file c fault.ReadLog h = (h.0, of_text c fault.ReadLog h.1)
+  after_file c (fault.Unlawful v) h = (h.0, of_text c (fault.Unlawful v) h.1)
   after_file c (fault.Sensor actor e) h = (h.0, of_text c (fault.Sensor actor e) h.1)
   after_file c (fault.LateRow actor row seen limit) h = (h.0, of_text c (fault.LateRow actor row seen limit) h.1)
   after_file c (fault.LateMessage platform actor tag reading limit) h = (h.0, of_text c (fault.LateMessage platform actor tag reading limit) h.1)
@@ -145,6 +151,8 @@ ends_file c outcome left tells told blocks name g first asked now start before l
     by_fault (fault.Cycle actors) h = ((g, read, h.0), h.1)
     by_fault (fault.Infeasible send offset slack) h = ((g, read, on (fault.Infeasible send offset slack) h.0), h.1)
     by_fault (fault.Ring sends gain) h = ((g, read, on (fault.Ring sends gain) h.0), h.1)
+    by_fault fault.ReadLog h = ((g, read, on fault.ReadLog h.0), h.1)
+    by_fault (fault.Unlawful v) h = ((g, read, on (fault.Unlawful v) h.0), h.1)
     by_fault (fault.Sensor actor e) h = ((g, read, on (fault.Sensor actor e) h.0), h.1)
     by_fault (fault.LateRow actor row seen limit) h = ((g, read, on (fault.LateRow actor row seen limit) h.0), h.1)
     by_fault (fault.LateMessage platform actor tag reading limit) h = ((g, read, on (fault.LateMessage platform actor tag reading limit) h.0), h.1)
@@ -198,6 +206,8 @@ ends_answer c (Err f) o tells g r w good bad h = subst (λ left. EndsOver o.faul
     by_fault (fault.Cycle actors) k = (k, h.2)
     by_fault (fault.Infeasible send offset slack) k = (k, h.2)
     by_fault (fault.Ring sends gain) k = (k, h.2)
+    by_fault fault.ReadLog k = (k, h.2)
+    by_fault (fault.Unlawful v) k = (k, h.2)
     by_fault (fault.Sensor actor e) k = (k, h.2)
     by_fault (fault.LateRow actor row seen limit) k = (k, h.2)
     by_fault (fault.LateMessage platform actor tag reading limit) k = (k, h.2)

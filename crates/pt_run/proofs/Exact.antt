@@ -1,13 +1,6 @@
 -- Where a cause is there, and none before it, its answer comes.
-use Rattle.std.proofs.Common.{◌≡◌, ℕ, ◌+◌, ◌*◌, ◌<◌, ◌≤◌, ◌⊎◌, Bool, List, [], ◌∷◌, Option, Some, None, Result, Ok, Err, IfSome, ℤ, pos, ◌+ℤ◌, ◌≤ℤ◌, ◌<ℤ◌, length, slice_get, refl, sym, ap, ap₂, subst, ◌∙◌, arith, inl, inr, ⊎_elim}
-use Rattle.std.proofs.lemmas.Bool.{cases_lt}
-use Rattle.std.proofs.lemmas.Int.{ints}
-use Rattle.pt_tags.specs.declared.tag.Tag.{Tag}
+use Rattle.std.proofs.Common.{◌≡◌, ℕ, ◌⊎◌, Bool, false, List, [], ◌∷◌, Option, Some, None, Result, Ok, Err, IfSome, ℤ, refl, sym, ap, subst, ◌∙◌, inl, inr, ⊎_elim}
 use Rattle.pt_types.specs.declared.graph.Graph.{Graph}
-use Rattle.pt_types.specs.declared.graph.Unit.{Unit as Part}
-use Rattle.pt_types.specs.declared.kind.Kind.{Kind}
-use Rattle.pt_types.specs.declared.kind.Kind.TheVariants.{Send, Sensor}
-use Rattle.pt_types.specs.declared.firing.ActorFiring.{ActorFiring}
 use Rattle.pt_types.specs.declared.rows.Row.{Row}
 use Rattle.pt_blocks.specs.declared.blocks.Named.{Named}
 use Rattle.pt_graph_text.specs.declared.fault.GraphFault.{GraphFault}
@@ -21,44 +14,39 @@ use Rattle.pt_causality.specs.Ranked.{IsFreeCycle}
 use Rattle.pt_offsets.specs.Margins.{IsFirstInfeasible}
 use Rattle.pt_offsets.specs.Plans.{Parts}
 use Rattle.pt_sensors.specs.declared.fault.RowFault.{RowFault}
-use Rattle.pt_sensors.specs.Late.{late_row}
-use Rattle.pt_sensors.specs.RowsOf.{rows_of}
 use Rattle.pt_semantics.specs.Cycles.{NoFreeCycle}
-use Rattle.pt_types.specs.Lookups.{kind_of}
-use Rattle.pt_semantics.specs.Firing.{any_present, fired}
-use Rattle.pt_semantics.specs.Meaning.{Fires, IsLonger, IsMeaning, Runs, Steps, World, after_firing, at_start, waiting}
-use Rattle.pt_semantics.specs.Offsets.{IsFeasible, IsOffset}
-use Rattle.pt_semantics.specs.Units.{at_output}
-use Rattle.pt_semantics.proofs.Acyclic.{ranks_are_one}
-use Rattle.pt_semantics.proofs.Lookups.{eight_found, none_some, same_some}
+use Rattle.pt_semantics.specs.Offsets.{IsFeasible}
+use Rattle.pt_semantics.proofs.Lookups.{none_some}
 use Rattle.pt_turn.specs.Platforms.{PlatformView}
 use Rattle.pt_sensors.specs.declared.recorded_fault.LateRows.{LateRows}
 use Rattle.pt_sensors.specs.declared.recorded_fault.LateRows.TheVariants.{Refused, Taken}
 use Rattle.pt_sensors.specs.Asked.{Contents, Reading}
-use Rattle.pt_sensors.specs.Places.{of_run}
-use Rattle.pt_sensors.specs.Recorded.{AllPass, AreRows, HaveRows, InTime, IsLateRow, RowsOfKind, SensorFails, SensorLate}
+use Rattle.pt_sensors.specs.Recorded.{AreRows, SensorFails, SensorLate}
 use Rattle.pt_run.specs.RunsAgreeing.{TellsSensors}
 use Rattle.pt_turn.specs.declared.fault.TurnFault.{TurnFault}
 use Rattle.pt_turn.specs.declared.fault.TurnFault.TheVariants as turn
 use Rattle.pt_words.specs.declared.orders.ClockChoice.{ClockChoice}
+use Rattle.pt_words.specs.declared.orders.ClockChoice.TheVariants.{Paced}
 use Rattle.pt_run.specs.Readings.{Clocking}
 use Rattle.pt_run.specs.Runs.{HasRun}
-use Rattle.pt_run.proofs.RunsAgreeing.{rows_are_one}
 use Rattle.pt_run.specs.declared.fault.Fault.{Fault}
 use Rattle.pt_run.specs.declared.fault.Fault.TheVariants as fault
 use Rattle.pt_run.specs.declared.words.Command.{Command}
 use Rattle.pt_run.specs.declared.words.Command.TheVariants.{Run, Check, Meaning, Slacks}
 use Rattle.pt_run.specs.Causes.{CauseOf, CauseOfCheck, CauseOfMeaning, CauseOfNoSlacks, CauseOfRun, CauseOfText, IsTooLongForAll, Writing}
 use Rattle.pt_run.specs.CauseTable.{AsksFeasible, OfRows}
-use Rattle.pt_run.specs.Exact.{Defines, IsExact, WantsGraph, WantsMemory, WantsRows}
+use Rattle.pt_run.specs.Exact.{CanAudit, Defines, IsExact, WantsGraph, WantsMemory, WantsRows}
 use Rattle.pt_run.specs.Making.{Ends}
 use Rattle.pt_run.specs.Migrating.{EndsMigrated}
 use Rattle.pt_run.specs.Texts.{EndsBy}
-use Rattle.pt_run.specs.Words.{Order, over, migrate}
+use Rattle.pt_run.specs.Auditing.{Accepts, EndsAudit, IsUnlawful, LogFails, OnLog}
+use Rattle.pt_run.specs.Headline.{RunWith}
+use Rattle.pt_run.specs.Words.{Order, audit, make, migrate, over, paced_run, refused_as}
 use Rattle.pt_run.specs.Written.{GraphWith, IsMeant, Leaves, Writes, clocking}
+use Rattle.pt_run.proofs.Audited.{Audited, audited, finds_lawful, finds_unlawful, finds_verdict}
+use Rattle.pt_run.proofs.Auditing.{not_before}
 use Rattle.pt_run.proofs.Complete.{agrees, ok_err, same_ok, too_late}
 use Rattle.pt_run.proofs.OneCause.{AllHave, fails_all, fails_late, fails_rows, late_all, meant_long, one_fails, one_infeasible, one_late, same_err}
-use Rattle.pt_types.specs.Limits.{most_claims}
 
 -- a graph has no cycle that takes no time, and each sender can send in time, if the command refuses others
 abbrev IsFit : Command → Graph → Type 0
@@ -218,6 +206,57 @@ module _ (tells : Contents) (blocks : List Named) (name bytes : List ℕ) (told 
       by_outcome (Some fault.Memory) k = inr (inl refl)
       by_outcome (Some e) k = absurd (no_graph k.0.0 k.0.1)
 
+  -- an audit of a log of a graph
+  audit_answer : (log : List ℕ) (g : Graph) (outcome : Option Fault) → graph_of blocks bytes ≡ Ok g → EndsAudit outcome left name log tells blocks r w → Answer paced_run tells g outcome
+  audit_answer log g outcome is ends = by_outcome outcome ends
+    where
+      over_rows : (o : Option Fault) (Fact : Parts → (ℕ → List Row) → Type 0) → RunWith tells blocks name Fact → Answer paced_run tells g o
+      over_rows o Fact h =
+          let same : h.plan.graph ≡ g = sym (same_ok {E = GraphFault} g h.plan.graph (one_defined (Ok g) (Ok h.plan.graph) is h.file)) in
+          whole (subst NoFreeCycle same h.over.admitted.no_free_cycle, λ e. subst IsFeasible same h.over.admitted.feasible) (λ e. subst (λ z. AllHave Refused tells z) same (h.over.rows, h.over.sensors, h.over.in_time))
+          (λ e. absurd (run_meaning 1 Paced false e)) (λ e. absurd (run_slacks 1 Paced false e))
+
+      by_outcome : (o : Option Fault) → EndsAudit o left name log tells blocks r w → Answer paced_run tells g o
+      by_outcome None k = over_rows None (OnLog tells log Accepts) k.1
+      by_outcome (Some fault.Write) k = over_rows (Some fault.Write) (OnLog tells log Accepts) k.1
+      by_outcome (Some (fault.Unlawful v)) k = over_rows (Some (fault.Unlawful v)) (OnLog tells log (λ plan rows bytes. IsUnlawful plan rows bytes v)) k.1
+      by_outcome (Some fault.ReadLog) k = over_rows (Some fault.ReadLog) (λ plan rows. LogFails plan.graph (name ∷ []) log r) k.1
+      by_outcome (Some fault.Memory) k = memory refl
+      by_outcome (Some (fault.Graph f)) k = answer paced_run g (Some (fault.Graph f)) is k.2
+      by_outcome (Some (fault.Cycle actors)) k = answer paced_run g (Some (fault.Cycle actors)) is k.2
+      by_outcome (Some (fault.Infeasible send offset slack)) k = answer paced_run g (Some (fault.Infeasible send offset slack)) is k.2
+      by_outcome (Some (fault.Read sensor)) k = answer paced_run g (Some (fault.Read sensor)) is k.2
+      by_outcome (Some (fault.Sensor actor f)) k = answer paced_run g (Some (fault.Sensor actor f)) is k.2
+      by_outcome (Some (fault.LateRow actor row seen limit)) k = answer paced_run g (Some (fault.LateRow actor row seen limit)) is k.2
+      by_outcome (Some fault.Usage) k = absurd (not_before k.0)
+      by_outcome (Some (fault.Ring sends gain)) k = absurd (not_before k.0)
+      by_outcome (Some (fault.LateMessage platform actor tag reading limit)) k = absurd (not_before k.0)
+      by_outcome (Some (fault.Long platform)) k = absurd (not_before k.0)
+
+  -- and of a file with a fault
+  unaudited : (log : List ℕ) (f : GraphFault) (outcome : Option Fault) → graph_of blocks bytes ≡ Err f → EndsAudit outcome left name log tells blocks r w → (outcome ≡ Some (fault.Graph f)) ⊎ WantsGraph outcome
+  unaudited log f outcome is ends = by_outcome outcome ends
+    where
+      no_graph : (h : Graph) → IfSome (tells name) (λ bytes. graph_of blocks bytes ≡ Ok h) → ⊥
+      no_graph h other = ok_err h f (sym (one_defined (Err f) (Ok h) is other))
+
+      by_outcome : (o : Option Fault) → EndsAudit o left name log tells blocks r w → (o ≡ Some (fault.Graph f)) ⊎ WantsGraph o
+      by_outcome None k = absurd (no_graph k.1.plan.graph k.1.file)
+      by_outcome (Some fault.Write) k = absurd (no_graph k.1.plan.graph k.1.file)
+      by_outcome (Some (fault.Unlawful v)) k = absurd (no_graph k.1.plan.graph k.1.file)
+      by_outcome (Some fault.ReadLog) k = absurd (no_graph k.1.plan.graph k.1.file)
+      by_outcome (Some fault.Memory) k = inr (inl refl)
+      by_outcome (Some (fault.Graph e)) k = refused paced_run f (Some (fault.Graph e)) is k.2
+      by_outcome (Some (fault.Cycle actors)) k = refused paced_run f (Some (fault.Cycle actors)) is k.2
+      by_outcome (Some (fault.Infeasible send offset slack)) k = refused paced_run f (Some (fault.Infeasible send offset slack)) is k.2
+      by_outcome (Some (fault.Read sensor)) k = refused paced_run f (Some (fault.Read sensor)) is k.2
+      by_outcome (Some (fault.Sensor actor e)) k = refused paced_run f (Some (fault.Sensor actor e)) is k.2
+      by_outcome (Some (fault.LateRow actor row seen limit)) k = refused paced_run f (Some (fault.LateRow actor row seen limit)) is k.2
+      by_outcome (Some fault.Usage) k = absurd (not_before k.0)
+      by_outcome (Some (fault.Ring sends gain)) k = absurd (not_before k.0)
+      by_outcome (Some (fault.LateMessage platform actor tag reading limit)) k = absurd (not_before k.0)
+      by_outcome (Some (fault.Long platform)) k = absurd (not_before k.0)
+
   -- `migrate` of a file with a fault
   unmigrated : (f : GraphFault) (outcome : Option Fault) → graph_of blocks bytes ≡ Err f → EndsMigrated outcome left name tells blocks r w → (outcome ≡ Some (fault.Graph f)) ⊎ WantsGraph outcome
   unmigrated f outcome is ends = by_outcome outcome ends
@@ -244,6 +283,23 @@ module _ (tells : Contents) (blocks : List Named) (name bytes : List ℕ) (told 
       by_outcome (Some (fault.Read None)) k = inr (inr refl)
       by_outcome (Some fault.Memory) k = inr (inl refl)
       by_outcome (Some e) k = absurd k.1
+
+-- an order that is refused as this command on this file is that command, or an audit
+refused_by : (order : Option Order) (command : Command) (name : List ℕ) → refused_as order ≡ Some (over command name) → (order ≡ Some (over command name)) ⊎ ((log : List ℕ) × (command ≡ paced_run) × (order ≡ Some (audit name log)))
+refused_by None command name e = absurd (none_some (over command name) e)
+refused_by (Some (over c n)) command name e = inl e
+refused_by (Some (make n k)) command name e = absurd (other e)
+  where
+    other : Some (make n k) ≡ Some (over command name) → ⊥
+    other e = cc
+refused_by (Some (migrate n)) command name e = absurd (other e)
+  where
+    other : Some (migrate n) ≡ Some (over command name) → ⊥
+    other e = cc
+refused_by (Some (audit n log)) command name e = let (is, names) = same e in inr (log, is, ap (λ z. Some (audit z log)) names)
+  where
+    same : Some (over paced_run n) ≡ Some (over command name) → (command ≡ paced_run) × (n ≡ name)
+    same e = (cc, cc)
 
 -- the words are no command
 usage : (left : Leaves) (tells : Contents) (blocks : List Named) (r : Reading) (w : Writing) (outcome : Option Fault) → Ends outcome left None tells blocks r w → (outcome ≡ Some fault.Usage) ⊎ WantsMemory outcome
@@ -370,23 +426,44 @@ module _ (tells : Contents) (g : Graph) (outcome : Option Fault) where
 pub exact : (o : Option Fault) (left : Leaves) (order : Option Order) (tells : Contents) (blocks : List Named) (r : Reading) (w : Writing) → Ends o left order tells blocks r w → IsExact o order tells blocks
 exact o left order tells blocks r w ends = record {
   usage = λ none. usage left tells blocks r w o (subst (λ z. Ends o left z tells blocks r w) none ends);
-  graph = λ command f d. refused tells blocks d.name d.bytes d.told left r w command f o d.defines (by_words command (Err f) d);
+  graph = λ command f d. no_graph command f d;
   cycle = λ command g d never. cycle tells g o command never (over_graph command g d);
   infeasible = λ command g send offset slack judges d free first. infeasible tells g o free command send offset slack judges first (over_graph command g d);
   sensor = λ command g actor f reads fails. sensor tells g o reads.no_free_cycle reads.files command actor f reads.feasible fails (over_graph command g reads.graph);
   late_row = λ workers clock log g actor row seen limit reads late. first_late tells g o reads.no_free_cycle reads.files workers clock log actor row seen limit (reads.feasible tt) late (over_graph (Run workers clock log) g reads.graph);
   long_meaning = λ g rows reads are too_long. long_meaning tells g o reads.no_free_cycle reads.files rows are too_long (over_graph Meaning g reads.graph);
-  ring = λ g d free none. ring tells g o free none (over_graph Slacks g d);
-  slacked = λ g slack are d free admits. least_slacks tells g o free slack (lawful_of blocks d.bytes g are d.defines) admits (over_graph Slacks g d);
+  ring = λ g d free none. ring tells g o free none (over_graph Slacks g (by_slacks g d));
+  slacked = λ g slack are d free admits. least_slacks tells g o free slack (lawful_of blocks d.bytes g are d.defines) admits (over_graph Slacks g (by_slacks g d));
   unmigrated = λ f d. unmigrated tells blocks d.name d.bytes d.told left r w f o d.defines (by_migrate (Err f) d);
   migrated = λ g d. migrated tells blocks d.name d.bytes d.told left r w g o d.defines (by_migrate (Ok g) d);
+  lawful = λ plan rows bytes can lawful. finds_lawful plan rows bytes o lawful (by_audit plan rows bytes can);
+  unlawful = λ plan rows bytes can never. finds_unlawful plan rows bytes o never (by_audit plan rows bytes can);
+  verdict = λ plan rows bytes v can refuses. finds_verdict plan rows bytes o v refuses (by_audit plan rows bytes can);
 }
   where
-    by_words : (command : Command) (defined : Result Graph GraphFault) (d : Defines order tells blocks (over command) defined) → EndsBy o left (Some (command, d.name)) tells blocks r w
-    by_words command defined d = subst (λ z. Ends o left z tells blocks r w) d.words ends
+    by_words : (z : Order) → order ≡ Some z → Ends o left (Some z) tells blocks r w
+    by_words z words = subst (λ z. Ends o left z tells blocks r w) words ends
+
+    by_audit : (plan : Parts) (rows : ℕ → List Row) (bytes : List ℕ) (can : CanAudit order tells blocks plan rows bytes) → Audited plan rows bytes o
+    by_audit plan rows bytes can = audited order left tells blocks r w plan rows bytes can o (by_words (audit can.name can.log) can.words)
+
+    by_slacks : (g : Graph) → Defines order tells blocks (over Slacks) (Ok g) → Defines (refused_as order) tells blocks (over Slacks) (Ok g)
+    by_slacks g d = record { name = d.name; words = ap refused_as d.words; bytes = d.bytes; told = d.told; defines = d.defines }
 
     by_migrate : (defined : Result Graph GraphFault) (d : Defines order tells blocks migrate defined) → EndsMigrated o left d.name tells blocks r w
     by_migrate defined d = subst (λ z. Ends o left z tells blocks r w) d.words ends
 
-    over_graph : (command : Command) (g : Graph) → Defines order tells blocks (over command) (Ok g) → Answer command tells g o
-    over_graph command g d = answer tells blocks d.name d.bytes d.told left r w command g o d.defines (by_words command (Ok g) d)
+    no_graph : (command : Command) (f : GraphFault) → Defines (refused_as order) tells blocks (over command) (Err f) → (o ≡ Some (fault.Graph f)) ⊎ WantsGraph o
+    no_graph command f d =
+        ⊎_elim
+        (λ (words : order ≡ Some (over command d.name)). refused tells blocks d.name d.bytes d.told left r w command f o d.defines (by_words (over command d.name) words))
+        (λ (of : (log : List ℕ) × (command ≡ paced_run) × (order ≡ Some (audit d.name log))). unaudited tells blocks d.name d.bytes d.told left r w of.0 f o d.defines (by_words (audit d.name of.0) of.2))
+        (refused_by order command d.name d.words)
+
+    over_graph : (command : Command) (g : Graph) → Defines (refused_as order) tells blocks (over command) (Ok g) → Answer command tells g o
+    over_graph command g d =
+        ⊎_elim
+        (λ (words : order ≡ Some (over command d.name)). answer tells blocks d.name d.bytes d.told left r w command g o d.defines (by_words (over command d.name) words))
+        (λ (of : (log : List ℕ) × (command ≡ paced_run) × (order ≡ Some (audit d.name log))).
+        subst (λ c. Answer c tells g o) (sym of.1) (audit_answer tells blocks d.name d.bytes d.told left r w of.0 g o d.defines (by_words (audit d.name of.0) of.2)))
+        (refused_by order command d.name d.words)

@@ -8,11 +8,15 @@ pub mod Complete
 pub mod Agreeing
 pub mod Made
 pub mod Migrating
+pub mod Auditing
+pub mod Judging
+pub mod OnePlan
 pub mod SlackRuns
 pub mod Headline
 pub mod CauseTable
 pub mod OneCause
 pub mod Exact
+pub mod Audited
 pub mod RunsAgreeing
 pub mod Finished
 pub mod Missed

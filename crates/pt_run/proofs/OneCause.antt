@@ -1,5 +1,5 @@
 -- Over known files and one graph, each fault of a graph, a sensor or a meaning has one cause at most.
-use Rattle.std.proofs.Common.{◌≡◌, ℕ, ◌+◌, ◌*◌, ◌<◌, ◌≤◌, ◌⊎◌, Bool, List, [], ◌∷◌, Option, Some, None, Result, Ok, Err, IfSome, ℤ, pos, ◌+ℤ◌, ◌≤ℤ◌, ◌<ℤ◌, length, slice_get, refl, sym, ap, ap₂, subst, ◌∙◌, arith, inl, inr, ⊎_elim}
+use Rattle.std.proofs.Common.{◌≡◌, ℕ, ◌+◌, ◌*◌, ◌<◌, ◌≤◌, List, [], ◌∷◌, Some, None, Result, Ok, Err, IfSome, ℤ, pos, ◌+ℤ◌, ◌≤ℤ◌, ◌<ℤ◌, length, slice_get, sym, ap, ap₂, subst, ◌∙◌, arith, ⊎_elim}
 use Rattle.std.proofs.lemmas.Bool.{cases_lt}
 use Rattle.std.proofs.lemmas.Int.{ints}
 use Rattle.pt_tags.specs.declared.tag.Tag.{Tag}
@@ -9,54 +9,28 @@ use Rattle.pt_types.specs.declared.kind.Kind.{Kind}
 use Rattle.pt_types.specs.declared.kind.Kind.TheVariants.{Send, Sensor}
 use Rattle.pt_types.specs.declared.firing.ActorFiring.{ActorFiring}
 use Rattle.pt_types.specs.declared.rows.Row.{Row}
-use Rattle.pt_blocks.specs.declared.blocks.Named.{Named}
-use Rattle.pt_graph_text.specs.declared.fault.GraphFault.{GraphFault}
-use Rattle.pt_graph.specs.GraphOf.{graph_of}
-use Rattle.pt_graph.proofs.Lawful.{lawful_of}
-use Rattle.pt_types.specs.Lawful.{IsLawful}
-use Rattle.pt_slacks.specs.Rings.{IsRing}
-use Rattle.pt_slacks.specs.Slacks.{Admits}
-use Rattle.pt_slacks.proofs.Refusing.{rings_admit_nothing}
-use Rattle.pt_causality.specs.Ranked.{IsFreeCycle}
 use Rattle.pt_offsets.specs.Margins.{IsFirstInfeasible}
-use Rattle.pt_offsets.specs.Plans.{Parts}
 use Rattle.pt_sensors.specs.declared.fault.RowFault.{RowFault}
 use Rattle.pt_sensors.specs.Late.{late_row}
 use Rattle.pt_sensors.specs.RowsOf.{rows_of}
-use Rattle.pt_semantics.specs.Cycles.{NoFreeCycle}
 use Rattle.pt_types.specs.Lookups.{kind_of}
 use Rattle.pt_semantics.specs.Firing.{any_present, fired}
 use Rattle.pt_semantics.specs.Meaning.{Fires, IsLonger, IsMeaning, Runs, Steps, World, after_firing, at_start, waiting}
-use Rattle.pt_semantics.specs.Offsets.{IsFeasible, IsOffset}
+use Rattle.pt_semantics.specs.Offsets.{IsOffset}
 use Rattle.pt_semantics.specs.Units.{at_output}
 use Rattle.pt_semantics.proofs.Acyclic.{ranks_are_one}
 use Rattle.pt_semantics.proofs.Lookups.{eight_found, none_some, same_some}
-use Rattle.pt_turn.specs.Platforms.{PlatformView}
 use Rattle.pt_sensors.specs.declared.recorded_fault.LateRows.{LateRows}
-use Rattle.pt_sensors.specs.declared.recorded_fault.LateRows.TheVariants.{Refused, Taken}
-use Rattle.pt_sensors.specs.Asked.{Contents, Reading}
+use Rattle.pt_sensors.specs.declared.recorded_fault.LateRows.TheVariants.{Refused}
+use Rattle.pt_sensors.specs.Asked.{Contents}
 use Rattle.pt_sensors.specs.Places.{of_run}
 use Rattle.pt_sensors.specs.Recorded.{AllPass, AreRows, HaveRows, InTime, IsLateRow, RowsOfKind, SensorFails, SensorLate}
 use Rattle.pt_run.specs.RunsAgreeing.{TellsSensors}
-use Rattle.pt_turn.specs.declared.fault.TurnFault.{TurnFault}
-use Rattle.pt_turn.specs.declared.fault.TurnFault.TheVariants as turn
-use Rattle.pt_words.specs.declared.orders.ClockChoice.{ClockChoice}
-use Rattle.pt_run.specs.Readings.{Clocking}
-use Rattle.pt_run.specs.Runs.{HasRun}
 use Rattle.pt_run.proofs.RunsAgreeing.{rows_are_one}
-use Rattle.pt_run.specs.declared.fault.Fault.{Fault}
 use Rattle.pt_run.specs.declared.fault.Fault.TheVariants as fault
-use Rattle.pt_run.specs.declared.words.Command.{Command}
-use Rattle.pt_run.specs.declared.words.Command.TheVariants.{Run, Check, Meaning, Slacks}
-use Rattle.pt_run.specs.Causes.{CauseOf, CauseOfCheck, CauseOfMeaning, CauseOfNoSlacks, CauseOfRun, CauseOfText, IsTooLongForAll, Writing}
-use Rattle.pt_run.specs.CauseTable.{AsksFeasible, OfRows}
-use Rattle.pt_run.specs.Exact.{Defines, IsExact, WantsGraph, WantsMemory, WantsRows}
-use Rattle.pt_run.specs.Making.{Ends}
-use Rattle.pt_run.specs.Migrating.{EndsMigrated}
-use Rattle.pt_run.specs.Texts.{EndsBy}
-use Rattle.pt_run.specs.Words.{Order, over, migrate}
-use Rattle.pt_run.specs.Written.{GraphWith, IsMeant, Leaves, Writes, clocking}
-use Rattle.pt_run.proofs.Complete.{agrees, ok_err, same_ok, too_late}
+use Rattle.pt_run.specs.Causes.{IsTooLongForAll}
+use Rattle.pt_run.specs.Written.{IsMeant}
+use Rattle.pt_run.proofs.Complete.{agrees, ok_err, same_ok}
 use Rattle.pt_types.specs.Limits.{most_claims}
 
 pub same_err : {X E : Type 0} (x y : E) → ◌≡◌ {A = Result X E} (Err x) (Err y) → x ≡ y

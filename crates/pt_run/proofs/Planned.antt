@@ -101,6 +101,8 @@ ends_plan o left workers clock log tells g plan r w admitted is ends = by_outcom
     by_outcome (Some (fault.Cycle actors)) h = absurd h
     by_outcome (Some (fault.Infeasible send offset slack)) h = absurd h
     by_outcome (Some (fault.Ring sends gain)) h = absurd h
+    by_outcome (Some fault.ReadLog) h = absurd h
+    by_outcome (Some (fault.Unlawful v)) h = absurd h
 
 -- a run that ended
 pub ended_plan : (ran : Result Ran RunFault) (o : Ending) (before now : List ClockView) (workers : ℕ) (clock : ClockChoice) (log : Bool) (tells : Contents) (plan : Parts) (r : Reading) (w : Writing) →
@@ -175,6 +177,8 @@ check_fails g level (Err f) levels h = λ tells r. by_fault f h tells r
     by_fault (fault.Cycle actors) k tells r = absurd k
     by_fault fault.Usage k tells r = absurd k
     by_fault (fault.Ring sends gain) k tells r = absurd k
+    by_fault fault.ReadLog k tells r = absurd k
+    by_fault (fault.Unlawful v) k tells r = absurd k
     by_fault (fault.Graph e) k tells r = absurd k
     by_fault (fault.Sensor actor e) k tells r = absurd k
     by_fault (fault.LateRow actor row seen limit) k tells r = absurd k
@@ -201,6 +205,8 @@ meaning_fails tells g r level (Err f) levels h = by_fault f h
     by_fault (fault.Infeasible send offset slack) k = (free, (k, (refl, refl)))
     by_fault fault.Usage k = (free, (k, (refl, refl)))
     by_fault (fault.Ring sends gain) k = (free, (k, (refl, refl)))
+    by_fault fault.ReadLog k = (free, (k, (refl, refl)))
+    by_fault (fault.Unlawful v) k = (free, (k, (refl, refl)))
     by_fault (fault.Graph e) k = (free, (k, (refl, refl)))
     by_fault (fault.Sensor actor e) k = (free, (k, (refl, refl)))
     by_fault (fault.LateRow actor row seen limit) k = (free, (k, (refl, refl)))
@@ -223,6 +229,8 @@ slacks_fail g level (Err f) levels h = λ tells r. by_fault f h tells r
 
     by_fault : (e : Fault) → SlacksFail e g → (tells : Contents) (r : Reading) → CauseOf Slacks e nothing tells g [] r
     by_fault (fault.Ring sends gain) k tells r = (free, (k, (refl, refl)))
+    by_fault fault.ReadLog k tells r = absurd k
+    by_fault (fault.Unlawful v) k tells r = absurd k
     by_fault fault.Memory k tells r = (refl, refl)
     by_fault (fault.Cycle actors) k tells r = absurd k
     by_fault (fault.Infeasible send offset slack) k tells r = absurd k

@@ -21,7 +21,7 @@ use Rattle.pt_run.specs.Texts.{EndsOver}
 use Rattle.pt_run.specs.Written.{HasNothing, IsRun, Leaves, WritesText}
 
 -- no platforms are of any graph
-of_none : (left : Leaves) (g : Graph) → HasNothing left → AreOfGraph left.platforms g
+pub of_none : (left : Leaves) (g : Graph) → HasNothing left → AreOfGraph left.platforms g
 of_none left g h i v at = absurd (none_some v (ap (λ ps. slice_get ps i) (sym h.1) ∙ at))
 
 -- the platforms that a call leaves are of its graph
@@ -46,6 +46,8 @@ module _ (tells : Contents) (g : Graph) (r : Reading) (left : Leaves) where
   by_run workers clock (fault.LateMessage platform actor tag reading limit) h = of_stop workers clock platform _ h
   by_run workers clock (fault.Long (Some platform)) h = of_stop workers clock platform _ h
   by_run workers clock (fault.Ring sends gain) h = absurd h
+  by_run workers clock fault.ReadLog h = absurd h
+  by_run workers clock (fault.Unlawful v) h = absurd h
   by_run workers clock (fault.Long None) h = absurd h
   by_run workers clock (fault.Read None) h = absurd h
   by_run workers clock fault.Usage h = absurd h
@@ -65,6 +67,8 @@ module _ (tells : Contents) (g : Graph) (r : Reading) (left : Leaves) where
   by_cause c fault.Memory h = of_none left g h
   by_cause c (fault.Infeasible send offset slack) h = by_text c (fault.Infeasible send offset slack) h.1
   by_cause c (fault.Ring sends gain) h = by_text c (fault.Ring sends gain) h.1
+  by_cause c fault.ReadLog h = by_text c fault.ReadLog h.1
+  by_cause c (fault.Unlawful v) h = by_text c (fault.Unlawful v) h.1
   by_cause c (fault.Read sensor) h = by_text c (fault.Read sensor) h.1
   by_cause c (fault.Sensor actor e) h = by_text c (fault.Sensor actor e) h.1
   by_cause c (fault.LateRow actor row seen limit) h = by_text c (fault.LateRow actor row seen limit) h.1
@@ -83,6 +87,8 @@ of_graph c (Some (fault.Graph e)) left tells g r w h = by_cause tells g r left c
 of_graph c (Some (fault.Cycle actors)) left tells g r w h = by_cause tells g r left c (fault.Cycle actors) h.0
 of_graph c (Some (fault.Infeasible send offset slack)) left tells g r w h = by_cause tells g r left c (fault.Infeasible send offset slack) h.0
 of_graph c (Some (fault.Ring sends gain)) left tells g r w h = by_cause tells g r left c (fault.Ring sends gain) h.0
+of_graph c (Some fault.ReadLog) left tells g r w h = by_cause tells g r left c fault.ReadLog h.0
+of_graph c (Some (fault.Unlawful v)) left tells g r w h = by_cause tells g r left c (fault.Unlawful v) h.0
 of_graph c (Some (fault.Read sensor)) left tells g r w h = by_cause tells g r left c (fault.Read sensor) h.0
 of_graph c (Some (fault.Sensor actor e)) left tells g r w h = by_cause tells g r left c (fault.Sensor actor e) h.0
 of_graph c (Some (fault.LateRow actor row seen limit)) left tells g r w h = by_cause tells g r left c (fault.LateRow actor row seen limit) h.0
@@ -101,6 +107,8 @@ told_file c (Some (fault.Read (Some actor))) misses platforms tells blocks name 
 told_file c (Some (fault.Cycle actors)) misses platforms tells blocks name g w read of h = (g, read, (of, h))
 told_file c (Some (fault.Infeasible send offset slack)) misses platforms tells blocks name g w read of h = (g, read, (of, h))
 told_file c (Some (fault.Ring sends gain)) misses platforms tells blocks name g w read of h = (g, read, (of, h))
+told_file c (Some fault.ReadLog) misses platforms tells blocks name g w read of h = (g, read, (of, h))
+told_file c (Some (fault.Unlawful v)) misses platforms tells blocks name g w read of h = (g, read, (of, h))
 told_file c (Some (fault.Sensor actor f)) misses platforms tells blocks name g w read of h = (g, read, (of, h))
 told_file c (Some (fault.LateRow actor row seen limit)) misses platforms tells blocks name g w read of h = (g, read, (of, h))
 told_file c (Some (fault.LateMessage platform actor tag reading limit)) misses platforms tells blocks name g w read of h = (g, read, (of, h))

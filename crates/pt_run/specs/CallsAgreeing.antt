@@ -23,6 +23,7 @@ use Rattle.pt_run.specs.declared.words.Command.TheVariants.{Run}
 abbrev pub IsUndisturbed : Option Fault → Type 0
 IsUndisturbed (Some fault.Memory) = ⊥
 IsUndisturbed (Some (fault.Read sensor)) = ⊥
+IsUndisturbed (Some fault.ReadLog) = ⊥
 IsUndisturbed (Some fault.Write) = ⊥
 IsUndisturbed _ = Unit {0}
 

@@ -3,6 +3,7 @@
 use Rattle.std.specs.Prelude.{◌≡◌, ◌≢◌, ◌↔◌, ℕ, ℤ, List, [], ◌∷◌, Option, Some, None, Err, IfSome, flat_map, slice_get}
 use Rattle.pt_io.specs.Causes.{Rose}
 use Rattle.pt_types.specs.declared.graph.Graph.{Graph}
+use Rattle.pt_audit.specs.declared.verdict.Verdict.{Verdict}
 use Rattle.pt_blocks.specs.declared.blocks.Named.{Named}
 use Rattle.pt_graph_text.specs.declared.fault.GraphFault.{GraphFault}
 use Rattle.pt_graph.specs.GraphOf.{graph_of}
@@ -26,23 +27,32 @@ use Rattle.pt_run.specs.declared.fault.Fault.TheVariants as fault
 use Rattle.pt_run.specs.declared.words.Command.{Command}
 use Rattle.pt_run.specs.declared.words.Command.TheVariants.{Run, Check, Meaning, Slacks}
 use Rattle.pt_run.specs.Causes.{MeansLong, Writing}
-use Rattle.pt_run.specs.Words.{Order, over, make, migrate}
+use Rattle.pt_run.specs.Auditing.{Accepts, IsUnlawful, LogFails, OnLog}
+use Rattle.pt_run.specs.Headline.{RunWith}
+use Rattle.pt_run.specs.Words.{Order, over, make, migrate, audit, paced_run}
 use Rattle.pt_run.specs.Written.{GraphWith, Leaves}
 
--- the words are a command on a graph file, `migrate` included, and a fact holds of the file's name
+-- the words are a command on a graph file, `migrate` and `audit` included, and a fact holds of the file's name
 abbrev pub OverFile : Option Order → (List ℕ → Type 0) → Type 0
 OverFile None Fact = ⊥
 OverFile (Some (make number workers)) Fact = ⊥
 OverFile (Some (migrate name)) Fact = Fact name
+OverFile (Some (audit name log)) Fact = Fact name
 OverFile (Some (over command name)) Fact = Fact name
 
 -- they are a command that needs more of the graph than its text, and a fact holds of the command, the file's name and the graph
--- that the file defines
+-- that the file defines. An audit refuses what a paced run refuses, so a fact of it is one of such a run
 abbrev pub OverGraph : Option Order → Contents → List Named → (Command → List ℕ → Graph → Type 0) → Type 0
 OverGraph None tells blocks Fact = ⊥
 OverGraph (Some (make number workers)) tells blocks Fact = ⊥
 OverGraph (Some (migrate name)) tells blocks Fact = ⊥
 OverGraph (Some (over command name)) tells blocks Fact = GraphWith tells blocks name (Fact command name)
+OverGraph (Some (audit name log)) tells blocks Fact = GraphWith tells blocks name (Fact paced_run name)
+
+-- they are an audit, and a fact holds of the names of the graph file and of the log
+abbrev pub OverLog : Option Order → (List ℕ → List ℕ → Type 0) → Type 0
+OverLog (Some (audit name log)) Fact = Fact name log
+OverLog _ Fact = ⊥
 
 -- a run, by whatever clock
 abbrev pub IsRunCommand : Command → Type 0
@@ -98,6 +108,11 @@ pub record CauseTable (status : ℕ) (outcome : Option Fault) (left : Leaves) (o
       OverGraph order tells blocks (λ command name g. IsNotPaced command × IsAccepted command g × OnPlatform left g platform (λ v. ShowsLate g v.turns actor tag reading limit))
   pub long : (platform : ℕ) → outcome ≡ Some (fault.Long (Some platform)) → OverGraph order tells blocks (λ command name g. IsRunCommand command × IsAccepted command g × OnPlatform left g platform (λ v. ShowsLong g (state_at v)))
   pub long_meaning : outcome ≡ Some (fault.Long None) → OverGraph order tells blocks (λ command name g. (command ≡ Meaning) × NoFreeCycle g × MeansLong tells g)
+  -- the log could not be read; or it is refused by that verdict and no other, and is no lawful log. If the audit of a log writes
+  -- all, the log is lawful, and no verdict refuses it
+  pub log_unread : outcome ≡ Some fault.ReadLog → OverLog order (λ name log. RunWith tells blocks name (λ plan rows. LogFails plan.graph (name ∷ []) log r))
+  pub unlawful : (v : Verdict) → outcome ≡ Some (fault.Unlawful v) → OverLog order (λ name log. RunWith tells blocks name (OnLog tells log (λ plan rows bytes. IsUnlawful plan rows bytes v)))
+  pub lawful : (name log : List ℕ) → order ≡ Some (audit name log) → outcome ≡ None → RunWith tells blocks name (OnLog tells log Accepts)
   -- the sink's count of faults rose; with any other fault nothing is written
   pub write : outcome ≡ Some fault.Write → Rose w.before w.now
   pub unwritten : (f : Fault) → outcome ≡ Some f → f ≢ fault.Write → w.written_now ≡ w.written_before

@@ -1,7 +1,10 @@
 -- If the words and the known files have a cause, and none before it in the order of `CauseTable`, the answer is that fault,
 -- or one that known files cannot rule out: out of memory, or a failed read. So with `CauseTable` each of these answers comes
--- exactly if it has its cause. How else a run ends is in `IsComplete`.
+-- exactly if it has its cause. How else a run ends is in `IsComplete`. What is said of a command that refuses a graph or a file
+-- of a sensor is said of an audit too, as of a paced run (`refused_as`).
 use Rattle.std.specs.Prelude.{◌≡◌, ◌⊎◌, ℕ, ℤ, Bool, List, Option, Some, None, Result, Ok, Err}
+use Rattle.pt_audit.specs.LawfulLogs.{IsLawfulLog}
+use Rattle.pt_audit.specs.declared.verdict.Verdict.{Verdict}
 use Rattle.pt_types.specs.declared.graph.Graph.{Graph}
 use Rattle.pt_types.specs.declared.rows.Row.{Row}
 use Rattle.pt_blocks.specs.Blocks.{AreBlocks}
@@ -13,7 +16,9 @@ use Rattle.pt_offsets.specs.Margins.{IsFirstInfeasible}
 use Rattle.pt_sensors.specs.declared.fault.RowFault.{RowFault}
 use Rattle.pt_semantics.specs.Cycles.{NoFreeCycle}
 use Rattle.pt_semantics.specs.Offsets.{IsFeasible}
+use Rattle.pt_offsets.specs.Plans.{IsAdmitted, Parts}
 use Rattle.pt_sensors.specs.Asked.{Contents}
+use Rattle.pt_sensors.specs.Places.{of_run}
 use Rattle.pt_sensors.specs.Recorded.{AreRows, SensorFails, SensorLate}
 use Rattle.pt_slacks.specs.Rings.{IsRing}
 use Rattle.pt_slacks.specs.Slacks.{Admits}
@@ -25,7 +30,9 @@ use Rattle.pt_run.specs.declared.words.Command.{Command}
 use Rattle.pt_run.specs.declared.words.Command.TheVariants.{Run, Meaning, Slacks}
 use Rattle.pt_run.specs.Causes.{IsTooLongForAll}
 use Rattle.pt_run.specs.CauseTable.{AsksFeasible, OfRows}
-use Rattle.pt_run.specs.Words.{Order, over, migrate}
+use Rattle.pt_run.specs.Auditing.{Refuses}
+use Rattle.pt_run.specs.Complete.{CanBegin}
+use Rattle.pt_run.specs.Words.{Order, over, migrate, audit, refused_as}
 
 -- memory ran out
 abbrev pub WantsMemory : Option Fault → Type 0
@@ -39,6 +46,10 @@ WantsGraph outcome = WantsMemory outcome ⊎ (outcome ≡ Some (fault.Read None)
 abbrev pub WantsRows : Option Fault → Type 0
 WantsRows outcome = WantsGraph outcome ⊎ ((actor : ℕ) × (outcome ≡ Some (fault.Read (Some actor))))
 
+-- the same, or the log could not be read
+abbrev pub WantsLog : Option Fault → Type 0
+WantsLog outcome = WantsRows outcome ⊎ (outcome ≡ Some fault.ReadLog)
+
 -- the words give this order for a graph file whose content is known, and it defines this graph or has this fault
 pub record Defines (order : Option Order) (tells : Contents) (blocks : List Named) (order_for : List ℕ → Order) (defined : Result Graph GraphFault) : Type 0 where
   pub name : List ℕ
@@ -50,20 +61,31 @@ pub record Defines (order : Option Order) (tells : Contents) (blocks : List Name
 -- the words are this command on a file that defines this graph, in which each cycle takes time; each sender can send in
 -- time, if the command refuses others; and the contents of all sensors' files are known
 pub record ReadsRows (order : Option Order) (tells : Contents) (blocks : List Named) (command : Command) (g : Graph) : Type 0 where
-  pub graph : Defines order tells blocks (over command) (Ok g)
+  pub graph : Defines (refused_as order) tells blocks (over command) (Ok g)
   pub no_free_cycle : NoFreeCycle g
   pub feasible : AsksFeasible command → IsFeasible g
   pub files : TellsSensors tells g
+
+-- the words are an audit of a log with this content, on a file that defines the graph of this admitted plan, and a run of it can
+-- begin over these rows
+pub record CanAudit (order : Option Order) (tells : Contents) (blocks : List Named) (plan : Parts) (rows : ℕ → List Row) (bytes : List ℕ) : Type 0 where
+  pub name : List ℕ
+  pub log : List ℕ
+  pub words : order ≡ Some (audit name log)
+  pub admitted : IsAdmitted plan
+  pub begins : CanBegin tells blocks name plan.graph
+  pub over : rows ≡ of_run plan.graph begins.rows
+  pub told : tells log ≡ Some bytes
 
 -- each cause that the words and the known files decide gives its answer
 pub record IsExact (outcome : Option Fault) (order : Option Order) (tells : Contents) (blocks : List Named) : Type 0 where
   -- the words are not a valid command line
   pub usage : order ≡ None → (outcome ≡ Some fault.Usage) ⊎ WantsMemory outcome
   -- the graph's text has that fault, or some actors are a cycle that takes no time
-  pub graph : (command : Command) (f : GraphFault) → Defines order tells blocks (over command) (Err f) → (outcome ≡ Some (fault.Graph f)) ⊎ WantsGraph outcome
-  pub cycle : (command : Command) (g : Graph) → Defines order tells blocks (over command) (Ok g) → (NoFreeCycle g → ⊥) → ((actors : List ℕ) × IsFreeCycle g actors × (outcome ≡ Some (fault.Cycle actors))) ⊎ WantsGraph outcome
+  pub graph : (command : Command) (f : GraphFault) → Defines (refused_as order) tells blocks (over command) (Err f) → (outcome ≡ Some (fault.Graph f)) ⊎ WantsGraph outcome
+  pub cycle : (command : Command) (g : Graph) → Defines (refused_as order) tells blocks (over command) (Ok g) → (NoFreeCycle g → ⊥) → ((actors : List ℕ) × IsFreeCycle g actors × (outcome ≡ Some (fault.Cycle actors))) ⊎ WantsGraph outcome
   -- that sender is the first that can't send in time, and the command refuses it
-  pub infeasible : (command : Command) (g : Graph) (send : ℕ) (offset : ℤ) (slack : ℕ) → AsksFeasible command → Defines order tells blocks (over command) (Ok g) → NoFreeCycle g → IsFirstInfeasible g send offset slack →
+  pub infeasible : (command : Command) (g : Graph) (send : ℕ) (offset : ℤ) (slack : ℕ) → AsksFeasible command → Defines (refused_as order) tells blocks (over command) (Ok g) → NoFreeCycle g → IsFirstInfeasible g send offset slack →
       (outcome ≡ Some (fault.Infeasible send offset slack)) ⊎ WantsGraph outcome
   -- with no slacks can each sender send in time, so a ring is named; if with some they can, `slacks` writes the least, unless a
   -- write fails. The blocks are those of a `Blocks`
@@ -77,3 +99,7 @@ pub record IsExact (outcome : Option Fault) (order : Option Order) (tells : Cont
   -- `migrate` answers a fault of the graph's text too, and writes any graph that the text defines, unless a write fails
   pub unmigrated : (f : GraphFault) → Defines order tells blocks migrate (Err f) → (outcome ≡ Some (fault.Graph f)) ⊎ WantsGraph outcome
   pub migrated : (g : Graph) → Defines order tells blocks migrate (Ok g) → ((outcome ≡ None) ⊎ (outcome ≡ Some fault.Write)) ⊎ WantsGraph outcome
+  -- an audit finds a lawful log lawful, and writes that unless a write fails; it refuses each other log by the verdict on it
+  pub lawful : (plan : Parts) (rows : ℕ → List Row) (bytes : List ℕ) → CanAudit order tells blocks plan rows bytes → IsLawfulLog plan rows bytes → ((outcome ≡ None) ⊎ (outcome ≡ Some fault.Write)) ⊎ WantsLog outcome
+  pub unlawful : (plan : Parts) (rows : ℕ → List Row) (bytes : List ℕ) → CanAudit order tells blocks plan rows bytes → (IsLawfulLog plan rows bytes → ⊥) → ((v : Verdict) × Refuses plan rows bytes v × (outcome ≡ Some (fault.Unlawful v))) ⊎ WantsLog outcome
+  pub verdict : (plan : Parts) (rows : ℕ → List Row) (bytes : List ℕ) (v : Verdict) → CanAudit order tells blocks plan rows bytes → Refuses plan rows bytes v → (outcome ≡ Some (fault.Unlawful v)) ⊎ WantsLog outcome

@@ -10,6 +10,7 @@ pub mod Notes
 pub mod Telling
 pub mod Making
 pub mod Migrating
+pub mod Auditing
 pub mod SlackRuns
 pub mod Asking
 pub mod Headline

@@ -1,11 +1,15 @@
 -- The line that reports a fault.
-use Rattle.std.specs.Prelude.{ℕ, ℤ, List, [], ◌∷◌, ◌++◌, Option, Some, None, codes, slice_index_or}
+use Rattle.std.specs.Prelude.{ℕ, ℤ, List, [], ◌∷◌, ◌++◌, Option, Some, None, codes, slice_get, slice_index_or}
+use Rattle.std.specs.Option.{option_map_or}
 use Rattle.std.specs.Fmt.{decimal, signed_decimal}
 use Rattle.pt_tags.specs.declared.tag.Tag.{Tag}
 use Rattle.pt_types.specs.declared.graph.Graph.{Graph}
+use Rattle.pt_types.specs.declared.graph.Link.{Link}
 use Rattle.pt_graph_text.specs.Lines as graph
 use Rattle.pt_sensors.specs.Lines as sensor
 use Rattle.pt_types.specs.Groups.{no_actor}
+use Rattle.pt_audit.specs.declared.verdict.Verdict.{Verdict}
+use Rattle.pt_audit.specs.declared.verdict.Verdict.TheVariants as verdict
 use Rattle.pt_run.specs.declared.fault.Fault.{Fault}
 use Rattle.pt_run.specs.declared.fault.Fault.TheVariants as fault
 
@@ -18,6 +22,11 @@ actor_name (Some g) a = (slice_index_or g.actors a no_actor).name
 abbrev pub platform_name : Option Graph → ℕ → List ℕ
 platform_name None p = []
 platform_name (Some g) p = slice_index_or g.platforms p []
+
+-- the name of the sender of a link of the graph; empty without a graph, and where the graph has no such link
+abbrev pub sender_name : Option Graph → ℕ → List ℕ
+sender_name None l = []
+sender_name (Some g) l = option_map_or (λ (link : Link). actor_name (Some g) link.from) (slice_get g.links l) []
 
 -- names, each after a space
 abbrev pub names_of : Option Graph → List ℕ → List ℕ
@@ -66,9 +75,27 @@ abbrev pub read_line : Option ℕ → Option Graph → List ℕ
 read_line None g = codes "read fault: graph" ++ 10 ∷ []
 read_line (Some actor) g = codes "read fault: sensor " ++ actor_name g actor ++ 10 ∷ []
 
+-- turn at line L
+abbrev pub turn_part : ℕ → List ℕ
+turn_part line = codes "turn at line " ++ decimal line ++ 10 ∷ []
+
+-- why a log is refused: the line without `unlawful: `. No log is refused as fine
+abbrev pub verdict_part : Verdict → Option Graph → List ℕ
+verdict_part verdict.TooLong g = codes "too long" ++ 10 ∷ []
+verdict_part verdict.NoLog g = codes "no log" ++ 10 ∷ []
+verdict_part (verdict.Turn line) g = turn_part line
+verdict_part (verdict.Unfinished platform) g = codes "unfinished " ++ platform_name g platform ++ 10 ∷ []
+verdict_part (verdict.Unlinked link) g = codes "link " ++ sender_name g link ++ 10 ∷ []
+verdict_part verdict.Table g = codes "table" ++ 10 ∷ []
+verdict_part verdict.Fine g = codes "fine" ++ 10 ∷ []
+
+-- unlawful: WHY
+abbrev pub unlawful_line : Verdict → Option Graph → List ℕ
+unlawful_line v g = codes "unlawful: " ++ verdict_part v g
+
 -- the line of each fault
 abbrev pub note_line : Fault → Option Graph → List ℕ
-note_line fault.Usage g = codes "usage: ptides run GRAPH [--workers N] [--clock paced|step:START:STEP|machine] [--log] | check GRAPH | meaning GRAPH | make NUMBER [--workers N] | migrate GRAPH | slacks GRAPH" ++ 10 ∷ []
+note_line fault.Usage g = codes "usage: ptides run GRAPH [--workers N] [--clock paced|step:START:STEP|machine] [--log] | check GRAPH | meaning GRAPH | make NUMBER [--workers N] | migrate GRAPH | audit GRAPH LOG | slacks GRAPH" ++ 10 ∷ []
 note_line (fault.Graph f) g = graph.fault_line f
 note_line (fault.Cycle actors) g = cycle_line g actors
 note_line (fault.Infeasible send offset slack) g = infeasible_line (actor_name g send) offset slack
@@ -78,5 +105,7 @@ note_line (fault.LateRow actor row seen limit) g = late_line (actor_name g actor
 note_line (fault.LateMessage platform actor tag reading limit) g = late_message_line (actor_name g actor) tag reading limit
 note_line (fault.Long platform) g = long_line platform g
 note_line (fault.Read sensor) g = read_line sensor g
+note_line fault.ReadLog g = codes "read fault: log" ++ 10 ∷ []
+note_line (fault.Unlawful v) g = unlawful_line v g
 note_line fault.Write g = codes "write fault" ++ 10 ∷ []
 note_line fault.Memory g = codes "memory" ++ 10 ∷ []

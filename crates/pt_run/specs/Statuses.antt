@@ -16,6 +16,8 @@ status_of_fault (fault.LateRow actor row seen limit) = 4
 status_of_fault (fault.LateMessage platform actor tag reading limit) = 4
 status_of_fault (fault.Long platform) = 6
 status_of_fault (fault.Read sensor) = 7
+status_of_fault fault.ReadLog = 7
+status_of_fault (fault.Unlawful verdict) = 10
 status_of_fault fault.Write = 8
 status_of_fault fault.Memory = 9
 

@@ -159,8 +159,8 @@ IsStopped (stop.Late platform actor tag reading limit platforms) o = LeftAll (fa
 IsStopped stop.Memory o = (o.fault ≡ Some fault.Memory) × (left_by o ≡ nothing)
 
 -- the fault of an answer
-abbrev pub fault_in : Result (String Global) Fault → Option Fault
-fault_in (Ok text) = None
+abbrev pub fault_in : {X : Type 0} → Result X Fault → Option Fault
+fault_in (Ok answer) = None
 fault_in (Err f) = Some f
 
 -- a graph without a plan was reported, or memory ran out

@@ -4,6 +4,7 @@ ghost use Rattle.std.specs.Prelude.{◌≡◌};
 ghost use Rattle.pt_run.specs.Statuses.{status_of_fault};
 ghost use Rattle.pt_run.specs.Faults.{fault_of_cycle, fault_of_graph, fault_of_offset, fault_of_plan, fault_of_rows, fault_of_slacks};
 
+use pt_audit::Verdict;
 use pt_causality::CycleFault;
 use pt_graph::GraphFault;
 use pt_offsets::{OffsetFault, PlanFault};
@@ -62,6 +63,10 @@ pub enum Fault {
     Read {
         sensor: Option<u32>,
     },
+    /// The log to be audited could not be read.
+    ReadLog,
+    /// The log to be audited is not what a run of the graph writes: this is the verdict on it, never `Verdict::Fine`.
+    Unlawful(Verdict),
     /// The output could not be written in full.
     Write,
     /// Memory ran out.
@@ -83,6 +88,8 @@ pub fn status_of(fault: &Fault) -> u8
         Fault::LateMessage { .. } => 4,
         Fault::Long { .. } => 6,
         Fault::Read { .. } => 7,
+        Fault::ReadLog => 7,
+        Fault::Unlawful(_) => 10,
         Fault::Write => 8,
         Fault::Memory => 9,
     }

@@ -3,9 +3,10 @@
 ghost use Rattle.std.specs.Prelude.{◌≡◌, ◌⊎◌, ◌++◌, [], ◌∷◌, IfOk, None, OnOk, Some, option_map, string_bytes};
 ghost use Rattle.pt_run.specs.declared.fault.Fault.TheVariants.{Memory, Write};
 ghost use Rattle.pt_run.specs.Telling.{Tells};
-ghost use Rattle.pt_run.specs.Notes.{actor_name, at_part, cycle_line, gain_part, infeasible_line, late_line, late_message_line, long_line, names_of, note_line, offset_part, platform_name, read_line, ring_line};
+ghost use Rattle.pt_run.specs.Notes.{actor_name, at_part, cycle_line, gain_part, infeasible_line, late_line, late_message_line, long_line, names_of, note_line, offset_part, platform_name, read_line, ring_line, sender_name, turn_part, unlawful_line, verdict_part};
 
 use crate::fault::Fault;
+use pt_audit::Verdict;
 use pt_graph::fault_line as graph_line;
 use pt_io::Sink;
 use pt_sensors::fault_line as sensor_line;
@@ -15,7 +16,7 @@ use std::alloc::{AllocError, Global};
 
 /// The line for a command line that is not valid.
 const USAGE: &str =
-    "usage: ptides run GRAPH [--workers N] [--clock paced|step:START:STEP|machine] [--log] | check GRAPH | meaning GRAPH | make NUMBER [--workers N] | migrate GRAPH | slacks GRAPH\n";
+    "usage: ptides run GRAPH [--workers N] [--clock paced|step:START:STEP|machine] [--log] | check GRAPH | meaning GRAPH | make NUMBER [--workers N] | migrate GRAPH | audit GRAPH LOG | slacks GRAPH\n";
 
 /// Puts the line of a fault on `notes`, and returns the fault; if there is no memory for the line, that becomes the fault.
 /// A failed put has no other effect.
@@ -83,6 +84,8 @@ fn push_line(line: &mut String, fault: &Fault, graph: Option<&Graph>) -> Result<
         } => push_late_message(line, actor_name(graph, *actor), tag, *reading, *limit),
         Fault::Long { platform } => push_long(line, *platform, graph),
         Fault::Read { sensor } => push_read(line, *sensor, graph),
+        Fault::ReadLog => line.push_str("read fault: log\n"),
+        Fault::Unlawful(verdict) => push_unlawful(line, verdict, graph),
         Fault::Write => line.push_str("write fault\n"),
         Fault::Memory => line.push_str("memory\n"),
     }
@@ -233,6 +236,46 @@ fn push_read(
     }
 }
 
+/// Appends the line of a log that is refused.
+fn push_unlawful(
+    line: &mut String,
+    verdict: &Verdict,
+    graph: Option<&Graph>,
+) -> Result<(), AllocError>
+    ensures { OnOk result (string_bytes line.new ≡ string_bytes line.old ++ unlawful_line verdict.now (option_map (λ g. g.now) graph.entry)) }
+{
+    line.push_str("unlawful: ")?;
+    push_verdict(line, verdict, graph)
+}
+
+/// Appends why a log is refused, and ends the line.
+fn push_verdict(
+    line: &mut String,
+    verdict: &Verdict,
+    graph: Option<&Graph>,
+) -> Result<(), AllocError>
+    ensures { OnOk result (string_bytes line.new ≡ string_bytes line.old ++ verdict_part verdict.now (option_map (λ g. g.now) graph.entry)) }
+{
+    match verdict {
+        Verdict::TooLong => line.push_str("too long\n"),
+        Verdict::NoLog => line.push_str("no log\n"),
+        Verdict::Turn { line: number } => push_turn(line, *number),
+        Verdict::Unfinished { platform } => {
+            push_name(line, "unfinished ", platform_name(graph, *platform))
+        }
+        Verdict::Unlinked { link } => push_name(line, "link ", sender_name(graph, *link)),
+        Verdict::Table => line.push_str("table\n"),
+        Verdict::Fine => line.push_str("fine\n"),
+    }
+}
+
+/// Appends the line of the file at which a turn begins, and ends the line.
+fn push_turn(line: &mut String, number: u32) -> Result<(), AllocError>
+    ensures { OnOk result (string_bytes line.new ≡ string_bytes line.old ++ turn_part number) }
+{
+    write!(line, "turn at line {number}\n")
+}
+
 /// Appends a line that ends with a name.
 fn push_name(line: &mut String, start: &str, name: &str) -> Result<(), AllocError>
     ensures { OnOk result (string_bytes line.new ≡ string_bytes line.old ++ (start.now ++ name.now ++ 10 ∷ [])) }
@@ -250,6 +293,19 @@ fn actor_name(graph: Option<&Graph>, actor: u32) -> &str
         return "";
     };
     graph.actor_name(actor)
+}
+
+/// The name of the sender of a link of the graph; empty without a graph, and if the graph has no such link.
+fn sender_name(graph: Option<&Graph>, link: u32) -> &str
+    ensures { result.now ≡ sender_name (option_map (λ g. g.now) graph.entry) link }
+{
+    let Some(of) = graph else {
+        return "";
+    };
+    match of.links.as_slice().get(link as usize) {
+        Some(link) => of.actor_name(link.from),
+        None => "",
+    }
 }
 
 /// The name of a platform of the graph; empty without a graph.

@@ -35,6 +35,8 @@ pub enum Asked<'a> {
     Make { number: u32, workers: u32 },
     /// The graph file with this name as a file of version 2.
     Migrate { graph: &'a str },
+    /// An audit: whether the file `log` is what a run of the graph file with this name writes, with the log.
+    Audit { graph: &'a str, log: &'a str },
 }
 
 /// What the words ask for; `None` if the command line is not valid.
@@ -75,6 +77,7 @@ fn asked_by<'a>(order: Order<'a>) -> Asked<'a>
         },
         Order::Make { number, workers } => Asked::Make { number, workers },
         Order::Migrate { graph } => Asked::Migrate { graph },
+        Order::Audit { graph, log } => Asked::Audit { graph, log },
         Order::Slacks { graph } => Asked::Over {
             command: Command::Slacks,
             graph,

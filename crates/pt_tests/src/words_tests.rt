@@ -17,7 +17,7 @@ const RUNS: [&str; 8] = [
 ];
 
 /// Lines outside the grammar; two spaces enclose an empty word.
-const REFUSED: [&str; 50] = [
+const REFUSED: [&str; 58] = [
     "",
     "run",
     "Run g.json",
@@ -68,6 +68,14 @@ const REFUSED: [&str; 50] = [
     "check g.json --log",
     "meaning --log g.json",
     "meaning -- --clock=paced g.json",
+    "audit",
+    "audit g.json",
+    "audit g.json ",
+    "audit  log.txt",
+    "audit g.json log.txt more",
+    "audit g.json log.txt --log",
+    "audit --workers 2 g.json log.txt",
+    "audit g.json --clock=paced log.txt",
 ];
 
 /// Values that no clock has.
@@ -188,6 +196,16 @@ fn a_number_is_made_on_workers(rt: HostRuntime) -> Result<(), Fail> {
     assert!(rt; gives(alloc, "make 7", made(7, 4))?);
     assert!(rt; gives(alloc, "make --workers=1 100", made(100, 1))?);
     assert!(rt; gives(alloc, "make --workers 64 -- 1", made(1, 64))?);
+    Ok(())
+}
+
+#[test]
+fn a_log_is_audited(rt: HostRuntime) -> Result<(), Fail> {
+    let alloc = rt.alloc();
+    let audit = |graph, log| Some(Order::Audit { graph, log });
+    assert!(rt; gives(alloc, "audit g.json log.txt", audit("g.json", "log.txt"))?);
+    assert!(rt; gives(alloc, "audit -- g.json --log", audit("g.json", "--log"))?);
+    assert!(rt; gives(alloc, "audit g.json g.json", audit("g.json", "g.json"))?);
     Ok(())
 }
 

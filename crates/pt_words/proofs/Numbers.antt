@@ -7,8 +7,8 @@ use Rattle.std.proofs.lemmas.Bool.{and_parts}
 use Rattle.std.proofs.lemmas.Bool.Decides.{nat_tests}
 use Rattle.pt_words.specs.declared.orders.ClockChoice.{ClockChoice}
 use Rattle.pt_words.specs.declared.orders.Command.{Command}
-use Rattle.pt_words.specs.declared.orders.Command.TheVariants.{Run, Check, Meaning, Make, Migrate, Slacks}
-use Rattle.pt_words.specs.Grammar.{run, check, meaning, make, migrate, slacks, clock_in, command_of, graph_in, is_bare, is_numeral, log_in, made_number_of, make_of, number_within, order_of, order_with, request_of, request_over, run_of, workers_in}
+use Rattle.pt_words.specs.declared.orders.Command.TheVariants.{Run, Check, Meaning, Make, Migrate, Slacks, Audit}
+use Rattle.pt_words.specs.Grammar.{run, check, meaning, make, migrate, slacks, audit, audit_of, clock_in, command_of, graph_in, is_bare, is_numeral, log_in, made_number_of, make_of, number_within, order_of, pair_in, order_with, request_of, request_over, run_of, workers_in}
 use Rattle.pt_words.specs.Said.{Said, among, said}
 
 -- what comes of an option comes of a value that is there
@@ -84,11 +84,33 @@ over_by Slacks words word n k h = absurd (other (if_found (is_bare words) (Some 
   where
     other : Some (slacks word) ≡ Some (make n k) → ⊥
     other e = cc
+over_by Audit words word n k h = absurd cc
+
+audited_by : (words : Said) (n k : ℕ) → audit_of words ≡ Some (make n k) → ⊥
+audited_by words n k h =
+    let pair = map_found (λ pair. audit pair.0 pair.1) (pair_in words.graphs) (make n k) (if_found (is_bare words) (option_map (λ pair. audit pair.0 pair.1) (pair_in words.graphs)) (make n k) h).1 in
+    other pair.0.0 pair.0.1 pair.1
+  where
+    other : (graph log : List ℕ) → audit graph log ≡ make n k → ⊥
+    other graph log e = cc
+
+one_word : (command : Command) (words : Said) (n k : ℕ) → option_and_then (request_over command words) (graph_in words.graphs) ≡ Some (make n k) → n ≤ 100
+one_word command words n k h =
+    let word = and_then_found (request_over command words) (graph_in words.graphs) (make n k) h in
+    over_by command words word.0 n k word.1
+
+requested_by : (command : Command) (words : Said) (n k : ℕ) → request_of command words ≡ Some (make n k) → n ≤ 100
+requested_by Run words n k h = one_word Run words n k h
+requested_by Check words n k h = one_word Check words n k h
+requested_by Meaning words n k h = one_word Meaning words n k h
+requested_by Make words n k h = one_word Make words n k h
+requested_by Migrate words n k h = one_word Migrate words n k h
+requested_by Slacks words n k h = one_word Slacks words n k h
+requested_by Audit words n k h = absurd (audited_by words n k h)
 
 pub made_number : (words : List (String Global)) (n k : ℕ) → order_of words ≡ Some (make n k) → n ≤ 100
 made_number [] n k h = absurd cc
 made_number (word ∷ words) n k h =
     let command = and_then_found (λ command. order_with command (map string_bytes words)) (command_of (string_bytes word)) (make n k) h in
     let words_said = and_then_found (request_of command.0) (said among (map string_bytes words)) (make n k) command.1 in
-    let word = and_then_found (request_over command.0 words_said.0) (graph_in words_said.0.graphs) (make n k) words_said.1 in
-    over_by command.0 words_said.0 word.0 n k word.1
+    requested_by command.0 words_said.0 n k words_said.1

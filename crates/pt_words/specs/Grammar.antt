@@ -1,5 +1,5 @@
 -- The grammar of a command line. A word is a list of bytes.
-use Rattle.std.specs.Prelude.{ℕ, option_map, ◌==◌, nat_le, not, ◌&&◌, Bool, true, false, List, [], ◌∷◌, length, map, Option, Some, None, option_and_then, ◌^◌, String, string_bytes, codes, bytes_eq, if◌then◌else◌}
+use Rattle.std.specs.Prelude.{ℕ, option_map, ◌==◌, nat_le, not, ◌&&◌, ◌||◌, Bool, true, false, List, [], ◌∷◌, length, map, Option, Some, None, option_and_then, ◌^◌, String, string_bytes, codes, bytes_eq, if◌then◌else◌}
 use Rattle.std.specs.List.{after_first, before_first, list_all}
 use Rattle.std.specs.Char.{is_ascii_digit}
 use Rattle.std.specs.Str.Parse.{digits_value}
@@ -7,11 +7,11 @@ use Rattle.std.specs.declared.alloc.Global.{Global}
 use Rattle.pt_words.specs.declared.orders.ClockChoice.{ClockChoice}
 use Rattle.pt_words.specs.declared.orders.ClockChoice.TheVariants.{Machine, Paced, Step}
 use Rattle.pt_words.specs.declared.orders.Command.{Command}
-use Rattle.pt_words.specs.declared.orders.Command.TheVariants.{Run, Check, Meaning, Make, Migrate, Slacks}
+use Rattle.pt_words.specs.declared.orders.Command.TheVariants.{Run, Check, Meaning, Make, Migrate, Slacks, Audit}
 use Rattle.pt_words.specs.Said.{Said, among, said}
 
 -- what a command line asks for: a command on a graph file, where a run has its number of workers, its clock, and whether the
--- log is written too; or a run of an input made from a number, with its number of workers
+-- log is written too; an audit of a log of it; or a run of an input made from a number, with its number of workers
 pub data Request : Type 0 where
   run : (graph : List ℕ) (workers : ℕ) (clock : ClockChoice) (log : Bool) → Request
   check : (graph : List ℕ) → Request
@@ -19,6 +19,7 @@ pub data Request : Type 0 where
   make : (number : ℕ) (workers : ℕ) → Request
   migrate : (graph : List ℕ) → Request
   slacks : (graph : List ℕ) → Request
+  audit : (graph log : List ℕ) → Request
 
 -- the command with this name
 abbrev pub command_of : List ℕ → Option Command
@@ -28,7 +29,8 @@ command_of word =
     if bytes_eq word (codes "meaning") then Some Meaning else (
     if bytes_eq word (codes "make") then Some Make else (
     if bytes_eq word (codes "migrate") then Some Migrate else (
-    if bytes_eq word (codes "slacks") then Some Slacks else None)))))
+    if bytes_eq word (codes "slacks") then Some Slacks else (
+    if bytes_eq word (codes "audit") then Some Audit else None))))))
 
 -- digits without a sign, and without a leading zero unless it is `0`
 abbrev pub is_numeral : List ℕ → Bool
@@ -72,6 +74,11 @@ graph_in [] = None
 graph_in (word ∷ []) = if length word == 0 then None else Some word
 graph_in (word ∷ next ∷ more) = None
 
+-- exactly two positional words, neither of which is empty: the graph file and the log
+abbrev pub pair_in : List (List ℕ) → Option (List ℕ × List ℕ)
+pair_in (first ∷ second ∷ []) = if length first == 0 || length second == 0 then None else Some (first, second)
+pair_in _ = None
+
 -- the number of workers: 4 if none is given, and at most one may be
 abbrev pub workers_in : List (List ℕ) → Option ℕ
 workers_in [] = Some 4
@@ -104,7 +111,11 @@ abbrev pub make_of : Said → List ℕ → Option Request
 make_of words word =
     if length words.clocks == 0 && length words.logs == 0 then option_and_then (λ number. option_map (λ workers. make number workers) (workers_in words.workers)) (made_number_of word) else None
 
--- the request of a command with its positional word: only runs have options
+-- an audit of a log, which has no options
+abbrev pub audit_of : Said → Option Request
+audit_of words = if is_bare words then option_map (λ pair. audit pair.0 pair.1) (pair_in words.graphs) else None
+
+-- the request of a command with its one positional word: only runs have options
 abbrev pub request_over : Command → Said → List ℕ → Option Request
 request_over Run words graph = run_of words graph
 request_over Check words graph = if is_bare words then Some (check graph) else None
@@ -112,9 +123,11 @@ request_over Meaning words graph = if is_bare words then Some (meaning graph) el
 request_over Make words number = make_of words number
 request_over Migrate words graph = if is_bare words then Some (migrate graph) else None
 request_over Slacks words graph = if is_bare words then Some (slacks graph) else None
+request_over Audit words graph = None
 
 -- the request of a command with the values of the words after it
 abbrev pub request_of : Command → Said → Option Request
+request_of Audit words = audit_of words
 request_of command words = option_and_then (request_over command words) (graph_in words.graphs)
 
 -- the request of a command and the words after it

@@ -4,9 +4,9 @@ use Rattle.std.specs.Borrow.{Bor}
 use Rattle.clap.specs.Matches.{found_of, matched_of, raw_values}
 use Rattle.clap.specs.declared.parser.matches.ArgMatches.{ArgMatches}
 use Rattle.pt_words.specs.declared.orders.Order.{Order}
-use Rattle.pt_words.specs.declared.orders.Order.TheVariants.{Run, Check, Meaning, Make, Migrate, Slacks}
+use Rattle.pt_words.specs.declared.orders.Order.TheVariants.{Run, Check, Meaning, Make, Migrate, Slacks, Audit}
 use Rattle.pt_words.specs.declared.words.Values.{Values}
-use Rattle.pt_words.specs.Grammar.{Request, run, check, meaning, make, migrate, slacks}
+use Rattle.pt_words.specs.Grammar.{Request, run, check, meaning, make, migrate, slacks, audit}
 use Rattle.pt_words.specs.Said.{Said}
 
 -- the values of an argument; none if it is absent
@@ -21,7 +21,7 @@ told values = record { graphs = texts_in values.graphs; workers = texts_in value
 abbrev pub values_of : ArgMatches → List ℕ → List (List ℕ)
 values_of matches id = unwrap_or (option_map raw_values (matched_of (found_of matches) id)) []
 
--- an order, with the name of the graph file as bytes
+-- an order, with the names of its files as bytes
 abbrev pub asked : Order → Request
 asked (Run graph workers clock log) = run graph.now workers clock log
 asked (Check graph) = check graph.now
@@ -29,3 +29,4 @@ asked (Meaning graph) = meaning graph.now
 asked (Make number workers) = make number workers
 asked (Migrate graph) = migrate graph.now
 asked (Slacks graph) = slacks graph.now
+asked (Audit graph log) = audit graph.now log.now

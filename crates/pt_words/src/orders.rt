@@ -9,6 +9,7 @@ pub(crate) enum Command {
     Make,
     Migrate,
     Slacks,
+    Audit,
 }
 
 /// The clock that the platforms of a run read.
@@ -52,5 +53,10 @@ pub enum Order<'a> {
     /// Write the least slacks with which it can run.
     Slacks {
         graph: &'a str,
+    },
+    /// Judge whether the file `log` is what a run of it writes, with the log.
+    Audit {
+        graph: &'a str,
+        log: &'a str,
     },
 }

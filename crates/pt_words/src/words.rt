@@ -1,7 +1,7 @@
 //! The order that the words ask for.
 
 ghost use Rattle.std.specs.Prelude.{◌≡◌, ◌==◌, IfOk, codes, length, map, option_map, string_bytes};
-ghost use Rattle.pt_words.specs.Grammar.{clock_in, command_of, graph_in, is_bare, log_in, make_of, order_of, order_with, request_of, run_of, workers_in};
+ghost use Rattle.pt_words.specs.Grammar.{clock_in, command_of, audit_of, graph_in, is_bare, log_in, make_of, order_of, order_with, pair_in, request_of, request_over, run_of, workers_in};
 ghost use Rattle.pt_words.specs.Views.{asked, texts_in, told, values_of};
 
 use crate::orders::{ClockChoice, Command, Order};
@@ -24,7 +24,7 @@ struct Values<'m, 'a> {
 /// The order that these words ask for, those after the program's name; `None` if the command line is not valid.
 ///
 /// The first word is the command. Options come before or after the one positional word, the graph file or a number, in any
-/// order, each at most once. A value is the next word, or follows `=` in the same word; `--log` takes none. A word
+/// order, each at most once; `audit` has two positional words, the graph file and the log. A value is the next word, or follows `=` in the same word; `--log` takes none. A word
 /// `--` ends the options. Any other word that begins with `-` and is longer is refused, also as a value.
 pub fn order_of<'a>(alloc: Global, words: &'a [String]) -> Result<Option<Order<'a>>, AllocError>
     ensures { IfOk result (λ order. option_map asked order ≡ order_of words.entry.now) }
@@ -49,6 +49,7 @@ fn command_of(word: &str) -> Option<Command>
         "make" => Some(Command::Make),
         "migrate" => Some(Command::Migrate),
         "slacks" => Some(Command::Slacks),
+        "audit" => Some(Command::Audit),
         _ => None,
     }
 }
@@ -93,7 +94,20 @@ fn values_in<'m, 'a>(matches: &'m ArgMatches<'a>) -> Values<'m, 'a>
 fn request_of<'m, 'a>(command: Command, values: Values<'m, 'a>) -> Option<Order<'a>>
     ensures { option_map asked result ≡ request_of command (told values.entry) }
 {
-    let graph = graph_in(values.graphs)?;
+    match command {
+        Command::Audit => audit_of(values),
+        _ => request_over(command, values, graph_in(values.graphs)?),
+    }
+}
+
+/// The order that a command with one positional word asks for with that word.
+fn request_over<'m, 'a>(
+    command: Command,
+    values: Values<'m, 'a>,
+    graph: &'a str,
+) -> Option<Order<'a>>
+    ensures { option_map asked result ≡ request_over command (told values.entry) graph.entry.now }
+{
     match command {
         Command::Run => run_of(values, graph),
         Command::Check if is_bare(values) => Some(Order::Check { graph }),
@@ -132,6 +146,17 @@ fn make_of<'m, 'a>(values: Values<'m, 'a>, word: &'a str) -> Option<Order<'a>>
     Some(Order::Make { number, workers })
 }
 
+/// An audit of a log, with the graph file and the log.
+fn audit_of<'m, 'a>(values: Values<'m, 'a>) -> Option<Order<'a>>
+    ensures { option_map asked result ≡ audit_of (told values.entry) }
+{
+    if !is_bare(values) {
+        return None;
+    }
+    let (graph, log) = pair_in(values.graphs)?;
+    Some(Order::Audit { graph, log })
+}
+
 /// Whether no option is given.
 fn is_bare<'m, 'a>(values: Values<'m, 'a>) -> bool
     ensures { result ≡ is_bare (told values.entry) }
@@ -155,6 +180,16 @@ fn graph_in<'m, 'a>(words: Option<&'m [&'a str]>) -> Option<&'a str>
 {
     match words {
         Some([word]) if !word.is_empty() => Some(*word),
+        _ => None,
+    }
+}
+
+/// The positional words, if there are exactly two and neither is empty.
+fn pair_in<'m, 'a>(words: Option<&'m [&'a str]>) -> Option<(&'a str, &'a str)>
+    ensures { option_map (λ pair. (pair.0.now, pair.1.now)) result ≡ pair_in (texts_in words.entry) }
+{
+    match words {
+        Some([first, second]) if !first.is_empty() && !second.is_empty() => Some((*first, *second)),
         _ => None,
     }
 }

@@ -1,0 +1,199 @@
+//! The command `audit`.
+
+ghost use Rattle.std.specs.Prelude.{◌≡◌, ◌↔◌, ℕ, IfErr, IfOk, List, None, Some, true};
+ghost use Rattle.std.specs.Arc.{arc_value};
+ghost use Rattle.pt_types.specs.Lawful.{IsLawful};
+ghost use Rattle.pt_types.specs.declared.rows.Row.{Row};
+ghost use Rattle.pt_semantics.specs.Rows.{FitRows};
+ghost use Rattle.pt_offsets.specs.Plans.{IsAdmitted};
+ghost use Rattle.pt_sensors.specs.Listed.{rows_for};
+ghost use Rattle.pt_sensors.specs.Places.{StandInPlace, of_run};
+ghost use Rattle.pt_confluence.specs.Gathered.{AreTables, HaveFinished};
+ghost use Rattle.pt_run.specs.Auditing.{Accepts, AnswersAudit, AsksAudit, AsksJudged, CauseOfRefusal, EndsAudit, EndsJudged, IsJudged, OnLog};
+ghost use Rattle.pt_run.specs.Runs.{RunOver};
+ghost use Rattle.pt_run.specs.Statuses.{status_of};
+ghost use Rattle.pt_run.specs.Telling.{Tells, TellsBy};
+ghost use Rattle.pt_run.specs.Texts.{fault_in, left_by};
+ghost use Rattle.pt_run.specs.Words.{paced_run};
+
+use crate::admission::graph_at;
+use crate::fault::{Fault, fault_of_rows};
+use crate::notes::{tell, tell_write};
+use crate::outcome::Ending;
+use crate::output::put_text;
+use crate::run::planned;
+use pt_audit::{Replayed, Verdict, replay};
+use pt_blocks::Blocks;
+use pt_confluence::tables_of;
+use pt_io::{FetchFault, Sink, Source};
+use pt_offsets::Plan;
+use pt_sensors::{LateRows, SensorRows, recorded};
+use pt_tags::Memory;
+use pt_turn::Platform;
+use pt_types::Graph;
+use std::alloc::Global;
+use std::sync::Arc;
+
+/// The most bytes that a log may have.
+const MOST_LOG_BYTES: usize = 67_108_864;
+
+/// Judges whether the file `log` is what a run of the graph in the file with this name writes, with the log, whatever its
+/// clock and its workers; if it is, writes the line `lawful`.
+///
+/// No clock is read. Before the log, the graph file and the sensors' files are read and refused as in a run, late rows
+/// included.
+pub fn audit<S: Source, K: Sink, E: Sink>(
+    alloc: Global,
+    name: &str,
+    log: &str,
+    source: &mut S,
+    out: &mut K,
+    notes: &mut E,
+    blocks: &Blocks,
+) -> Ending
+    ensures status { result.status ≡ status_of result.fault result.misses }
+    ensures asks { AsksAudit result.fault name.now log.now (S.tells source.old) blocks.now.listed.items (S.asked source.old) (S.asked source.new) }
+    ensures ends { EndsAudit result.fault (left_by result) name.now log.now (S.tells source.old) blocks.now.listed.items
+        (record { asked_before = S.asked source.old; asked_now = S.asked source.new; before = S.faults source.old; now = S.faults source.new })
+        (record { before = K.faults out.old; now = K.faults out.new; written_before = K.written out.old; written_now = K.written out.new }) }
+    ensures flushed { result.fault ≡ None → K.flushed out.new }
+    ensures notes { TellsBy result.fault result.misses result.platforms.items (Some (paced_run, name.now)) (S.tells source.old) blocks.now.listed.items
+        (record { before = E.faults notes.old; now = E.faults notes.new; written_before = E.written notes.old; written_now = E.written notes.new }) }
+{
+    match graph_at(alloc, source, name, blocks) {
+        Ok(graph) => audit_graph(alloc, graph, log, source, out, notes, blocks),
+        Err(fault) => {
+            let fault = tell(alloc, notes, fault, None);
+            Ending::refused(alloc, fault)
+        }
+    }
+}
+
+/// Judges a log of this graph.
+fn audit_graph<S: Source, K: Sink, E: Sink>(
+    alloc: Global,
+    graph: Graph,
+    log: &str,
+    source: &mut S,
+    out: &mut K,
+    notes: &mut E,
+    blocks: &Blocks,
+) -> Ending
+    requires { IsLawful graph }
+    ensures status { result.status ≡ status_of result.fault result.misses }
+    ensures asks { AsksJudged result.fault log.now graph (S.asked source.old) (S.asked source.new) }
+    ensures ends { EndsJudged result.fault (left_by result) log.now (S.tells source.old) graph
+        (record { asked_before = S.asked source.old; asked_now = S.asked source.new; before = S.faults source.old; now = S.faults source.new })
+        (record { before = K.faults out.old; now = K.faults out.new; written_before = K.written out.old; written_now = K.written out.new }) }
+    ensures flushed { result.fault ≡ None → K.flushed out.new }
+    ensures notes { Tells result.fault result.misses (Some graph)
+        (record { before = E.faults notes.old; now = E.faults notes.new; written_before = E.written notes.old; written_now = E.written notes.new }) }
+{
+    let plan = match planned(alloc, graph, notes) {
+        Ok(plan) => plan,
+        Err(ending) => return ending,
+    };
+    let judged = judge(alloc, &plan, log, source, blocks);
+    end_audit(alloc, plan.graph(), judged, out, notes)
+}
+
+/// Reads the rows of a plan's sensors and then the log, and says why the log is refused, if it is.
+fn judge<S: Source>(
+    alloc: Global,
+    plan: &Arc<Plan>,
+    log: &str,
+    source: &mut S,
+    blocks: &Blocks,
+) -> Result<(), Fault>
+    ensures lawful { IfOk result (λ unit. RunOver (S.tells source.old) (arc_value plan.now) (OnLog (S.tells source.old) log.now Accepts (arc_value plan.now))) }
+    ensures fault { IfErr result (λ f. CauseOfRefusal f log.now (S.tells source.old) (arc_value plan.now)
+        (record { asked_before = S.asked source.old; asked_now = S.asked source.new; before = S.faults source.old; now = S.faults source.new })) }
+    ensures asks { AsksJudged (fault_in result) log.now (arc_value plan.now).graph (S.asked source.old) (S.asked source.new) }
+{
+    let entries = match recorded(alloc, source, plan.graph(), LateRows::Refused) {
+        Ok(entries) => entries,
+        Err(fault) => return Err(fault_of_rows(fault)),
+    };
+    let bytes = match source.fetch(alloc, log, MOST_LOG_BYTES) {
+        Ok(bytes) => bytes,
+        Err(FetchFault::Failed) => return Err(Fault::ReadLog),
+        Err(FetchFault::Memory) => return Err(Fault::Memory),
+    };
+    let verdict = match verdict_on(alloc, plan, entries, blocks, bytes.as_slice()) {
+        Ok(verdict) => verdict,
+        Err(Memory) => return Err(Fault::Memory),
+    };
+    match verdict {
+        Verdict::Fine => Ok(()),
+        _ => Err(Fault::Unlawful(verdict)),
+    }
+}
+
+/// The verdict on a file: whether it is a lawful log of this plan over these rows, its tables included.
+fn verdict_on(
+    alloc: Global,
+    plan: &Arc<Plan>,
+    entries: Vec<SensorRows>,
+    blocks: &Blocks,
+    bytes: &[u8],
+) -> Result<Verdict, Memory>
+    requires admitted { IsAdmitted (arc_value plan.now) }
+    requires places { StandInPlace (arc_value plan.now).graph entries.items }
+    requires fit { FitRows (arc_value plan.now).graph (of_run (arc_value plan.now).graph (rows_for entries.items)) }
+    ensures { IfOk result (IsJudged (arc_value plan.now) (of_run (arc_value plan.now).graph (rows_for entries.items)) bytes.now) }
+{
+    let Replayed {
+        verdict,
+        log_at,
+        platforms,
+    } = replay(alloc, plan, entries, blocks, bytes)?;
+    match verdict {
+        Verdict::Fine => {
+            if are_tables(alloc, plan, platforms.as_slice(), &bytes[..log_at])? {
+                Ok(Verdict::Fine)
+            } else {
+                Ok(Verdict::Table)
+            }
+        }
+        _ => Ok(verdict),
+    }
+}
+
+/// Whether a text is the tables of finished platforms.
+fn are_tables(
+    alloc: Global,
+    plan: &Plan,
+    platforms: &[Platform],
+    text: &[u8],
+) -> Result<bool, Memory>
+    ensures { IfOk result (λ same. (rows : ℕ → List Row) → HaveFinished plan.now rows platforms.now → (same ≡ true) ↔ AreTables plan.now rows text.now) }
+{
+    let tables = tables_of(alloc, plan, platforms)?;
+    Ok(tables.as_str().as_bytes() == text)
+}
+
+/// Writes that a log is lawful, or reports why it is refused.
+fn end_audit<K: Sink, E: Sink>(
+    alloc: Global,
+    graph: &Graph,
+    judged: Result<(), Fault>,
+    out: &mut K,
+    notes: &mut E,
+) -> Ending
+    ensures status { result.status ≡ status_of result.fault result.misses }
+    ensures answers { AnswersAudit judged result
+        (record { before = K.faults out.old; now = K.faults out.new; written_before = K.written out.old; written_now = K.written out.new }) }
+    ensures flushed { result.fault ≡ None → K.flushed out.new }
+    ensures notes { Tells result.fault result.misses (Some graph.now)
+        (record { before = E.faults notes.old; now = E.faults notes.new; written_before = E.written notes.old; written_now = E.written notes.new }) }
+{
+    if let Err(fault) = judged {
+        let fault = tell(alloc, notes, fault, Some(graph));
+        return Ending::refused(alloc, fault);
+    }
+    if put_text(out, b"lawful\n").is_err() {
+        tell_write(notes);
+        return Ending::refused(alloc, Fault::Write);
+    }
+    Ending::done(Vec::new(alloc), Vec::new(alloc))
+}
