@@ -18,3 +18,5 @@ pub mod Texts
 pub mod ByPlatform
 pub mod Lawful
 pub mod FineLogs
+pub mod OnLinks
+pub mod Printing

@@ -1,6 +1,6 @@
 //! Theorems about logs.
 
-ghost use Rattle.pt_audit.specs.Theorems.{FineLogsAreLawful, LawfulLogsAreFine};
+ghost use Rattle.pt_audit.specs.Theorems.{FineLogsAreLawful, LawfulLogsAreFine, PrintedLogsAreLawful};
 
 /// A lawful log is fine, and its head is the tables.
 pub fn lawful_logs_are_fine()
@@ -10,4 +10,9 @@ pub fn lawful_logs_are_fine()
 /// A file that is fine and whose head is the tables is a lawful log.
 pub fn fine_logs_are_lawful()
     ensures { FineLogsAreLawful }
+{}
+
+/// The tables of the meaning and the log of finished platforms are a lawful log.
+pub fn printed_logs_are_lawful()
+    ensures { PrintedLogsAreLawful }
 {}

@@ -19,6 +19,6 @@ mod telling;
 mod turn;
 mod verdict;
 
-pub use laws::{fine_logs_are_lawful, lawful_logs_are_fine};
+pub use laws::{fine_logs_are_lawful, lawful_logs_are_fine, printed_logs_are_lawful};
 pub use replayed::{Replayed, replay};
 pub use verdict::Verdict;

@@ -5,12 +5,11 @@ ghost use Rattle.pt_types.specs.Lookups.{platform_name};
 ghost use Rattle.pt_semantics.specs.Lists.{Each};
 ghost use Rattle.pt_semantics.specs.Turn.{Turn};
 ghost use Rattle.pt_tables.specs.Log.{list_lines, turn_line};
-ghost use Rattle.pt_hints.specs.Hints.{AreHints, FitsTag, IsHeld, IsTellable, IsTellableOn};
+ghost use Rattle.pt_hints.specs.Hints.{AreHints, IsTellable, IsTellableOn};
 
 use pt_hints::Hints;
 use pt_history::History;
-use pt_tables::{push_lists, push_turn_line};
-use pt_tags::{Message, Tag};
+use pt_tables::{holds, push_lists, push_turn_line};
 use pt_types::{Graph, OnLink};
 use std::alloc::AllocError;
 
@@ -54,21 +53,6 @@ fn are_on_links(graph: &Graph, messages: &[OnLink]) -> bool
     }
     true
 }
-
-/// That 64 bits hold the numbers of a message, as their types say.
-fn holds(message: Message)
-    ensures tag { FitsTag message }
-    ensures value { IsHeld message }
-{
-    if let Message::Event { tag, value } = message {
-        event_holds(tag, value);
-    }
-}
-
-fn event_holds(tag: Tag, value: i64)
-    ensures tag { FitsTag (Message.Event tag value) }
-    ensures value { IsHeld (Message.Event tag value) }
-{}
 
 /// Whether the last recorded turn, with the readings and the count of the hints, has this text. `text` is memory to print in.
 pub(crate) fn is_text_of(

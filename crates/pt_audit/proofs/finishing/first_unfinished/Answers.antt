@@ -3,7 +3,7 @@ use Rattle.std.proofs.lemmas.Bool.{false≢true}
 use Rattle.std.proofs.lemmas.Option.{slice_get-get_or, slice_get_within}
 use Rattle.pt_semantics.proofs.Lookups.{same_some}
 use Rattle.pt_audit.specs.Finishing.{IsAtEnd}
-use Rattle.pt_audit.proofs.Members.{one_more}
+use Rattle.pt_tables.proofs.Members.{one_more}
 use Rattle.pt_audit.proofs.finishing.first_unfinished.Goals as goal
 
 pub returns-then-not-finished : goal.returns-then-not-finished

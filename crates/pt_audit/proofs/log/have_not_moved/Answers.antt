@@ -1,7 +1,7 @@
 use Rattle.std.proofs.Common.{get_or, subst, arith}
 use Rattle.std.proofs.lemmas.Option.{slice_get-get_or, slice_get_within}
 use Rattle.pt_confluence.specs.Gathered.{IsItsHistory}
-use Rattle.pt_audit.proofs.Members.{one_more}
+use Rattle.pt_tables.proofs.Members.{one_more}
 use Rattle.pt_audit.proofs.log.have_not_moved.Goals as goal
 
 pub loop-i-preserved : goal.loop-i-preserved

@@ -1,7 +1,7 @@
 use Rattle.std.proofs.Common.{arith, refl}
 use Rattle.std.proofs.lemmas.Option.{slice_get_within}
 use Rattle.pt_hints.specs.Hints.{IsTellableOn}
-use Rattle.pt_audit.proofs.Members.{each_of}
+use Rattle.pt_tables.proofs.Members.{each_of}
 use Rattle.pt_audit.proofs.telling.are_on_links.Goals as goal
 
 pub returns : goal.returns
