@@ -22,7 +22,7 @@ use Rattle.pt_run.specs.declared.finished_run.Ran.{Ran}
 use Rattle.pt_run.specs.declared.plan_run.RunFault.{RunFault}
 use Rattle.pt_run.specs.declared.plan_run.RunFault.TheVariants as stop
 use Rattle.pt_run.specs.Readings.{Clocking}
-use Rattle.pt_run.specs.Runs.{CauseOfStop, HasOpened, HasRun, IsKept, IsOutput, HasOutputs, IsStop, IsText, IsTold, WentBy, log_if}
+use Rattle.pt_run.specs.Runs.{AreHeldIf, CauseOfStop, HasOpened, HasRun, IsKept, IsOutput, HasOutputs, IsStop, IsText, IsTold, WentBy, log_if}
 use Rattle.pt_run.proofs.Missed.{missed_in}
 
 pub in_order : (plan : Parts) (rows : ℕ → List Row) (platforms : List PlatformView) → AreAll plan rows platforms → AreInOrder plan.graph platforms
@@ -42,7 +42,7 @@ with_log plan platforms front text tables logged rows finished =
 pub have_finished : (plan : Parts) (rows : ℕ → List Row) (platforms : List PlatformView) → FitRows plan.graph rows → HaveRun plan (level_of plan.ranks) rows platforms None → HaveFinished plan rows platforms
 have_finished plan rows platforms fit run = record { all = run.all; fit = fit; finished = λ i v at. (run.ends i v at).1; linked = run.linked refl }
 
-kept_finished : (plan : Parts) (rows : ℕ → List Row) (platforms : List PlatformView) → FitRows plan.graph rows → IsKept plan rows platforms None → HaveFinished plan rows platforms
+pub kept_finished : (plan : Parts) (rows : ℕ → List Row) (platforms : List PlatformView) → FitRows plan.graph rows → IsKept plan rows platforms None → HaveFinished plan rows platforms
 kept_finished plan rows platforms fit kept = record { all = kept.all; fit = fit; finished = λ i v at. (kept.ends i v at).1; linked = kept.linked refl }
 
 -- a run that finished, with its outputs
@@ -52,9 +52,11 @@ has_outputs tells c plan log platforms ran run fit told =
     let text = told.text rows (kept_finished plan rows platforms fit run.went.kept) in (
       record {
         run = record { admitted = run.admitted; rows = run.rows; sensors = run.sensors; in_time = run.in_time; went = subst (λ ps. WentBy c plan rows ps None) (sym told.platforms_are) run.went };
+        fit = fit;
         firings = text.0;
         meaning = text.1;
         written = text.2 ∙ ap (λ ps. tables_text plan.graph text.0 ++ log_if log plan.graph ps) (sym told.platforms_are);
+        held = subst (AreHeldIf log) (sym told.platforms_are) told.held;
         missed = told.misses ∙ ap (flat_map missed_by) (sym told.platforms_are);
         missed_as_meant = λ paced m.
             let have : HaveRun plan (level_of plan.ranks) rows platforms None = run.went.paced paced in

@@ -12,6 +12,7 @@ pub mod Auditing
 pub mod Judging
 pub mod OnePlan
 pub mod SlackRuns
+pub mod LawfulRuns
 pub mod Headline
 pub mod CauseTable
 pub mod OneCause

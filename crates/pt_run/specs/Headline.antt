@@ -7,6 +7,7 @@ use Rattle.pt_types.specs.declared.firing.ActorFiring.{ActorFiring}
 use Rattle.pt_blocks.specs.declared.blocks.Named.{Named}
 use Rattle.pt_graph.specs.GraphOf.{graph_of}
 use Rattle.pt_semantics.specs.Meaning.{IsMeaning}
+use Rattle.pt_semantics.specs.Rows.{FitRows}
 use Rattle.pt_semantics.specs.Tables.{tables_text}
 use Rattle.pt_causality.specs.Ranked.{rank_of}
 use Rattle.pt_offsets.specs.Plans.{Parts}
@@ -19,7 +20,7 @@ use Rattle.pt_sensors.specs.Recorded.{SensorLate}
 use Rattle.pt_words.specs.declared.orders.ClockChoice.{ClockChoice}
 use Rattle.pt_words.specs.declared.orders.ClockChoice.TheVariants.{Paced}
 use Rattle.pt_run.specs.Readings.{Clocking, ReadBy}
-use Rattle.pt_run.specs.Runs.{IsKept, RunOver, log_if}
+use Rattle.pt_run.specs.Runs.{AreHeldIf, IsKept, RunOver, log_if}
 use Rattle.pt_run.specs.declared.fault.Fault.{Fault}
 use Rattle.pt_run.specs.declared.fault.Fault.TheVariants as fault
 use Rattle.pt_run.specs.declared.words.Command.TheVariants.{Run}
@@ -34,11 +35,13 @@ pub record RunWith (tells : Contents) (blocks : List Named) (name : List ℕ) (F
   pub file : IfSome (tells name) (λ bytes. graph_of blocks bytes ≡ Ok plan.graph)
   pub over : RunOver tells plan (Fact plan)
 
--- what was put is the tables of the meaning and, if asked for, the log of the platforms
+-- what was put is the tables of the meaning and, if asked for, the log of the platforms, the numbers in whose turns 64 bits hold
 pub record PutsMeaning (plan : Parts) (rows : ℕ → List Row) (log : Bool) (platforms : List PlatformView) (Put : List ℕ → Type 0) : Type 0 where
+  pub fit : FitRows plan.graph rows
   pub firings : List ActorFiring
   pub meaning : IsMeaning plan.graph (rank_of plan.ranks) rows firings
   pub text : Put (tables_text plan.graph firings ++ log_if log plan.graph platforms)
+  pub held : AreHeldIf log platforms
 
 -- the platform that stopped the run, and its fault, by the fault of the call
 abbrev pub stop_of : Option Fault → Option (ℕ × TurnFault)

@@ -12,6 +12,7 @@ pub mod Making
 pub mod Migrating
 pub mod Auditing
 pub mod SlackRuns
+pub mod LawfulRuns
 pub mod Asking
 pub mod Headline
 pub mod CauseTable

@@ -1,13 +1,14 @@
 -- A run over the files of a plan's sensors, and why a run did not finish.
-use Rattle.std.specs.Prelude.{◌≡◌, ◌↔◌, ◌++◌, [], ℕ, Bool, List, Option, None, Some, flat_map, if◌then◌else◌, string_bytes}
+use Rattle.std.specs.Prelude.{◌≡◌, ◌↔◌, ◌++◌, [], ℕ, Bool, List, Option, None, Some, flat_map, if◌then◌else◌, string_bytes, true}
 use Rattle.pt_types.specs.declared.firing.ActorFiring.{ActorFiring}
 use Rattle.pt_types.specs.declared.rows.Row.{Row}
 use Rattle.pt_types.specs.declared.graph.Graph.{Graph}
 use Rattle.pt_history.specs.declared.miss.Miss.{Miss}
 use Rattle.pt_semantics.specs.History.{IsLegal}
 use Rattle.pt_semantics.specs.Linked.{AreLinked, AreMatched}
-use Rattle.pt_semantics.specs.Lists.{IsIn}
+use Rattle.pt_semantics.specs.Lists.{Each, IsIn}
 use Rattle.pt_semantics.specs.Meaning.{IsMeaning}
+use Rattle.pt_semantics.specs.Rows.{FitRows}
 use Rattle.pt_semantics.specs.Tables.{tables_text}
 use Rattle.pt_schedule.specs.Schedule.{IsMissedByMeaning}
 use Rattle.pt_causality.specs.Ranked.{level_of, rank_of}
@@ -18,6 +19,7 @@ use Rattle.pt_turn.specs.All.{AreAll, AreReady, histories_of}
 use Rattle.pt_turn.specs.Platforms.{PlatformView, state_at}
 use Rattle.pt_together.specs.Asked.{EndsAt}
 use Rattle.pt_monitors.specs.Platforms.{missed_by}
+use Rattle.pt_tables.specs.Held.{IsHeldTurn}
 use Rattle.pt_tables.specs.Log.{log_text}
 use Rattle.pt_tables.specs.Misses.{miss_line}
 use Rattle.pt_tables.specs.Platforms.{histories}
@@ -91,12 +93,18 @@ HasRun tells c plan platforms fault = RunOver tells plan (λ rows. WentBy c plan
 abbrev pub log_if : Bool → Graph → List PlatformView → List ℕ
 log_if log g platforms = if log then log_text g (histories platforms) else []
 
+-- if the log is asked for, 64 bits hold the numbers in all turns of the platforms
+abbrev pub AreHeldIf : Bool → List PlatformView → Type 0
+AreHeldIf log platforms = log ≡ true → Each (Each IsHeldTurn) (histories platforms)
+
 -- a run that finished, with the text that it must write: the tables of the meaning and, if asked for, the log
 pub record IsFinishedRun (tells : Contents) (c : Clocking) (plan : Parts) (log : Bool) (platforms : List PlatformView) (misses : List Miss) (text : List ℕ) : Type 0 where
   pub run : HasRun tells c plan platforms None
+  pub fit : FitRows plan.graph (of_run plan.graph run.rows)
   pub firings : List ActorFiring
   pub meaning : IsMeaning plan.graph (rank_of plan.ranks) (of_run plan.graph run.rows) firings
   pub written : text ≡ tables_text plan.graph firings ++ log_if log plan.graph platforms
+  pub held : AreHeldIf log platforms
   pub missed : misses ≡ flat_map missed_by platforms
   -- in a paced run the misses are exactly the firings of actuators whose paced reading is past their tag's time plus slack
   pub missed_as_meant : c.choice ≡ Paced → (m : Miss) → IsIn m misses ↔ IsMissedByMeaning plan.graph firings m.actor m.tag m.reading m.limit
@@ -110,6 +118,7 @@ IsText plan log platforms text = (rows : ℕ → List Row) → HaveFinished plan
 pub record IsTold (plan : Parts) (log : Bool) (platforms : List PlatformView) (ran : Ran) : Type 0 where
   pub platforms_are : ran.platforms.items ≡ platforms
   pub text : IsText plan log platforms (string_bytes ran.text)
+  pub held : AreHeldIf log platforms
   pub misses : ran.misses.items ≡ flat_map missed_by platforms
   pub lines : string_bytes ran.lines ≡ flat_map (miss_line plan.graph) ran.misses.items
 

@@ -3,7 +3,7 @@
 ghost use Rattle.std.specs.Prelude.{◌≡◌, IfOk, flat_map, string_bytes};
 ghost use Rattle.std.specs.Arc.{arc_value};
 ghost use Rattle.pt_tables.specs.Misses.{miss_line};
-ghost use Rattle.pt_run.specs.Runs.{IsText, IsTold};
+ghost use Rattle.pt_run.specs.Runs.{AreHeldIf, IsText, IsTold};
 
 use pt_confluence::tables_of;
 use pt_history::Miss;
@@ -28,7 +28,8 @@ pub struct Ran {
 
 /// The tables of finished platforms and, if asked for, their log.
 fn text_of(alloc: Global, plan: &Plan, platforms: &[Platform], log: bool) -> Result<String, Memory>
-    ensures { IfOk result (λ text. IsText plan.now log platforms.now (string_bytes text)) }
+    ensures text { IfOk result (λ text. IsText plan.now log platforms.now (string_bytes text)) }
+    ensures held { IfOk result (λ text. AreHeldIf log platforms.now) }
 {
     let mut text = tables_of(alloc, plan, platforms)?;
     if log && push_log(&mut text, platforms).is_err() {

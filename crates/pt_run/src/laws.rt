@@ -2,6 +2,7 @@
 
 ghost use Rattle.pt_run.specs.Agreeing.{RunsAgree};
 ghost use Rattle.pt_run.specs.CallsAgreeing.{CallsAgree};
+ghost use Rattle.pt_run.specs.LawfulRuns.{FinishedRunsAreLawful, RunsWriteLawfulLogs};
 ghost use Rattle.pt_run.specs.SlackRuns.{SlackRoundsMissNothing, SlackRunsMissNothing};
 
 /// What a paced run must write and what it leaves is a function of the graph file and the files of its sensors.
@@ -21,4 +22,12 @@ pub fn calls_agree()
 pub fn slack_runs_miss_nothing()
     ensures rounds { SlackRoundsMissNothing }
     ensures runs { SlackRunsMissNothing }
+{}
+
+/// The log of a finished run is lawful: what `run` writes with its log, if it ends without a fault, with misses or without, is the
+/// tables of the meaning and then legal histories of finished platforms that took all that was sent, unless it is longer than a
+/// log may be.
+pub fn written_logs_are_lawful()
+    ensures finished { FinishedRunsAreLawful }
+    ensures written { RunsWriteLawfulLogs }
 {}

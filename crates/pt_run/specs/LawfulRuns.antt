@@ -1,0 +1,31 @@
+-- The log that a finished run writes is lawful.
+use Rattle.std.specs.Prelude.{◌≤◌, ℕ, List, None, length, true}
+use Rattle.pt_io.specs.Causes.{Appends}
+use Rattle.pt_types.specs.declared.rows.Row.{Row}
+use Rattle.pt_blocks.specs.declared.blocks.Named.{Named}
+use Rattle.pt_history.specs.declared.miss.Miss.{Miss}
+use Rattle.pt_offsets.specs.Plans.{Parts}
+use Rattle.pt_turn.specs.Platforms.{PlatformView}
+use Rattle.pt_sensors.specs.Asked.{Contents}
+use Rattle.pt_sensors.specs.Places.{of_run}
+use Rattle.pt_audit.specs.LawfulLogs.{IsLawfulLog, most_bytes}
+use Rattle.pt_words.specs.declared.orders.ClockChoice.{ClockChoice}
+use Rattle.pt_run.specs.Causes.{Writing}
+use Rattle.pt_run.specs.Headline.{Headline, RunWith}
+use Rattle.pt_run.specs.Readings.{Clocking}
+use Rattle.pt_run.specs.Runs.{IsFinishedRun}
+use Rattle.pt_run.specs.Written.{Leaves}
+
+-- the text of a finished run with its log is a lawful log of the run's plan over its rows, unless it is too long
+abbrev pub FinishedRunsAreLawful : Type 0
+FinishedRunsAreLawful = (tells : Contents) (c : Clocking) (plan : Parts) (platforms : List PlatformView) (misses : List Miss) (text : List ℕ) →
+    (done : IsFinishedRun tells c plan true platforms misses text) → length text ≤ most_bytes → IsLawfulLog plan (of_run plan.graph done.run.rows) text
+
+-- a lawful log of this plan over these rows was written, unless what was written is too long
+abbrev pub WritesLawfulLog : Writing → Parts → (ℕ → List Row) → Type 0
+WritesLawfulLog w plan rows = (text : List ℕ) × Appends w.written_before w.written_now text × (length text ≤ most_bytes → IsLawfulLog plan rows text)
+
+-- so what `run` writes with its log, by any clock, is a lawful log if the run ends without a fault, with misses or without
+abbrev pub RunsWriteLawfulLogs : Type 0
+RunsWriteLawfulLogs = (left : Leaves) (workers : ℕ) (clock : ClockChoice) (tells : Contents) (blocks : List Named) (name : List ℕ) (w : Writing) →
+    Headline None left workers clock true tells blocks name w → RunWith tells blocks name (WritesLawfulLog w)
