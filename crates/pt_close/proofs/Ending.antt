@@ -64,12 +64,8 @@ empty_box (x ∷ xs) n b len is = (
       ∙ h x.link)),
 )
 
-pub end_more : (xs : List OnLink) (k l from number : ℕ) → from ≡ number → on_link k (xs ++ record { link = l; message = Message.End } ∷ []) ≡ on_link k xs ++ ended_on k l from number
-end_more xs k l from number here = on_more xs (record { link = l; message = Message.End }) k ∙ one (k == l) ∙ ap (λ b. on_link k xs ++ (if k == l then (if b then Message.End ∷ [] else []) else [])) (sym (eq-eqb from number here))
-  where
-    one : (b : Bool) → (if b then on_link k xs ++ Message.End ∷ [] else on_link k xs) ≡ on_link k xs ++ (if b then Message.End ∷ [] else [])
-    one true = refl
-    one false = sym (append-nil (on_link k xs))
+pub end_one : (k l from number : ℕ) → from ≡ number → (if k == l then Message.End ∷ [] else []) ≡ ended_on k l from number
+end_one k l from number here = ap (λ b. if k == l then (if b then Message.End ∷ [] else []) else []) (sym (eq-eqb from number here))
 
 pub no_end : (xs : List OnLink) (k l from number : ℕ) → (from ≡ number → ⊥) → on_link k xs ≡ on_link k xs ++ ended_on k l from number
 no_end xs k l from number away = sym (ap (λ b. on_link k xs ++ (if k == l then (if b then Message.End ∷ [] else []) else [])) (ne_eqb from number away) ∙ one (k == l))

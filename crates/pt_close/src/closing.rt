@@ -1,6 +1,6 @@
 //! Closing a platform.
 
-ghost use Rattle.std.specs.Prelude.{◌≡◌, ◌↔◌, ℕ, ◌+◌, ◌<◌, ◌≤◌, ◌^◌, true, List as Sequence, length, vec_len, vec_capacity};
+ghost use Rattle.std.specs.Prelude.{◌≡◌, ◌↔◌, ℕ, ◌+◌, ◌<◌, ◌≤◌, ◌^◌, true, List as Sequence, length};
 ghost use Rattle.pt_types.specs.declared.firing.OnLink.{OnLink};
 ghost use Rattle.pt_types.specs.declared.graph.Graph.{Graph};
 ghost use Rattle.pt_semantics.specs.Closing.{CanClose, Closes};
@@ -45,10 +45,10 @@ pub fn close(
     requires sound { IsSound graph.now fields.old }
     requires closing { IsClosing graph.now number closing }
     requires links { length graph.now.links < 2 ^ 32 }
-    requires messages { vec_len fields.old.outbox + length graph.now.links ≤ vec_capacity fields.old.outbox }
+    requires messages { length graph.now.links ≤ fields.old.outbox.spare }
     ensures sound { IsSound graph.now fields.new }
     ensures closes { (taken : Sequence OnLink) → Closes graph.now number (state_of fields.old taken) reading late (state_of fields.new taken) }
-    ensures messages { (vec_capacity fields.old.outbox ≤ vec_capacity fields.new.outbox) × (vec_len fields.new.outbox ≤ vec_len fields.old.outbox + length graph.now.links) }
+    ensures messages { (fields.old.outbox.spare ≤ fields.new.outbox.spare + length graph.now.links) × (length fields.new.outbox.items ≤ length fields.old.outbox.items + length graph.now.links) }
     ensures frame { (fields.new.queue ≡ fields.old.queue) × (fields.new.open_claims ≡ fields.old.open_claims) × (fields.new.states ≡ fields.old.states) × (fields.new.sensors ≡ fields.old.sensors) × (fields.new.reading ≡ fields.old.reading) × (fields.new.claims ≡ fields.old.claims) }
 {
     if late {

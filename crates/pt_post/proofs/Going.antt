@@ -199,15 +199,6 @@ more_link (x ∷ xs) (suc l) (suc k) a t outputs d lt = more_link xs l k a t out
     sucs : (m n : ℕ) → (m == n) ≡ (suc m == suc n)
     sucs m n = grind (arith, nat_tests)
 
--- one message more of a flat outbox
-pub on_push : (k l a : ℕ) (t : Tag) (xs : List OnLink) (link : Link) (v : ℤ) → link.from ≡ a → on_link k (xs ++ record { link = l; message = Message.Event t v } ∷ []) ≡ on_link k xs ++ sent_on k l link a t (Some v)
-on_push k l a t xs link v from =
-    filter_map-append (λ (x : OnLink). when (x.link == k) (Some x.message)) xs (record { link = l; message = Message.Event t v } ∷ [])
-    ∙ ap (λ r. on_link k xs ++ r) (one (l == k) ∙ ap (λ b. if b then Message.Event t v ∷ [] else []) (flip l k) ∙ ap (λ b. if k == l then (if b then Message.Event t v ∷ [] else []) else []) (sym (eq-eqb link.from a from)))
-  where
-    one : (b : Bool) → filter_map (λ (m : Message). when b (Some m)) (Message.Event t v ∷ []) ≡ (if b then Message.Event t v ∷ [] else [])
-    one true = refl
-    one false = refl
-
-    flip : (m n : ℕ) → (m == n) ≡ (n == m)
-    flip m n = grind (arith, nat_tests)
+-- one event on a link of its sender
+pub on_event : (k l a : ℕ) (t : Tag) (link : Link) (v : ℤ) → link.from ≡ a → (if k == l then Message.Event t v ∷ [] else []) ≡ sent_on k l link a t (Some v)
+on_event k l a t link v from = ap (λ b. if k == l then (if b then Message.Event t v ∷ [] else []) else []) (sym (eq-eqb link.from a from))

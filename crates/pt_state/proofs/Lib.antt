@@ -1,1 +1,3 @@
 pub mod ClaimLists
+pub mod Chains
+pub mod Queues

@@ -63,9 +63,10 @@ abbrev pub IsFound : List OpenClaim → Task → Option Part → Type 0
 IsFound claims task None = (c : OpenClaim) → IsIn c claims → c.task ≡ task → ⊥
 IsFound claims task (Some u) = (c : OpenClaim) × IsIn c claims × (c.unit ≡ u) × (c.task ≡ task)
 
--- the invariant of the fields: tables fit this graph, open claims are sound, and events wait only at inputs of its units
+-- the invariant of the fields: tables and the outbox fit this graph, open claims are sound, and events wait only at inputs of its units
 pub record IsSound (g : Graph) (f : Fields) : Type 0 where
   pub groups : AreGroups g f.queue.groups
   pub states : length f.states.items ≡ length g.actors
   pub open_claims : Each (IsOpen g f.open_claims.items) f.open_claims.items
+  pub links : f.outbox.links ≡ length g.links
   pub at_units : (a p : ℕ) (t : Tag) (v : ℤ) → waiting_in f.queue.events a p t ≡ Some v → IsUnit g (at_input g a p)

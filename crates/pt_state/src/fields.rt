@@ -1,9 +1,10 @@
 //! The state of a platform, as plain fields.
 
 use crate::open_claims::OpenClaims;
+use crate::outbox::Outbox;
 use pt_queue::Queue;
 use pt_tags::List;
-use pt_types::{OnLink, Row, Task, Unit};
+use pt_types::{Row, Task, Unit};
 
 /// A claim whose result is not posted yet, and its unit.
 #[derive(Clone, Copy)]
@@ -32,8 +33,8 @@ pub struct Fields {
     pub states: Vec<i64>,
     /// The platform's sensors, in the order of the graph.
     pub sensors: Vec<Sensor>,
-    /// The messages not sent yet, of all outgoing links; those of one link are in order.
-    pub outbox: Vec<OnLink>,
+    /// The messages not sent yet, by link.
+    pub outbox: Outbox,
     /// The clock reading of the last turn, in microseconds; `None` before the first.
     pub reading: Option<u64>,
     /// Whether the platform has closed: no event can still come.

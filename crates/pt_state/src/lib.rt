@@ -8,10 +8,13 @@
 
 mod fields;
 mod open_claims;
+mod outbox;
 mod same;
+mod slots;
 mod states;
 
 pub use fields::{Fields, OpenClaim, Sensor};
 pub use open_claims::OpenClaims;
+pub use outbox::Outbox;
 pub use same::{same_task, same_unit};
 pub use states::set_state;

@@ -171,5 +171,6 @@ sound_on g old new link m h unit groups waits frame = record {
   groups = subst (AreGroups g) (sym groups) h.groups;
   states = ap (λ v. length v.items) frame.1 ∙ h.states;
   open_claims = subst (λ v. Each (IsOpen g v.items) v.items) (sym frame.0) h.open_claims;
+  links = ap (λ v. v.links) frame.3 ∙ h.links;
   at_units = λ a p t v is. ⊎_elim (h.at_units a p t v) (carried_unit g link m unit a p t v) (or_else_found (waiting_in old.queue.events a p t) (carried link m a p t) v (sym (ap (λ (w : Values). w a p t) waits) ∙ is));
 }

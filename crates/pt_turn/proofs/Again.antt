@@ -44,16 +44,16 @@ pub record IsDone (p : Inside) (r most : ℕ) (dones : List Done) (messages : Li
   pub reading : new.reading ≡ Some r
   pub claims : new.claims ≤ most_claims
   pub empty : AreEmpty lists
-  pub sent : vec_len new.outbox ≤ history.room.sent
+  pub sent : length new.outbox.items ≤ history.room.sent
   pub fits : r < 2 ^ 64
 
 -- by the clauses of the call
 pub is_done : (p : Inside) (plan : Parts) (room : Room) (r most : ℕ) (dones : List Done) (messages : List OnLink) (new : Fields) (history : History) (lists : Lists) (fault : Option TurnFault) (handed now : List Task) → plan ≡ arc_value p.plan → IsRoomy p room → length dones ≤ room.done
     → IsKept plan (record { level = level_of plan.ranks; platform = p.number; taken = messages_of p.history.turns }) r most dones messages p.fields new p.history.turns history.turns handed now fault
     → IsSound plan.graph new → AreSensors plan.graph new.sensors.items → ((a : ℕ) → rows_of new.sensors.items a ≡ rows_of p.fields.sensors.items a) → new.reading ≡ Some r → new.claims ≤ most_claims → AreEmpty lists
-    → vec_len new.outbox ≤ vec_len p.fields.outbox + length dones * length plan.graph.links + length plan.graph.links → history.room.sent ≡ p.history.room.sent → r < 2 ^ 64 → IsDone p r most dones messages new history lists fault handed now
+    → length new.outbox.items ≤ length p.fields.outbox.items + length dones * length plan.graph.links + length plan.graph.links → history.room.sent ≡ p.history.room.sent → r < 2 ^ 64 → IsDone p r most dones messages new history lists fault handed now
 is_done p plan room r most dones messages new history lists fault handed now same roomy few kept sound sensors all_rows reading claims empty outbox sent fits =
-    let bound : vec_len new.outbox ≤ vec_len p.fields.outbox + length dones * length (graph_of p).links + length (graph_of p).links = subst (λ (z : Parts). vec_len new.outbox ≤ vec_len p.fields.outbox + length dones * length z.graph.links + length z.graph.links) same outbox in
+    let bound : length new.outbox.items ≤ length p.fields.outbox.items + length dones * length (graph_of p).links + length (graph_of p).links = subst (λ (z : Parts). length new.outbox.items ≤ length p.fields.outbox.items + length dones * length z.graph.links + length z.graph.links) same outbox in
     let product : length dones * length (graph_of p).links ≤ room.done * length (graph_of p).links = mul-le-mul_right (length (graph_of p).links) few in
     record {
       kept = subst (λ (z : Parts). IsKept z (record { level = level_of z.ranks; platform = p.number; taken = messages_of p.history.turns }) r most dones messages p.fields new p.history.turns history.turns handed now fault) same kept;

@@ -116,7 +116,7 @@ is_idle p r next is is_next before =
     let idle = idle_before (graph_of p) p.number (state_of p.fields (messages_of p.history.turns)) (offset_of (arc_value p.plan).offsets) next p.closing r is.admitted.offsets.units is.closing is_next before in
     record { due = idle.0; safe = idle.1; closes = idle.2 }
 
-pub has_rested : (p : Inside) (r most next : ℕ) (history : History) (handed : List Task) → IsPlatform p → IsNextReading (graph_of p) p.number (state_of p.fields (messages_of p.history.turns)) next → r < next → ((q : ℕ) → p.fields.reading ≡ Some q → q ≤ r) → history.turns ≡ kept_with p.history.turns (fresh r) → vec_len p.fields.outbox ≤ history.room.sent → r < 2 ^ 64
+pub has_rested : (p : Inside) (r most next : ℕ) (history : History) (handed : List Task) → IsPlatform p → IsNextReading (graph_of p) p.number (state_of p.fields (messages_of p.history.turns)) next → r < next → ((q : ℕ) → p.fields.reading ≡ Some q → q ≤ r) → history.turns ≡ kept_with p.history.turns (fresh r) → length p.fields.outbox.items ≤ history.room.sent → r < 2 ^ 64
     → IsDone p r most [] [] (record p.fields { reading = Some r }) history p.lists None handed handed
 has_rested p r most next history handed is is_next before rises turns sent fits = record {
   kept = record {
@@ -128,7 +128,7 @@ has_rested p r most next history handed is is_next before rises turns sent fits 
     turns = turns ∙ ap (kept_with p.history.turns) (sym (turn_is r p.lists is.empty));
     tasks = sym (ap (λ ts. handed ++ ts) is.empty.claimed ∙ append-nil handed);
   };
-  sound = record { groups = is.sound.groups; states = is.sound.states; open_claims = is.sound.open_claims; at_units = is.sound.at_units };
+  sound = record { groups = is.sound.groups; states = is.sound.states; open_claims = is.sound.open_claims; links = is.sound.links; at_units = is.sound.at_units };
   sensors = is.sensors;
   all_rows = λ a. refl;
   reading = refl;

@@ -1,16 +1,16 @@
 -- After a message went out it is a platform again.
 use Rattle.std.proofs.Common.{◌≡◌, ℕ, ◌+◌, ◌-◌, ◌<◌, true, false, List, [], ◌∷◌, ◌++◌, Option, Some, None, length, get_or, refl, sym, ap, ap₂, subst, ◌∙◌, arith, ⊎_elim, vec_len, vec_capacity, eq-eqb, eqb-true, length-append}
-use Rattle.std.specs.Global.{Vec}
 use Rattle.std.specs.Prelude.{◌==◌, MatchOption}
 use Rattle.std.specs.Arc.{arc_value}
 use Rattle.std.proofs.lemmas.Bool.{cases_Bool, eqb-false, ne_eqb}
-use Rattle.std.specs.List.{remove}
+use Rattle.pt_tags.specs.declared.message.Message.{Message}
 use Rattle.pt_types.specs.declared.firing.OnLink.{OnLink}
 use Rattle.pt_history.specs.Lists.{on_last}
 use Rattle.pt_semantics.specs.Closing.{on_link}
 use Rattle.pt_causality.specs.Ranked.{level_of}
 use Rattle.pt_history.specs.declared.history.History.{History}
 use Rattle.pt_history.specs.Turns.{sending}
+use Rattle.pt_state.specs.Outbox.{OutboxView}
 use Rattle.pt_state.specs.State.{rows_of, state_of}
 use Rattle.pt_turn.specs.declared.room.Room.{Room}
 use Rattle.pt_turn.specs.declared.platform.Platform.TheInside.{Inside}
@@ -18,41 +18,40 @@ use Rattle.pt_turn.specs.Gone.{HasGone, last_sent}
 use Rattle.pt_turn.specs.Platforms.{IsPlatform, IsRoomy, graph_of, messages_of, view_of}
 use Rattle.pt_turn.specs.Running.{Ran}
 use Rattle.pt_turn.proofs.Coming.{on_append}
-use Rattle.pt_turn.proofs.Leaving.{FirstOn, first_message, first_of_outbox, on_other, on_own, others_stay, removed}
+use Rattle.pt_turn.proofs.Leaving.{on_other, on_own}
 use Rattle.pt_turn.proofs.Sending.{AreFront, MayFollow, ran_more, taken_still}
 
-abbrev pub lighter : Inside → Vec OnLink → History → Inside
+abbrev pub lighter : Inside → OutboxView → History → Inside
 lighter p outbox history = record p { fields = record p.fields { outbox = outbox }; history = history }
 
 -- the first message of link l left the outbox and was sent
-pub record Went (p : Inside) (l : ℕ) (m : OnLink) (outbox : Vec OnLink) (history : History) : Type 0 where
+pub record Went (p : Inside) (l : ℕ) (m : OnLink) (outbox : OutboxView) (history : History) : Type 0 where
   pub on : m.link ≡ l
   pub first : on_link l p.fields.outbox.items ≡ m.message ∷ on_link l outbox.items
   pub others : (k : ℕ) → (k ≡ l → ⊥) → on_link k outbox.items ≡ on_link k p.fields.outbox.items
-  pub len : vec_len outbox + 1 ≡ vec_len p.fields.outbox
-  pub capacity : vec_capacity outbox ≡ vec_capacity p.fields.outbox
+  pub len : length outbox.items + 1 ≡ length p.fields.outbox.items
+  pub links : outbox.links ≡ p.fields.outbox.links
+  pub spare : outbox.spare ≡ p.fields.outbox.spare
   pub turns : history.turns ≡ on_last (sending (m ∷ [])) p.history.turns
   pub room : history.room ≡ record p.history.room { sent = p.history.room.sent - 1 }
   pub begun : 0 < length p.history.turns
   pub few : length (on_link l (last_sent p.history.turns)) < 64
 
-pub went_of : (p : Inside) (l place : ℕ) (m : OnLink) (sent : List OnLink) (outbox : Vec OnLink) (history : History) → FirstOn l p.fields.outbox.items 0 place → m ≡ get_or p.fields.outbox.items place m → outbox.items ≡ remove p.fields.outbox.items place
-    → vec_len outbox + 1 ≡ vec_len p.fields.outbox → vec_capacity outbox ≡ vec_capacity p.fields.outbox → sent ≡ m ∷ [] → history.turns ≡ on_last (sending sent) p.history.turns → history.room ≡ record p.history.room { sent = p.history.room.sent - length sent }
-    → 0 < length p.history.turns → length (on_link l (last_sent p.history.turns)) < 64 → Went p l m outbox history
-went_of p l place m sent outbox history first value items len capacity one turns room begun few =
-    let same : m ≡ first.first = value ∙ first_message l p.fields.outbox.items place m first in
-    let rest : outbox.items ≡ first.before ++ first.after = items ∙ removed l p.fields.outbox.items place first in
-    record {
-      on = ap (λ (x : OnLink). x.link) same ∙ first.on;
-      first = first_of_outbox l p.fields.outbox.items place first ∙ ap₂ (λ (x : OnLink) ys. x.message ∷ on_link l ys) (sym same) (sym rest);
-      others = λ k other. ap (on_link k) rest ∙ others_stay l k p.fields.outbox.items place first other;
-      len = len;
-      capacity = capacity;
-      turns = turns ∙ ap (λ ms. on_last (sending ms) p.history.turns) one;
-      room = room ∙ ap (λ (ms : List OnLink). record p.history.room { sent = p.history.room.sent - length ms }) one;
-      begun = begun;
-      few = few;
-    }
+pub went_of : (p : Inside) (l : ℕ) (message : Message) (sent : List OnLink) (outbox : OutboxView) (history : History) → on_link l p.fields.outbox.items ≡ message ∷ on_link l outbox.items → ((k : ℕ) → (k ≡ l → ⊥) → on_link k outbox.items ≡ on_link k p.fields.outbox.items)
+    → length outbox.items + 1 ≡ length p.fields.outbox.items → outbox.links ≡ p.fields.outbox.links → outbox.spare ≡ p.fields.outbox.spare → sent ≡ record { link = l; message = message } ∷ [] → history.turns ≡ on_last (sending sent) p.history.turns → history.room ≡ record p.history.room { sent = p.history.room.sent - length sent }
+    → 0 < length p.history.turns → length (on_link l (last_sent p.history.turns)) < 64 → Went p l (record { link = l; message = message }) outbox history
+went_of p l message sent outbox history first others len links spare one turns room begun few = record {
+  on = refl;
+  first = first;
+  others = others;
+  len = len;
+  links = links;
+  spare = spare;
+  turns = turns ∙ ap (λ ms. on_last (sending ms) p.history.turns) one;
+  room = room ∙ ap (λ (ms : List OnLink). record p.history.room { sent = p.history.room.sent - length ms }) one;
+  begun = begun;
+  few = few;
+}
 
 one_on : (l : ℕ) (m : OnLink) → m.link ≡ l → on_link l (m ∷ []) ≡ m.message ∷ []
 one_on l m e = on_own l m [] (eq-eqb m.link l e)
@@ -60,7 +59,7 @@ one_on l m e = on_own l m [] (eq-eqb m.link l e)
 none_on : (l k : ℕ) (m : OnLink) → m.link ≡ l → (k ≡ l → ⊥) → on_link k (m ∷ []) ≡ []
 none_on l k m e other = on_other k m [] (ne_eqb m.link k (λ same. other (sym same ∙ e)))
 
-front : (p : Inside) (l : ℕ) (m : OnLink) (outbox : Vec OnLink) (history : History) → Went p l m outbox history → AreFront (λ k. on_link k p.fields.outbox.items) (m ∷ []) (λ k. on_link k outbox.items)
+front : (p : Inside) (l : ℕ) (m : OnLink) (outbox : OutboxView) (history : History) → Went p l m outbox history → AreFront (λ k. on_link k p.fields.outbox.items) (m ∷ []) (λ k. on_link k outbox.items)
 front p l m outbox history w k =
     ⊎_elim
     (λ (e : (k == l) ≡ true). subst (λ j. on_link j p.fields.outbox.items ≡ on_link j (m ∷ []) ++ on_link j outbox.items) (sym (eqb-true k l e)) (w.first ∙ ap (λ z. z ++ on_link l outbox.items) (sym (one_on l m w.on))))
@@ -81,7 +80,7 @@ may_follow l m sent on few k le =
     (cases_Bool (k == l))
 
 -- the room of the next turn is there still
-roomy_still : (p : Inside) (l : ℕ) (m : OnLink) (outbox : Vec OnLink) (history : History) (r : Room) → Went p l m outbox history → IsRoomy p r → IsRoomy (lighter p outbox history) r
+roomy_still : (p : Inside) (l : ℕ) (m : OnLink) (outbox : OutboxView) (history : History) (r : Room) → Went p l m outbox history → IsRoomy p r → IsRoomy (lighter p outbox history) r
 roomy_still p l m outbox history r w roomy =
     let turns : history.room.turns ≡ p.history.room.turns = ap (λ z. z.turns) w.room in
     let posted : history.room.posted ≡ p.history.room.posted = ap (λ z. z.posted) w.room in
@@ -92,7 +91,7 @@ roomy_still p l m outbox history r w roomy =
     record {
       fields = record {
         events = roomy.fields.events;
-        outbox = omega (arith, w.len, w.capacity, roomy.fields.outbox);
+        outbox = omega (arith, w.spare, roomy.fields.outbox);
         open_claims = roomy.fields.open_claims;
         posted = roomy.fields.posted;
         rows = roomy.fields.rows;
@@ -107,11 +106,11 @@ roomy_still p l m outbox history r w roomy =
       sent = omega (arith, w.len, sent, roomy.sent);
     }
 
-room_still : (p : Inside) (l : ℕ) (m : OnLink) (outbox : Vec OnLink) (history : History) (room : Option Room) → Went p l m outbox history → MatchOption room (Unit {0}) (IsRoomy p) → MatchOption room (Unit {0}) (IsRoomy (lighter p outbox history))
+room_still : (p : Inside) (l : ℕ) (m : OnLink) (outbox : OutboxView) (history : History) (room : Option Room) → Went p l m outbox history → MatchOption room (Unit {0}) (IsRoomy p) → MatchOption room (Unit {0}) (IsRoomy (lighter p outbox history))
 room_still p l m outbox history None w roomy = tt
 room_still p l m outbox history (Some r) w roomy = roomy_still p l m outbox history r w roomy
 
-pub is_lighter : (p : Inside) (l : ℕ) (m : OnLink) (outbox : Vec OnLink) (history : History) → IsPlatform p → Went p l m outbox history → IsPlatform (lighter p outbox history)
+pub is_lighter : (p : Inside) (l : ℕ) (m : OnLink) (outbox : OutboxView) (history : History) → IsPlatform p → Went p l m outbox history → IsPlatform (lighter p outbox history)
 is_lighter p l m outbox history is w =
     let sent : history.room.sent ≡ p.history.room.sent - 1 = ap (λ z. z.sent) w.room in
     let taken : messages_of history.turns ≡ messages_of p.history.turns = ap messages_of w.turns ∙ taken_still p.history.turns (m ∷ []) in
@@ -120,7 +119,7 @@ is_lighter p l m outbox history is w =
     (front p l m outbox history w) (may_follow l m (last_sent p.history.turns) w.on w.few) in
     record {
       admitted = is.admitted;
-      sound = record { groups = is.sound.groups; states = is.sound.states; open_claims = is.sound.open_claims; at_units = is.sound.at_units };
+      sound = record { groups = is.sound.groups; states = is.sound.states; open_claims = is.sound.open_claims; links = w.links ∙ is.sound.links; at_units = is.sound.at_units };
       sensors = is.sensors;
       fit = is.fit;
       closing = is.closing;
@@ -133,7 +132,7 @@ is_lighter p l m outbox history is w =
       next = is.next;
     }
 
-pub has_gone : (p : Inside) (l : ℕ) (m : OnLink) (outbox : Vec OnLink) (history : History) → Went p l m outbox history → HasGone (view_of p) (view_of (lighter p outbox history)) l
+pub has_gone : (p : Inside) (l : ℕ) (m : OnLink) (outbox : OutboxView) (history : History) → Went p l m outbox history → HasGone (view_of p) (view_of (lighter p outbox history)) l
 has_gone p l m outbox history w = record {
   message = m.message;
   first = w.first;

@@ -48,6 +48,7 @@ sound_still g old new w is = record {
   groups = subst (AreGroups g) (sym w.groups) is.groups;
   states = ap (λ v. length v.items) w.states ∙ is.states;
   open_claims = subst (λ cs. Each (IsOpen g cs) cs) (sym w.open_claims) is.open_claims;
+  links = w.outbox.links ∙ is.links;
   at_units = λ a p t v h. is.at_units a p t v (subst (λ es. waiting_in es a p t ≡ Some v) w.events h);
 }
 
@@ -71,7 +72,7 @@ is_wider p fields history lists room is f h l roomy = record {
     taken = l.taken.items ∙ is.empty.taken;
     claimed = l.claimed.items ∙ is.empty.claimed;
   };
-  sent = omega (arith, f.outbox.len, h.sent, is.sent);
+  sent = omega (arith, ap length f.outbox.items, h.sent, is.sent);
   room = roomy;
   next = tt;
 }
@@ -86,7 +87,7 @@ roomy_still p fields history lists o r f h l roomy =
     record {
       fields = record {
         events = omega (arith, leaving, due, roomy.fields.events, f.spare);
-        outbox = omega (arith, f.outbox.len, f.outbox.capacity, roomy.fields.outbox);
+        outbox = omega (arith, f.outbox.spare, roomy.fields.outbox);
         open_claims = omega (arith, f.claims_spare, roomy.fields.open_claims);
         posted = omega (arith, l.posted.len, l.posted.capacity, roomy.fields.posted);
         rows = omega (arith, due, l.rows.len, l.rows.capacity, roomy.fields.rows);
@@ -98,7 +99,7 @@ roomy_still p fields history lists o r f h l roomy =
       rows = omega (arith, due, h.rows, roomy.rows);
       taken = omega (arith, h.taken, roomy.taken);
       claimed = omega (arith, h.claimed, roomy.claimed);
-      sent = omega (arith, f.outbox.len, h.sent, roomy.sent);
+      sent = omega (arith, ap length f.outbox.items, h.sent, roomy.sent);
     }
 
 pub room_still : (p : Inside) (fields : Fields) (history : History) (lists : Lists) (o room : Option Room) → AreWider p.fields fields → HistoryIsWider p.history history → ListsAreWider p.lists lists → MatchOption room (Unit {0}) (IsRoomy p) → MatchOption room (Unit {0}) (IsRoomy (wider p fields history lists o))
@@ -115,7 +116,7 @@ is_roomy p fields history lists o r needs f enough met listed kept =
     record {
       fields = record {
         events = omega (arith, leaving, due, enough.events, met.events);
-        outbox = omega (arith, f.outbox.len, enough.messages, met.outbox);
+        outbox = omega (arith, enough.messages, met.outbox);
         open_claims = omega (arith, enough.claimed, met.open_claims);
         posted = omega (arith, enough.posted, listed.posted);
         rows = omega (arith, due, enough.rows, listed.rows);
@@ -127,5 +128,5 @@ is_roomy p fields history lists o r needs f enough met listed kept =
       rows = omega (arith, due, enough.rows, kept.rows);
       taken = omega (arith, enough.taken, kept.taken);
       claimed = omega (arith, enough.claimed, kept.claimed);
-      sent = omega (arith, f.outbox.len, enough.sent, kept.sent);
+      sent = omega (arith, ap length f.outbox.items, enough.sent, kept.sent);
     }

@@ -4,6 +4,7 @@ use Rattle.pt_types.specs.declared.graph.Graph.{Graph}
 use Rattle.pt_history.specs.declared.history.History.{History}
 use Rattle.pt_history.specs.declared.room.Room.{Room as HistoryRoom}
 use Rattle.pt_state.specs.declared.fields.Fields.{Fields}
+use Rattle.pt_state.specs.Outbox.{OutboxView}
 use Rattle.pt_turn.specs.declared.steps.Lists.{Lists}
 use Rattle.pt_turn.specs.Steps.{count_due}
 use Rattle.pt_turn.specs.declared.memory.Needs.{Needs}
@@ -15,6 +16,12 @@ pub record IsWider {X Z : Type 0} (old new : Vec X Z) : Type 0 where
   pub len : vec_len new ≡ vec_len old
   pub capacity : vec_capacity old ≤ vec_capacity new
 
+-- the same messages and links, and no less room
+pub record HoldsMore (old new : OutboxView) : Type 0 where
+  pub items : new.items ≡ old.items
+  pub links : new.links ≡ old.links
+  pub spare : old.spare ≤ new.spare
+
 -- the same fields, and no less room
 pub record AreWider (old new : Fields) : Type 0 where
   pub events : new.queue.events ≡ old.queue.events
@@ -24,7 +31,7 @@ pub record AreWider (old new : Fields) : Type 0 where
   pub claims_spare : old.open_claims.spare ≤ new.open_claims.spare
   pub states : new.states ≡ old.states
   pub sensors : new.sensors ≡ old.sensors
-  pub outbox : IsWider old.outbox new.outbox
+  pub outbox : HoldsMore old.outbox new.outbox
   pub reading : new.reading ≡ old.reading
   pub closed : new.closed ≡ old.closed
   pub claims : new.claims ≡ old.claims
@@ -64,7 +71,7 @@ ahead_of room = record {
 -- the fields have the memory that a turn needs
 pub record FieldsMeet (needs : Needs) (f : Fields) : Type 0 where
   pub events : needs.events ≤ f.queue.spare
-  pub outbox : vec_len f.outbox + needs.messages ≤ vec_capacity f.outbox
+  pub outbox : needs.messages ≤ f.outbox.spare
   pub open_claims : needs.claimed ≤ f.open_claims.spare
 
 -- the lists of a turn have the memory that it needs
@@ -87,7 +94,7 @@ pub record HistoryMeets (needs : Needs) (room : HistoryRoom) : Type 0 where
 pub record AreEnough (g : Graph) (f : Fields) (r : ℕ) (room : Room) (needs : Needs) : Type 0 where
   pub events : length g.wires + count_due g r f + room.taken ≤ needs.events
   pub messages : room.done * length g.links + length g.links ≤ needs.messages
-  pub sent : vec_len f.outbox + room.done * length g.links + length g.links ≤ needs.sent
+  pub sent : length f.outbox.items + room.done * length g.links + length g.links ≤ needs.sent
   pub posted : room.done ≤ needs.posted
   pub rows : count_due g r f ≤ needs.rows
   pub taken : room.taken ≤ needs.taken

@@ -1,5 +1,5 @@
 -- A platform as contracts see it, and its invariant.
-use Rattle.std.specs.Prelude.{ℕ, ℤ, ◌+◌, ◌*◌, ◌<◌, ◌≤◌, Bool, List, Option, None, Some, MatchOption, length, vec_len}
+use Rattle.std.specs.Prelude.{ℕ, ℤ, ◌+◌, ◌*◌, ◌<◌, ◌≤◌, Bool, List, Option, None, Some, MatchOption, length}
 use Rattle.std.specs.Arc.{arc_value}
 use Rattle.std.specs.List.{flat_map}
 use Rattle.pt_types.specs.declared.graph.Graph.{Graph}
@@ -104,7 +104,7 @@ pub record IsRoomy (p : Inside) (r : Room) : Type 0 where
   pub rows : count_due (graph_of p) (raised_to p.fields.reading r.reading) p.fields ≤ p.history.room.rows
   pub taken : r.taken ≤ p.history.room.taken
   pub claimed : r.most ≤ p.history.room.claimed
-  pub sent : vec_len p.fields.outbox + r.done * length (graph_of p).links + length (graph_of p).links ≤ p.history.room.sent
+  pub sent : length p.fields.outbox.items + r.done * length (graph_of p).links + length (graph_of p).links ≤ p.history.room.sent
 
 -- the invariant of a platform: its recorded turns follow one another from its opening, and lead to its state
 pub record IsPlatform (p : Inside) : Type 0 where
@@ -116,6 +116,6 @@ pub record IsPlatform (p : Inside) : Type 0 where
   pub claims : p.fields.claims ≤ most_claims
   pub ran : Ran (graph_of p) (level_of (arc_value p.plan).ranks) p.number (rows_of p.fields.sensors.items) p.history.turns (state_of p.fields (messages_of p.history.turns)) p.fault
   pub empty : AreEmpty p.lists
-  pub sent : vec_len p.fields.outbox ≤ p.history.room.sent
+  pub sent : length p.fields.outbox.items ≤ p.history.room.sent
   pub room : MatchOption p.room (Unit {0}) (IsRoomy p)
   pub next : MatchOption p.next (Unit {0}) (IsNextReading (graph_of p) p.number (state_of p.fields (messages_of p.history.turns)))

@@ -37,7 +37,7 @@ count_due g r f = length (all_due g r (left_in f.sensors.items))
 -- there is memory for a turn at reading r, with that many results, messages and claims
 pub record HasRoom (g : Graph) (f : Fields) (lists : Lists) (r dones messages most : ℕ) : Type 0 where
   pub events : leaving_open g (busy_in f.open_claims.items) g.wires + count_due g r f + messages ≤ f.queue.spare
-  pub outbox : vec_len f.outbox + dones * length g.links + length g.links ≤ vec_capacity f.outbox
+  pub outbox : dones * length g.links + length g.links ≤ f.outbox.spare
   pub open_claims : most ≤ f.open_claims.spare
   pub posted : vec_len lists.posted + dones ≤ vec_capacity lists.posted
   pub rows : vec_len lists.rows + count_due g r f ≤ vec_capacity lists.rows

@@ -1,6 +1,6 @@
 //! A turn, run and recorded.
 
-ghost use Rattle.std.specs.Prelude.{◌≡◌, ◌+◌, ◌*◌, ◌≤◌, ℕ, Some, length, vec_len};
+ghost use Rattle.std.specs.Prelude.{◌≡◌, ◌+◌, ◌*◌, ◌≤◌, ℕ, Some, length};
 ghost use Rattle.pt_state.specs.State.{rows_of, IsSound};
 ghost use Rattle.pt_state.specs.Sensors.{AreSensors};
 ghost use Rattle.pt_take.specs.Taken.{Basis};
@@ -44,7 +44,7 @@ pub fn make(
     ensures reading { fields.new.reading ≡ Some reading }
     ensures claims { fields.new.claims ≤ most_claims }
     ensures empty { AreEmpty lists.new }
-    ensures outbox { vec_len fields.new.outbox ≤ vec_len fields.old.outbox + length dones.now * length plan.now.graph.links + length plan.now.graph.links }
+    ensures outbox { length fields.new.outbox.items ≤ length fields.old.outbox.items + length dones.now * length plan.now.graph.links + length plan.now.graph.links }
     ensures sent { history.new.room.sent ≡ history.old.room.sent }
 {
     let last = fields.reading;

@@ -48,7 +48,7 @@ fn widen_fields(fields: &mut Fields, needs: Needs) -> Result<(), Memory>
 {
     fields.queue.reserve(needs.events)?;
     fields.open_claims.reserve(needs.claimed)?;
-    widen(&mut fields.outbox, needs.messages)
+    fields.outbox.reserve(needs.messages)
 }
 
 /// Reserves the memory needed by the lists of a turn.

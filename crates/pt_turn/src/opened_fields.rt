@@ -13,7 +13,7 @@ use crate::starting_events::starting;
 use crate::starting_states::first_states;
 use pt_offsets::Plan;
 use pt_sensors::SensorRows;
-use pt_state::{Fields, OpenClaims};
+use pt_state::{Fields, OpenClaims, Outbox};
 use pt_tags::Memory;
 use std::alloc::Global;
 
@@ -40,12 +40,13 @@ pub fn open_fields(
     let queue = starting(alloc, plan.graph(), platform)?;
     let states = first_states(alloc, plan.graph())?;
     let sensors = all_unentered(alloc, rows)?;
+    let outbox = Outbox::new(alloc, plan.graph().links.as_slice().len())?;
     Ok(Fields {
         queue,
         open_claims: OpenClaims::new(alloc),
         states,
         sensors,
-        outbox: Vec::new(alloc),
+        outbox,
         reading: None,
         closed: false,
         claims: 0,

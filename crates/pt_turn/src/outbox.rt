@@ -1,20 +1,12 @@
 //! The messages that a platform sends.
 
-ghost use Rattle.std.specs.Prelude.{◌≡◌, ◌==◌, ◌<◌, length, position, slice_get};
-ghost use Rattle.pt_types.specs.declared.firing.OnLink.{OnLink};
+ghost use Rattle.std.specs.Prelude.{◌≡◌, ◌==◌, ◌<◌, length, slice_get};
 ghost use Rattle.pt_semantics.specs.Closing.{on_link};
 ghost use Rattle.pt_turn.specs.Gone.{HasGone, last_sent};
 
 use crate::platform::Platform;
 use pt_tags::Message;
 use pt_types::OnLink;
-
-/// The index of the first message of a link; `None` if there is none.
-fn place_of(outbox: &[OnLink], link: u32) -> Option<usize>
-    ensures { result ≡ position (λ (m : OnLink). m.link == link) outbox.now }
-{
-    outbox.iter().position(|m| m.link == link)
-}
 
 impl Platform {
     /// Whether all messages are sent.
@@ -28,11 +20,7 @@ impl Platform {
     pub fn outgoing(&self, link: u32) -> Option<Message>
         ensures { result ≡ slice_get (on_link link self.now.outbox) 0 }
     {
-        let outbox = self.fields.outbox.as_slice();
-        match place_of(outbox, link) {
-            None => None,
-            Some(place) => Some(outbox[place].message),
-        }
+        self.fields.outbox.first(link)
     }
 
     /// Moves the next message of a link from the outbox to the messages sent since the last turn, of which there are at most
@@ -43,10 +31,9 @@ impl Platform {
         requires few { length (on_link link (last_sent self.old.turns)) < 64 }
         ensures { HasGone self.old self.new link }
     {
-        let Some(place) = place_of(self.fields.outbox.as_slice(), link) else {
+        let Some(message) = self.fields.outbox.pop(link) else {
             unreachable!();
         };
-        let message = self.fields.outbox.remove(place);
-        self.history.send([message].as_slice());
+        self.history.send([OnLink { link, message }].as_slice());
     }
 }

@@ -1,6 +1,6 @@
 //! The five steps of a turn.
 
-ghost use Rattle.std.specs.Prelude.{◌≡◌, ◌+◌, ◌*◌, ◌≤◌, ℕ, Some, length, vec_len};
+ghost use Rattle.std.specs.Prelude.{◌≡◌, ◌+◌, ◌*◌, ◌≤◌, ℕ, Some, length};
 ghost use Rattle.pt_semantics.specs.Paced.{IsClosing};
 ghost use Rattle.pt_state.specs.State.{rows_of, IsSound};
 ghost use Rattle.pt_post.specs.Posted.{AreDone};
@@ -64,7 +64,7 @@ pub fn turn(
     ensures claims { fields.new.claims ≤ most_claims }
     ensures few { FitIn dones.now messages.now most plan.now.graph reading fields.old lists.new }
     ensures full { ShowsEnd plan.now.graph reading fields.new result }
-    ensures outbox { vec_len fields.new.outbox ≤ vec_len fields.old.outbox + length dones.now * length plan.now.graph.links + length plan.now.graph.links }
+    ensures outbox { length fields.new.outbox.items ≤ length fields.old.outbox.items + length dones.now * length plan.now.graph.links + length plan.now.graph.links }
 {
     let graph = plan.graph();
     posts(fields, graph, plan.branches(), dones, &mut lists.posted);

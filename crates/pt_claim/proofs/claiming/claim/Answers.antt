@@ -52,5 +52,6 @@ returns-clause-sound c =
       open_claims = c.add.ensures.open_claims g c.requires.sound.open_claims
           (subst (λ (o : OpenClaim). o.unit ≡ unit_of g o.task) (sym c.open_claim.ensures) (sym unit))
           (subst (λ (o : OpenClaim). IsUnit g o.unit) (sym c.open_claim.ensures) c.requires.unit);
+      links = c.requires.sound.links;
       at_units = λ a p t v there. c.requires.sound.at_units a p t v (without_found g old c.args.next.unit c.args.next.tag a p t v (sym (ap (λ f. f a p t) waits) ∙ there)).0;
     }

@@ -16,7 +16,7 @@ returns c = λ g i taken closing. (
     bounds = closing_bounds g i c.args.closing c.args.reading closing c.if-reading-closing.false;
     nothing_waits = c.is_empty.ensures.0 c.if-not-is_empty.false;
     nothing_open = (empty_opens c.args.fields.now.open_claims.items _ c.is_empty-2.result refl c.is_empty-2.ensures).0 c.if-not-is_empty-2.false;
-    nothing_to_send = (empty_box c.args.fields.now.outbox.items _ c.is_empty-3.result c.args.fields.now.outbox.ok.0 c.is_empty-3.ensures).0 e;
+    nothing_to_send = (empty_box c.args.fields.now.outbox.items _ c.is_empty-3.result refl c.is_empty-3.ensures).0 e;
   },
-  λ can. (empty_box c.args.fields.now.outbox.items _ c.is_empty-3.result c.args.fields.now.outbox.ok.0 c.is_empty-3.ensures).1 can.nothing_to_send,
+  λ can. (empty_box c.args.fields.now.outbox.items _ c.is_empty-3.result refl c.is_empty-3.ensures).1 can.nothing_to_send,
 )

@@ -17,6 +17,7 @@ loop-l-preserved c = record {
       ∙ ap₂ (λ x from. x ++ ended_on k c.loop-l.l from c.args.number) (c.loop-l.invariant.ends k) (c.platform_of.ensures ∙ ap (λ (ls : List Link). platform_of c.args.graph.now (get_or ls c.loop-l.l none_link).from) c.as_slice-links.ensures)
       ∙ append_assoc (on_link k c.args.outbox.now.items) _ _
       ∙ ap (λ r. on_link k c.args.outbox.now.items ++ r) (sym (more_end c.args.graph.now c.args.number c.args.graph.now.links c.loop-l.l k none_link lt) ∙ ap (λ n. end_for c.args.graph.now c.args.number (slice_get (take n c.args.graph.now.links) k)) (sym (add-one c.loop-l.l)));
-  capacity = omega (arith, c.end_on.ensures.capacity, c.loop-l.invariant.capacity);
+  links = c.end_on.ensures.links ∙ c.loop-l.invariant.links;
+  spare = omega (arith, c.end_on.ensures.spare, c.loop-l.invariant.spare);
   len = omega (arith, c.end_on.ensures.len, c.loop-l.invariant.len);
 }

@@ -19,6 +19,7 @@ loop-l-preserved c = record {
       ∙ ap₂ (λ x link. x ++ sent_on k c.loop-l.l link c.args.actor c.args.tag (at_port c.args.outputs.now 0)) (c.loop-l.invariant.sent k) (ap (λ ls. get_or ls c.loop-l.l none_link) c.as_slice-links.ensures)
       ∙ append_assoc (on_link k c.args.outbox.now.items) _ _
       ∙ ap (λ r. on_link k c.args.outbox.now.items ++ r) (sym (more_link c.args.graph.now.links c.loop-l.l k c.args.actor c.args.tag c.args.outputs.now none_link lt) ∙ ap (λ n. message_from (slice_get (take n c.args.graph.now.links) k) c.args.actor c.args.tag c.args.outputs.now) (sym (add-one c.loop-l.l)));
-  capacity = omega (arith, c.send_on.ensures.capacity, c.loop-l.invariant.capacity);
+  links = c.send_on.ensures.links ∙ c.loop-l.invariant.links;
+  spare = omega (arith, c.send_on.ensures.spare, c.loop-l.invariant.spare);
   len = omega (arith, c.send_on.ensures.len, c.loop-l.invariant.len);
 }

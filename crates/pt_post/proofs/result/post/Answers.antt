@@ -50,6 +50,7 @@ returns-in-Some-clause-sound c = record {
   groups = subst (AreGroups c.args.graph.now) (sym c.emit.ensures.groups) c.requires.sound.groups;
   states = c.set_state.ensures.len ∙ c.requires.sound.states;
   open_claims = c.close.ensures.open_claims c.args.graph.now c.requires.sound.open_claims;
+  links = c.send.ensures.links ∙ c.requires.sound.links;
   at_units = subst (AtUnits c.args.graph.now) (sym c.emit.ensures.waits) (added_units c.args.graph.now (waiting_in c.args.fields.now.queue.events) _ c.requires.sound.at_units (going_units c.args.graph.now (leaves_unit c.args.graph.now c.in-Some.unit) c.args.done.now.task.tag c.args.done.now.fired.outputs c.requires.wired));
 }
 

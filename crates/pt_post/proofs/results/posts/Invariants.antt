@@ -11,8 +11,8 @@ invariant-loop-done l = record {
   kept : vec_len l.kept ≤ vec_len l.fn.kept + l.done-index;
   kept_room : vec_capacity l.fn.kept ≤ vec_capacity l.kept;
   events : l.fn.fields.queue.spare + leaving_open l.graph (busy_in l.fields.open_claims.items) l.graph.wires ≤ l.fields.queue.spare + leaving_open l.graph (busy_in l.fn.fields.open_claims.items) l.graph.wires;
-  messages : vec_len l.fields.outbox ≤ vec_len l.fn.fields.outbox + l.done-index * length l.graph.links;
-  messages_room : vec_capacity l.fn.fields.outbox ≤ vec_capacity l.fields.outbox;
+  messages : length l.fields.outbox.items ≤ length l.fn.fields.outbox.items + l.done-index * length l.graph.links;
+  messages_room : l.fn.fields.outbox.spare ≤ l.fields.outbox.spare + l.done-index * length l.graph.links;
   open_claims : l.fields.open_claims.spare ≡ l.fn.fields.open_claims.spare;
   frame : (l.fields.sensors ≡ l.fn.fields.sensors) × (l.fields.reading ≡ l.fn.fields.reading) × (l.fields.closed ≡ l.fn.fields.closed) × (l.fields.claims ≡ l.fn.fields.claims);
   groups : l.fields.queue.groups ≡ l.fn.fields.queue.groups;

@@ -18,7 +18,7 @@ invariant_of-result c =
     let f = c.in_ok-fields.fields in
     let e = c.in_ok-fields.ensures in
     let plan : c.deref.result.now ≡ arc_value c.args.plan = c.deref.ensures in
-    let none : vec_len f.outbox ≡ 0 = f.outbox.ok.0 ∙ ap length e.outbox in
+    let none : length f.outbox.items ≡ 0 = ap length e.outbox in
     let turns : c.new.result.turns ≡ [] = c.new.ensures.turns in
     let start : state_of f [] ≡ opened (arc_value c.args.plan).graph c.args.platform (rows_of f.sensors.items) = subst (λ (z : Parts). state_of f [] ≡ opened z.graph c.args.platform (rows_of f.sensors.items)) plan e.opened in
     record {

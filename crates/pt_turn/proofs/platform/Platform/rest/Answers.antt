@@ -1,4 +1,4 @@
-use Rattle.std.proofs.Common.{◌≡◌, ◌≤◌, ℕ, [], List, Option, Some, None, sym, ap, subst, ◌∙◌, eqb-true, vec_len, arith}
+use Rattle.std.proofs.Common.{◌≡◌, length, ◌≤◌, ℕ, [], List, Option, Some, None, sym, ap, subst, ◌∙◌, eqb-true, arith}
 use Rattle.pt_semantics.specs.Kept.{kept_with}
 use Rattle.pt_semantics.specs.Paced.{IsNextReading}
 use Rattle.pt_semantics.specs.Turn.{Turn}
@@ -25,7 +25,7 @@ invariant_of-self-2 c =
     let rises : (q : ℕ) → p.fields.reading ≡ Some q → q ≤ r = λ q is. subst (λ n. q ≤ n) (sym c.raised_to-reading.ensures) (raised_rises p.fields.reading c.args.reading q is) in
     let turns : c.begin.new.self.turns ≡ kept_with p.history.turns (fresh r) = c.begin.ensures.turns ∙ ap (λ (ts : List Turn). kept_with ts (fresh r)) c.keep_room.ensures.wider.turns in
     let room : c.begin.new.self.room.sent ≡ c.keep_room.new.history.room.sent = ap (λ z. z.sent) c.begin.ensures.room in
-    let sent : vec_len p.fields.outbox ≤ c.begin.new.self.room.sent = omega (arith, room, c.keep_room.ensures.wider.sent, c.self-2.invariant.sent) in
+    let sent : length p.fields.outbox.items ≤ c.begin.new.self.room.sent = omega (arith, room, c.keep_room.ensures.wider.sent, c.self-2.invariant.sent) in
     let done = has_rested p r 1 c.find_next-next.result c.begin.new.self [] c.self-2.invariant next c.if-next-reading.false rises turns sent c.raised_to-reading.type_inv in
     let no_fault : p.fault ≡ None = ap (λ (v : PlatformView). v.fault) same ∙ c.requires.no_fault in
     subst (λ (fault : Option TurnFault). IsPlatform (after p (record p.fields { reading = Some r }) c.begin.new.self p.lists fault p.next)) (sym no_fault)
@@ -40,11 +40,11 @@ returns-clause-rested c = λ yes.
     let rises : (q : ℕ) → p.fields.reading ≡ Some q → q ≤ r = λ q is. subst (λ n. q ≤ n) (sym c.raised_to-reading.ensures) (raised_rises p.fields.reading c.args.reading q is) in
     let turns : c.begin.new.self.turns ≡ kept_with p.history.turns (fresh r) = c.begin.ensures.turns ∙ ap (λ (ts : List Turn). kept_with ts (fresh r)) c.keep_room.ensures.wider.turns in
     let room : c.begin.new.self.room.sent ≡ c.keep_room.new.history.room.sent = ap (λ z. z.sent) c.begin.ensures.room in
-    let sent : vec_len p.fields.outbox ≤ c.begin.new.self.room.sent = omega (arith, room, c.keep_room.ensures.wider.sent, c.self-2.invariant.sent) in
+    let sent : length p.fields.outbox.items ≤ c.begin.new.self.room.sent = omega (arith, room, c.keep_room.ensures.wider.sent, c.self-2.invariant.sent) in
     let done : (most : ℕ) → IsDone p r most [] [] (record p.fields { reading = Some r }) c.begin.new.self p.lists None [] [] = λ most. has_rested p r most c.find_next-next.result c.begin.new.self [] c.self-2.invariant next c.if-next-reading.false rises turns sent c.raised_to-reading.type_inv in
     let turned = λ (most : ℕ). is_turned p r c.args.reading most [] [] (record p.fields { reading = Some r }) c.begin.new.self p.lists None [] [] c.raised_to-reading.ensures (done most) in
-    let len : vec_len c.self.inside.fields.outbox ≡ 0 = eqb-true (vec_len c.self.inside.fields.outbox) 0 (sym c.is_empty.ensures ∙ c.if-not-is_empty.false) in
-    let empty : c.self.inside.fields.outbox.items ≡ [] = no_members c.self.inside.fields.outbox.items (sym c.self.inside.fields.outbox.ok.0 ∙ len) in
+    let len : length c.self.inside.fields.outbox.items ≡ 0 = eqb-true (length c.self.inside.fields.outbox.items) 0 (sym c.is_empty.ensures ∙ c.if-not-is_empty.false) in
+    let empty : c.self.inside.fields.outbox.items ≡ [] = no_members c.self.inside.fields.outbox.items len in
     let outbox : p.fields.outbox.items ≡ [] = ap (λ (v : PlatformView). v.outbox) (same ∙ sym c.self.view_is) ∙ empty in
     let no_fault : p.fault ≡ None = ap (λ (v : PlatformView). v.fault) same ∙ c.requires.no_fault in
     subst (λ (fault : Option TurnFault). HasRested c.args.self.now (view_of (after p (record p.fields { reading = Some r }) c.begin.new.self p.lists fault None)) c.args.reading) (sym no_fault)
