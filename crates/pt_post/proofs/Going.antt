@@ -1,8 +1,7 @@
 -- What one wire more sends, and that nothing waits there.
-use Rattle.std.proofs.Common.{◌≡◌, ℕ, zero, suc, ◌+◌, ◌<◌, ◌≤◌, ◌==◌, ◌&&◌, ◌≢◌, Bool, true, false, nat_lt, List, [], ◌∷◌, ◌++◌, Option, Some, None, ℤ, map, take, get_or, length, slice_get, filter_map, arith, refl, sym, ap, ap₂, subst, ◌∙◌, eq-eqb, lt-ltb, ne_eqb, eqb-true, ⊎_elim, if◌then◌else◌, append-nil}
+use Rattle.std.proofs.Common.{◌≡◌, ℕ, zero, suc, ◌+◌, ◌<◌, ◌≤◌, ◌==◌, ◌&&◌, ◌≢◌, Bool, true, false, nat_lt, List, [], ◌∷◌, ◌++◌, Option, Some, None, ℤ, map, take, get_or, length, slice_get, arith, refl, sym, ap, ap₂, subst, ◌∙◌, eq-eqb, lt-ltb, ne_eqb, eqb-true, ⊎_elim, if◌then◌else◌, append-nil}
 use Rattle.std.proofs.lemmas.Bool.{and_parts, and_from, cases_Bool}
 use Rattle.std.proofs.lemmas.Bool.Decides.{nat_tests}
-use Rattle.std.proofs.lemmas.List.Elements.{filter_map-append}
 use Rattle.std.proofs.lemmas.List.{take_more, map_push, get_or_default}
 use Rattle.pt_tags.specs.declared.tag.Tag.{Tag}
 use Rattle.pt_tags.specs.declared.tag.Delay.{Delay}
@@ -10,7 +9,6 @@ use Rattle.pt_types.specs.declared.graph.Wire.{Wire}
 use Rattle.pt_types.specs.declared.graph.Link.{Link}
 use Rattle.pt_types.specs.declared.graph.Graph.{Graph}
 use Rattle.pt_types.specs.declared.graph.Actor.{Actor}
-use Rattle.pt_types.specs.declared.firing.OnLink.{OnLink}
 use Rattle.pt_tags.specs.declared.message.Message.{Message}
 use Rattle.pt_types.specs.declared.graph.Unit.{Unit as Part}
 use Rattle.pt_tags.specs.Tags.{same_tag, plus}
@@ -23,7 +21,6 @@ use Rattle.pt_semantics.specs.Units.{leaves_unit, at_input}
 use Rattle.pt_types.specs.Groups.{output_group}
 use Rattle.pt_semantics.specs.Meaning.{Values, going, added}
 use Rattle.pt_semantics.specs.Posting.{message_from, as_message}
-use Rattle.pt_semantics.specs.Closing.{on_link}
 use Rattle.pt_semantics.specs.Floor.{NothingThere}
 use Rattle.pt_semantics.proofs.Words.{when-true, when-false}
 use Rattle.pt_semantics.proofs.Tags.{same_tag-true, same_tag-refl}

@@ -10,14 +10,7 @@ use pt_tags::{Message, Tag};
 use pt_types::{Graph, Link, Ports};
 
 /// Puts an actor's output 0, if it has a value, into the outbox, if the link leaves that actor.
-fn send_on(
-    outbox: &mut Outbox,
-    number: u32,
-    link: Link,
-    actor: u32,
-    tag: Tag,
-    output: Option<i64>,
-)
+fn send_on(outbox: &mut Outbox, number: u32, link: Link, actor: u32, tag: Tag, output: Option<i64>)
     requires number { number < outbox.old.links }
     requires room { 0 < outbox.old.spare }
     ensures sent { (l : ℕ) → on_link l outbox.new.items ≡ on_link l outbox.old.items ++ sent_on l number link actor tag output }

@@ -15,7 +15,7 @@ use Rattle.pt_state.specs.declared.slots.Slot.{Slot}
 use Rattle.pt_state.specs.declared.slots.Chain.{Chain}
 use Rattle.pt_state.specs.Slots.{AreQueues, EndsAt, IsChain, IsQueue, Stays, joined, no_chain, read, slot_at, walk}
 use Rattle.pt_state.specs.Outbox.{items_from, items_of}
-use Rattle.pt_state.proofs.Chains.{Extends, end_in, ends_push, ends_rest, extends, last_in, no_slot, not_in, stays, stays_set, within}
+use Rattle.pt_state.proofs.Chains.{Extends, end_in, ends_push, ends_rest, extends, last_in, no_slot, not_in, stays_set, within}
 
 abbrev tagged : ℕ → Message → OnLink
 tagged l m = record { link = l; message = m }
@@ -305,7 +305,7 @@ pub push_is : (old mid new : List Slot) (qs : List Chain) (l p : ℕ) (m : Messa
 push_is old mid new qs l p m a d lt are at placed others apart slots queue =
     let c : Chain = get_or qs l no_chain in
     let push : Pushed old mid new l m c d = subst (λ (x : Chain). Pushed old mid new l m x d) at
-        (pushed old mid new l p m a d (subst (IsQueue old l) (sym at) (are l)) placed.0 placed.1 (λ j n. others l j n) (λ j n. apart l j n) slots queue) in
+    (pushed old mid new l p m a d (subst (IsQueue old l) (sym at) (are l)) placed.0 placed.1 (λ j n. others l j n) (λ j n. apart l j n) slots queue) in
     let more : d.count ≡ c.count + 1 = ap (λ (x : Chain). x.count) queue ∙ ap (λ (x : Chain). x.count + 1) at in
     record {
       queues = queues_pushed old mid new qs l m d lt are others push;

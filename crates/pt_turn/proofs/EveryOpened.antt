@@ -1,5 +1,5 @@
 -- The platforms that were opened so far.
-use Rattle.std.proofs.Common.{◌≡◌, ℕ, zero, suc, ◌+◌, ◌<◌, ◌≤◌, ◌⊎◌, List, [], ◌∷◌, ◌++◌, Some, None, length, filter, filter_map, not, slice_get, refl, sym, ap, subst, ◌∙◌, arith, inl, inr, ⊎_elim}
+use Rattle.std.proofs.Common.{◌≡◌, ℕ, zero, suc, ◌+◌, ◌≤◌, ◌⊎◌, List, [], ◌∷◌, ◌++◌, Some, None, length, filter, filter_map, not, slice_get, refl, sym, ap, subst, ◌∙◌, arith, inl, inr, ⊎_elim}
 use Rattle.std.proofs.lemmas.List.{length-append}
 use Rattle.pt_sensors.specs.declared.sensor_rows.SensorRows.{SensorRows}
 use Rattle.pt_semantics.specs.Rows.{FitRows}

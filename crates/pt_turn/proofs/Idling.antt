@@ -1,5 +1,5 @@
 -- A turn before the next reading, without results and messages.
-use Rattle.std.proofs.Common.{◌≡◌, ℕ, ◌<◌, ◌≤◌, ◌==◌, ◌^◌, true, false, List, [], ◌∷◌, ◌++◌, Option, Some, None, ℤ, length, map, refl, sym, ap, subst, ◌∙◌, inl, inr, ⊎_elim, arith, append-nil, vec_len}
+use Rattle.std.proofs.Common.{◌≡◌, ℕ, ◌<◌, ◌≤◌, ◌==◌, ◌^◌, true, false, List, [], ◌∷◌, ◌++◌, Option, Some, None, ℤ, length, map, refl, sym, ap, subst, ◌∙◌, inl, inr, ⊎_elim, arith, append-nil}
 use Rattle.std.proofs.lemmas.Bool.{false≢true}
 use Rattle.std.specs.Prelude.{MatchOption}
 use Rattle.std.specs.Arc.{arc_value}

@@ -1,6 +1,5 @@
-use Rattle.std.proofs.Common.{◌≡◌, ◌<◌, ◌-◌, ◌∙◌, ℕ, Some, None, length, set, sym, subst, arith}
+use Rattle.std.proofs.Common.{◌≡◌, ◌<◌, ◌-◌, ◌∙◌, Some, None, length, set, sym, subst, arith}
 use Rattle.std.proofs.lemmas.List.{get_or_default}
-use Rattle.pt_semantics.specs.Lists.{IsIn}
 use Rattle.pt_semantics.proofs.Lookups.{none_some}
 use Rattle.pt_state.specs.declared.slots.Slot.{Slot}
 use Rattle.pt_state.specs.Slots.{IsChain, Stays, slot_at}

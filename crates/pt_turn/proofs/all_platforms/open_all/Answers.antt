@@ -1,4 +1,4 @@
-use Rattle.std.proofs.Common.{rules, ◌≡◌, ◌∙◌, ◌+◌, ◌≤◌, ◌++◌, ◌∷◌, [], filter, filter_map, not, length, sym, ap, subst}
+use Rattle.std.proofs.Common.{rules, ◌≡◌, ◌∙◌, ◌+◌, ◌++◌, ◌∷◌, [], filter, filter_map, not, length, sym, ap, subst}
 use Rattle.std.specs.Arc.{arc_value}
 use Rattle.pt_types.specs.declared.graph.Graph.{Graph}
 use Rattle.pt_sensors.specs.declared.sensor_rows.SensorRows.{SensorRows}

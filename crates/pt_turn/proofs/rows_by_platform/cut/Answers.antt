@@ -1,4 +1,4 @@
-use Rattle.std.proofs.Common.{rules, ◌≡◌, ◌∙◌, ℕ, List, [], Some, length, nat_le, filter, sym, ap, eq-eqb, eqb-true, vec_len}
+use Rattle.std.proofs.Common.{rules, ◌≡◌, ◌∙◌, List, [], Some, length, nat_le, filter, sym, ap, eq-eqb, eqb-true, vec_len}
 use Rattle.std.proofs.lemmas.Bool.{false≢true}
 use Rattle.std.proofs.lemmas.Fn.{filter_same}
 use Rattle.pt_types.specs.declared.rows.Row.{Row}

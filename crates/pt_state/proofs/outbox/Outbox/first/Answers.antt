@@ -1,9 +1,7 @@
-use Rattle.std.proofs.Common.{◌≡◌, List, ◌<◌, ◌∙◌, [], length, slice_get, sym, ap, arith}
+use Rattle.std.proofs.Common.{List, ◌<◌, ◌∙◌, length, slice_get, sym, ap, arith}
 use Rattle.pt_semantics.specs.Closing.{on_link}
 use Rattle.pt_tags.specs.declared.message.Message.{Message}
 use Rattle.pt_state.specs.Outbox.{OutboxView}
-use Rattle.pt_state.specs.declared.slots.Chain.{Chain}
-use Rattle.pt_state.specs.Slots.{no_chain}
 use Rattle.pt_state.proofs.Queues.{first_is, first_within, none_queued_on, past_read, there}
 use Rattle.pt_state.proofs.outbox.Outbox.first.Goals as goal
 

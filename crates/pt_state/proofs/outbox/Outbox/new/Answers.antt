@@ -1,6 +1,5 @@
-use Rattle.std.proofs.Common.{◌≡◌, ◌+◌, ◌∙◌, [], List, length, replicate, sym, ap, subst, arith}
+use Rattle.std.proofs.Common.{◌≡◌, ◌∙◌, [], length, replicate, sym, ap, subst, arith}
 use Rattle.std.proofs.lemmas.List.{length-replicate}
-use Rattle.pt_state.specs.declared.slots.Chain.{Chain}
 use Rattle.pt_state.specs.Outbox.{items_of}
 use Rattle.pt_state.specs.Slots.{AreQueues, no_chain}
 use Rattle.pt_state.proofs.Queues.{none_in, none_queued}

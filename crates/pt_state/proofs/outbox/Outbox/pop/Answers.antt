@@ -1,9 +1,6 @@
-use Rattle.std.proofs.Common.{◌≡◌, ◌<◌, ◌+◌, ◌∙◌, ◌∷◌, List, [], None, MatchOption, length, sym, ap, subst, arith}
+use Rattle.std.proofs.Common.{◌≡◌, ◌<◌, ◌∙◌, ◌∷◌, [], MatchOption, length, sym, ap, subst, arith}
 use Rattle.pt_semantics.specs.Closing.{on_link}
-use Rattle.pt_tags.specs.declared.message.Message.{Message}
 use Rattle.pt_state.specs.Outbox.{OutboxView}
-use Rattle.pt_state.specs.declared.slots.Chain.{Chain}
-use Rattle.pt_state.specs.Slots.{no_chain}
 use Rattle.pt_state.proofs.Queues.{PopIs, first_within, none_queued_on, past_read, popped_is, there}
 use Rattle.pt_state.proofs.outbox.Outbox.pop.Goals as goal
 

@@ -1,7 +1,6 @@
-use Rattle.std.proofs.Common.{◌≡◌, ◌<◌, ◌≤◌, ◌+◌, ◌++◌, ◌∷◌, ◌==◌, ◌∙◌, List, [], length, get_or, sym, ap, subst, arith, if◌then◌else◌}
+use Rattle.std.proofs.Common.{◌≡◌, ◌<◌, ◌≤◌, ◌+◌, ◌++◌, ◌∷◌, ◌==◌, ◌∙◌, [], length, get_or, sym, ap, subst, arith, if◌then◌else◌}
 use Rattle.std.proofs.lemmas.List.{get_or_default}
 use Rattle.pt_semantics.specs.Closing.{on_link}
-use Rattle.pt_tags.specs.declared.message.Message.{Message}
 use Rattle.pt_state.specs.Outbox.{OutboxView, items_of}
 use Rattle.pt_state.specs.declared.slots.Chain.{Chain}
 use Rattle.pt_state.specs.Slots.{no_chain}
@@ -30,8 +29,7 @@ is c =
 
 pub invariant_of-self : goal.invariant_of-self
 invariant_of-self c =
-    let spare : 0 < c.self.inside.spare = subst (λ (v : OutboxView). 0 < v.spare) (sym {A = OutboxView} c.self.view_is) c.requires.spare in
-    (
+    let spare : 0 < c.self.inside.spare = subst (λ (v : OutboxView). 0 < v.spare) (sym {A = OutboxView} c.self.view_is) c.requires.spare in (
       (is c).queues,
       (is c).frees c.put-place.new.free.first c.put-place.new.free.count c.put-place.ensures.free,
       omega (arith, (is c).len, c.self.invariant.2, c.put-place.ensures.len, c.join.ensures.len),

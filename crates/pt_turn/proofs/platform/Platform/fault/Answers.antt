@@ -1,8 +1,7 @@
-use Rattle.std.proofs.Common.{◌≡◌, Option, None, subst, sym}
+use Rattle.std.proofs.Common.{◌≡◌, subst}
 use Rattle.pt_semantics.proofs.LawfulEdges.{wired}
 use Rattle.pt_semantics.specs.History.{LegalOnTime}
 use Rattle.pt_semantics.specs.Platform.{opened}
-use Rattle.pt_turn.specs.declared.fault.TurnFault.{TurnFault}
 use Rattle.pt_turn.specs.Laws.{IsRunning}
 use Rattle.pt_turn.specs.Running.{last_reading}
 use Rattle.pt_turn.specs.Platforms.{PlatformView, level_at, rows_at, state_at, view_of}

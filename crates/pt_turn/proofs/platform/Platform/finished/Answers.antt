@@ -1,4 +1,4 @@
-use Rattle.std.proofs.Common.{◌≡◌, ◌↔◌, true, [], length, sym, ap, subst, ◌∙◌, eq-eqb, eqb-true, vec_len}
+use Rattle.std.proofs.Common.{◌≡◌, ◌↔◌, true, [], length, sym, ap, subst, ◌∙◌, eq-eqb, eqb-true}
 use Rattle.std.proofs.lemmas.Bool.{false≢true}
 use Rattle.pt_types.specs.declared.graph.Graph.{Graph}
 use Rattle.pt_semantics.specs.Closing.{on_link}

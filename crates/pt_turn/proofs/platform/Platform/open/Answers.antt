@@ -1,4 +1,4 @@
-use Rattle.std.proofs.Common.{◌≡◌, ◌≤◌, [], None, List, length, refl, ap, subst, ◌∙◌, sym, arith, vec_len}
+use Rattle.std.proofs.Common.{◌≡◌, ◌≤◌, [], None, List, length, refl, ap, subst, sym, arith}
 use Rattle.std.specs.Arc.{arc_value}
 use Rattle.pt_semantics.specs.Paced.{IsClosing}
 use Rattle.pt_semantics.specs.Platform.{opened}

@@ -1,5 +1,4 @@
 use Rattle.std.proofs.Common.{◌≡◌, ◌<◌, [], length, sym, ap, subst, ◌∙◌, arith}
-use Rattle.pt_types.specs.declared.firing.OnLink.{OnLink}
 use Rattle.pt_semantics.specs.Closing.{on_link}
 use Rattle.pt_turn.specs.declared.platform.Platform.TheInside.{Inside}
 use Rattle.pt_turn.specs.Gone.{HasGone, last_sent}
