@@ -67,13 +67,15 @@ impl Cells {
         Ok(())
     }
 
-    /// Appends a group. Allocates nothing.
-    pub fn push(&mut self, cells: &[Option<i64>; 9])
+    /// Appends the values at eight ports and a state as a group. Allocates nothing.
+    pub fn push(&mut self, ports: &Ports, state: i64)
         requires { 0 < self.old.spare }
-        ensures cells { self.new.cells ≡ self.old.cells ++ cells.now ∷ [] }
+        ensures cells { self.new.cells ≡ self.old.cells ++ cells_of ports.now state ∷ [] }
+        ensures eight { length ports.now ≡ 8 }
         ensures room { self.new.spare + 1 ≡ self.old.spare }
     {
-        push_cells(&mut self.places, &mut self.values, cells);
+        push_ports(&mut self.places, &mut self.values, ports);
+        push_cell(&mut self.places, &mut self.values, 8, nonzero(state));
         self.ends.push_reserved(self.places.len() as u32);
         self.spare -= 1;
     }
@@ -174,18 +176,28 @@ pub(crate) fn parts_of(cells: &[Option<i64>; 9]) -> (Ports, i64)
     )
 }
 
-/// Appends the place and the value of each cell that has one. Allocates nothing.
-fn push_cells(places: &mut Vec<u8>, values: &mut Vec<i64>, cells: &[Option<i64>])
-    requires few { length cells.now ≤ 9 }
-    requires places { vec_len places.old + length cells.now ≤ vec_capacity places.old }
-    requires values { vec_len values.old + length cells.now ≤ vec_capacity values.old }
-    ensures places { places.new.items ≡ places.old.items ++ places_from 0 cells.now }
-    ensures values { values.new.items ≡ values.old.items ++ values_in cells.now }
+/// Proves that there are eight ports.
+fn are_eight(ports: &Ports)
+    ensures { length ports.now ≡ 8 }
+{
+    let _values = ports.values();
+}
+
+/// Appends the number and the value of each port that has one. Allocates nothing.
+fn push_ports(places: &mut Vec<u8>, values: &mut Vec<i64>, ports: &Ports)
+    requires places { vec_len places.old + 8 ≤ vec_capacity places.old }
+    requires values { vec_len values.old + 8 ≤ vec_capacity values.old }
+    ensures eight { length ports.now ≡ 8 }
+    ensures places { places.new.items ≡ places.old.items ++ places_from 0 ports.now }
+    ensures values { values.new.items ≡ values.old.items ++ values_in ports.now }
     ensures places_room { vec_capacity places.old ≤ vec_capacity places.new }
     ensures values_room { vec_capacity values.old ≤ vec_capacity values.new }
+    ensures few_places { vec_len places.new ≤ vec_len places.old + 8 }
+    ensures few_values { vec_len values.new ≤ vec_len values.old + 8 }
 {
-    for (number, cell) in cells.iter().enumerate() {
-        push_cell(places, values, number as u8, *cell);
+    are_eight(ports);
+    for port in 0..8 {
+        push_cell(places, values, port as u8, ports.get(port));
     }
 }
 

@@ -70,7 +70,7 @@ impl Claims {
         ensures tasks { self.new.tasks ≡ self.old.tasks ++ task.now ∷ [] }
         ensures room { self.new.spare + 1 ≡ self.old.spare }
     {
-        self.cells.push(&cells_of(&task.inputs, task.state));
+        self.cells.push(&task.inputs, task.state);
         self.marks.push_reserved(mark_of(task));
         self.spare -= 1;
     }

@@ -112,8 +112,7 @@ impl Work {
         ensures results { self.new.spare_dones + 1 ≡ self.old.spare_dones }
     {
         let source = source_of(&self.claims, &mut self.others, &done.task);
-        self.fired
-            .push(&cells_of(&done.fired.outputs, done.fired.state));
+        self.fired.push(&done.fired.outputs, done.fired.state);
         self.sources.push_reserved(source);
         self.spare -= 1;
     }
