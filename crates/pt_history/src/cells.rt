@@ -80,10 +80,11 @@ impl Cells {
         self.spare -= 1;
     }
 
-    /// Whether group `number` is this one.
-    pub fn is(&self, number: usize, cells: &[Option<i64>; 9]) -> bool
+    /// Whether group `number` has these values at eight ports and this state.
+    pub fn is(&self, number: usize, ports: &Ports, state: i64) -> bool
         requires { number < length self.now.cells }
-        ensures { result ≡ true → slice_get self.now.cells number ≡ Some cells.now }
+        ensures same { result ≡ true → slice_get self.now.cells number ≡ Some (cells_of ports.now state) }
+        ensures eight { length ports.now ≡ 8 }
     {
         let end = self.ends[number];
         let start = start_of(self.ends.as_slice(), number);
@@ -92,7 +93,8 @@ impl Cells {
             self.values.as_slice(),
             start,
             end,
-            cells,
+            ports,
+            nonzero(state),
         )
     }
 
@@ -107,17 +109,35 @@ impl Cells {
     }
 }
 
-/// Whether the group at indices from `start` up to, not including, `end` has exactly the values of these cells.
-fn are_cells(places: &[u8], values: &[i64], start: u32, end: u32, cells: &[Option<i64>]) -> bool
-    requires nine { length cells.now ≡ 9 }
+/// The value at a port, or `last` for number 8.
+fn cell(ports: &Ports, last: Option<i64>, number: u32) -> Option<i64>
+    requires few { number < 9 }
+    requires eight { length ports.now ≡ 8 }
+    ensures { result ≡ slice_index_or (ports.now ++ last ∷ []) number None }
+{
+    if number < 8 { ports.get(number) } else { last }
+}
+
+/// Whether the group at indices from `start` up to, not including, `end` has exactly the values at these ports and
+/// then `last`.
+fn are_cells(
+    places: &[u8],
+    values: &[i64],
+    start: u32,
+    end: u32,
+    ports: &Ports,
+    last: Option<i64>,
+) -> bool
     requires rises { start ≤ end }
     requires places { end ≤ length places.now }
     requires values { end ≤ length values.now }
-    ensures { result ≡ true → cells_at places.now values.now start end ≡ cells.now }
+    ensures same { result ≡ true → cells_at places.now values.now start end ≡ ports.now ++ last ∷ [] }
+    ensures eight { length ports.now ≡ 8 }
 {
+    are_eight(ports);
     let mut at = start;
-    for (number, cell) in cells.iter().enumerate() {
-        match *cell {
+    for number in 0..9 {
+        match cell(ports, last, number) {
             None => (),
             Some(value) => {
                 if at >= end || !is_at(places, values, at, number as u8, value) {
@@ -146,15 +166,6 @@ fn start_of(ends: &[u32], number: usize) -> u32
     ensures { result ≡ slice_index (0 ∷ ends.now) number }
 {
     if number == 0 { 0 } else { ends[number - 1] }
-}
-
-/// The values at eight ports, and a state.
-pub(crate) fn cells_of(ports: &Ports, state: i64) -> [Option<i64>; 9]
-    ensures cells { result ≡ cells_of ports.now state }
-    ensures eight { length ports.now ≡ 8 }
-{
-    let [p0, p1, p2, p3, p4, p5, p6, p7] = ports.values();
-    [p0, p1, p2, p3, p4, p5, p6, p7, nonzero(state)]
 }
 
 /// A state, or `None` for 0.

@@ -4,7 +4,7 @@ ghost use Rattle.std.specs.Prelude.{◌≡◌, ◌+◌, ◌<◌, ◌≤◌, ◌^
 ghost use Rattle.pt_history.specs.Tasks.{mark_of};
 ghost use Rattle.pt_history.specs.Works.{AreWithin, IsStored, done_of, task_at};
 
-use crate::cells::{Cells, cells_of, parts_of};
+use crate::cells::{Cells, parts_of};
 use crate::claims::{Claims, Mark, mark_of};
 use crate::pieces::{MOST_ITEMS, widened};
 use pt_tags::Memory;
