@@ -17,6 +17,41 @@ at_most k [] = omega arith
 at_most k (None ∷ xs) = let few = at_most (k + 1) xs in omega (arith, few)
 at_most k (Some v ∷ xs) = let few = at_most (k + 1) xs in omega (arith, few)
 
+-- the places of two lists, one after the other
+places_both : (k : ℕ) (xs ys : List (Option ℤ)) → places_from k (xs ++ ys) ≡ places_from k xs ++ places_from (k + length xs) ys
+places_both k [] ys = ap (λ n. places_from n ys) (omega arith)
+places_both k (None ∷ xs) ys = places_both (k + 1) xs ys ∙ ap (λ n. places_from (k + 1) xs ++ places_from n ys) (omega arith)
+places_both k (Some v ∷ xs) ys = ap (λ ps. k ∷ ps) (places_both (k + 1) xs ys ∙ ap (λ n. places_from (k + 1) xs ++ places_from n ys) (omega arith))
+
+values_both : (xs ys : List (Option ℤ)) → values_in (xs ++ ys) ≡ values_in xs ++ values_in ys
+values_both [] ys = refl
+values_both (None ∷ xs) ys = values_both xs ys
+values_both (Some v ∷ xs) ys = ap (λ vs. v ∷ vs) (values_both xs ys)
+
+-- eight ports and a state are nine cells
+pub nine : (ports : List (Option ℤ)) (state : ℤ) → length ports ≡ 8 → length (cells_of ports state) ≡ 9
+nine ports state eight = omega (arith, eight, length_push ports (nonzero state))
+
+-- the places of eight ports were appended, and then that of a state
+pub places_more : (old mid new : List ℕ) (ports : List (Option ℤ)) (cell : Option ℤ) (state : ℤ) → length ports ≡ 8 → cell ≡ nonzero state → mid ≡ old ++ places_from 0 ports → new ≡ mid ++ places_from 8 (cell ∷ [])
+    → new ≡ old ++ places_from 0 (cells_of ports state)
+places_more old mid new ports cell state eight is first last =
+    let at : 8 ≡ 0 + length ports = omega (arith, eight) in
+    last
+    ∙ ap₂ (λ ps x. ps ++ places_from 8 (x ∷ [])) first is
+    ∙ append_assoc old (places_from 0 ports) (places_from 8 (nonzero state ∷ []))
+    ∙ ap (λ n. old ++ (places_from 0 ports ++ places_from n (nonzero state ∷ []))) at
+    ∙ ap (λ ps. old ++ ps) (sym (places_both 0 ports (nonzero state ∷ [])))
+
+-- the values of eight ports were appended, and then that of a state
+pub values_more : (old mid new : List ℤ) (ports : List (Option ℤ)) (cell : Option ℤ) (state : ℤ) → cell ≡ nonzero state → mid ≡ old ++ values_in ports → new ≡ mid ++ values_in (cell ∷ [])
+    → new ≡ old ++ values_in (cells_of ports state)
+values_more old mid new ports cell state is first last =
+    last
+    ∙ ap₂ (λ vs x. vs ++ values_in (x ∷ [])) first is
+    ∙ append_assoc old (values_in ports) (values_in (nonzero state ∷ []))
+    ∙ ap (λ vs. old ++ vs) (sym (values_both ports (nonzero state ∷ [])))
+
 nones : ℕ → List (Option ℤ)
 nones zero = []
 nones (suc n) = None ∷ nones n

@@ -67,21 +67,24 @@ impl Cells {
         Ok(())
     }
 
-    /// Appends a group. Allocates nothing.
-    pub fn push(&mut self, cells: &[Option<i64>; 9])
+    /// Appends the values at eight ports and a state as a group. Allocates nothing.
+    pub fn push(&mut self, ports: &Ports, state: i64)
         requires { 0 < self.old.spare }
-        ensures cells { self.new.cells ≡ self.old.cells ++ cells.now ∷ [] }
+        ensures cells { self.new.cells ≡ self.old.cells ++ cells_of ports.now state ∷ [] }
+        ensures eight { length ports.now ≡ 8 }
         ensures room { self.new.spare + 1 ≡ self.old.spare }
     {
-        push_cells(&mut self.places, &mut self.values, cells);
+        push_ports(&mut self.places, &mut self.values, ports);
+        push_cell(&mut self.places, &mut self.values, 8, nonzero(state));
         self.ends.push_reserved(self.places.len() as u32);
         self.spare -= 1;
     }
 
-    /// Whether group `number` is this one.
-    pub fn is(&self, number: usize, cells: &[Option<i64>; 9]) -> bool
+    /// Whether group `number` has these values at eight ports and this state.
+    pub fn is(&self, number: usize, ports: &Ports, state: i64) -> bool
         requires { number < length self.now.cells }
-        ensures { result ≡ true → slice_get self.now.cells number ≡ Some cells.now }
+        ensures same { result ≡ true → slice_get self.now.cells number ≡ Some (cells_of ports.now state) }
+        ensures eight { length ports.now ≡ 8 }
     {
         let end = self.ends[number];
         let start = start_of(self.ends.as_slice(), number);
@@ -90,7 +93,8 @@ impl Cells {
             self.values.as_slice(),
             start,
             end,
-            cells,
+            ports,
+            nonzero(state),
         )
     }
 
@@ -105,17 +109,35 @@ impl Cells {
     }
 }
 
-/// Whether the group at indices from `start` up to, not including, `end` has exactly the values of these cells.
-fn are_cells(places: &[u8], values: &[i64], start: u32, end: u32, cells: &[Option<i64>]) -> bool
-    requires nine { length cells.now ≡ 9 }
+/// The value at a port, or `last` for number 8.
+fn cell(ports: &Ports, last: Option<i64>, number: u32) -> Option<i64>
+    requires few { number < 9 }
+    requires eight { length ports.now ≡ 8 }
+    ensures { result ≡ slice_index_or (ports.now ++ last ∷ []) number None }
+{
+    if number < 8 { ports.get(number) } else { last }
+}
+
+/// Whether the group at indices from `start` up to, not including, `end` has exactly the values at these ports and
+/// then `last`.
+fn are_cells(
+    places: &[u8],
+    values: &[i64],
+    start: u32,
+    end: u32,
+    ports: &Ports,
+    last: Option<i64>,
+) -> bool
     requires rises { start ≤ end }
     requires places { end ≤ length places.now }
     requires values { end ≤ length values.now }
-    ensures { result ≡ true → cells_at places.now values.now start end ≡ cells.now }
+    ensures same { result ≡ true → cells_at places.now values.now start end ≡ ports.now ++ last ∷ [] }
+    ensures eight { length ports.now ≡ 8 }
 {
+    are_eight(ports);
     let mut at = start;
-    for (number, cell) in cells.iter().enumerate() {
-        match *cell {
+    for number in 0..9 {
+        match cell(ports, last, number) {
             None => (),
             Some(value) => {
                 if at >= end || !is_at(places, values, at, number as u8, value) {
@@ -146,15 +168,6 @@ fn start_of(ends: &[u32], number: usize) -> u32
     if number == 0 { 0 } else { ends[number - 1] }
 }
 
-/// The values at eight ports, and a state.
-pub(crate) fn cells_of(ports: &Ports, state: i64) -> [Option<i64>; 9]
-    ensures cells { result ≡ cells_of ports.now state }
-    ensures eight { length ports.now ≡ 8 }
-{
-    let [p0, p1, p2, p3, p4, p5, p6, p7] = ports.values();
-    [p0, p1, p2, p3, p4, p5, p6, p7, nonzero(state)]
-}
-
 /// A state, or `None` for 0.
 fn nonzero(state: i64) -> Option<i64>
     ensures { result ≡ nonzero state }
@@ -174,18 +187,28 @@ pub(crate) fn parts_of(cells: &[Option<i64>; 9]) -> (Ports, i64)
     )
 }
 
-/// Appends the place and the value of each cell that has one. Allocates nothing.
-fn push_cells(places: &mut Vec<u8>, values: &mut Vec<i64>, cells: &[Option<i64>])
-    requires few { length cells.now ≤ 9 }
-    requires places { vec_len places.old + length cells.now ≤ vec_capacity places.old }
-    requires values { vec_len values.old + length cells.now ≤ vec_capacity values.old }
-    ensures places { places.new.items ≡ places.old.items ++ places_from 0 cells.now }
-    ensures values { values.new.items ≡ values.old.items ++ values_in cells.now }
+/// Proves that there are eight ports.
+fn are_eight(ports: &Ports)
+    ensures { length ports.now ≡ 8 }
+{
+    let _values = ports.values();
+}
+
+/// Appends the number and the value of each port that has one. Allocates nothing.
+fn push_ports(places: &mut Vec<u8>, values: &mut Vec<i64>, ports: &Ports)
+    requires places { vec_len places.old + 8 ≤ vec_capacity places.old }
+    requires values { vec_len values.old + 8 ≤ vec_capacity values.old }
+    ensures eight { length ports.now ≡ 8 }
+    ensures places { places.new.items ≡ places.old.items ++ places_from 0 ports.now }
+    ensures values { values.new.items ≡ values.old.items ++ values_in ports.now }
     ensures places_room { vec_capacity places.old ≤ vec_capacity places.new }
     ensures values_room { vec_capacity values.old ≤ vec_capacity values.new }
+    ensures few_places { vec_len places.new ≤ vec_len places.old + 8 }
+    ensures few_values { vec_len values.new ≤ vec_len values.old + 8 }
 {
-    for (number, cell) in cells.iter().enumerate() {
-        push_cell(places, values, number as u8, *cell);
+    are_eight(ports);
+    for port in 0..8 {
+        push_cell(places, values, port as u8, ports.get(port));
     }
 }
 

@@ -3,7 +3,7 @@
 ghost use Rattle.std.specs.Prelude.{◌≡◌, ◌+◌, ◌<◌, ◌≤◌, ◌++◌, ◌∷◌, [], OnOk, Some, length, max, option_map, slice_get, true};
 ghost use Rattle.pt_history.specs.Tasks.{mark_of, task_of};
 
-use crate::cells::{Cells, cells_of, parts_of};
+use crate::cells::{Cells, parts_of};
 use crate::pieces::widened;
 use pt_tags::{Memory, Tag};
 use pt_types::Task;
@@ -70,7 +70,7 @@ impl Claims {
         ensures tasks { self.new.tasks ≡ self.old.tasks ++ task.now ∷ [] }
         ensures room { self.new.spare + 1 ≡ self.old.spare }
     {
-        self.cells.push(&cells_of(&task.inputs, task.state));
+        self.cells.push(&task.inputs, task.state);
         self.marks.push_reserved(mark_of(task));
         self.spare -= 1;
     }
@@ -96,7 +96,7 @@ impl Claims {
         ensures { result ≡ true → slice_get self.now.tasks number ≡ Some task.now }
     {
         same_mark(self.marks[number], mark_of(task))
-            && self.cells.is(number, &cells_of(&task.inputs, task.state))
+            && self.cells.is(number, &task.inputs, task.state)
     }
 
     /// Claim `number`, counted from 0, without its inputs and its state.

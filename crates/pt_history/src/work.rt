@@ -4,7 +4,7 @@ ghost use Rattle.std.specs.Prelude.{◌≡◌, ◌+◌, ◌<◌, ◌≤◌, ◌^
 ghost use Rattle.pt_history.specs.Tasks.{mark_of};
 ghost use Rattle.pt_history.specs.Works.{AreWithin, IsStored, done_of, task_at};
 
-use crate::cells::{Cells, cells_of, parts_of};
+use crate::cells::{Cells, parts_of};
 use crate::claims::{Claims, Mark, mark_of};
 use crate::pieces::{MOST_ITEMS, widened};
 use pt_tags::Memory;
@@ -112,8 +112,7 @@ impl Work {
         ensures results { self.new.spare_dones + 1 ≡ self.old.spare_dones }
     {
         let source = source_of(&self.claims, &mut self.others, &done.task);
-        self.fired
-            .push(&cells_of(&done.fired.outputs, done.fired.state));
+        self.fired.push(&done.fired.outputs, done.fired.state);
         self.sources.push_reserved(source);
         self.spare -= 1;
     }

@@ -5,10 +5,12 @@ use Rattle.std.specs.Option.{is_some}
 use Rattle.std.specs.List.{list_any}
 use Rattle.std.specs.Int.RustNames.{bit_and}
 use Rattle.std.proofs.lemmas.Bool.{cases_Bool, false≢true}
-use Rattle.std.proofs.lemmas.Nat.Bits.{bit_at_and}
+use Rattle.std.proofs.lemmas.Nat.Bits.{bit_at_and, bit_at-zero}
 use Rattle.pt_tags.specs.declared.tag.Tag.{Tag}
 use Rattle.pt_tags.specs.declared.tag.Delay.{Delay}
 use Rattle.pt_types.specs.declared.graph.Unit.{Unit as Part}
+use Rattle.pt_semantics.specs.Lists.{Each}
+use Rattle.pt_semantics.proofs.Lookups.{Each-in}
 use Rattle.pt_causality.specs.Before.{MayHave, bit_of}
 use Rattle.pt_queue.specs.declared.groups.Groups.{Groups}
 use Rattle.pt_queue.specs.declared.waiting.Waiting.{Waiting}
@@ -17,10 +19,10 @@ use Rattle.pt_queue.specs.Listed.{AreTags, holds_up, tag_holds_up, tag_in, unit_
 use Rattle.pt_queue.specs.Marks.{AreMarks, IsHolder, IsHolderIn, one_if, unit_with}
 use Rattle.pt_queue.proofs.ByUnit.{no_place, tag_with, with_place}
 use Rattle.pt_queue.proofs.Holding.{holder_has, one_holds}
-use Rattle.pt_queue.proofs.Listing.{tag_in as tag_listed}
+use Rattle.pt_queue.proofs.Listing.{in_tag as tag_lists, tag_in as tag_listed}
 use Rattle.pt_queue.proofs.Words.{at_word, past_words, top_above, top_below}
 
-below_or : (n m : ℕ) → (n < m) ⊎ (m ≤ n)
+pub below_or : (n m : ℕ) → (n < m) ⊎ (m ≤ n)
 below_or n m = grind arith
 
 same_or : (n m : ℕ) → m ≤ n → (n ≡ m) ⊎ (m < n)
@@ -76,6 +78,23 @@ module _ (table : List Groups) (least : Part → Part → Option Delay) (u : Par
         (cases_Bool (holds n)))
         (λ (more : 64 * (len - behind) ≤ n). done n more)
         (below_or n (64 * (len - behind)))
+
+-- no unit with a place in a word before that of the first listed unit holds up
+pub none_low : (table : List Groups) (least : Part → Part → Option Delay) (u : Part) (t : Tag) (ws : List Waiting) (tags : List (Option Tag)) (first n : ℕ) → AreTags table ws tags → Each (λ (w : Waiting). first ≤ w.unit.actor / 8) ws → n / 64 < first
+    → unit_holds_up table least u t tags (unit_with n) ≡ false
+none_low table least u t ws tags first n are each low = by (tag_in tags (unit_with n)) refl
+  where
+    by : (o : Option Tag) → tag_in tags (unit_with n) ≡ o → unit_holds_up table least u t tags (unit_with n) ≡ false
+    by None e = ap (tag_holds_up table least u t (unit_with n)) e
+    by (Some w) e =
+        let r = tag_lists ws (unit_with n) w (sym (are.same (unit_with n)) ∙ e) in
+        let le : first ≤ r.0.unit.actor / 8 = Each-in (λ (y : Waiting). first ≤ y.unit.actor / 8) ws each r.0 r.1 in
+        let at : r.0.unit.actor ≡ n / 8 = ap (λ (x : Part). x.actor) r.2 in
+        absurd (omega (arith, le, at, low))
+
+-- no bit is set in 0
+pub none_in_zero : (table : List Groups) (least : Part → Part → Option Delay) (u : Part) (t : Tag) (tags : List (Option Tag)) (index word : ℕ) → word ≡ 0 → IsHolderIn table least u t tags index word None
+none_in_zero table least u t tags index word zero = λ i few set. let none : bit_at word i ≡ 0 = ap (λ w. bit_at w i) zero ∙ bit_at-zero i in absurd (omega (arith, none, set))
 
 -- all units, by their places
 pub no_holder : (table : List Groups) (least : Part → Part → Option Delay) (u : Part) (t : Tag) (tags : List (Option Tag)) → ((n : ℕ) → unit_holds_up table least u t tags (unit_with n) ≡ false) → IsHolder table least u t tags None

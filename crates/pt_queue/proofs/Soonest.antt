@@ -138,6 +138,18 @@ least_after table lines u (suc j) h =
 pub least_all : (table : List Groups) (lines : List (List Event)) (u : Part) → AreInLines table lines → least_from table u None (all_of (take (8 * u.actor + 8) lines)) ≡ least_from table u None (all_of lines)
 least_all table lines u h = sym (least_after table lines u (length lines) h) ∙ ap (λ ls. least_from table u None (all_of ls)) (take_all (8 * u.actor + 8 + length lines) lines (omega arith))
 
+-- lines without events change nothing
+pub least_rest : (table : List Groups) (lines : List (List Event)) (u : Part) (k j : ℕ) → ((p : ℕ) → k ≤ p → p < k + j → line_at lines (8 * u.actor + p) ≡ []) → least_from table u None (all_of (take (8 * u.actor + k) lines)) ≡ least_from table u None (all_of (take (8 * u.actor + (k + j)) lines))
+least_rest table lines u k zero none = ap (λ n. least_from table u None (all_of (take (8 * u.actor + n) lines))) (omega arith)
+least_rest table lines u k (suc j) none =
+    least_rest table lines u k j (λ p le l. none p le (omega (arith, l)))
+    ∙ sym (ap (least_from table u (least_from table u None (all_of (take (8 * u.actor + (k + j)) lines)))) (none (k + j) (omega arith) (omega arith)))
+    ∙ sym (least_step table lines u (8 * u.actor + (k + j)))
+    ∙ ap (λ n. least_from table u None (all_of (take n lines))) (next (8 * u.actor) k j)
+  where
+    next : (n k j : ℕ) → suc (n + (k + j)) ≡ n + (k + suc j)
+    next n k j = omega arith
+
 -- in the line of an input the tag alone tells what waits there
 pub value_line : (table : List Groups) (a p : ℕ) (t : Tag) (line : List Event) → p < 8 → Each (IsInLine table (8 * a + p)) line → value_on line t ≡ waiting_in line a p t
 value_line table a p t [] l h = refl

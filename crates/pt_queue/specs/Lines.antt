@@ -1,5 +1,5 @@
 -- The lines: the events of each input.
-use Rattle.std.specs.Prelude.{◌≡◌, ℕ, ◌+◌, ◌*◌, List, [], ◌∷◌, ◌++◌, Option, Some, None, ℤ, length, slice_index_or, slice_set}
+use Rattle.std.specs.Prelude.{◌≡◌, ℕ, ◌+◌, ◌*◌, ◌/◌, ◌%◌, ◌≤◌, List, [], ◌∷◌, ◌++◌, Option, Some, None, ℤ, length, slice_index_or, slice_set}
 use Rattle.std.specs.List.{flat_map}
 use Rattle.pt_tags.specs.declared.tag.Tag.{Tag}
 use Rattle.pt_tags.specs.Tags.{same_tag, Before}
@@ -30,6 +30,15 @@ line_of e = 8 * e.actor + e.port
 -- the events of line n
 abbrev pub line_at : List (List Event) → ℕ → List Event
 line_at lines n = slice_index_or lines n []
+
+-- line 8 a + p has events only if p is below the end of actor a
+abbrev pub AreEnds : List (List Event) → List ℕ → Type 0
+AreEnds lines ends = (n : ℕ) → slice_index_or ends (n / 8) 0 ≤ n % 8 → line_at lines n ≡ []
+
+-- the lines, and an end for each actor
+pub record AreCovered (lines : List (List Event)) (ends : List ℕ) : Type 0 where
+  pub ends_are : AreEnds lines ends
+  pub len : length lines ≤ 8 * length ends
 
 -- the lines after an event is appended to its own
 abbrev pub joined_by : List (List Event) → Event → List (List Event)

@@ -4,6 +4,7 @@ ghost use Rattle.std.specs.Prelude.{◌≡◌, ◌+◌, ◌*◌, ◌/◌, ◌%�
 ghost use Rattle.std.specs.Int.{bit_at};
 ghost use Rattle.std.specs.List.{list_any};
 ghost use Rattle.pt_types.specs.declared.graph.Unit.{Unit as Part};
+ghost use Rattle.pt_semantics.specs.Lists.{Each};
 ghost use Rattle.pt_causality.specs.Before.{MayHave};
 ghost use Rattle.pt_causality.specs.Delays.{HasAllBefore, least_of};
 ghost use Rattle.pt_queue.specs.Events.{IsRising};
@@ -162,23 +163,15 @@ fn holder_in_word(
     None
 }
 
-/// As `holder_in_word`; quick if no bit is set.
-fn holder_in(
-    table: &[Groups],
-    tags: &LeastTags,
-    unit: Unit,
-    tag: Tag,
-    least: &Least,
-    index: usize,
-    word: u64,
-) -> Option<Unit>
-    requires { 64 * index ≤ most_places }
-    ensures { IsHolderIn table.now (least_of least.now) unit tag tags.now index word result }
+/// The number of words before that of the first listed unit: no bit is set there.
+fn words_before(listed: &[Waiting]) -> usize
+    requires { IsRising listed.now }
+    ensures { Each (λ w. result ≤ w.unit.actor / 8) listed.now }
 {
-    if last_bit(word).is_none() {
-        return None;
+    match listed.get(0) {
+        None => 0,
+        Some(first) => first.unit.actor as usize / 8,
     }
-    holder_in_word(table, tags, unit, tag, least, index, word)
 }
 
 /// A word of `before`; all bits are set in a word past its end, since of the units there nothing is known.
@@ -195,20 +188,27 @@ fn word_before(before: &[u64], index: usize) -> u64
 /// from which a path leads here.
 fn holder_marked(
     table: &[Groups],
+    listed: &[Waiting],
     tags: &LeastTags,
     unit: Unit,
     tag: Tag,
     least: &Least,
     before: &[u64],
 ) -> Option<Unit>
-    requires { HasAllBefore least.now unit before.now }
+    requires rises { IsRising listed.now }
+    requires tags { AreTags table.now listed.now tags.now }
+    requires before { HasAllBefore least.now unit before.now }
     ensures { IsHolder table.now (least_of least.now) unit tag tags.now result }
 {
     let marks = tags.marks();
-    for behind in 0..marks.len() {
+    let none_before = words_before(listed);
+    for behind in 0..marks.len().saturating_sub(none_before) {
         let index = marks.len() - behind - 1;
         let word = marks[index] & word_before(before, index);
-        let found = holder_in(table, tags, unit, tag, least, index, word);
+        if word == 0 {
+            continue;
+        }
+        let found = holder_in_word(table, tags, unit, tag, least, index, word);
         if found.is_some() {
             return found;
         }
@@ -237,7 +237,7 @@ fn holder(
     if listed.len() <= tags.marks().len() {
         return holder_before(table, listed, unit, tag, least, before);
     }
-    holder_marked(table, tags, unit, tag, least, before)
+    holder_marked(table, listed, tags, unit, tag, least, before)
 }
 
 /// Whether the unit that took the place of this one's last holder holds it up. If so, that is remembered.

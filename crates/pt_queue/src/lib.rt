@@ -15,6 +15,7 @@ mod least_tags;
 mod line;
 mod lines;
 mod loose;
+mod lowering;
 mod marks;
 mod queue;
 mod taking;

@@ -1,6 +1,6 @@
 //! The lines of all inputs.
 
-ghost use Rattle.std.specs.Prelude.{◌≡◌, ◌+◌, ◌*◌, ◌<◌, ◌==◌, [], not, filter, IfOk, length, replicate, slice_set, if◌then◌else◌};
+ghost use Rattle.std.specs.Prelude.{◌≡◌, ℕ, ◌+◌, ◌*◌, ◌<◌, ◌≤◌, ◌==◌, [], not, filter, IfOk, length, replicate, slice_index_or, slice_set, if◌then◌else◌};
 ghost use Rattle.pt_tags.specs.Tags.{same_tag};
 ghost use Rattle.pt_queue.specs.Lines.{InOrder, first, joined_by, line_at, line_of, value_on};
 
@@ -21,15 +21,32 @@ pub fn line_number(actor: u32, port: u32) -> usize
 #[derive(Drop)]
 pub struct Lines {
     lines: Vec<Line>,
+    /// For each actor: of its inputs only those below this number ever had an event.
+    ends: Vec<u32>,
 }
 
 impl Model for Lines {
     ghost use Rattle.std.specs.Prelude.{List};
     ghost use Rattle.pt_types.specs.declared.firing.Event.{Event};
+    ghost use Rattle.pt_queue.specs.Lines.{AreCovered};
 
     ghost Value = { List (List Event) };
 
     ghost view = { λ l. l.lines.items };
+
+    ghost invariant = { λ l. AreCovered l.lines.items l.ends.items };
+}
+
+/// Raises the number at a place to `end` if it is less.
+fn raise(ends: &mut Vec<u32>, place: usize, end: u32)
+    requires { place < length ends.old.items }
+    ensures here { end ≤ slice_index_or ends.new.items place 0 }
+    ensures all { (n : ℕ) → slice_index_or ends.old.items n 0 ≤ slice_index_or ends.new.items n 0 }
+    ensures len { length ends.new.items ≡ length ends.old.items }
+{
+    if ends[place] < end {
+        ends[place] = end;
+    }
 }
 
 impl Lines {
@@ -41,7 +58,8 @@ impl Lines {
         for _ in 0..count {
             lines.push(Line::new(alloc))?;
         }
-        Ok(Lines { lines })
+        let ends = vec![in alloc; 0u32; count / 8 + 1]?;
+        Ok(Lines { lines, ends })
     }
 
     /// The event with the least tag in a line.
@@ -52,6 +70,17 @@ impl Lines {
         match self.lines.get(line) {
             None => None,
             Some(line) => line.first(),
+        }
+    }
+
+    /// A number below which are all inputs of an actor that have events; at most 8.
+    pub fn end(&self, actor: u32) -> u32
+        ensures none { (p : ℕ) → result ≤ p → p < 8 → line_at self.now (8 * actor + p) ≡ [] }
+        ensures few { result ≤ 8 }
+    {
+        match self.ends.get(actor as usize) {
+            None => 0,
+            Some(end) => (*end).min(8),
         }
     }
 
@@ -72,6 +101,7 @@ impl Lines {
         requires there { line < length self.old }
         ensures { self.new ≡ (if result then joined_by self.old event else self.old) }
     {
+        raise(&mut self.ends, line / 8, (line % 8) as u32 + 1);
         self.lines[line].push(event)
     }
 

@@ -19,8 +19,9 @@ use crate::holders::Holders;
 use crate::least_tags::LeastTags;
 use crate::lines::{Lines, line_number};
 use crate::loose::settle;
+use crate::lowering::lower_both;
 use crate::taking::take_from_lines;
-use crate::waiting::{Waiting, lower, set};
+use crate::waiting::{Waiting, set};
 use pt_causality::Least;
 use pt_tags::{Memory, Tag};
 use pt_types::{Event, Graph, Ports, Unit};
@@ -121,8 +122,7 @@ impl Queue {
     {
         self.spare -= 1;
         let unit = unit_of(self.groups.as_slice(), &event);
-        lower(&mut self.waiting, unit, event.tag);
-        self.tags.lower(unit, event.tag);
+        lower_both(&mut self.waiting, &mut self.tags, unit, event.tag);
         let line = line_number(event.actor, event.port);
         if !self.lines.push(line, event) {
             self.short = line;

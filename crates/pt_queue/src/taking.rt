@@ -1,6 +1,6 @@
 //! Taking the events of a unit at a tag, in one pass over the lines of its actor.
 
-ghost use Rattle.std.specs.Prelude.{◌≡◌, ◌+◌, ◌*◌, ◌<◌, ◌==◌, ◌++◌, None, not, filter, map, slice_set};
+ghost use Rattle.std.specs.Prelude.{◌≡◌, ℕ, ◌+◌, ◌*◌, ◌<◌, ◌≤◌, ◌==◌, ◌++◌, [], None, not, filter, map, slice_set};
 ghost use Rattle.pt_tags.specs.Tags.{same_tag};
 ghost use Rattle.pt_types.specs.Ports.{at_port, when, eight};
 ghost use Rattle.pt_queue.specs.Groups.{group_in};
@@ -104,6 +104,17 @@ fn take_port(
     taken.least = sooner_in_line(table, lines, unit, port, taken.least);
 }
 
+/// A number below which are all inputs of an actor that have events; 8 if there are loose events.
+fn end_of(lines: &Lines, loose: &VecDeque<Event>, actor: u32) -> u32
+    ensures none { (p : ℕ) → result ≤ p → p < 8 → (line_at lines.now (8 * actor + p) ≡ []) × (loose.now.items ≡ []) }
+    ensures few { result ≤ 8 }
+{
+    if !loose.is_empty() {
+        return 8;
+    }
+    lines.end(actor)
+}
+
 /// Takes the events of a unit at a tag from its lines. Values of loose events count, but these stay.
 pub fn take_from_lines(
     lines: &mut Lines,
@@ -121,7 +132,7 @@ pub fn take_from_lines(
         inputs: Ports::new(),
         least: None,
     };
-    for port in 0..8 {
+    for port in 0..end_of(lines, loose, unit.actor) {
         take_port(lines, table, loose, unit, tag, port, &mut taken);
     }
     taken

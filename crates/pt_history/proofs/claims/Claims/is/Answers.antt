@@ -20,7 +20,7 @@ returns-then-same_mark c = λ same.
     let lists : length c.args.self.now.tasks ≡ length c.self.inside.marks.items = ap (λ (v : RoomyTasks). length v.tasks) (sym c.self.view_is) ∙ length-tasks c.self.inside.marks.items c.self.inside.cells.cells c.self.invariant.0 in
     let inside : c.args.number < length c.self.inside.marks.items = omega (arith, lists, c.requires) in
     let mark : c.index.result.now ≡ mark_of c.args.task.now = c.same_mark.ensures c.if-same_mark.true ∙ c.mark_of.ensures in
-    let cells : c.cells_of.result ≡ cells_of c.args.task.now.inputs c.args.task.now.state = search rules in
+    let cells : slice_get c.self.inside.cells.cells c.args.number ≡ Some (cells_of c.args.task.now.inputs c.args.task.now.state) = search rules in
     ap (λ (v : RoomyTasks). slice_get v.tasks c.args.number) (sym c.self.view_is)
-    ∙ tasks_get c.self.inside.marks.items c.self.inside.cells.cells c.args.number c.index.result.now (cells_of c.args.task.now.inputs c.args.task.now.state) inside c.index.ensures (c.is.ensures same ∙ ap Some cells)
-    ∙ ap Some (task_back c.args.task.now c.index.result.now mark c.cells_of.ensures.eight)
+    ∙ tasks_get c.self.inside.marks.items c.self.inside.cells.cells c.args.number c.index.result.now (cells_of c.args.task.now.inputs c.args.task.now.state) inside c.index.ensures cells
+    ∙ ap Some (task_back c.args.task.now c.index.result.now mark c.is.ensures.eight)

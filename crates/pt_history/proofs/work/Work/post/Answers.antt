@@ -8,7 +8,8 @@ pub invariant_of-self : goal.invariant_of-self
 invariant_of-self c =
     let stored = c.source_of-source.ensures.stored in
     let sources : length c.push_reserved.new.self.items ≡ length c.self.inside.sources.items + 1 = ap length c.push_reserved.ensures.items ∙ length-append c.self.inside.sources.items (c.source_of-source.result ∷ []) in
-    let cells : length c.push.new.self.cells ≡ length c.self.inside.fired.cells + 1 = ap length c.push.ensures.cells ∙ length-append c.self.inside.fired.cells (c.cells_of.result ∷ []) in
+    let more : c.push.new.self.cells ≡ c.self.inside.fired.cells ++ cells_of c.args.done.now.fired.outputs c.args.done.now.fired.state ∷ [] = search rules in
+    let cells : length c.push.new.self.cells ≡ length c.self.inside.fired.cells + 1 = ap length more ∙ length-append c.self.inside.fired.cells (cells_of c.args.done.now.fired.outputs c.args.done.now.fired.state ∷ []) in
     let others : length c.source_of-source.new.others.items ≡ length c.self.inside.others.items + length stored.more = ap length stored.grows ∙ length-append c.self.inside.others.items stored.more in
     let spare : c.args.self.now.spare_dones ≡ c.self.inside.spare = ap (λ (v : RoomyWork). v.spare_dones) (sym c.self.view_is) in
     record {
@@ -22,8 +23,7 @@ invariant_of-self c =
 
 pub returns-clause-dones : goal.returns-clause-dones
 returns-clause-dones c =
-    let cells : c.cells_of.result ≡ cells_of c.args.done.now.fired.outputs c.args.done.now.fired.state = search rules in
+    let cells : c.push.new.self.cells ≡ c.self.inside.fired.cells ++ cells_of c.args.done.now.fired.outputs c.args.done.now.fired.state ∷ [] = search rules in
     dones_post c.self.inside.claims.tasks c.self.inside.others.items c.source_of-source.new.others.items c.self.inside.sources.items c.push_reserved.new.self.items c.self.inside.fired.cells c.push.new.self.cells c.source_of-source.result c.args.done.now
-    c.self.invariant.same c.self.invariant.within c.source_of-source.ensures.stored c.cells_of.ensures.eight c.push_reserved.ensures.items
-    (c.push.ensures.cells ∙ ap (λ k. c.self.inside.fired.cells ++ k ∷ []) cells)
+    c.self.invariant.same c.self.invariant.within c.source_of-source.ensures.stored c.push.ensures.eight c.push_reserved.ensures.items cells
     ∙ ap (λ (v : RoomyWork). v.dones ++ c.args.done.now ∷ []) c.self.view_is

@@ -28,17 +28,17 @@ returns-else-not-push-clause-waits c =
     ∙ waits_joined table c.self.inside.lines c.self.inside.loose.items c.args.event c.self.invariant.0 placed absent
     ∙ ap (λ (v : Queued). added (waiting_in v.events) (value_in c.args.event)) c.self.view_is
 
-pub lower-requires-clause-room : goal.lower-requires-clause-room
-lower-requires-clause-room c = known_fit c.self.inside.groups.items c.self.inside.lines c.self.inside.loose.items c.self.inside.waiting.items (vec_capacity c.self.inside.waiting) c.self.invariant.0 c.self.invariant.2
+pub lower_both-requires-clause-room : goal.lower_both-requires-clause-room
+lower_both-requires-clause-room c = known_fit c.self.inside.groups.items c.self.inside.lines c.self.inside.loose.items c.self.inside.waiting.items (vec_capacity c.self.inside.waiting) c.self.invariant.0 c.self.invariant.2
 
-pub lower-requires-clause-unit : goal.lower-requires-clause-unit
-lower-requires-clause-unit c =
+pub lower_both-requires-clause-unit : goal.lower_both-requires-clause-unit
+lower_both-requires-clause-unit c =
     let table = c.self.inside.groups.items in
     let placed : IsPlaced table c.args.event = record { actor = subst (λ (v : Queued). c.args.event.actor < length v.groups) (sym c.self.view_is) c.requires.actor; port = c.requires.port } in
     subst (FitsIn (vec_capacity c.self.inside.waiting)) (sym (c.unit_of-unit.ensures ∙ ap (λ gs. unit_in gs c.args.event) c.as_slice.ensures.value)) (unit_fits table c.args.event (vec_capacity c.self.inside.waiting) c.self.invariant.2.few c.self.invariant.2.room placed)
 
-pub lower-requires-2 : goal.lower-requires-2
-lower-requires-2 c =
+pub lower_both-requires-clause-place : goal.lower_both-requires-clause-place
+lower_both-requires-clause-place c =
     let table = c.self.inside.groups.items in
     let placed : IsPlaced table c.args.event = record { actor = subst (λ (v : Queued). c.args.event.actor < length v.groups) (sym c.self.view_is) c.requires.actor; port = c.requires.port } in
     let known = roomy table (all_of (settled c.self.inside.lines c.self.inside.loose.items)) c.self.inside.waiting.items c.self.inside.tags (vec_capacity c.self.inside.waiting) c.self.invariant.2 c.self.invariant.3 in
@@ -53,13 +53,13 @@ invariant_of-self c =
     let unit : c.unit_of-unit.result ≡ unit_in table c.args.event = c.unit_of-unit.ensures ∙ ap (λ gs. unit_in gs c.args.event) c.as_slice.ensures.value in (
       subst (λ ls. AreKept table ls c.push_back.new.self.items) (sym lines) (subst (AreKept table c.self.inside.lines) (sym loose) (loose_pushed table c.self.inside.lines c.self.inside.loose.items c.args.event c.self.invariant.0 placed)),
       omega (arith, c.push_back.ensures.len, c.push_back.ensures.capacity, c.in-Ok.ensures.len, c.self.invariant.1, c.requires.spare),
-      subst (λ ls. AreKnown table (all_of (settled ls c.push_back.new.self.items)) c.lower.new.listed.items (vec_capacity c.lower.new.listed)) (sym lines)
-          (subst (λ es. AreKnown table (all_of (settled c.self.inside.lines es)) c.lower.new.listed.items (vec_capacity c.lower.new.listed)) (sym loose)
-          (known_more table (all_of (settled c.self.inside.lines c.self.inside.loose.items)) (all_of (settled c.self.inside.lines (c.self.inside.loose.items ++ c.args.event ∷ []))) c.self.inside.waiting.items c.lower.new.listed.items (vec_capacity c.self.inside.waiting) (vec_capacity c.lower.new.listed) c.args.event c.unit_of-unit.result c.self.invariant.2 c.lower.ensures.rises unit c.lower.ensures.tags c.lower.ensures.capacity
+      subst (λ ls. AreKnown table (all_of (settled ls c.push_back.new.self.items)) c.lower_both.new.listed.items (vec_capacity c.lower_both.new.listed)) (sym lines)
+          (subst (λ es. AreKnown table (all_of (settled c.self.inside.lines es)) c.lower_both.new.listed.items (vec_capacity c.lower_both.new.listed)) (sym loose)
+          (known_more table (all_of (settled c.self.inside.lines c.self.inside.loose.items)) (all_of (settled c.self.inside.lines (c.self.inside.loose.items ++ c.args.event ∷ []))) c.self.inside.waiting.items c.lower_both.new.listed.items (vec_capacity c.self.inside.waiting) (vec_capacity c.lower_both.new.listed) c.args.event c.unit_of-unit.result c.self.invariant.2 c.lower_both.ensures.rises unit c.lower_both.ensures.listed c.lower_both.ensures.capacity
           (least_loose table c.self.inside.lines c.self.inside.loose.items c.args.event c.self.invariant.0 placed))),
       record {
-        room = c.lower-2.ensures.len ∙ c.self.invariant.3.room;
-        same = λ x. c.lower-2.ensures.tags x ∙ ap₂ (λ a b. if same_part c.unit_of-unit.result x then sooner a c.args.event.tag else b) (c.self.invariant.3.same c.unit_of-unit.result) (c.self.invariant.3.same x) ∙ sym (c.lower.ensures.tags x);
+        room = c.lower_both.ensures.len ∙ c.self.invariant.3.room;
+        same = λ x. c.lower_both.ensures.tags x ∙ ap₂ (λ a b. if same_part c.unit_of-unit.result x then sooner a c.args.event.tag else b) (c.self.invariant.3.same c.unit_of-unit.result) (c.self.invariant.3.same x) ∙ sym (c.lower_both.ensures.listed x);
       },
     )
 
@@ -72,11 +72,11 @@ invariant_of-self-else-not-push c =
     let kept : AreKept table (joined_by c.self.inside.lines c.args.event) c.self.inside.loose.items = line_kept table c.self.inside.lines c.args.event c.self.inside.loose.items c.self.invariant.0 placed in (
       subst (λ ls. AreKept table ls c.self.inside.loose.items) (sym lines) kept,
       omega (arith, c.self.invariant.1, c.requires.spare),
-      subst (λ ls. AreKnown table (all_of (settled ls c.self.inside.loose.items)) c.lower.new.listed.items (vec_capacity c.lower.new.listed)) (sym lines)
-          (known_more table (all_of (settled c.self.inside.lines c.self.inside.loose.items)) (all_of (settled (joined_by c.self.inside.lines c.args.event) c.self.inside.loose.items)) c.self.inside.waiting.items c.lower.new.listed.items (vec_capacity c.self.inside.waiting) (vec_capacity c.lower.new.listed) c.args.event c.unit_of-unit.result c.self.invariant.2 c.lower.ensures.rises unit c.lower.ensures.tags c.lower.ensures.capacity
+      subst (λ ls. AreKnown table (all_of (settled ls c.self.inside.loose.items)) c.lower_both.new.listed.items (vec_capacity c.lower_both.new.listed)) (sym lines)
+          (known_more table (all_of (settled c.self.inside.lines c.self.inside.loose.items)) (all_of (settled (joined_by c.self.inside.lines c.args.event) c.self.inside.loose.items)) c.self.inside.waiting.items c.lower_both.new.listed.items (vec_capacity c.self.inside.waiting) (vec_capacity c.lower_both.new.listed) c.args.event c.unit_of-unit.result c.self.invariant.2 c.lower_both.ensures.rises unit c.lower_both.ensures.listed c.lower_both.ensures.capacity
           (least_joined table c.self.inside.lines c.self.inside.loose.items c.args.event c.self.invariant.0 placed kept)),
       record {
-        room = c.lower-2.ensures.len ∙ c.self.invariant.3.room;
-        same = λ x. c.lower-2.ensures.tags x ∙ ap₂ (λ a b. if same_part c.unit_of-unit.result x then sooner a c.args.event.tag else b) (c.self.invariant.3.same c.unit_of-unit.result) (c.self.invariant.3.same x) ∙ sym (c.lower.ensures.tags x);
+        room = c.lower_both.ensures.len ∙ c.self.invariant.3.room;
+        same = λ x. c.lower_both.ensures.tags x ∙ ap₂ (λ a b. if same_part c.unit_of-unit.result x then sooner a c.args.event.tag else b) (c.self.invariant.3.same c.unit_of-unit.result) (c.self.invariant.3.same x) ∙ sym (c.lower_both.ensures.listed x);
       },
     )

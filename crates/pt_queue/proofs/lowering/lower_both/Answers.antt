@@ -1,0 +1,26 @@
+use Rattle.std.proofs.Common.{◌≡◌, Bool, true, false, Option, if◌then◌else◌, refl, sym, ap, ◌∙◌}
+use Rattle.pt_tags.specs.declared.tag.Tag.{Tag}
+use Rattle.pt_types.specs.declared.graph.Unit.{Unit as Part}
+use Rattle.pt_semantics.specs.Units.{same_part}
+use Rattle.pt_semantics.proofs.Lookups.{same_part-true}
+use Rattle.pt_queue.specs.Listed.{tag_in, tag_of}
+use Rattle.pt_queue.specs.Scans.{sooner}
+use Rattle.pt_queue.proofs.lowering.lower_both.Goals as goal
+
+-- where the tag of a unit stays, all stay
+all_stay : (tags : Part → Option Tag) (u x : Part) (t : Tag) → sooner (tags u) t ≡ tags u → tags x ≡ (if same_part u x then sooner (tags u) t else tags x)
+all_stay tags u x t stays = by (same_part u x) refl
+  where
+    by : (b : Bool) → same_part u x ≡ b → tags x ≡ (if b then sooner (tags u) t else tags x)
+    by true e = ap tags (sym (same_part-true u x e)) ∙ sym stays
+    by false e = refl
+
+pub returns-then-is_least-clause-listed : goal.returns-then-is_least-clause-listed
+returns-then-is_least-clause-listed c = λ x.
+    all_stay (tag_of c.args.listed.now.items) c.args.unit x c.args.tag
+    (ap (λ o. sooner o c.args.tag) (sym (c.of.ensures ∙ c.requires.same c.args.unit)) ∙ c.is_least.ensures c.if-is_least.true ∙ c.of.ensures ∙ c.requires.same c.args.unit)
+
+pub returns-then-is_least-clause-tags : goal.returns-then-is_least-clause-tags
+returns-then-is_least-clause-tags c = λ x.
+    all_stay (tag_in c.args.tags.now) c.args.unit x c.args.tag
+    (ap (λ o. sooner o c.args.tag) (sym c.of.ensures) ∙ c.is_least.ensures c.if-is_least.true ∙ c.of.ensures)
