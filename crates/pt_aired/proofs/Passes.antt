@@ -1,6 +1,6 @@
 -- A round passes one platform more.
 use Rattle.std.proofs.Common.{◌≡◌, ◌≢◌, ◌∙◌, ℕ, suc, ◌+◌, ◌<◌, ◌≤◌, ◌^◌, ◌⊎◌, Bool, true, false, List, [], ◌∷◌, ◌++◌, Option, Some, None, length, set, slice_get, refl, sym, ap, ap₂, subst, arith, inl, inr, ⊎_elim, append_assoc}
-use Rattle.std.proofs.lemmas.Bool.{cases_Bool, false≢true}
+use Rattle.std.proofs.lemmas.Bool.{false≢true}
 use Rattle.std.proofs.lemmas.Option.{slice_get_within}
 use Rattle.pt_tags.specs.declared.message.Message.{Message}
 use Rattle.pt_types.specs.declared.firing.Done.{Done}
@@ -12,7 +12,7 @@ use Rattle.pt_semantics.specs.Platform.{State}
 use Rattle.pt_semantics.specs.Turn.{is_quiet}
 use Rattle.pt_semantics.specs.Visits.{Made}
 use Rattle.pt_semantics.proofs.LawfulEdges.{wired}
-use Rattle.pt_semantics.proofs.Lookups.{Each-append, IsIn-append, IsIn-append_left, IsIn-append_right, same_some}
+use Rattle.pt_semantics.proofs.Lookups.{Each-append, IsIn-append, IsIn-append_left, IsIn-append_right}
 use Rattle.pt_laws.proofs.Onward.{cases_same}
 use Rattle.pt_causality.specs.Ranked.{level_of}
 use Rattle.pt_offsets.specs.Plans.{Parts}
@@ -29,12 +29,15 @@ use Rattle.pt_skies.specs.Sky.{come_to}
 use Rattle.pt_skies.proofs.Replays.{flights_keep}
 use Rattle.pt_skies.proofs.Ways.{come_front}
 use Rattle.pt_together.specs.Asked.{HaveNoFault}
-use Rattle.pt_together.specs.Shown.{is_fault}
+use Rattle.pt_together.specs.Shown.{AreThere, is_fault}
 use Rattle.pt_together.specs.Showing.{OnTimeSoFar}
-use Rattle.pt_together.proofs.Changed.{set_elsewhere, set_here}
+use Rattle.pt_together.proofs.Changed.{set_here}
+use Rattle.pt_together.proofs.Passing.{IsNoisy, closed_still, is_new, is_old, no_fault_before, noisy_by, noisy_now, noisy_still}
 use Rattle.pt_together.proofs.Showing.{orderly_front}
+use Rattle.pt_together.proofs.Views.{from_view, to_view}
 use Rattle.pt_aired.specs.Passing.{HasAnswered, HasFlown, HavePassed, Stands}
 use Rattle.pt_aired.proofs.Showing.{ShowsFlight, flight_shows, may_come}
+use Rattle.pt_aired.proofs.Moments.{are_there, platforms_in}
 use Rattle.pt_aired.proofs.Steps.{flown_below, fly_one, pass_by}
 
 -- a fault or none
@@ -74,18 +77,15 @@ module _ (plan : Parts) (rows : ℕ → List Row) (air : Air) (count now : ℕ) 
       are : AreBetween plan.graph (level_of plan.ranks) air rows now h.made h.sky
       are = between (let lt = below in omega (arith, lt))
 
+      there_all : AreThere plan rows (platforms_in h.sky) platforms
+      there_all = are_there plan rows air h.sky platforms airways results h.shown
+
       -- what a platform answers is so of all platforms together
       finished_here : IsFinished v.plan.graph v.number (state_at v) → IsFinished plan.graph n (h.sky.at n)
-      finished_here done =
-          subst (IsFinished plan.graph n) (sym (h.shown.states n v there))
-          (subst (λ k. IsFinished plan.graph k (state_at v)) (h.shown.all.numbers n v there)
-          (subst (λ (p : Parts). IsFinished p.graph v.number (state_at v)) (h.shown.all.plans n v there) done))
+      finished_here = from_view plan rows (platforms_in h.sky) platforms there_all (λ (p : Parts) k s. IsFinished p.graph k s) n v there
 
       going_here : (IsFinished v.plan.graph v.number (state_at v) → ⊥) → IsFinished plan.graph n (h.sky.at n) → ⊥
-      going_here going done = going
-          (subst (λ (p : Parts). IsFinished p.graph v.number (state_at v)) (sym (h.shown.all.plans n v there))
-          (subst (λ k. IsFinished plan.graph k (state_at v)) (sym (h.shown.all.numbers n v there))
-          (subst (IsFinished plan.graph n) (h.shown.states n v there) done)))
+      going_here going done = going (to_view plan rows (platforms_in h.sky) platforms there_all (λ (p : Parts) k s. IsFinished p.graph k s) n v there done)
 
       pub not_faulty : v.fault ≡ None
       not_faulty = ⊎_elim (λ (e : v.fault ≡ None). e) (λ (answered : (n < n) × HasAnswered h.made n). absurd (apart n answered.0)) (h.faults n v there)
@@ -121,11 +121,7 @@ module _ (plan : Parts) (rows : ℕ → List Row) (air : Air) (count now : ℕ) 
         shown = h.shown;
         rest_stays = λ j le. h.rest_stays j (omega (arith, le));
         is_quiet_round = h.is_quiet_round;
-        no_quiet_round = λ e.
-            ⊎_elim
-            (λ (one : (m : Made) × IsIn m h.made × (is_quiet m.turn ≡ false)). inl one)
-            (λ (one : (j : ℕ) × (j < n) × ((h.sky.at j).closed ≡ (s.sky.at j).closed → ⊥)). inr (one.0, (let lt : one.0 < n = one.1 in omega arith), one.2))
-            (h.no_quiet_round e);
+        no_quiet_round = λ e. noisy_by s.sky.at h.made n h.sky.at (h.no_quiet_round e);
         faults = λ j w at.
             ⊎_elim
             (λ (none : w.fault ≡ None). inl none)
@@ -161,37 +157,17 @@ module _ (plan : Parts) (rows : ℕ → List Row) (air : Air) (count now : ℕ) 
             let before = h.is_quiet_round (if_quiet e).0 in
             record {
               quiet = Each-append (λ (m : Made). is_quiet m.turn ≡ true) h.made (shows.made ∷ []) before.quiet (ap is_quiet shows.turn_is ∙ so.0, tt);
-              closed = λ j.
-                  ⊎_elim
-                  (λ (here : j ≡ n). subst (λ k. (shows.sky.at k).closed ≡ (s.sky.at k).closed) (sym here) (closes_here ∙ so.1 ∙ sym closed_before ∙ before.closed n))
-                  (λ (other : j ≢ n). ap (λ (z : State). z.closed) (stays j other) ∙ before.closed j)
-                  (cases_same j n);
+              closed = closed_still s.sky.at h.sky.at shows.sky.at h.made shows.made n v.closed w.closed closed_before closes_here stays so.1 before.closed;
             }
 
-        not_quiet : after ≡ false → ((m : Made) × IsIn m (h.made ++ shows.made ∷ []) × (is_quiet m.turn ≡ false)) ⊎ ((j : ℕ) × (j < suc n) × ((shows.sky.at j).closed ≡ (s.sky.at j).closed → ⊥))
+        not_quiet : after ≡ false → IsNoisy s.sky.at (h.made ++ shows.made ∷ []) (suc n) shows.sky.at
         not_quiet e =
             ⊎_elim
-            (λ (noisy : quiet ≡ false).
-            ⊎_elim
-            (λ (one : (m : Made) × IsIn m h.made × (is_quiet m.turn ≡ false)). inl (one.0, IsIn-append_left one.0 h.made (shows.made ∷ []) one.1, one.2))
-            (λ (one : (j : ℕ) × (j < n) × ((h.sky.at j).closed ≡ (s.sky.at j).closed → ⊥)).
-            let lt : one.0 < n = one.1 in
-            inr (one.0, omega arith, λ same. one.2 (sym (ap (λ (z : State). z.closed) (stays one.0 (λ here. apart one.0 n lt here))) ∙ same)))
-            (h.no_quiet_round noisy))
+            (λ (noisy : quiet ≡ false). noisy_still s.sky.at h.sky.at shows.sky.at h.made shows.made n v.closed w.closed closed_before closes_here stays (h.no_quiet_round noisy))
             (λ (moved : still ≡ false).
-            ⊎_elim
-            (λ (calm : is_quiet was.flown.visited.turn ≡ true).
-            inr (n, omega arith, λ same. false≢true (sym moved ∙ was.still_is.1 (calm, sym closes_here ∙ same ∙ ap (λ (z : State). z.closed) (sym (h.rest_stays n (omega arith))) ∙ closed_before))))
-            (λ (noisy : is_quiet was.flown.visited.turn ≡ false). inl (shows.made, IsIn-append_right shows.made h.made (shows.made ∷ []) (inl refl), ap is_quiet shows.turn_is ∙ noisy))
-            (cases_Bool (is_quiet was.flown.visited.turn)))
+            noisy_now s.sky.at h.sky.at shows.sky.at h.made shows.made n v.closed w.closed closed_before closes_here stays (h.rest_stays n (omega arith))
+            (λ calm same. false≢true (sym moved ∙ was.still_is.1 (ap is_quiet (sym shows.turn_is) ∙ calm, same))))
             (if_not e)
-          where
-            apart : (j k : ℕ) → j < k → j ≡ k → ⊥
-            apart j k lt e = omega arith
-
-        -- the platform that was visited is the one with view w
-        same_view : (j : ℕ) (u : PlatformView) → j ≡ n → slice_get (set platforms n w) j ≡ Some u → u ≡ w
-        same_view j u here at = same_some u w (sym (subst (λ k. slice_get (set platforms n w) k ≡ Some u) here at) ∙ changed)
 
         faults_now : (j : ℕ) (u : PlatformView) → slice_get (set platforms n w) j ≡ Some u → (u.fault ≡ None) ⊎ ((j < suc n) × HasAnswered (h.made ++ shows.made ∷ []) j)
         faults_now j u at =
@@ -206,7 +182,7 @@ module _ (plan : Parts) (rows : ℕ → List Row) (air : Air) (count now : ℕ) 
                 shows.made,
                 IsIn-append_right shows.made h.made (shows.made ∷ []) (inl refl),
                 shows.platform ∙ sym here,
-                shows.fault ∙ ap (λ (z : PlatformView). is_fault z.fault) (sym (same_view j u here at)) ∙ some,
+                shows.fault ∙ ap (λ (z : PlatformView). is_fault z.fault) (sym (is_new platforms n v w there j u here at)) ∙ some,
               ),
             ))
             (fault_is u.fault))
@@ -216,17 +192,13 @@ module _ (plan : Parts) (rows : ℕ → List Row) (air : Air) (count now : ℕ) 
             (λ (answered : (j < n) × HasAnswered h.made j).
             let lt : j < n = answered.0 in
             inr (omega arith, (answered.1.0, IsIn-append_left answered.1.0 h.made (shows.made ∷ []) answered.1.1, answered.1.2, answered.1.3)))
-            (h.faults j u (sym (set_elsewhere platforms n j w other) ∙ at)))
+            (h.faults j u (is_old platforms n v w there j u other at)))
             (cases_same j n)
 
         fine_now : HaveNoFault (set platforms n w) → Each (λ (m : Made). m.fault ≡ false) (h.made ++ shows.made ∷ [])
         fine_now none =
             Each-append (λ (m : Made). m.fault ≡ false) h.made (shows.made ∷ [])
-            (h.fine (λ j u at.
-            ⊎_elim
-            (λ (here : j ≡ n). ap (λ (z : PlatformView). z.fault) (same_some u v (sym (subst (λ k. slice_get platforms k ≡ Some u) here at) ∙ there)) ∙ not_faulty)
-            (λ (other : j ≢ n). none j u (set_elsewhere platforms n j w other ∙ at))
-            (cases_same j n)))
+            (h.fine (no_fault_before platforms n v w there not_faulty none))
             (shows.fault ∙ ap is_fault (none n w changed), tt)
 
         -- a platform that is visited did not fly before in this round
@@ -242,13 +214,13 @@ module _ (plan : Parts) (rows : ℕ → List Row) (air : Air) (count now : ℕ) 
             (λ (old : IsIn m h.made).
             ⊎_elim
             (λ (here : j ≡ n). absurd (none_before m old (home ∙ here)))
-            (λ (other : j ≢ n). h.answered j u (sym (set_elsewhere platforms n j w other) ∙ at) m old home)
+            (λ (other : j ≢ n). h.answered j u (is_old platforms n v w there j u other at) m old home)
             (cases_same j n))
             (λ (new : IsIn m (shows.made ∷ [])).
             ⊎_elim
             (λ (e : m ≡ shows.made).
             let here : j ≡ n = sym home ∙ ap (λ (z : Made). z.platform) e ∙ shows.platform in
-            let same : w ≡ u = sym (same_view j u here at) in
+            let same : w ≡ u = sym (is_new platforms n v w there j u here at) in
             (ap (λ (z : Made). z.fault) e ∙ shows.fault ∙ ap (λ (z : PlatformView). is_fault z.fault) same, ap (λ (z : Made). z.late) e ∙ shows.late ∙ ap (λ (z : PlatformView). is_late z.fault) same))
             (λ (never : ⊥). absurd never)
             new)

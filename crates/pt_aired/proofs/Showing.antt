@@ -1,5 +1,5 @@
 -- A flight of an engine is a flight by the definitions.
-use Rattle.std.proofs.Common.{◌≡◌, ◌≢◌, ◌∙◌, ℕ, zero, suc, ◌+◌, ◌-◌, ◌<◌, ◌≤◌, ◌^◌, true, false, List, [], ◌∷◌, ◌++◌, Option, Some, None, length, map, set, take, drop, nat_le, slice_get, option_map, refl, sym, ap, ap₂, subst, arith, ⊎_elim, append-nil}
+use Rattle.std.proofs.Common.{◌≡◌, ◌≢◌, ◌∙◌, ℕ, zero, suc, ◌+◌, ◌-◌, ◌<◌, ◌≤◌, ◌^◌, true, false, List, [], ◌∷◌, ◌++◌, Some, None, length, map, set, take, drop, slice_get, option_map, refl, sym, ap, ap₂, subst, arith, ⊎_elim, append-nil}
 use Rattle.std.proofs.lemmas.Bool.{cases_Bool, cond-true, cond-false}
 use Rattle.std.proofs.lemmas.List.{length-map}
 use Rattle.pt_tags.specs.declared.message.Message.{Message}
@@ -29,6 +29,7 @@ use Rattle.pt_skies.specs.Sky.{Flies, Sky, come_to, taken_off}
 use Rattle.pt_together.specs.Shown.{AreShown, is_fault}
 use Rattle.pt_together.specs.Showing.{OnTimeSoFar, ShowsVisit}
 use Rattle.pt_together.proofs.Changed.{set_cases}
+use Rattle.pt_together.proofs.Passing.{raised_same}
 use Rattle.pt_together.proofs.Piping.{lead_of, leads_elsewhere, leads_there, there_or_not}
 use Rattle.pt_together.proofs.Showing.{may_come as comes, visit_shows}
 use Rattle.pt_aired.specs.InFlight.{AreInFlight}
@@ -84,14 +85,6 @@ no_front (x ∷ xs) ys e = absurd (differ (sym e))
   where
     differ : x ∷ (xs ++ ys) ≡ [] → ⊥
     differ e = cc
-
--- a reading that is not before the last one is not raised
-raised_same : (last : Option ℕ) (c : ℕ) → ((p : ℕ) → last ≡ Some p → p ≤ c) → raised_to last c ≡ c
-raised_same None c h = refl
-raised_same (Some p) c h = let le : p ≤ c = h p refl in cond-true (nat_le p c) c p (at_most p c le)
-  where
-    at_most : (m n : ℕ) → m ≤ n → nat_le m n ≡ true
-    at_most m n le = grind arith
 
 -- what had come on a link, and what is left of it
 module _ (g : Graph) (i now l : ℕ) (a : AirwayView) where

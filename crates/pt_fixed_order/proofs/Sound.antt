@@ -1,6 +1,5 @@
 -- What is true between any two visits.
-use Rattle.std.proofs.Common.{◌≡◌, ◌≢◌, ℕ, ◌<◌, ◌==◌, Bool, true, false, List, [], ◌∷◌, ◌++◌, Option, None, Some, slice_get, ℤ, refl, sym, ap, ap₂, subst, ◌∙◌, inl, ⊎_elim, append_assoc, append-nil, eqb-true, take, ◌^◌}
-use Rattle.std.proofs.Math.Seq.{take-nil}
+use Rattle.std.proofs.Common.{◌≡◌, ◌≢◌, ℕ, ◌<◌, ◌==◌, Bool, true, false, List, [], ◌∷◌, ◌++◌, Option, None, Some, slice_get, ℤ, refl, sym, ap, ap₂, subst, ◌∙◌, inl, ⊎_elim, append_assoc, append-nil, eqb-true, ◌^◌}
 use Rattle.std.proofs.lemmas.Bool.{cases_Bool, cond-false}
 use Rattle.std.specs.List.{cons_option}
 use Rattle.pt_tags.specs.declared.message.Message.{Message}
@@ -35,7 +34,7 @@ use Rattle.pt_semantics.specs.Wired.{IsWired}
 use Rattle.pt_semantics.proofs.Floor.{put_none_found}
 use Rattle.pt_laws.proofs.Home.{home_on_time}
 use Rattle.pt_semantics.proofs.Longest.{levels_grow}
-use Rattle.pt_semantics.proofs.Lookups.{none_some, same_some}
+use Rattle.pt_semantics.proofs.Lookups.{same_some}
 use Rattle.pt_laws.proofs.Onward.{cases_same}
 use Rattle.pt_semantics.proofs.Words.{when-false}
 use Rattle.pt_fixed_order.specs.Sound.{GoesOn, IsForeign, SendsNothingElse, Sound}
@@ -81,7 +80,7 @@ module _ (g : Graph) (level : ℕ → ℕ) (i : ℕ) where
       (λ (off : (IsOnTime s.reading (link_bound g link) m.message → ⊥) × (ms ≡ []) × (late ≡ true) × (new ≡ with_taken s m.link m.message)). ap (λ (z : State). z.outbox) off.3)
       next
 
-  takes_own : (ms : List OnLink) (late : Bool) (s new : State) (l : ℕ) (link : Link) → slice_get g.links l ≡ Some link → (platform_of g link.to ≡ i → ⊥) → Takes g level i s ms late new → on_link l ms ≡ []
+  pub takes_own : (ms : List OnLink) (late : Bool) (s new : State) (l : ℕ) (link : Link) → slice_get g.links l ≡ Some link → (platform_of g link.to ≡ i → ⊥) → Takes g level i s ms late new → on_link l ms ≡ []
   takes_own [] late s new l link at other h = refl
   takes_own (m ∷ ms) late s new l link at other (to, at_to, home, orderly, next) =
       let here : when (m.link == l) (Some m.message) ≡ None =
@@ -132,15 +131,15 @@ turn_reading g level i s new turn late is =
     is.closes
     ∙ claims_reading g turn.last turn.claimed (raised is.got turn.last) is.ready is.claims
 
-sent_push : (l : ℕ) (turns : List Turn) (turn : Turn) → all_sent l (turns ++ turn ∷ []) ≡ all_sent l turns ++ on_link l turn.sent
+pub sent_push : (l : ℕ) (turns : List Turn) (turn : Turn) → all_sent l (turns ++ turn ∷ []) ≡ all_sent l turns ++ on_link l turn.sent
 sent_push l [] turn = append-nil (on_link l turn.sent)
 sent_push l (x ∷ turns) turn = ap (λ z. on_link l x.sent ++ z) (sent_push l turns turn) ∙ sym (append_assoc (on_link l x.sent) (all_sent l turns) (on_link l turn.sent))
 
-taken_push : (l : ℕ) (turns : List Turn) (turn : Turn) → all_taken l (turns ++ turn ∷ []) ≡ all_taken l turns ++ on_link l turn.taken
+pub taken_push : (l : ℕ) (turns : List Turn) (turn : Turn) → all_taken l (turns ++ turn ∷ []) ≡ all_taken l turns ++ on_link l turn.taken
 taken_push l [] turn = append-nil (on_link l turn.taken)
 taken_push l (x ∷ turns) turn = ap (λ z. on_link l x.taken ++ z) (taken_push l turns turn) ∙ sym (append_assoc (on_link l x.taken) (all_taken l turns) (on_link l turn.taken))
 
-single_push : (turns : List Turn) (turn : Turn) → Each IsSingle turns → IsSingle turn → Each IsSingle (turns ++ turn ∷ [])
+pub single_push : (turns : List Turn) (turn : Turn) → Each IsSingle turns → IsSingle turn → Each IsSingle (turns ++ turn ∷ [])
 single_push [] turn h one = (one, tt)
 single_push (x ∷ turns) turn h one = (h.0, single_push turns turn h.1 one)
 
@@ -148,17 +147,48 @@ pub goes_on_time : (g : Graph) (level : ℕ → ℕ) (i : ℕ) (turns : List Tur
 goes_on_time g level i [] s new e = e
 goes_on_time g level i (turn ∷ turns) s new (mid, is, on, rest) = (mid, is, goes_on_time g level i turns mid new rest)
 
-goes_legal : (g : Graph) (level : ℕ → ℕ) (i : ℕ) (turns : List Turn) (s new : State) → GoesOn g level i s turns new → Legal g level i s turns new
+pub goes_legal : (g : Graph) (level : ℕ → ℕ) (i : ℕ) (turns : List Turn) (s new : State) → GoesOn g level i s turns new → Legal g level i s turns new
 goes_legal g level i [] s new e = e
 goes_legal g level i (turn ∷ turns) s new (mid, is, on, rest) = (false, mid, is, (λ l. absurd (on l)), goes_legal g level i turns mid new rest)
 
-push_last : (g : Graph) (level : ℕ → ℕ) (i : ℕ) (turns : List Turn) (turn : Turn) (late : Bool) (s mid new : State) → GoesOn g level i s turns mid → IsTurn g level i mid turn late new → Legal g level i s (turns ++ turn ∷ []) new
+pub push_last : (g : Graph) (level : ℕ → ℕ) (i : ℕ) (turns : List Turn) (turn : Turn) (late : Bool) (s mid new : State) → GoesOn g level i s turns mid → IsTurn g level i mid turn late new → Legal g level i s (turns ++ turn ∷ []) new
 push_last g level i [] turn late s mid new e is = subst (λ z. Legal g level i z (turn ∷ []) new) e (late, new, is, (λ l. refl), refl)
 push_last g level i (x ∷ turns) turn late s mid new (one, ix, on, rest) is = (false, one, ix, (λ l. absurd (on l)), push_last g level i turns turn late one mid new rest is)
 
-push_on : (g : Graph) (level : ℕ → ℕ) (i : ℕ) (turns : List Turn) (turn : Turn) (s mid new : State) → GoesOn g level i s turns mid → (is : IsTurn g level i mid turn false new) → (IsLast g mid turn.last false is.ready → ⊥) → GoesOn g level i s (turns ++ turn ∷ []) new
+pub push_on : (g : Graph) (level : ℕ → ℕ) (i : ℕ) (turns : List Turn) (turn : Turn) (s mid new : State) → GoesOn g level i s turns mid → (is : IsTurn g level i mid turn false new) → (IsLast g mid turn.last false is.ready → ⊥) → GoesOn g level i s (turns ++ turn ∷ []) new
 push_on g level i [] turn s mid new e is on = subst (λ z. GoesOn g level i z (turn ∷ []) new) e (new, is, on, refl)
 push_on g level i (x ∷ turns) turn s mid new (one, ix, on2, rest) is on = (one, ix, on2, push_on g level i turns turn one mid new rest is on)
+
+-- all histories when one of them has a turn more
+module _ (g : Graph) (i : ℕ) (turn : Turn) (before after : ℕ → List Turn) (joins : after i ≡ before i ++ turn ∷ []) (others : (p : ℕ) → p ≢ i → after p ≡ before p) (l : ℕ) (link : Link) (at : slice_get g.links l ≡ Some link) where
+  pub one_more_sent : (IsForeign g i l → on_link l turn.sent ≡ []) → all_sent l (after (platform_of g link.from)) ≡ all_sent l (before (platform_of g link.from)) ++ on_link l turn.sent
+  one_more_sent own = ⊎_elim
+      (λ (here : platform_of g link.from ≡ i). ap (λ p. all_sent l (after p)) here ∙ ap (all_sent l) joins ∙ sent_push l (before i) turn ∙ ap (λ p. all_sent l (before p) ++ on_link l turn.sent) (sym here))
+      (λ (there : platform_of g link.from ≢ i). ap (all_sent l) (others (platform_of g link.from) there)
+      ∙ sym (ap (λ z. all_sent l (before (platform_of g link.from)) ++ z) (own (λ other at2 e. there (ap (λ (z : Link). platform_of g z.from) (same_some link other (sym at ∙ at2)) ∙ e))) ∙ append-nil (all_sent l (before (platform_of g link.from)))))
+      (cases_same (platform_of g link.from) i)
+
+  pub one_more_taken : (platform_of g link.to ≢ i → on_link l turn.taken ≡ []) → all_taken l (after (platform_of g link.to)) ≡ all_taken l (before (platform_of g link.to)) ++ on_link l turn.taken
+  one_more_taken own = ⊎_elim
+      (λ (here : platform_of g link.to ≡ i). ap (λ p. all_taken l (after p)) here ∙ ap (all_taken l) joins ∙ taken_push l (before i) turn ∙ ap (λ p. all_taken l (before p) ++ on_link l turn.taken) (sym here))
+      (λ (there : platform_of g link.to ≢ i). ap (all_taken l) (others (platform_of g link.to) there)
+      ∙ sym (ap (λ z. all_taken l (before (platform_of g link.to)) ++ z) (own there) ∙ append-nil (all_taken l (before (platform_of g link.to)))))
+      (cases_same (platform_of g link.to) i)
+
+  -- if the turn takes the first messages that are on the way and sends further ones, the link still carries what was sent
+  pub one_more_linked : (IsForeign g i l → on_link l turn.sent ≡ []) → (platform_of g link.to ≢ i → on_link l turn.taken ≡ []) → (way rest new_way : List Message) → way ≡ on_link l turn.taken ++ rest → new_way ≡ rest ++ on_link l turn.sent →
+      all_sent l (before (platform_of g link.from)) ≡ all_taken l (before (platform_of g link.to)) ++ way →
+      all_sent l (after (platform_of g link.from)) ≡ all_taken l (after (platform_of g link.to)) ++ new_way
+  one_more_linked own_sent own_taken way rest new_way first last linked =
+      let T : List Message = all_taken l (before (platform_of g link.to)) in
+      let t : List Message = on_link l turn.taken in
+      let s : List Message = on_link l turn.sent in
+      one_more_sent own_sent
+      ∙ ap (λ z. z ++ s) (linked ∙ ap (λ z. T ++ z) first)
+      ∙ append_assoc T (t ++ rest) s
+      ∙ ap (λ z. T ++ z) (append_assoc t rest s)
+      ∙ sym (append_assoc T t (rest ++ s))
+      ∙ ap₂ (λ a b. a ++ b) (sym (one_more_taken own_taken)) (sym last)
 
 pub sound_at_start : (g : Graph) (level : ℕ → ℕ) (rows : ℕ → List Row) → Sound g level rows (together_at_start g rows)
 sound_at_start g level rows = record { goes = λ p. refl; single = λ p. tt; linked = λ l link at. refl; own = λ p l f. refl }
@@ -170,71 +200,11 @@ module _ (g : Graph) (level : ℕ → ℕ) (rows : ℕ → List Row) (wired : Is
         (home_on_time g level m.platform rows (x.did m.platform) (x.at m.platform) wired (levels_grow g level are) fits (goes_on_time g level m.platform (x.did m.platform) (opened g m.platform rows) (x.at m.platform) (h.goes m.platform))).busy
         (h.own m.platform) k.is
 
-    -- nothing is sent on the links of other platforms, so their room makes no difference
-    pub room_changes : (other : ℕ → ℕ) → ((l : ℕ) (link : Link) → slice_get g.links l ≡ Some link → platform_of g link.from ≡ m.platform → room l ≡ other l) → IsVisit g level most other r x m y
-    room_changes other same = record {
-      fits = k.fits;
-      once = k.once;
-      first = k.first;
-      last = k.last;
-      is = k.is;
-      faults = k.faults;
-      others = k.others;
-      joins = k.joins;
-      handed = k.handed;
-      in_order = k.in_order;
-      rest = k.rest;
-      takes = k.takes;
-      takes_all = k.takes_all;
-      takes_first = k.takes_first;
-      takes_by_link = k.takes_by_link;
-      claims_most = k.claims_most;
-      claims_all = k.claims_all;
-      sends = k.sends;
-      sends_all = sends_all;
-      sends_by_link = k.sends_by_link;
-    }
-      where
-        foreign : (l : ℕ) → IsForeign g m.platform l → on_link l m.turn.sent ≡ take (other l) (k.is.done.outbox l)
-        foreign l f =
-            let none : k.is.done.outbox l ≡ [] = k.is.sends.2 l ∙ ap (λ z. z ++ k.is.sends.0 l) (own_turn.sent l f) ∙ sym (ap (λ (z : State). z.outbox l) k.is.sends.1) ∙ own_turn.left l f in
-            own_turn.sent l f ∙ sym (ap (take (other l)) none ∙ take-nil (other l))
-
-        sends_all : (l : ℕ) → on_link l m.turn.sent ≡ take (other l) (k.is.done.outbox l)
-        sends_all l = go (slice_get g.links l) refl
-          where
-            go : (o : Option Link) → slice_get g.links l ≡ o → on_link l m.turn.sent ≡ take (other l) (k.is.done.outbox l)
-            go None at = foreign l (λ link there home. none_some link (sym at ∙ there))
-            go (Some link) at = ⊎_elim
-                (λ (home : platform_of g link.from ≡ m.platform). k.sends_all l ∙ ap (λ n. take n (k.is.done.outbox l)) (same l link at home))
-                (λ (away : platform_of g link.from ≢ m.platform). foreign l (λ q there home. away (ap (λ (z : Link). platform_of g z.from) (same_some link q (sym at ∙ there)) ∙ home)))
-                (cases_same (platform_of g link.from) m.platform)
-
-    sent_more : (l : ℕ) (link : Link) → slice_get g.links l ≡ Some link → all_sent l (y.did (platform_of g link.from)) ≡ all_sent l (x.did (platform_of g link.from)) ++ on_link l m.turn.sent
-    sent_more l link at = ⊎_elim
-        (λ (here : platform_of g link.from ≡ m.platform). ap (λ p. all_sent l (y.did p)) here ∙ ap (all_sent l) k.joins ∙ sent_push l (x.did m.platform) m.turn ∙ ap (λ p. all_sent l (x.did p) ++ on_link l m.turn.sent) (sym here))
-        (λ (there : platform_of g link.from ≢ m.platform). ap (all_sent l) (k.others (platform_of g link.from) there).1
-        ∙ sym (ap (λ z. all_sent l (x.did (platform_of g link.from)) ++ z) (own_turn.sent l (λ other at2 e. there (ap (λ (z : Link). platform_of g z.from) (same_some link other (sym at ∙ at2)) ∙ e))) ∙ append-nil (all_sent l (x.did (platform_of g link.from)))))
-        (cases_same (platform_of g link.from) m.platform)
-
-    taken_more : (l : ℕ) (link : Link) → slice_get g.links l ≡ Some link → all_taken l (y.did (platform_of g link.to)) ≡ all_taken l (x.did (platform_of g link.to)) ++ on_link l m.turn.taken
-    taken_more l link at = ⊎_elim
-        (λ (here : platform_of g link.to ≡ m.platform). ap (λ p. all_taken l (y.did p)) here ∙ ap (all_taken l) k.joins ∙ taken_push l (x.did m.platform) m.turn ∙ ap (λ p. all_taken l (x.did p) ++ on_link l m.turn.taken) (sym here))
-        (λ (there : platform_of g link.to ≢ m.platform). ap (all_taken l) (k.others (platform_of g link.to) there).1
-        ∙ sym (ap (λ z. all_taken l (x.did (platform_of g link.to)) ++ z) (takes_own g level m.platform m.turn.taken m.late (after_rows k.is.posted m.turn.last) k.is.got l link at there k.is.takes) ∙ append-nil (all_taken l (x.did (platform_of g link.to)))))
-        (cases_same (platform_of g link.to) m.platform)
-
     pub linked_after : (l : ℕ) (link : Link) → slice_get g.links l ≡ Some link → all_sent l (y.did (platform_of g link.from)) ≡ all_taken l (y.did (platform_of g link.to)) ++ y.on_way l
     linked_after l link at =
-        let T : List Message = all_taken l (x.did (platform_of g link.to)) in
-        let t : List Message = on_link l m.turn.taken in
-        let s : List Message = on_link l m.turn.sent in
-        sent_more l link at
-        ∙ ap (λ z. z ++ s) (h.linked l link at ∙ ap (λ z. T ++ z) (k.takes l))
-        ∙ append_assoc T (t ++ k.rest l) s
-        ∙ ap (λ z. T ++ z) (append_assoc t (k.rest l) s)
-        ∙ sym (append_assoc T t (k.rest l ++ s))
-        ∙ ap₂ (λ a b. a ++ b) (sym (taken_more l link at)) (sym (k.sends l))
+        one_more_linked g m.platform m.turn x.did y.did k.joins (λ p ne. (k.others p ne).1) l link at (own_turn.sent l)
+        (λ away. takes_own g level m.platform m.turn.taken m.late (after_rows k.is.posted m.turn.last) k.is.got l link at away k.is.takes)
+        (x.on_way l) (k.rest l) (y.on_way l) (k.takes l) (k.sends l) (h.linked l link at)
 
     pub single_after : (p : ℕ) → Each IsSingle (y.did p)
     single_after p = ⊎_elim

@@ -86,7 +86,7 @@ module _ (g : Graph) (level : ℕ → ℕ) (i : ℕ) where
       let same : new.taken ≡ is.got.taken = ap (λ (z : State). z.taken) is.sends.1 ∙ closes ∙ claims_taken turn.last turn.claimed (raised is.got turn.last) is.ready is.claims in
       stuck.never (subst (λ (t : ℕ → List Message). IsIn End (t stuck.l)) same (done.ends stuck.l stuck.link stuck.at stuck.home))
 
-push_time : (g : Graph) (level : ℕ → ℕ) (i : ℕ) (turns : List Turn) (turn : Turn) (s mid new : State) → LegalOnTime g level i s turns mid → IsTurn g level i mid turn false new → LegalOnTime g level i s (turns ++ turn ∷ []) new
+pub push_time : (g : Graph) (level : ℕ → ℕ) (i : ℕ) (turns : List Turn) (turn : Turn) (s mid new : State) → LegalOnTime g level i s turns mid → IsTurn g level i mid turn false new → LegalOnTime g level i s (turns ++ turn ∷ []) new
 push_time g level i [] turn s mid new e is = (new, subst (λ z. IsTurn g level i z turn false new) e is, refl)
 push_time g level i (x ∷ turns) turn s mid new (one, ix, rest) is = (one, ix, push_time g level i turns turn one mid new rest is)
 

@@ -1,5 +1,5 @@
 -- A flight within the stated bounds takes no late message, and what it sends arrives in time.
-use Rattle.std.proofs.Common.{◌≡◌, ◌≢◌, ℕ, suc, ◌<◌, ◌≤◌, ◌+◌, ◌-◌, false, List, [], ◌∷◌, ◌++◌, Option, ℤ, Some, length, option_map, slice_get, unwrap_or, refl, sym, ap, subst, ◌∙◌, inl, ⊎_elim, append-nil, arith}
+use Rattle.std.proofs.Common.{◌≡◌, ◌≢◌, ℕ, suc, ◌<◌, ◌≤◌, ◌+◌, ◌-◌, false, List, [], ◌∷◌, ◌++◌, Option, ℤ, Some, length, option_map, slice_get, unwrap_or, refl, sym, ap, subst, ◌∙◌, inl, ⊎_elim, arith}
 use Rattle.std.specs.Int.{abs_diff}
 use Rattle.pt_tags.specs.declared.message.Message.{Message}
 use Rattle.pt_tags.specs.declared.message.Message.TheVariants.{Event}
@@ -21,9 +21,8 @@ use Rattle.pt_laws.proofs.Onward.{Advances, OnwardNear, advance_onward, cases_sa
 use Rattle.pt_air.specs.declared.air.Air.{Air}
 use Rattle.pt_airways.specs.Arrivals.{AirwayView}
 use Rattle.pt_flights.specs.Skies.{delay_on, lag_of, put_all, reading_at, transits_on}
-use Rattle.pt_fixed_order.proofs.Sound.{Own}
+use Rattle.pt_fixed_order.proofs.Sound.{Own, one_more_sent}
 use Rattle.pt_skies.specs.Sky.{Flies, Sky, taken_off}
-use Rattle.pt_skies.proofs.Pushing.{sent_push}
 use Rattle.pt_skies.proofs.Sound.{IsSound, joins, others, own_turn, single, sound_flight, turn_of, way}
 use Rattle.pt_in_bounds.specs.InBounds.{IsInBounds, without_arrivals}
 use Rattle.pt_in_bounds.proofs.Ways.{IsInTime, clocks_are_near, due_on, order_front, put_in_time, taken_in_time}
@@ -65,14 +64,7 @@ module _ (g : Graph) (level : ℕ → ℕ) (air : Air) (rows : ℕ → List Row)
   none_sent l link at there = own.sent l (λ other at2 e. there (ap (λ (z : Link). platform_of g z.from) (same_some link other (sym at ∙ at2)) ∙ e))
 
   sent_more : (l : ℕ) (link : Link) → slice_get g.links l ≡ Some link → all_sent l (y.did (platform_of g link.from)) ≡ all_sent l (x.did (platform_of g link.from)) ++ on_link l m.turn.sent
-  sent_more l link at = ⊎_elim
-      (λ (here : platform_of g link.from ≡ m.platform).
-      subst (λ p. all_sent l (y.did p) ≡ all_sent l (x.did p) ++ on_link l m.turn.sent) (sym here)
-      (ap (all_sent l) (joins g level air now x m y f) ∙ sent_push l (x.did m.platform) m.turn))
-      (λ (there : platform_of g link.from ≢ m.platform).
-      ap (all_sent l) (others g level air now x m y f (platform_of g link.from) there).1
-      ∙ sym (ap (λ z. all_sent l (x.did (platform_of g link.from)) ++ z) (none_sent l link at there) ∙ append-nil (all_sent l (x.did (platform_of g link.from)))))
-      (cases_same (platform_of g link.from) m.platform)
+  sent_more l link at = one_more_sent g m.platform m.turn x.did y.did (joins g level air now x m y f) (λ p ne. (others g level air now x m y f p ne).1) l link at (own.sent l)
 
   -- an event that is sent within its sender's slack can arrive in time
   can_arrive : (l : ℕ) (link : Link) → slice_get g.links l ≡ Some link → (message : Message) → IsIn message (on_link l m.turn.sent) → (t : Tag) (v : ℤ) → message ≡ Event t v → now + link.delay ≤ due_on g air link t

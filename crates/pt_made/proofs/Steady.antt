@@ -33,7 +33,6 @@ use Rattle.pt_semantics.specs.Rows.{FitRows, FitsRow}
 use Rattle.pt_semantics.specs.Taking.{value_of}
 use Rattle.pt_semantics.specs.Visits.{Together}
 use Rattle.pt_semantics.specs.Wired.{IsWired}
-use Rattle.pt_semantics.proofs.Acyclic.{levels_are_small}
 use Rattle.pt_laws.proofs.Counting.{counted}
 use Rattle.pt_laws.proofs.Finish as finish
 use Rattle.pt_laws.proofs.Finish.{SourceKind, source_kind, link_in}
@@ -169,7 +168,7 @@ module _ (n : ℕ) (few : n ≤ 100) (level : ℕ → ℕ) (offset : Part → Op
 
   module _ (h : Onward g level rows offset c y) where
     whole : (i : ℕ) → i < length g.platforms → Whole g level i rows (y.at i) (y.at i).reading (claims_of g (y.did i)) (λ l. all_sent l (y.did i)) (λ l. all_taken l (y.did i))
-    whole i lt = whole_of g level rows offset is_wired are (levels_are_small g level is_wired are) fits (feasible n) has c y i lt h
+    whole i lt = whole_of g level rows offset is_wired are fits (feasible n) has c y i lt h
 
     here : (a : ℕ) → Whole g level (platform_of g a) rows (y.at (platform_of g a)) (y.at (platform_of g a)).reading (claims_of g (y.did (platform_of g a))) (λ l. all_sent l (y.did (platform_of g a))) (λ l. all_taken l (y.did (platform_of g a)))
     here a = whole (platform_of g a) (is_wired.homes a)
@@ -310,4 +309,4 @@ never_long n few level offset are has y run i lt =
 
     on : Onward (made_graph n) level (of_run (made_graph n) (made_rows n)) offset run.reading y
     on = (round_onward (made_graph n) level (of_run (made_graph n) (made_rows n)) offset has w (feasible n) run.reading 4 0 run.before y run.made (omega arith)
-        (run_onward (made_graph n) level (of_run (made_graph n) (made_rows n)) offset w are (levels_are_small (made_graph n) level w are) (rows_fit n) (feasible n) has run.rounds run.reading run.before run.run) run.round).1
+        (run_onward (made_graph n) level (of_run (made_graph n) (made_rows n)) offset w are (rows_fit n) (feasible n) has run.rounds run.reading run.before run.run) run.round).1

@@ -1,5 +1,4 @@
 pub mod Agreeing
-pub mod Few
 pub mod Leasts
 pub mod Passes
 pub mod Runs

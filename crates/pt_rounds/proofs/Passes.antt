@@ -1,6 +1,6 @@
 -- A round passes one platform more.
 use Rattle.std.proofs.Common.{◌≡◌, ℕ, suc, ◌<◌, ◌≤◌, ◌^◌, ◌⊎◌, ◌≢◌, Bool, true, false, List, [], ◌∷◌, ◌++◌, Option, Some, None, length, set, slice_get, refl, sym, ap, subst, ◌∙◌, arith, inl, inr, ⊎_elim}
-use Rattle.std.proofs.lemmas.Bool.{cases_Bool, false≢true}
+use Rattle.std.proofs.lemmas.Bool.{false≢true}
 use Rattle.std.proofs.lemmas.Option.{slice_get_within}
 use Rattle.pt_tags.specs.declared.message.Message.{Message}
 use Rattle.pt_types.specs.declared.firing.Done.{Done}
@@ -11,8 +11,7 @@ use Rattle.pt_semantics.specs.Platform.{State}
 use Rattle.pt_semantics.specs.Rounds.{IsQuietRound}
 use Rattle.pt_semantics.specs.Turn.{is_quiet}
 use Rattle.pt_semantics.specs.Visits.{Made}
-use Rattle.pt_semantics.proofs.Acyclic.{levels_are_small}
-use Rattle.pt_semantics.proofs.Lookups.{Each-append, IsIn-append, IsIn-append_left, IsIn-append_right, same_some}
+use Rattle.pt_semantics.proofs.Lookups.{Each-append, IsIn-append, IsIn-append_left, IsIn-append_right}
 use Rattle.pt_laws.proofs.Onward.{Onward, cases_same, round_onward}
 use Rattle.pt_schedule.proofs.PacedRuns.{run_onward}
 use Rattle.pt_semantics.proofs.LawfulEdges.{wired}
@@ -25,8 +24,10 @@ use Rattle.pt_turn.specs.Platforms.{PlatformView, state_at}
 use Rattle.pt_turn.specs.Turned.{is_late}
 use Rattle.pt_together.specs.Asked.{HaveNoFault}
 use Rattle.pt_rounds.specs.Passing.{HavePassed, IsLong, Stands, WasVisited}
-use Rattle.pt_together.specs.Shown.{is_fault}
-use Rattle.pt_together.proofs.Changed.{set_elsewhere, set_here}
+use Rattle.pt_together.specs.Shown.{AreThere, is_fault}
+use Rattle.pt_together.proofs.Changed.{set_here}
+use Rattle.pt_together.proofs.Passing.{IsNoisy, closed_still, is_new, is_old, no_fault_before, noisy_by, noisy_now, noisy_still}
+use Rattle.pt_together.proofs.Views.{from_view, there_of, to_view}
 use Rattle.pt_rounds.proofs.Showing.{Shows, visit_shows}
 use Rattle.pt_rounds.proofs.Steps.{make_one, pass_by}
 
@@ -57,22 +58,19 @@ module _ (plan : Parts) (rows : ℕ → List Row) (count c : ℕ) (olds : List P
         let in_graph : n ≤ length plan.graph.platforms = subst (λ k. n ≤ k) h.shown.all.count le in
         let is_wired = wired plan.graph s.admitted.lawful in
         (round_onward plan.graph (level_of plan.ranks) rows (offset_of plan.offsets) s.admitted.offsets.units is_wired s.admitted.feasible c n 0 s.together h.together h.made (omega arith)
-        (run_onward plan.graph (level_of plan.ranks) rows (offset_of plan.offsets) is_wired s.admitted.levels (levels_are_small plan.graph (level_of plan.ranks) is_wired s.admitted.levels) s.fit s.admitted.feasible s.admitted.offsets.units s.rounds c s.together s.run)
+        (run_onward plan.graph (level_of plan.ranks) rows (offset_of plan.offsets) is_wired s.admitted.levels s.fit s.admitted.feasible s.admitted.offsets.units s.rounds c s.together s.run)
         h.round).1
 
     module _ (v : PlatformView) (there : slice_get platforms n ≡ Some v) where
+      are_there : AreThere plan rows h.together platforms
+      are_there = there_of plan rows h.together platforms pipes results h.shown
+
       -- what a platform answers is so of all platforms together
       finished_here : IsFinished v.plan.graph v.number (state_at v) → IsFinished plan.graph n (h.together.at n)
-      finished_here done =
-          subst (IsFinished plan.graph n) (sym (h.shown.states n v there))
-          (subst (λ k. IsFinished plan.graph k (state_at v)) (h.shown.all.numbers n v there)
-          (subst (λ (p : Parts). IsFinished p.graph v.number (state_at v)) (h.shown.all.plans n v there) done))
+      finished_here = from_view plan rows h.together platforms are_there (λ (p : Parts) k s. IsFinished p.graph k s) n v there
 
       going_here : (IsFinished v.plan.graph v.number (state_at v) → ⊥) → IsFinished plan.graph n (h.together.at n) → ⊥
-      going_here going done = going
-          (subst (λ (p : Parts). IsFinished p.graph v.number (state_at v)) (sym (h.shown.all.plans n v there))
-          (subst (λ k. IsFinished plan.graph k (state_at v)) (sym (h.shown.all.numbers n v there))
-          (subst (IsFinished plan.graph n) (h.shown.states n v there) done)))
+      going_here going done = going (to_view plan rows h.together platforms are_there (λ (p : Parts) k s. IsFinished p.graph k s) n v there done)
 
       pub not_faulty : v.fault ≡ None
       not_faulty = ⊎_elim (λ (e : v.fault ≡ None). e) (λ (long : (n < n) × IsLong h.made n v). absurd (apart n long.0)) (h.faults n v there)
@@ -88,11 +86,7 @@ module _ (plan : Parts) (rows : ℕ → List Row) (count c : ℕ) (olds : List P
         shown = h.shown;
         rest_stays = λ j le. h.rest_stays j (omega (arith, le));
         is_quiet_round = h.is_quiet_round;
-        no_quiet_round = λ e.
-            ⊎_elim
-            (λ (one : (m : Made) × IsIn m h.made × (is_quiet m.turn ≡ false)). inl one)
-            (λ (one : (j : ℕ) × (j < n) × ((h.together.at j).closed ≡ (s.together.at j).closed → ⊥)). inr (one.0, (let lt : one.0 < n = one.1 in omega arith), one.2))
-            (h.no_quiet_round e);
+        no_quiet_round = λ e. noisy_by s.together.at h.made n h.together.at (h.no_quiet_round e);
         faults = λ j w at.
             ⊎_elim
             (λ (none : w.fault ≡ None). inl none)
@@ -126,33 +120,17 @@ module _ (plan : Parts) (rows : ℕ → List Row) (count c : ℕ) (olds : List P
             let before = h.is_quiet_round (if_quiet e).0 in
             record {
               quiet = Each-append (λ (m : Made). is_quiet m.turn ≡ true) h.made (shows.made ∷ []) before.quiet (ap is_quiet shows.turn_is ∙ so.0, tt);
-              closed = λ j.
-                  ⊎_elim
-                  (λ (here : j ≡ n). subst (λ k. (shows.together.at k).closed ≡ (s.together.at k).closed) (sym here) (closes_here ∙ so.1 ∙ sym closed_before ∙ before.closed n))
-                  (λ (other : j ≢ n). ap (λ (z : State). z.closed) (stays j other) ∙ before.closed j)
-                  (cases_same j n);
+              closed = closed_still s.together.at h.together.at shows.together.at h.made shows.made n v.closed w.closed closed_before closes_here stays so.1 before.closed;
             }
 
-        not_quiet : after ≡ false → ((m : Made) × IsIn m (h.made ++ shows.made ∷ []) × (is_quiet m.turn ≡ false)) ⊎ ((j : ℕ) × (j < suc n) × ((shows.together.at j).closed ≡ (s.together.at j).closed → ⊥))
+        not_quiet : after ≡ false → IsNoisy s.together.at (h.made ++ shows.made ∷ []) (suc n) shows.together.at
         not_quiet e =
             ⊎_elim
-            (λ (noisy : quiet ≡ false).
-            ⊎_elim
-            (λ (one : (m : Made) × IsIn m h.made × (is_quiet m.turn ≡ false)). inl (one.0, IsIn-append_left one.0 h.made (shows.made ∷ []) one.1, one.2))
-            (λ (one : (j : ℕ) × (j < n) × ((h.together.at j).closed ≡ (s.together.at j).closed → ⊥)).
-            let lt : one.0 < n = one.1 in
-            inr (one.0, omega arith, λ same. one.2 (sym (ap (λ (z : State). z.closed) (stays one.0 (λ here. below one.0 n lt here))) ∙ same)))
-            (h.no_quiet_round noisy))
+            (λ (noisy : quiet ≡ false). noisy_still s.together.at h.together.at shows.together.at h.made shows.made n v.closed w.closed closed_before closes_here stays (h.no_quiet_round noisy))
             (λ (moved : still ≡ false).
-            ⊎_elim
-            (λ (calm : is_quiet was.visited.turn ≡ true).
-            inr (n, omega arith, λ same. false≢true (sym moved ∙ was.still_is.1 (calm, sym closes_here ∙ same ∙ ap (λ (z : State). z.closed) (sym (h.rest_stays n (omega arith))) ∙ closed_before))))
-            (λ (noisy : is_quiet was.visited.turn ≡ false). inl (shows.made, IsIn-append_right shows.made h.made (shows.made ∷ []) (inl refl), ap is_quiet shows.turn_is ∙ noisy))
-            (cases_Bool (is_quiet was.visited.turn)))
+            noisy_now s.together.at h.together.at shows.together.at h.made shows.made n v.closed w.closed closed_before closes_here stays (h.rest_stays n (omega arith))
+            (λ calm same. false≢true (sym moved ∙ was.still_is.1 (ap is_quiet (sym shows.turn_is) ∙ calm, same))))
             (if_not e)
-          where
-            below : (j k : ℕ) → j < k → j ≡ k → ⊥
-            below j k lt e = omega arith
 
         long_here : (u : PlatformView) → u ≡ w → (u.fault ≡ None) ⊎ ((n < suc n) × IsLong (h.made ++ shows.made ∷ []) n u)
         long_here u same =
@@ -176,7 +154,7 @@ module _ (plan : Parts) (rows : ℕ → List Row) (count c : ℕ) (olds : List P
             ⊎_elim
             (λ (here : j ≡ n).
             subst (λ k. (u.fault ≡ None) ⊎ ((k < suc n) × IsLong (h.made ++ shows.made ∷ []) k u)) (sym here)
-            (long_here u (same_some u w (sym (subst (λ k. slice_get (set platforms n w) k ≡ Some u) here at) ∙ changed))))
+            (long_here u (is_new platforms n v w there j u here at)))
             (λ (other : j ≢ n).
             ⊎_elim
             (λ (none : u.fault ≡ None). inl none)
@@ -192,17 +170,13 @@ module _ (plan : Parts) (rows : ℕ → List Row) (count c : ℕ) (olds : List P
                 answers = long.1.answers;
               },
             ))
-            (h.faults j u (sym (set_elsewhere platforms n j w other) ∙ at)))
+            (h.faults j u (is_old platforms n v w there j u other at)))
             (cases_same j n)
 
         fine_now : HaveNoFault (set platforms n w) → Each (λ (m : Made). m.fault ≡ false) (h.made ++ shows.made ∷ [])
         fine_now none =
             Each-append (λ (m : Made). m.fault ≡ false) h.made (shows.made ∷ [])
-            (h.fine (λ j u at.
-            ⊎_elim
-            (λ (here : j ≡ n). ap (λ (z : PlatformView). z.fault) (same_some u v (sym (subst (λ k. slice_get platforms k ≡ Some u) here at) ∙ there)) ∙ not_faulty)
-            (λ (other : j ≢ n). none j u (set_elsewhere platforms n j w other ∙ at))
-            (cases_same j n)))
+            (h.fine (no_fault_before platforms n v w there not_faulty none))
             (shows.fault ∙ ap is_fault (none n w changed), tt)
 
         answered_now : (j : ℕ) (u : PlatformView) → slice_get (set platforms n w) j ≡ Some u → u.fault ≡ None → (m : Made) → IsIn m (h.made ++ shows.made ∷ []) → m.platform ≡ j → m.fault ≡ false
@@ -211,13 +185,13 @@ module _ (plan : Parts) (rows : ℕ → List Row) (count c : ℕ) (olds : List P
             (λ (old : IsIn m h.made).
             ⊎_elim
             (λ (here : j ≡ n). h.answered n v there not_faulty m old (home ∙ here))
-            (λ (other : j ≢ n). h.answered j u (sym (set_elsewhere platforms n j w other) ∙ at) none m old home)
+            (λ (other : j ≢ n). h.answered j u (is_old platforms n v w there j u other at) none m old home)
             (cases_same j n))
             (λ (new : IsIn m (shows.made ∷ [])).
             ⊎_elim
             (λ (e : m ≡ shows.made).
             let here : j ≡ n = sym home ∙ ap (λ (z : Made). z.platform) e ∙ shows.platform in
-            let same : u ≡ w = same_some u w (sym (subst (λ k. slice_get (set platforms n w) k ≡ Some u) here at) ∙ changed) in
+            let same : u ≡ w = is_new platforms n v w there j u here at in
             ap (λ (z : Made). z.fault) e ∙ shows.fault ∙ ap is_fault (ap (λ (z : PlatformView). z.fault) (sym same) ∙ none))
             (λ (never : ⊥). absurd never)
             new)

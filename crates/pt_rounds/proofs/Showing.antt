@@ -1,6 +1,5 @@
 -- A visit at the reading of a round, in a paced run.
-use Rattle.std.proofs.Common.{◌≡◌, ℕ, ◌-◌, ◌<◌, ◌≤◌, ◌^◌, true, false, List, Option, Some, None, length, set, slice_get, sym, ap, subst, ◌∙◌, nat_le, arith, refl}
-use Rattle.std.proofs.lemmas.Bool.{cond-true}
+use Rattle.std.proofs.Common.{◌≡◌, ℕ, ◌-◌, ◌<◌, ◌^◌, false, List, Some, length, set, slice_get, sym, ap, subst, ◌∙◌, refl}
 use Rattle.std.proofs.lemmas.Option.{slice_get_within}
 use Rattle.pt_tags.specs.declared.message.Message.{Message}
 use Rattle.pt_types.specs.declared.firing.Done.{Done}
@@ -22,6 +21,7 @@ use Rattle.pt_visits.specs.Visited.{IsVisited}
 use Rattle.pt_together.specs.Shown.{AreShown, is_fault}
 use Rattle.pt_together.specs.Showing.{OnTimeSoFar, ShowsVisit}
 use Rattle.pt_together.proofs.Showing.{all_on_time, may_come as comes, visit_shows as shows_visit}
+use Rattle.pt_together.proofs.Passing.{raised_same}
 
 -- a visit at reading c of a round, and what the platforms, pipes and results represent after it
 pub record Shows (plan : Parts) (rows : ℕ → List Row) (c i : ℕ) (x : Together) (w : PlatformView) (turn : Turn) (platforms : List PlatformView) (piped : List (List Message)) (results : List (List Done)) : Type 0 where
@@ -35,14 +35,6 @@ pub record Shows (plan : Parts) (rows : ℕ → List Row) (c i : ℕ) (x : Toget
   pub makes : Makes plan.graph (level_of plan.ranks) c x made together
   pub onward : Onward plan.graph (level_of plan.ranks) rows (offset_of plan.offsets) c together
   pub shown : AreShown plan rows together platforms piped results
-
--- a reading that is not before the last one is not raised
-raised_same : (last : Option ℕ) (c : ℕ) → ((p : ℕ) → last ≡ Some p → p ≤ c) → raised_to last c ≡ c
-raised_same None c h = refl
-raised_same (Some p) c h = let le : p ≤ c = h p refl in cond-true (nat_le p c) c p (at_most p c le)
-  where
-    at_most : (m n : ℕ) → m ≤ n → nat_le m n ≡ true
-    at_most m n le = grind arith
 
 so_far : (plan : Parts) (rows : ℕ → List Row) (c : ℕ) (x : Together) → IsAdmitted plan → FitRows plan.graph rows → Onward plan.graph (level_of plan.ranks) rows (offset_of plan.offsets) c x → (i : ℕ) → i < length plan.graph.platforms → OnTimeSoFar plan.graph (level_of plan.ranks) rows i x
 so_far plan rows c x admitted fits onward i lt = all_on_time plan.graph (level_of plan.ranks) rows x (wired plan.graph admitted.lawful) admitted.levels fits onward.legal onward.linked i lt (onward.later i lt).foreign

@@ -103,7 +103,7 @@ round_trip g level up v t s e path mem end sum go =
     cases_zero zero = inl refl
     cases_zero (suc n) = inr (λ e. absurd (omega (arith, e)))
 
-module _ (g : Graph) (level : ℕ → ℕ) (rows : ℕ → List Row) (offset : Part → Option ℤ) (wired : IsWired g) (are : AreLevels g level) (small : (a : ℕ) → level a ≤ length g.actors) (fits : FitRows g rows) (feasible : IsFeasible g) (has : (u : Part) → HasOffset g u (offset u)) (c : ℕ → ℕ) (near : AreNear g c) (y : Together) (h : OnwardNear g level rows offset c y) (v : Part) (t : Tag) (safe : IsSafe g (y.at (platform_of g v.actor)).waits (y.at (platform_of g v.actor)).busy (c (platform_of g v.actor)) v t) where
+module _ (g : Graph) (level : ℕ → ℕ) (rows : ℕ → List Row) (offset : Part → Option ℤ) (wired : IsWired g) (are : AreLevels g level) (fits : FitRows g rows) (feasible : IsFeasible g) (has : (u : Part) → HasOffset g u (offset u)) (c : ℕ → ℕ) (near : AreNear g c) (y : Together) (h : OnwardNear g level rows offset c y) (v : Part) (t : Tag) (safe : IsSafe g (y.at (platform_of g v.actor)).waits (y.at (platform_of g v.actor)).busy (c (platform_of g v.actor)) v t) where
   -- a row or message that is not seen before the platform's reading comes past t
   source_later : (a b : ℕ) (path : List Edge) → Feeds g a b path v → (n : ℕ) → c (platform_of g v.actor) ≤ n + b → t.time < n + (sum_along path).time
   source_later a b path feeds n le =
@@ -113,12 +113,12 @@ module _ (g : Graph) (level : ℕ → ℕ) (rows : ℕ → List Row) (offset : P
   -- what comes over a link within its bound comes past t
   message_later : (l : ℕ) (link : Link) (w : Tag) (path : List Edge) → slice_get g.links l ≡ Some link → Goes g (at_input g link.to 0) path v → c (platform_of g link.to) ≤ w.time + link_bound g link → t.time < w.time + (sum_along path).time
   message_later l link w path at go bound =
-      source_later link.to (link_bound g link) path (by_link g level rows offset wired are small fits feasible has c near y h l link path v at go) w.time
+      source_later link.to (link_bound g link) path (by_link g level rows offset wired are fits feasible has c near y h l link path v at go) w.time
       (subst (λ i. c i ≤ w.time + link_bound g link) (goes_home g wired path (at_input g link.to 0) v go) bound)
 
   crosses_later : (z : Part) (w : Tag) (path : List Edge) → Crosses g z path v → c (platform_of g z.actor) ≤ paced_by (offset z) w → Before t (plus w (sum_along path))
   crosses_later z w path k le =
-      let sent : c (platform_of g k.link.from) ≤ paced_by (offset (at_output g k.link.from 0)) (plus w (sum_along k.before)) = later_path g level rows offset wired are small fits feasible has c near y h k.before z (source g (of_link k.link)) w k.first le in
+      let sent : c (platform_of g k.link.from) ≤ paced_by (offset (at_output g k.link.from 0)) (plus w (sum_along k.before)) = later_path g level rows offset wired are fits feasible has c near y h k.before z (source g (of_link k.link)) w k.first le in
       let lt : t.time < (w.time + (sum_along k.before).time) + (sum_along k.after).time = message_later k.l k.link (plus w (sum_along k.before)) k.after k.at k.rest (sent_in_bound g offset has wired feasible c near k.l k.link (plus w (sum_along k.before)) k.at sent) in
       let time : (sum_along path).time ≡ (sum_along k.before).time + (sum_along k.after).time = k.time in
       sooner_time t w (sum_along path) (omega (arith, lt, time))
@@ -166,7 +166,7 @@ module _ (g : Graph) (level : ℕ → ℕ) (rows : ℕ → List Row) (offset : P
         crosses_later (at_input g a 0) (at_time row.time) path cross (omega (arith, seen, on)))
         (split g path (at_input g a 0) v go);
     messages = λ l link w x at m path go.
-        let bound : c (platform_of g link.to) ≤ w.time + link_bound g link = in_bound g level rows offset wired are small fits feasible has c near y h l link w x at m in
+        let bound : c (platform_of g link.to) ≤ w.time + link_bound g link = in_bound g level rows offset wired are fits feasible has c near y h l link w x at m in
         ⊎_elim
         (λ (wire : Goes g (at_input g link.to 0) path v). sooner_time t w (sum_along path) (message_later l link w path at wire bound))
         (λ (cross : Crosses g (at_input g link.to 0) path v). crosses_later (at_input g link.to 0) w path cross (received_later g offset has wired feasible c l link w at bound))
@@ -215,7 +215,7 @@ module _ (g : Graph) (level : ℕ → ℕ) (rows : ℕ → List Row) (offset : P
       first_of_none (λ (x : Firing). when (same_tag x.tag t) (Some x)) (all_claims g y.did v) (λ x m.
       when-false (same_tag x.tag t) (Some x)
       (same_tag-before x.tag t (subst (Before x.tag) (plus_zero t)
-      ((whole g level rows offset wired are small fits feasible has c near y h v).sound.floor.waits v.actor at.port t at.value [] v x at.below at.waits_there at.unit m))))
+      ((whole g level rows offset wired are fits feasible has c near y h v).sound.floor.waits v.actor at.port t at.value [] v x at.below at.waits_there at.unit m))))
 
   unfed_at : (a : ℕ) → Unfed g (IsAhead g y v t) (y.at (platform_of g a))
   unfed_at a = record {
@@ -235,8 +235,8 @@ module _ (g : Graph) (level : ℕ → ℕ) (rows : ℕ → List Row) (offset : P
   waits_come = eight_below _ _ (λ p lt.
       when_same (input_group (kind_of g v.actor) p == v.group) ((y.at (platform_of g v.actor)).waits v.actor p t) (comes g (opening g rows) (all_claims g y.did) v.actor p t) (λ eg.
       let unit : at_input g v.actor p ≡ v = unit_is p (eqb-true _ v.group eg) in
-      (whole g level rows offset wired are small fits feasible has c near y h (record { actor = v.actor; group = 0 })).keeps.held.fresh v.actor p t lt (ap (λ u. firing_at (claims_of g (y.did (platform_of g v.actor)) u) t) unit ∙ not_claimed)
-      ∙ came_is g level rows y.did y.at wired fits (IsAhead g y v t) (ahead_is_closed g y v t) (λ a. whole g level rows offset wired are small fits feasible has c near y h (record { actor = a; group = 0 })) (λ a. unfed_at a) caught v.actor p t (subst (λ u. IsAhead g y v t u t) (sym unit) ahead) (source_kind g v.actor)))
+      (whole g level rows offset wired are fits feasible has c near y h (record { actor = v.actor; group = 0 })).keeps.held.fresh v.actor p t lt (ap (λ u. firing_at (claims_of g (y.did (platform_of g v.actor)) u) t) unit ∙ not_claimed)
+      ∙ came_is g level rows y.did y.at wired fits (IsAhead g y v t) (ahead_is_closed g y v t) (λ a. whole g level rows offset wired are fits feasible has c near y h (record { actor = a; group = 0 })) (λ a. unfed_at a) caught v.actor p t (subst (λ u. IsAhead g y v t u t) (sym unit) ahead) (source_kind g v.actor)))
     where
       unit_is : (p : ℕ) → input_group (kind_of g v.actor) p ≡ v.group → at_input g v.actor p ≡ v
       unit_is p eg = λ i. record { actor = v.actor; group = eg i }
@@ -251,9 +251,9 @@ module _ (g : Graph) (level : ℕ → ℕ) (rows : ℕ → List Row) (offset : P
         when_same (e.to == v.actor && e.input == p) (comes_along (all_claims g y.did) g e t) (comes_along (parts g xs) g e t) (λ both.
         let ends = and_parts (e.to == v.actor) (e.input == p) both in
         brings_agree e.weight e.output t (all_claims g y.did (source g e)) (parts g xs (source g e))
-        ((whole g level rows offset wired are small fits feasible has c near y h (source g e)).sound.floor.rises (source g e))
+        ((whole g level rows offset wired are fits feasible has c near y h (source g e)).sound.floor.rises (source g e))
         ((meaning_behaves g rank rows xs wired ranks fits meaning).rising (source g e))
-        (λ s es. same_there g level rows offset wired are small fits feasible has c near y h rank xs ranks meaning (source g e) s
+        (λ s es. same_there g level rows offset wired are fits feasible has c near y h rank xs ranks meaning (source g e) s
         (past_source e s mem (at_end g e v p (eqb-true e.to v.actor ends.0) (eqb-true e.input p ends.1) (eqb-true _ v.group eg)) es)))))))
 
     pub some_part : (x : Firing) × (firing_at (parts g xs v) t ≡ Some x)
@@ -268,7 +268,7 @@ module _ (g : Graph) (level : ℕ → ℕ) (rows : ℕ → List Row) (offset : P
     -- so v has more firings in the meaning than it claimed
     pub has_more : length (all_claims g y.did v) < length (parts g xs v)
     has_more =
-        let front = (prefixes g level rows offset wired are small fits feasible has c near y h rank xs ranks meaning v).0 in
+        let front = (prefixes g level rows offset wired are fits feasible has c near y h rank xs ranks meaning v).0 in
         by_rest front.0 front.1
       where
         by_rest : (rest : List Firing) → parts g xs v ≡ all_claims g y.did v ++ rest → length (all_claims g y.did v) < length (parts g xs v)

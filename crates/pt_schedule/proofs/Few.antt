@@ -1,5 +1,5 @@
 -- How many claims a platform makes, and how many messages a link carries.
-use Rattle.std.proofs.Common.{◌≡◌, ℕ, suc, ◌+◌, ◌<◌, ◌≤◌, Bool, true, false, List, [], ◌∷◌, ◌++◌, Option, Some, None, ℤ, filter_map, length, slice_get, arith, refl, sym, ap, subst, ◌∙◌, ⊎_elim, length-append}
+use Rattle.std.proofs.Common.{◌≡◌, ℕ, suc, ◌+◌, ◌≤◌, Bool, true, false, List, [], ◌∷◌, ◌++◌, Option, Some, None, ℤ, filter_map, length, slice_get, arith, refl, sym, ap, subst, ◌∙◌, length-append}
 use Rattle.std.specs.List.{cons_option}
 use Rattle.pt_types.specs.declared.graph.Graph.{Graph}
 use Rattle.pt_types.specs.declared.graph.Link.{Link}
@@ -8,30 +8,25 @@ use Rattle.pt_tags.specs.declared.message.Message.{Message}
 use Rattle.pt_tags.specs.declared.message.Message.TheVariants.{End}
 use Rattle.pt_tags.specs.declared.tag.Tag.{Tag}
 use Rattle.pt_types.specs.declared.rows.Row.{Row}
-use Rattle.pt_types.specs.declared.firing.OnLink.{OnLink}
 use Rattle.pt_types.specs.Ports.{at_port}
 use Rattle.pt_semantics.specs.Behaviours.{Firing}
-use Rattle.pt_semantics.specs.Bounds.{link_bound}
 use Rattle.pt_types.specs.Lookups.{platform_of}
 use Rattle.pt_semantics.specs.History.{LegalOnTime, claims_of, of_unit}
 use Rattle.pt_semantics.specs.Linked.{all_sent, all_taken}
-use Rattle.pt_semantics.specs.Lists.{IsIn}
 use Rattle.pt_semantics.specs.Offsets.{HasOffset, IsFeasible}
 use Rattle.pt_semantics.specs.Platform.{State, opened}
 use Rattle.pt_semantics.specs.Posting.{as_message}
 use Rattle.pt_semantics.specs.Ranks.{AreLevels}
 use Rattle.pt_semantics.specs.Rows.{FitRows}
-use Rattle.pt_semantics.specs.Taking.{IsOnTime, Takes, after_message, with_taken}
 use Rattle.pt_semantics.specs.Turn.{Turn}
 use Rattle.pt_semantics.specs.Units.{at_output}
 use Rattle.pt_semantics.specs.Visits.{Together}
 use Rattle.pt_semantics.specs.Wired.{IsWired}
-use Rattle.pt_semantics.proofs.Acyclic.{levels_are_small}
+use Rattle.pt_semantics.proofs.Longest.{levels_grow}
 use Rattle.pt_laws.proofs.Keeps.{open_list}
 use Rattle.pt_laws.proofs.Onward.{Onward}
-use Rattle.pt_schedule.proofs.PacedRuns.{whole_of}
 use Rattle.pt_laws.proofs.Steps.{messages_of}
-use Rattle.pt_laws.proofs.Walks.{Whole}
+use Rattle.pt_laws.proofs.Walks.{Whole, on_time_history}
 use Rattle.pt_schedule.proofs.Turns.{turn_does}
 use Rattle.pt_types.specs.Limits.{most_claims}
 
@@ -57,7 +52,7 @@ firings_few g level i (turn ∷ turns) s new u (mid, is, rest) =
     let sum = length-append (filter_map (of_unit g u) turn.claimed) (claims_of g turns u) in
     omega (arith, later, here, claims, sum)
 
-claims_few : (g : Graph) (level : ℕ → ℕ) (i : ℕ) (turns : List Turn) (s new : State) → s.claims ≤ most_claims → LegalOnTime g level i s turns new → new.claims ≤ most_claims
+pub claims_few : (g : Graph) (level : ℕ → ℕ) (i : ℕ) (turns : List Turn) (s new : State) → s.claims ≤ most_claims → LegalOnTime g level i s turns new → new.claims ≤ most_claims
 claims_few g level i [] s new few e = subst (λ (z : State). z.claims ≤ most_claims) (sym e) few
 claims_few g level i (turn ∷ turns) s new few (mid, is, rest) = claims_few g level i turns mid new (turn_does g level i s mid turn false is).few rest
 
@@ -73,53 +68,38 @@ messages_few (x ∷ xs) =
     one t None = omega arith
     one t (Some v) = omega arith
 
--- messages are taken from links that lead to the platform
-pub taken_from : (g : Graph) (level : ℕ → ℕ) (i : ℕ) (ms : List OnLink) (late : Bool) (s new : State) → Takes g level i s ms late new → (m : OnLink) → IsIn m ms → (link : Link) × (slice_get g.links m.link ≡ Some link) × (platform_of g link.to ≡ i)
-taken_from g level i [] late s new h m mem = absurd mem
-taken_from g level i (x ∷ ms) late s new (link, at, home, orderly, next) m mem =
-    ⊎_elim
-    (λ (same : m ≡ x). (link, subst (λ (z : OnLink). slice_get g.links z.link ≡ Some link) (sym same) at, home))
-    (λ (on : IsIn m ms).
-    ⊎_elim
-    (λ (timely : IsOnTime s.reading (link_bound g link) x.message × Takes g level i (after_message s x.link link x.message) ms late new). taken_from g level i ms late (after_message s x.link link x.message) new timely.1 m on)
-    (λ (late_one : (IsOnTime s.reading (link_bound g link) x.message → ⊥) × (ms ≡ []) × (late ≡ true) × (new ≡ with_taken s x.link x.message)). let none : IsIn m [] = subst (IsIn m) late_one.1 on in absurd none)
-    next)
-    mem
+-- a link carries a message for each claim of its sender's platform, and the end: so in any history
+pub history_sends_few : (g : Graph) (level : ℕ → ℕ) (rows : ℕ → List Row) → IsWired g → AreLevels g level → FitRows g rows → (l : ℕ) (link : Link) → slice_get g.links l ≡ Some link → (turns : List Turn) (s : State) →
+    LegalOnTime g level (platform_of g link.from) (opened g (platform_of g link.from) rows) turns s → length (all_sent l turns) ≤ 200001
+history_sends_few g level rows wired are fits l link at turns s legal = by_closed s.closed refl
+  where
+    whole : Whole g level (platform_of g link.from) rows s s.reading (claims_of g turns) (λ k. all_sent k turns) (λ k. all_taken k turns)
+    whole = on_time_history g level (platform_of g link.from) rows wired (levels_grow g level are) fits turns s legal
+
+    front : (a b : List Message) (n : ℕ) → length (a ++ b) ≤ n → length a ≤ n
+    front a b n le = let sum = length-append a b in omega (arith, sum, le)
+
+    few : length (messages_of (whole.keeps.q (at_output g link.from 0))) ≤ most_claims
+    few =
+        let sum = ap length (whole.keeps.chains.open_is (at_output g link.from 0)) ∙ length-append (whole.keeps.q (at_output g link.from 0)) (open_list g (s.busy (at_output g link.from 0))) in
+        let claimed : length (claims_of g turns (at_output g link.from 0)) + 0 ≤ s.claims = firings_few g level (platform_of g link.from) turns (opened g (platform_of g link.from) rows) s (at_output g link.from 0) legal in
+        let all = claims_few g level (platform_of g link.from) turns (opened g (platform_of g link.from) rows) s (omega arith) legal in
+        let each = messages_few (whole.keeps.q (at_output g link.from 0)) in
+        omega (arith, sum, claimed, all, each)
+
+    by_closed : (b : Bool) → s.closed ≡ b → length (all_sent l turns) ≤ 200001
+    by_closed false is =
+        front (all_sent l turns) (s.outbox l) 200001
+        (subst (λ z. length z ≤ 200001) (sym (whole.keeps.out.while_open is l link at refl)) (omega (arith, few)))
+    by_closed true is =
+        let sum = length-append (messages_of (whole.keeps.q (at_output g link.from 0))) (End ∷ []) in
+        front (all_sent l turns) (s.outbox l) 200001
+        (subst (λ z. length z ≤ 200001) (sym (whole.keeps.out.once_shut is l link at refl)) (omega (arith, few, sum)))
 
 module _ (g : Graph) (level : ℕ → ℕ) (rows : ℕ → List Row) (offset : Part → Option ℤ) (wired : IsWired g) (are : AreLevels g level) (fits : FitRows g rows) (feasible : IsFeasible g) (has : (u : Part) → HasOffset g u (offset u)) where
-  -- a platform posts no more firings of a unit than it makes claims
-  posted_few : (c i : ℕ) (y : Together) (u : Part) (lt : i < length g.platforms) (h : Onward g level rows offset c y) → length ((whole_of g level rows offset wired are (levels_are_small g level wired are) fits feasible has c y i lt h).keeps.q u) ≤ most_claims
-  posted_few c i y u lt h =
-      let k = (whole_of g level rows offset wired are (levels_are_small g level wired are) fits feasible has c y i lt h).keeps in
-      let sum = ap length (k.chains.open_is u) ∙ length-append (k.q u) (open_list g ((y.at i).busy u)) in
-      let claimed : length (claims_of g (y.did i) u) + 0 ≤ (y.at i).claims = firings_few g level i (y.did i) (opened g i rows) (y.at i) u (h.legal i lt) in
-      let few = claims_few g level i (y.did i) (opened g i rows) (y.at i) (omega arith) (h.legal i lt) in
-      omega (arith, sum, claimed, few)
-
-  -- a link carries a message for each claim of its sender's platform, and the end
+  -- and so it is in a paced run
   pub sent_few : (c : ℕ) (y : Together) (l : ℕ) (link : Link) → Onward g level rows offset c y → slice_get g.links l ≡ Some link → length (all_sent l (y.did (platform_of g link.from))) ≤ 200001
-  sent_few c y l link h at = by_closed (y.at (platform_of g link.from)).closed refl
-    where
-      from : Whole g level (platform_of g link.from) rows (y.at (platform_of g link.from)) (y.at (platform_of g link.from)).reading (claims_of g (y.did (platform_of g link.from))) (λ k. all_sent k (y.did (platform_of g link.from))) (λ k. all_taken k (y.did (platform_of g link.from)))
-      from = whole_of g level rows offset wired are (levels_are_small g level wired are) fits feasible has c y (platform_of g link.from) (wired.homes link.from) h
-
-      front : (a b : List Message) (n : ℕ) → length (a ++ b) ≤ n → length a ≤ n
-      front a b n le = let sum = length-append a b in omega (arith, sum, le)
-
-      few : length (messages_of (from.keeps.q (at_output g link.from 0))) ≤ most_claims
-      few =
-          let posted = posted_few c (platform_of g link.from) y (at_output g link.from 0) (wired.homes link.from) h in
-          let each = messages_few (from.keeps.q (at_output g link.from 0)) in
-          omega (arith, posted, each)
-
-      by_closed : (b : Bool) → (y.at (platform_of g link.from)).closed ≡ b → length (all_sent l (y.did (platform_of g link.from))) ≤ 200001
-      by_closed false is =
-          front (all_sent l (y.did (platform_of g link.from))) ((y.at (platform_of g link.from)).outbox l) 200001
-          (subst (λ z. length z ≤ 200001) (sym (from.keeps.out.while_open is l link at refl)) (omega (arith, few)))
-      by_closed true is =
-          let sum = length-append (messages_of (from.keeps.q (at_output g link.from 0))) (End ∷ []) in
-          front (all_sent l (y.did (platform_of g link.from))) ((y.at (platform_of g link.from)).outbox l) 200001
-          (subst (λ z. length z ≤ 200001) (sym (from.keeps.out.once_shut is l link at refl)) (omega (arith, few, sum)))
+  sent_few c y l link h at = history_sends_few g level rows wired are fits l link at (y.did (platform_of g link.from)) (y.at (platform_of g link.from)) (h.legal (platform_of g link.from) (wired.homes link.from))
 
   -- and no more are taken
   pub taken_few : (c : ℕ) (y : Together) (l : ℕ) (link : Link) → Onward g level rows offset c y → slice_get g.links l ≡ Some link → length (all_taken l (y.did (platform_of g link.to))) ≤ 200001

@@ -33,7 +33,6 @@ use Rattle.pt_semantics.specs.Units.{at_input, first_port, unit_of}
 use Rattle.pt_types.specs.Groups.{input_group}
 use Rattle.pt_semantics.specs.Visits.{AreFinished, Together}
 use Rattle.pt_laws.proofs.KeptTurns.{kept_counted, kept_is_legal}
-use Rattle.pt_semantics.proofs.Acyclic.{levels_are_small}
 use Rattle.pt_semantics.proofs.Lookups.{Each-from, Each-in}
 use Rattle.pt_laws.specs.NearClocks.{AreNear}
 use Rattle.pt_laws.proofs.NearClocks.{one_is_near}
@@ -125,7 +124,7 @@ module _ (g : Graph) (level : ℕ → ℕ) (rows : ℕ → List Row) (y : Togeth
 
   module _ (rank : ℕ → ℕ) (xs : List ActorFiring) (ranks : AreRanks g rank) (meaning : IsMeaning g rank rows xs) where
     prefix : (u : Part) → ((rest : List Firing) × (parts g xs u ≡ all_claims g y.did u ++ rest)) × (AreFinished g y → all_claims g y.did u ≡ parts g xs u)
-    prefix = prefixes g level rows end.offset end.wired end.levels (levels_are_small g level end.wired end.levels) end.fit end.feasible end.offsets end.clock end.near y end.onward rank xs ranks meaning
+    prefix = prefixes g level rows end.offset end.wired end.levels end.fit end.feasible end.offsets end.clock end.near y end.onward rank xs ranks meaning
 
     front : AreClaimedAsMeant g xs (kept_by y)
     front u = let p = prefix u in (p.0.0, p.0.1 ∙ ap (λ z. z ++ p.0.0) (sym (kept_claims u)))
@@ -236,7 +235,7 @@ near_end g level rows y end = record {
   clock = λ i. end.run.reading;
   near = one_is_near g end.run.reading;
   onward = (round_onward g level rows end.offset end.offsets end.wired end.feasible end.run.reading (length g.platforms) 0 end.run.before y end.run.made (omega arith)
-      (run_onward g level rows end.offset end.wired end.levels (levels_are_small g level end.wired end.levels) end.fit end.feasible end.offsets end.run.rounds end.run.reading end.run.before end.run.run) end.run.round).1;
+      (run_onward g level rows end.offset end.wired end.levels end.fit end.feasible end.offsets end.run.rounds end.run.reading end.run.before end.run.run) end.run.round).1;
   single = single_run g level rows y end.run;
 }
 

@@ -2,6 +2,7 @@ pub mod Counted
 pub mod Ending
 pub mod Existing
 pub mod Few
+pub mod FewRounds
 pub mod Fronts
 pub mod Kept
 pub mod Members

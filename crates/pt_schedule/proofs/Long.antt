@@ -19,19 +19,19 @@ use Rattle.pt_semantics.specs.Parts.{parts}
 use Rattle.pt_semantics.specs.Platform.{State, opened}
 use Rattle.pt_semantics.specs.Safe.{IsSafe, NothingSafe}
 use Rattle.pt_semantics.specs.Closing.{CanClose, shut, unsent}
-use Rattle.pt_semantics.specs.Turn.{Turn, IsTurn}
-use Rattle.pt_semantics.specs.History.{LegalOnTime, claims_of}
+use Rattle.pt_semantics.specs.Turn.{Turn}
+use Rattle.pt_semantics.specs.History.{claims_of}
 use Rattle.pt_semantics.specs.Linked.{IsFinished, all_claims}
 use Rattle.pt_semantics.specs.Counts.{actor_firings, unit_firings}
 use Rattle.pt_semantics.specs.Visits.{Together, Made, AreFinished}
 use Rattle.pt_schedule.specs.PacedTheorems.{LongExactly}
-use Rattle.pt_semantics.proofs.Acyclic.{levels_are_small}
 use Rattle.pt_semantics.proofs.Longest.{levels_grow}
 use Rattle.pt_semantics.proofs.Lookups.{none_some}
 use Rattle.pt_semantics.proofs.Claiming.{event_found}
 use Rattle.pt_laws.specs.NearClocks.{AreNear}
 use Rattle.pt_laws.proofs.NearClocks.{one_is_near}
 use Rattle.pt_laws.proofs.Onward.{AdvanceRound, Advances, Onward, OnwardNear, advance_onward, cases_same, round_advances, round_onward}
+use Rattle.pt_schedule.proofs.Few.{claims_few}
 use Rattle.pt_schedule.proofs.PacedRuns.{run_onward}
 use Rattle.pt_schedule.proofs.Prefix.{prefixes}
 use Rattle.pt_laws.proofs.Sums.{sum_same}
@@ -39,25 +39,11 @@ use Rattle.pt_laws.proofs.Counting.{Counted, counted, count_le, count_lt}
 use Rattle.pt_schedule.proofs.Ahead.{has_more}
 use Rattle.pt_types.specs.Limits.{most_claims}
 
--- no platform makes more claims than it may
-turn_few : (g : Graph) (level : ℕ → ℕ) (i : ℕ) (s new : State) (turn : Turn) → IsTurn g level i s turn false new → new.claims ≤ most_claims
-turn_few g level i s new turn is =
-    let done : is.done.claims ≤ most_claims =
-    ⊎_elim
-    (λ (shuts : CanClose g i is.ready turn.last × (false ≡ false) × (is.done ≡ shut g i is.ready)). subst (λ (z : State). z.claims ≤ most_claims) (sym shuts.2) is.at_most.1)
-    (λ (stays : (CanClose g i is.ready turn.last → false ≡ true) × (is.done ≡ is.ready)). subst (λ (z : State). z.claims ≤ most_claims) (sym stays.1) is.at_most.1)
-    is.closes in
-    subst (λ (z : State). z.claims ≤ most_claims) (sym is.sends.1) done
-
-few_claims : (g : Graph) (level : ℕ → ℕ) (i : ℕ) (turns : List Turn) (s new : State) → s.claims ≤ most_claims → LegalOnTime g level i s turns new → new.claims ≤ most_claims
-few_claims g level i [] s new few e = subst (λ (z : State). z.claims ≤ most_claims) (sym e) few
-few_claims g level i (turn ∷ turns) s new few (mid, is, rest) = few_claims g level i turns mid new (turn_few g level i s mid turn is) rest
-
 module _ (g : Graph) (level rank : ℕ → ℕ) (rows : ℕ → List Row) (offset : Part → Option ℤ) (wired : IsWired g) (are : AreLevels g level) (ranks : AreRanks g rank) (fits : FitRows g rows) (feasible : IsFeasible g) (has : (u : Part) → HasOffset g u (offset u)) (xs : List ActorFiring) (meaning : IsMeaning g rank rows xs) (c : ℕ → ℕ) (near : AreNear g c) where
   -- what is claimed is a front of the meaning
   claims_le : (y : Together) → OnwardNear g level rows offset c y → (u : Part) → length (all_claims g y.did u) ≤ length (parts g xs u)
   claims_le y h u =
-      let front = (prefixes g level rows offset wired are (levels_are_small g level wired are) fits feasible has c near y h rank xs ranks meaning u).0 in
+      let front = (prefixes g level rows offset wired are fits feasible has c near y h rank xs ranks meaning u).0 in
       subst (λ n. length (all_claims g y.did u) ≤ n) (sym (ap length front.1 ∙ length-append (all_claims g y.did u) front.0)) (omega arith)
 
   here : (y : Together) → OnwardNear g level rows offset c y → (i : ℕ) → i < length g.platforms → Counted g i (y.at i) (claims_of g (y.did i))
@@ -117,7 +103,7 @@ module _ (g : Graph) (level rank : ℕ → ℕ) (rows : ℕ → List Row) (offse
           let home : platform_of g u.actor ≡ m.platform = (those.home.waits u.actor at.port t at.value at.waits_there).0 in
           let inside = those.inside u.actor at.port t at.value at.waits_there in
           let safe_home : IsSafe g (y.at (platform_of g u.actor)).waits (y.at (platform_of g u.actor)).busy (c (platform_of g u.actor)) u t = subst (λ j. IsSafe g (y.at j).waits (y.at j).busy (c j) u t) (sym home) safe_y in
-          let less : length (all_claims g y.did u) < length (parts g xs u) = has_more g level rows offset wired are (levels_are_small g level wired are) fits feasible has c near y on.1 u t safe_home rank xs ranks meaning in
+          let less : length (all_claims g y.did u) < length (parts g xs u) = has_more g level rows offset wired are fits feasible has c near y on.1 u t safe_home rank xs ranks meaning in
           let over : unit_firings g (platform_of g u.actor) (all_claims g y.did) < unit_firings g (platform_of g u.actor) (parts g xs) = count_lt g (all_claims g y.did) (parts g xs) u (claims_le y on.1) inside.actor (subst (λ (v : Part). v.group < groups (kind_of g u.actor)) at.unit inside.group) less in
           let over2 : unit_firings g m.platform (all_claims g y.did) < unit_firings g m.platform (parts g xs) = subst (λ j. unit_firings g j (all_claims g y.did) < unit_firings g j (parts g xs)) home over in
           let grew : unit_firings g m.platform (all_claims g x.did) ≤ unit_firings g m.platform (all_claims g y.did) = count_le g m.platform (all_claims g x.did) (all_claims g y.did) (grow x y m k) in
@@ -143,15 +129,15 @@ module _ (g : Graph) (level rank : ℕ → ℕ) (rows : ℕ → List Row) (offse
   -- where all platforms are finished, no platform has too many
   pub none_long : (y : Together) → OnwardNear g level rows offset c y → AreFinished g y → (i : ℕ) → i < length g.platforms → unit_firings g i (parts g xs) ≤ most_claims
   none_long y h done i lt =
-      let all = λ (u : Part). (prefixes g level rows offset wired are (levels_are_small g level wired are) fits feasible has c near y h rank xs ranks meaning u).1 done in
+      let all = λ (u : Part). (prefixes g level rows offset wired are fits feasible has c near y h rank xs ranks meaning u).1 done in
       let same : ◌≡◌ {A = Firings} (all_claims g y.did) (parts g xs) = λ k u. all u k in
       subst (λ f. unit_firings g i f ≤ most_claims) same
-      (subst (λ n. n ≤ most_claims) (sym (claims_are y h i lt)) (few_claims g level i (y.did i) (opened g i rows) (y.at i) (omega arith) (h.legal i lt)))
+      (subst (λ n. n ≤ most_claims) (sym (claims_are y h i lt)) (claims_few g level i (y.did i) (opened g i rows) (y.at i) (omega arith) (h.legal i lt)))
 
 pub long_exactly : LongExactly
 long_exactly g level rank rows offset rounds c n ms y xs wired are ranks fits feasible has r meaning =
     let some : n ≤ length g.platforms = r.some in
-    let begin : Onward g level rows offset c r.before = run_onward g level rows offset wired are (levels_are_small g level wired are) fits feasible has rounds c r.before r.run in
+    let begin : Onward g level rows offset c r.before = run_onward g level rows offset wired are fits feasible has rounds c r.before r.run in
     let on = round_onward g level rows offset has wired feasible c n 0 r.before y ms (omega (arith, some)) begin r.round in (
       long_in_round g level rank rows offset wired are ranks fits feasible has xs meaning (λ i. c) (one_is_near g c) n 0 r.before y ms (omega (arith, some)) begin (round_advances g level c n 0 r.before ms y r.round),
       none_long g level rank rows offset wired are ranks fits feasible has xs meaning (λ i. c) (one_is_near g c) y on.1,

@@ -35,7 +35,6 @@ use Rattle.pt_semantics.specs.Parts.{AreTheFirings}
 use Rattle.pt_semantics.specs.Paced.{paced_by}
 use Rattle.pt_semantics.specs.Rounds.{IsTimely}
 use Rattle.pt_schedule.specs.PacedTheorems.{MissedIsInMeaning}
-use Rattle.pt_semantics.proofs.Acyclic.{levels_are_small}
 use Rattle.pt_semantics.proofs.Lookups.{none_some, same_some, Each-in, IsIn-append, IsIn-append_left, IsIn-append_right, cases_part, eight_found}
 use Rattle.pt_semantics.proofs.Floor.{put_same, put_other, put_none_found}
 use Rattle.pt_semantics.proofs.Claiming.{more, more_same, more_other, more_found}
@@ -179,13 +178,13 @@ actuator_unit g a p slack e =
 module _ (g : Graph) (level rank : ℕ → ℕ) (rows : ℕ → List Row) (offset : Part → Option ℤ) (wired : IsWired g) (are : AreLevels g level) (ranks : AreRanks g rank) (fits : FitRows g rows) (feasible : IsFeasible g) (has : (u : Part) → HasOffset g u (offset u)) (c : ℕ → ℕ) (near : AreNear g c) (y : Together) (h : OnwardNear g level rows offset c y)
     (xs : List ActorFiring) (meaning : IsMeaning g rank rows xs) (finished : AreFinished g y) where
   firings : AreTheFirings g (all_claims g y.did) xs
-  firings = by_parts g rank rows (all_claims g y.did) xs meaning (λ u. (prefixes g level rows offset wired are (levels_are_small g level wired are) fits feasible has c near y h rank xs ranks meaning u).1 finished)
+  firings = by_parts g rank rows (all_claims g y.did) xs meaning (λ u. (prefixes g level rows offset wired are fits feasible has c near y h rank xs ranks meaning u).1 finished)
 
   full : (z : ActorFiring) → IsIn z xs → IsFull g z
   full z mem = Each-in (IsFull g) xs (full_runs g rank xs (at_start g rows) meaning) z mem
 
   free : (i : ℕ) → i < length g.platforms → (u : Part) → (y.at i).busy u ≡ None
-  free i lt u = ((whole_at g level rows offset wired are (levels_are_small g level wired are) fits feasible has c near y h i lt).keeps.is_shut (finished i lt).closed).busy u
+  free i lt u = ((whole_at g level rows offset wired are fits feasible has c near y h i lt).keeps.is_shut (finished i lt).closed).busy u
 
   home_of : (i : ℕ) → i < length g.platforms → (d : Done) → IsIn d (all_posted (y.did i)) → i ≡ platform_of g d.task.actor
   home_of i lt d mem =
@@ -236,7 +235,7 @@ module _ (g : Graph) (level rank : ℕ → ℕ) (rows : ℕ → List Row) (offse
 pub missed_is_in_meaning : MissedIsInMeaning
 missed_is_in_meaning g level rank rows offset rounds c n ms y xs wired are ranks fits feasible has r finished meaning =
     let some : n ≤ length g.platforms = r.some in
-    let h : Onward g level rows offset c y = (round_onward g level rows offset has wired feasible c n 0 r.before y ms (omega arith) (run_onward g level rows offset wired are (levels_are_small g level wired are) fits feasible has rounds c r.before r.run) r.round).1 in (
+    let h : Onward g level rows offset c y = (round_onward g level rows offset has wired feasible c n 0 r.before y ms (omega arith) (run_onward g level rows offset wired are fits feasible has rounds c r.before r.run) r.round).1 in (
       missed_is_meant g level rank rows offset wired are ranks fits feasible has (λ i. c) (one_is_near g c) y h xs meaning finished,
       meant_is_missed g level rank rows offset wired are ranks fits feasible has (λ i. c) (one_is_near g c) y h xs meaning finished,
     )

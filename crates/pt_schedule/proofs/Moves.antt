@@ -1,9 +1,10 @@
 -- A turn leaves less to do on its platform, or makes no move.
-use Rattle.std.proofs.Common.{◌≡◌, ℕ, zero, suc, ◌+◌, ◌-◌, ◌<◌, ◌≤◌, ◌⊎◌, ◌≢◌, Bool, true, false, if◌then◌else◌, List, [], ◌∷◌, ◌++◌, length, map, arith, refl, sym, ap, subst, ◌∙◌, inl, inr, ⊎_elim, length-append, append-nil}
+use Rattle.std.proofs.Common.{◌≡◌, ℕ, zero, suc, ◌+◌, ◌-◌, ◌<◌, ◌≤◌, ◌⊎◌, ◌≢◌, Bool, true, false, if◌then◌else◌, List, [], ◌∷◌, ◌++◌, None, length, map, arith, refl, sym, ap, subst, ◌∙◌, inl, inr, ⊎_elim, length-append, append-nil}
 use Rattle.std.specs.List.{flat_map, range_with_len}
-use Rattle.std.proofs.lemmas.Bool.{cases_lt, false≢true}
+use Rattle.std.proofs.lemmas.Bool.{and_from, cases_lt, false≢true}
 use Rattle.std.proofs.lemmas.Grind.{flat_map-append}
 use Rattle.pt_types.specs.declared.graph.Graph.{Graph}
+use Rattle.pt_types.specs.declared.graph.Unit.{Unit as Part}
 use Rattle.pt_types.specs.declared.rows.Row.{Row}
 use Rattle.pt_types.specs.declared.rows.RowAt.{RowAt}
 use Rattle.pt_types.specs.declared.firing.OnLink.{OnLink}
@@ -12,9 +13,10 @@ use Rattle.pt_semantics.specs.Closing.{on_link}
 use Rattle.pt_semantics.specs.Counts.{sum_below}
 use Rattle.pt_semantics.specs.Entering.{all_due, due, not_due}
 use Rattle.pt_semantics.specs.Linked.{all_sent, all_taken}
-use Rattle.pt_semantics.specs.Lists.{IsIn}
+use Rattle.pt_semantics.specs.Lists.{Each, IsIn}
 use Rattle.pt_semantics.specs.Platform.{State}
-use Rattle.pt_semantics.specs.Turn.{Turn}
+use Rattle.pt_semantics.specs.Turn.{Turn, is_empty, is_quiet}
+use Rattle.pt_semantics.specs.Visits.{Made}
 use Rattle.pt_laws.proofs.Onward.{cases_same}
 use Rattle.pt_laws.proofs.Paces.{in_on_link}
 use Rattle.pt_laws.proofs.Rows.{due_split}
@@ -40,6 +42,19 @@ pub record MovesNothing (turn : Turn) : Type 0 where
 pub record IsStill (s : State) (turn : Turn) (new : State) : Type 0 where
   pub nothing : MovesNothing turn
   pub closed : new.closed ≡ s.closed
+
+-- what is left to do on all platforms
+abbrev pub all_to_do : Graph → (ℕ → State) → (ℕ → List Turn) → ℕ
+all_to_do g at did = sum_below (λ i. to_do g (at i) (did i)) (length g.platforms)
+
+-- a round in which no platform makes a move
+pub record IsStillRound (from : ℕ → State) (ms : List Made) (to : ℕ → State) : Type 0 where
+  pub turns : Each (λ (m : Made). MovesNothing m.turn) ms
+  pub closed : (j : ℕ) → (to j).closed ≡ (from j).closed
+
+-- no claim is open on the n platforms from i on
+abbrev pub IsFree : (ℕ → State) → ℕ → ℕ → Type 0
+IsFree at n i = (j : ℕ) → i ≤ j → j < n + i → (u : Part) → (at j).busy u ≡ None
 
 -- each of the first n lists is empty, or one is not
 abbrev AllOrOne : {X : Type 0} → (ℕ → List X) → ℕ → Type 0
@@ -74,6 +89,18 @@ nothing_along f (suc n) a none =
 due_length : (r : ℕ) (rows : List Row) → length (due r rows) + length (not_due r rows) ≡ length rows
 due_length r rows = sym (length-append (due r rows) (not_due r rows)) ∙ ap length (due_split r rows)
 
+-- turns without a move that post nothing are quiet
+pub quiet_turns : (ms : List Made) → Each (λ (m : Made). MovesNothing m.turn) ms → Each (λ (m : Made). m.turn.posted ≡ []) ms → Each (λ (m : Made). is_quiet m.turn ≡ true) ms
+quiet_turns [] moves posts = tt
+quiet_turns (m ∷ ms) moves posts = (quiet m.turn moves.0 posts.0, quiet_turns ms moves.1 posts.1)
+  where
+    empty : {X : Type 0} (xs : List X) → xs ≡ [] → is_empty xs ≡ true
+    empty xs e = ap is_empty e
+
+    quiet : (turn : Turn) → MovesNothing turn → turn.posted ≡ [] → is_quiet turn ≡ true
+    quiet turn k posted =
+        and_from _ _ (and_from _ _ (and_from _ _ (and_from _ _ (empty turn.posted posted) (empty turn.rows k.rows)) (empty turn.taken k.taken)) (empty turn.claimed k.claimed)) (empty turn.sent k.sent)
+
 -- a number does not rise, and it falls unless P
 abbrev pub Falls : Type 0 → ℕ → ℕ → Type 0
 Falls P before after = (after ≤ before) × (P ⊎ (after < before))
@@ -87,6 +114,26 @@ both_fall P Q a b c d (le, one) (le2, other) = (
       (λ (lt : b < a). inr (omega (arith, lt, le2)))
       one,
 )
+
+-- one step after another
+pub then_falls : (P Q R : Type 0) (a b c : ℕ) → (P → Q → R) → Falls P a b → Falls Q b c → Falls R a c
+then_falls P Q R a b c join (le, one) (le2, other) = (
+  omega (arith, le, le2),
+  ⊎_elim
+      (λ (p : P). ⊎_elim (λ (q : Q). inl (join p q)) (λ (lt : c < b). inr (omega (arith, le, lt))) other)
+      (λ (lt : b < a). inr (omega (arith, lt, le2)))
+      one,
+)
+
+-- what falls on one platform and stays on the others falls in all
+pub one_falls : (P : Type 0) (before after : ℕ → ℕ) (n i : ℕ) → i < n → ((j : ℕ) → j ≢ i → after j ≡ before j) → Falls P (before i) (after i) → Falls P (sum_below before n) (sum_below after n)
+one_falls P before after n i lt others (le, one) = (
+  sum_le after before n all,
+  ⊎_elim (λ (p : P). inl p) (λ (less : after i < before i). inr (sum_lt after before n i all lt less)) one,
+)
+  where
+    all : (j : ℕ) → after j ≤ before j
+    all j = ⊎_elim (λ (e : j ≡ i). subst (λ k. after k ≤ before k) (sym e) le) (λ (ne : j ≢ i). let e = others j ne in omega (arith, e)) (cases_same j i)
 
 -- where a row enters, fewer are left
 rows_fall : (g : Graph) (r : ℕ) (left new : ℕ → List Row) → ((a : ℕ) → new a ≡ not_due r (left a)) → Falls (all_due g r left ≡ []) (sum_below (λ a. length (left a)) (length g.actors)) (sum_below (λ a. length (new a)) (length g.actors))

@@ -11,7 +11,6 @@ use Rattle.pt_semantics.specs.Rows.{FitRows}
 use Rattle.pt_semantics.specs.Linked.{IsFinished}
 use Rattle.pt_semantics.specs.Visits.{Together, together_at_start, Made, AreFinished}
 use Rattle.pt_semantics.specs.Rounds.{Makes, Round, Rounds, Follows, IsQuietRound, IsLeastNext, IsWholeRun}
-use Rattle.pt_semantics.proofs.Acyclic.{levels_are_small}
 use Rattle.pt_laws.proofs.Onward.{Onward, makes_onward}
 use Rattle.pt_schedule.proofs.PacedRuns.{start_onward, rounds_onward}
 use Rattle.pt_schedule.proofs.SameTurn.{made, together}
@@ -86,7 +85,7 @@ module _ (g : Graph) (level : ℕ → ℕ) (rows : ℕ → List Row) (offset : P
       let same = round_one c (length g.platforms) 0 x mid mid2 rs os (omega arith) h round round2 in
       let follows3 : Follows g c x rs mid b2 = subst (λ l. Follows g c x l mid b2) (sym same.0) (subst (λ s. Follows g c x os s b2) (sym same.1) follows2) in
       let reading : b ≡ b2 = follows_one g c x rs mid b b2 follows follows3 in
-      let on : Onward g level rows offset b mid = rounds_onward g level rows offset wired are (levels_are_small g level wired are) fits feasible has (rs ∷ []) c b x mid h (b, mid, round, fine, going, follows, (refl, refl)) in
+      let on : Onward g level rows offset b mid = rounds_onward g level rows offset wired are fits feasible has (rs ∷ []) c b x mid h (b, mid, round, fine, going, follows, (refl, refl)) in
       whole_one rounds others b d e mid v w y z ms ns on rest r ends
       (subst (λ n. Rounds g level n mid others e w) (sym reading) (subst (λ s. Rounds g level b2 s others e w) (sym same.1) rest2)) q ends2
 
@@ -94,7 +93,7 @@ module _ (g : Graph) (level : ℕ → ℕ) (rows : ℕ → List Row) (offset : P
   runs_one y z a b =
       let start : a.run.begins ≡ b.run.begins = next_one g (together_at_start g rows) a.run.begins b.run.begins a.run.begins_at b.run.begins_at in
       whole_one a.rounds b.rounds a.run.begins a.reading b.reading (together_at_start g rows) a.before b.before y z a.made b.made
-      (start_onward g level rows offset wired are (levels_are_small g level wired are) fits feasible has a.run.begins a.run.begins_at)
+      (start_onward g level rows offset wired are fits feasible has a.run.begins a.run.begins_at)
       a.run.goes a.round a.ends
       (subst (λ n. Rounds g level n (together_at_start g rows) b.rounds b.reading b.before) (sym start) b.run.goes) b.round b.ends
 

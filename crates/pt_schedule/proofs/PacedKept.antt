@@ -15,7 +15,6 @@ use Rattle.pt_laws.specs.HistoryTheorems.{IsSame}
 use Rattle.pt_semantics.specs.Visits.{Together, together_at_start, Made}
 use Rattle.pt_semantics.specs.Rounds.{Rounds}
 use Rattle.pt_schedule.specs.PacedTheorems.{PacedAreLegal}
-use Rattle.pt_semantics.proofs.Acyclic.{levels_are_small}
 use Rattle.pt_laws.proofs.KeptTurns.{kept_is_legal}
 use Rattle.pt_laws.proofs.Onward.{AdvanceRound, Advances, Onward, cases_same, round_advances, round_onward}
 use Rattle.pt_schedule.proofs.PacedRuns.{run_onward, way_empty}
@@ -124,7 +123,7 @@ paced_are_legal g level rows offset y wired are fits feasible has run = (
   (λ i lt. (keep i).0 (ended i)),
   (λ l link at. (y.on_way l, matched l link at)),
   (λ done l link at. matched l link at
-      ∙ ap (λ z. all_taken l (kept (y.did (platform_of g link.to))) ++ z) (way_empty g level rows offset wired are (levels_are_small g level wired are) fits feasible has run.reading y end (λ i lt. inl (done i lt)) l link at)
+      ∙ ap (λ z. all_taken l (kept (y.did (platform_of g link.to))) ++ z) (way_empty g level rows offset wired are fits feasible has run.reading y end (λ i lt. inl (done i lt)) l link at)
       ∙ append-nil (all_taken l (kept (y.did (platform_of g link.to))))),
 )
   where
@@ -135,7 +134,7 @@ paced_are_legal g level rows offset y wired are fits feasible has run = (
     ended = round_ends g level rows (λ i. run.reading) (length g.platforms) 0 run.before y run.made (round_advances g level run.reading (length g.platforms) 0 run.before run.made y run.round) (λ p l. absurd (omega (arith, l))) (λ p k. begin p)
 
     end : Onward g level rows offset run.reading y
-    end = (round_onward g level rows offset has wired feasible run.reading (length g.platforms) 0 run.before y run.made (omega arith) (run_onward g level rows offset wired are (levels_are_small g level wired are) fits feasible has run.rounds run.reading run.before run.run) run.round).1
+    end = (round_onward g level rows offset has wired feasible run.reading (length g.platforms) 0 run.before y run.made (omega arith) (run_onward g level rows offset wired are fits feasible has run.rounds run.reading run.before run.run) run.round).1
 
     keep : (i : ℕ) → (Legal g level i (opened g i rows) (y.did i) (y.at i) → IsLegal g level i rows (kept (y.did i)) (y.at i)) × IsSame g (kept (y.did i)) (y.did i)
     keep i = let k = kept_is_legal g level i rows (y.did i) (y.at i) wired are fits (single_run g level rows y run i) in (k.0, k.2)

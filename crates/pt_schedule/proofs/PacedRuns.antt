@@ -29,7 +29,6 @@ use Rattle.pt_semantics.specs.Paced.{paced_by, IsClosing, IsPaced}
 use Rattle.pt_semantics.specs.Rounds.{Makes, Round, IsQuietRound, IsLeastNext, Rounds, IsPacedRun}
 use Rattle.pt_semantics.specs.Visits.{Together, together_at_start, Made}
 use Rattle.pt_schedule.specs.PacedTheorems.{NoneLate, TimelyWhenPaced, MissedWhenPaced}
-use Rattle.pt_semantics.proofs.Acyclic.{levels_are_small}
 use Rattle.pt_semantics.proofs.Longest.{levels_grow}
 use Rattle.pt_semantics.proofs.Lookups.{Each-in, IsIn-append_left, IsIn-append_right}
 use Rattle.pt_semantics.proofs.Claiming.{event_found, has_event}
@@ -126,7 +125,7 @@ nothing_after_end (x ∷ xs) ys zs m order =
     at_end [] h = refl
     at_end (w ∷ ws) h = absurd (Each-in (ComesAfter End) ((xs ++ w ∷ ws) ++ zs) h w (IsIn-append_left w (xs ++ w ∷ ws) zs (IsIn-append_right w xs (w ∷ ws) (inl refl))))
 
-module _ (g : Graph) (level : ℕ → ℕ) (rows : ℕ → List Row) (offset : Part → Option ℤ) (wired : IsWired g) (are : AreLevels g level) (small : (a : ℕ) → level a ≤ length g.actors) (fits : FitRows g rows) (feasible : IsFeasible g) (has : (u : Part) → HasOffset g u (offset u)) where
+module _ (g : Graph) (level : ℕ → ℕ) (rows : ℕ → List Row) (offset : Part → Option ℤ) (wired : IsWired g) (are : AreLevels g level) (fits : FitRows g rows) (feasible : IsFeasible g) (has : (u : Part) → HasOffset g u (offset u)) where
   up : HasLevels g level
   up = levels_grow g level are
 
@@ -243,13 +242,13 @@ module _ (g : Graph) (level : ℕ → ℕ) (rows : ℕ → List Row) (offset : P
 pub none_late : NoneLate
 none_late g level rows offset rounds c n ms y wired are fits feasible has r =
     let some : n ≤ length g.platforms = r.some in
-    let on = round_onward g level rows offset has wired feasible c n 0 r.before y ms (omega arith) (run_onward g level rows offset wired are (levels_are_small g level wired are) fits feasible has rounds c r.before r.run) r.round in
+    let on = round_onward g level rows offset has wired feasible c n 0 r.before y ms (omega arith) (run_onward g level rows offset wired are fits feasible has rounds c r.before r.run) r.round in
     (on.0, on.1.legal)
 
 pub timely_when_paced : TimelyWhenPaced
 timely_when_paced g level rows offset rounds c n ms y wired are fits feasible has r =
     let some : n ≤ length g.platforms = r.some in
-    (round_onward g level rows offset has wired feasible c n 0 r.before y ms (omega arith) (run_onward g level rows offset wired are (levels_are_small g level wired are) fits feasible has rounds c r.before r.run) r.round).1.timed
+    (round_onward g level rows offset has wired feasible c n 0 r.before y ms (omega arith) (run_onward g level rows offset wired are fits feasible has rounds c r.before r.run) r.round).1.timed
 
 pub missed_when_paced : MissedWhenPaced
 missed_when_paced g offset turn a t limit timely missed =

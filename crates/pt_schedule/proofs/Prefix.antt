@@ -29,7 +29,6 @@ use Rattle.pt_semantics.specs.Rows.{FitRows}
 use Rattle.pt_semantics.specs.Paced.{paced_by}
 use Rattle.pt_semantics.specs.Visits.{Together}
 use Rattle.pt_schedule.specs.PacedTheorems.{PacedIsPrefix}
-use Rattle.pt_semantics.proofs.Acyclic.{levels_are_small}
 use Rattle.pt_semantics.proofs.Tags.{Before-trans, cases_tags, same_tag-true}
 use Rattle.pt_semantics.proofs.Longest.{levels_grow, ranks_grow, sum_time, sum_step}
 use Rattle.pt_semantics.proofs.Words.{firing_at_none, firing_at_head, firing_at_tail, past, some_none, firings_agree}
@@ -178,7 +177,7 @@ not_itself t h = grind arith
 pub not_one : (t : Tag) (d : Delay) → Before (plus t d) (plus t (then d zero_delay)) → ⊥
 not_one t d h = grind arith
 
-module _ (g : Graph) (level : ℕ → ℕ) (rows : ℕ → List Row) (offset : Part → Option ℤ) (wired : IsWired g) (are : AreLevels g level) (small : (a : ℕ) → level a ≤ length g.actors) (fits : FitRows g rows) (feasible : IsFeasible g) (has : (u : Part) → HasOffset g u (offset u)) (c : ℕ → ℕ) (near : AreNear g c) (y : Together) (h : OnwardNear g level rows offset c y) where
+module _ (g : Graph) (level : ℕ → ℕ) (rows : ℕ → List Row) (offset : Part → Option ℤ) (wired : IsWired g) (are : AreLevels g level) (fits : FitRows g rows) (feasible : IsFeasible g) (has : (u : Part) → HasOffset g u (offset u)) (c : ℕ → ℕ) (near : AreNear g c) (y : Together) (h : OnwardNear g level rows offset c y) where
   -- what is still to be done is no sooner than the reading at each unit to which it leads
   pub later_path : (path : List Edge) (x u : Part) (w : Tag) → Along g x path u → c (platform_of g x.actor) ≤ paced_by (offset x) w → c (platform_of g u.actor) ≤ paced_by (offset u) (plus w (sum_along path))
   later_path [] x u w go le = subst (λ z. c (platform_of g z.actor) ≤ paced_by (offset z) (plus w zero_delay)) go (subst (λ z. c (platform_of g x.actor) ≤ paced_by (offset x) z) (sym (plus_zero w)) le)
@@ -330,6 +329,6 @@ module _ (g : Graph) (level : ℕ → ℕ) (rows : ℕ → List Row) (offset : P
 pub paced_is_prefix : PacedIsPrefix
 paced_is_prefix g level rank rows offset rounds c n ms y xs wired are ranks fits feasible has r meaning u =
     let some : n ≤ length g.platforms = r.some in
-    prefixes g level rows offset wired are (levels_are_small g level wired are) fits feasible has (λ i. c) (one_is_near g c) y
-    (round_onward g level rows offset has wired feasible c n 0 r.before y ms (omega arith) (run_onward g level rows offset wired are (levels_are_small g level wired are) fits feasible has rounds c r.before r.run) r.round).1
+    prefixes g level rows offset wired are fits feasible has (λ i. c) (one_is_near g c) y
+    (round_onward g level rows offset has wired feasible c n 0 r.before y ms (omega arith) (run_onward g level rows offset wired are fits feasible has rounds c r.before r.run) r.round).1
     rank xs ranks meaning u

@@ -22,7 +22,6 @@ use Rattle.pt_semantics.specs.Paced.{IsCandidate, IsClosing, IsPaced}
 use Rattle.pt_semantics.specs.Rounds.{Makes, Round}
 use Rattle.pt_semantics.specs.Visits.{Together, Made}
 use Rattle.pt_schedule.specs.PacedTheorems.{NoTwoQuiet, QuietEnds}
-use Rattle.pt_semantics.proofs.Acyclic.{levels_are_small}
 use Rattle.pt_semantics.proofs.Longest.{levels_grow}
 use Rattle.pt_semantics.proofs.Lookups.{Each-in, IsIn-append_right}
 use Rattle.pt_semantics.proofs.Least.{paced_meets}
@@ -110,10 +109,10 @@ event_stays g level i s new turn late is none_posted none_claimed u t event =
 
 pub no_two_quiet : NoTwoQuiet
 no_two_quiet g level rows offset rounds c b ms ns x y z wired are fits feasible has run first fine quiet next second fine2 quiet2 =
-    let at_x : Onward g level rows offset c x = run_onward g level rows offset wired are (levels_are_small g level wired are) fits feasible has rounds c x run in
+    let at_x : Onward g level rows offset c x = run_onward g level rows offset wired are fits feasible has rounds c x run in
     let on = round_onward g level rows offset has wired feasible c (length g.platforms) 0 x y ms (omega arith) at_x first in
     let settles = quiet_round g level c (length g.platforms) 0 x y ms first on.0 quiet.quiet fine (λ j le. quiet.closed j) in
-    let at_y : Onward g level rows offset b y = raise_onward g level rows offset wired are (levels_are_small g level wired are) fits feasible has c b y on.1 (λ i lt. settles.1 i (omega arith) (omega arith)) next in
+    let at_y : Onward g level rows offset b y = raise_onward g level rows offset wired are fits feasible has c b y on.1 (λ i lt. settles.1 i (omega arith) (omega arith)) next in
     let on2 = round_onward g level rows offset has wired feasible b (length g.platforms) 0 y z ns (omega arith) at_y second in
     let settles2 = quiet_round g level b (length g.platforms) 0 y z ns second on2.0 quiet2.quiet fine2 (λ j le. quiet2.closed j) in
     let i : ℕ = next.one.0 in
@@ -147,7 +146,7 @@ no_two_quiet g level rows offset rounds c b ms ns x y z wired are fits feasible 
         (subst (λ n. HasEvent g (f.from.at n).waits event.0 event.1) (sym f.platform) (subst (λ (s : State). HasEvent g s.waits event.0 event.1) (sym f.same) event.2)))))
         (λ a d path feeds. paced_meets g event.0 event.1 b b event.5 (omega arith) a d path feeds)))
         (settled i lt))
-        (λ (closing : IsClosing g i b). no_closing g level rows offset wired are (levels_are_small g level wired are) fits feasible has b b z at_z settled i lt (quiet2.closed i ∙ open_still) closing (omega arith))
+        (λ (closing : IsClosing g i b). no_closing g level rows offset wired are fits feasible has b b z at_z settled i lt (quiet2.closed i ∙ open_still) closing (omega arith))
         rest)
         cand
       where
@@ -174,7 +173,7 @@ no_two_quiet g level rows offset rounds c b ms ns x y z wired are fits feasible 
 
 pub quiet_ends : QuietEnds
 quiet_ends g level rows offset rounds c ms x y wired are fits feasible has run round fine quiet all_closed i lt =
-    let at_x : Onward g level rows offset c x = run_onward g level rows offset wired are (levels_are_small g level wired are) fits feasible has rounds c x run in
+    let at_x : Onward g level rows offset c x = run_onward g level rows offset wired are fits feasible has rounds c x run in
     let on = round_onward g level rows offset has wired feasible c (length g.platforms) 0 x y ms (omega arith) at_x round in
     let settles = quiet_round g level c (length g.platforms) 0 x y ms round on.0 quiet.quiet fine (λ j le. quiet.closed j) in
     finish on.1 (λ j l. settles.1 j (omega arith) (omega arith))
@@ -182,19 +181,19 @@ quiet_ends g level rows offset rounds c ms x y wired are fits feasible has run r
     finish : Onward g level rows offset c y → ((j : ℕ) → j < length g.platforms → Settles g c y j) → IsFinished g i (y.at i)
     finish h settled = record {
       closed = all_closed i lt;
-      all_went = outbox_empty g level rows offset wired are (levels_are_small g level wired are) fits feasible has c y h settled i lt;
+      all_went = outbox_empty g level rows offset wired are fits feasible has c y h settled i lt;
       ends = λ l link at home.
-          let from = whole_of g level rows offset wired are (levels_are_small g level wired are) fits feasible has c y (platform_of g link.from) (wired.homes link.from) h in
-          let to = whole_of g level rows offset wired are (levels_are_small g level wired are) fits feasible has c y (platform_of g link.to) (wired.homes link.to) h in
+          let from = whole_of g level rows offset wired are fits feasible has c y (platform_of g link.from) (wired.homes link.from) h in
+          let to = whole_of g level rows offset wired are fits feasible has c y (platform_of g link.to) (wired.homes link.to) h in
           let shut_list : all_sent l (y.did (platform_of g link.from)) ++ (y.at (platform_of g link.from)).outbox l ≡ messages_of (from.keeps.q (at_output g link.from 0)) ++ End ∷ [] =
           from.keeps.out.once_shut (all_closed (platform_of g link.from) (wired.homes link.from)) l link at refl in
           let sent_is : all_sent l (y.did (platform_of g link.from)) ≡ messages_of (from.keeps.q (at_output g link.from 0)) ++ End ∷ [] =
           sym (append-nil (all_sent l (y.did (platform_of g link.from))))
-          ∙ ap (λ e. all_sent l (y.did (platform_of g link.from)) ++ e) (sym (outbox_empty g level rows offset wired are (levels_are_small g level wired are) fits feasible has c y h settled (platform_of g link.from) (wired.homes link.from) l))
+          ∙ ap (λ e. all_sent l (y.did (platform_of g link.from)) ++ e) (sym (outbox_empty g level rows offset wired are fits feasible has c y h settled (platform_of g link.from) (wired.homes link.from) l))
           ∙ shut_list in
           let taken_is : all_taken l (y.did (platform_of g link.to)) ≡ all_sent l (y.did (platform_of g link.from)) =
           sym (append-nil (all_taken l (y.did (platform_of g link.to))))
-          ∙ ap (λ e. all_taken l (y.did (platform_of g link.to)) ++ e) (sym (way_empty g level rows offset wired are (levels_are_small g level wired are) fits feasible has c y h settled l link at))
+          ∙ ap (λ e. all_taken l (y.did (platform_of g link.to)) ++ e) (sym (way_empty g level rows offset wired are fits feasible has c y h settled l link at))
           ∙ sym (h.linked l link at) in
           subst (λ n. IsIn End ((y.at n).taken l)) home
           (subst (IsIn End) (sym (to.keeps.taken_is l ∙ taken_is ∙ sent_is))

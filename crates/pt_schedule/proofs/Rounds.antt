@@ -1,7 +1,6 @@
 -- A round leaves less to do, or no platform makes a move: then nothing is open after it, and where nothing was open before
 -- it, it is quiet.
-use Rattle.std.proofs.Common.{◌≡◌, ℕ, zero, suc, ◌+◌, ◌<◌, ◌≤◌, ◌≢◌, true, false, List, [], ◌∷◌, Option, None, ℤ, length, arith, refl, sym, ap, subst, ◌∙◌, inl, inr, ⊎_elim}
-use Rattle.std.proofs.lemmas.Bool.{and_from}
+use Rattle.std.proofs.Common.{◌≡◌, ℕ, zero, suc, ◌+◌, ◌<◌, ◌≤◌, ◌≢◌, Bool, true, false, List, [], ◌∷◌, Option, None, ℤ, length, arith, refl, sym, ap, subst, ◌∙◌, inl, ⊎_elim}
 use Rattle.pt_types.specs.declared.graph.Graph.{Graph}
 use Rattle.pt_types.specs.declared.graph.Unit.{Unit as Part}
 use Rattle.pt_types.specs.declared.rows.Row.{Row}
@@ -17,55 +16,35 @@ use Rattle.pt_semantics.specs.Posting.{Posts}
 use Rattle.pt_semantics.specs.Ranks.{AreLevels}
 use Rattle.pt_semantics.specs.Rows.{FitRows}
 use Rattle.pt_semantics.specs.Rounds.{IsQuietRound, Makes, Round}
-use Rattle.pt_semantics.specs.Turn.{Turn, is_empty, is_quiet}
+use Rattle.pt_semantics.specs.Turn.{IsTurn, Turn}
 use Rattle.pt_semantics.specs.Units.{unit_of}
 use Rattle.pt_semantics.specs.Visits.{Made, Together}
 use Rattle.pt_semantics.specs.Wired.{IsWired}
-use Rattle.pt_semantics.proofs.Acyclic.{levels_are_small}
 use Rattle.pt_semantics.proofs.Lookups.{none_some}
 use Rattle.pt_laws.proofs.Onward.{Onward, cases_same, makes_onward}
 use Rattle.pt_schedule.proofs.PacedRuns.{round_leaves, whole_of}
 use Rattle.pt_laws.proofs.Progress.{takes_grown}
-use Rattle.pt_schedule.proofs.Moves.{Falls, IsStill, MovesNothing}
-use Rattle.pt_schedule.proofs.Visits.{all_to_do, visit_falls}
-
--- a round in which no platform makes a move
-pub record IsStillRound (x : Together) (ms : List Made) (y : Together) : Type 0 where
-  pub turns : Each (λ (m : Made). MovesNothing m.turn) ms
-  pub closed : (j : ℕ) → (y.at j).closed ≡ (x.at j).closed
-
--- no claim is open on the n platforms from i on
-abbrev pub IsFree : Together → ℕ → ℕ → Type 0
-IsFree x n i = (j : ℕ) → i ≤ j → j < n + i → (u : Part) → (x.at j).busy u ≡ None
-
--- one step after another
-then_falls : (P Q R : Type 0) (a b c : ℕ) → (P → Q → R) → Falls P a b → Falls Q b c → Falls R a c
-then_falls P Q R a b c join (le, one) (le2, other) = (
-  omega (arith, le, le2),
-  ⊎_elim
-      (λ (p : P). ⊎_elim (λ (q : Q). inl (join p q)) (λ (lt : c < b). inr (omega (arith, le, lt))) other)
-      (λ (lt : b < a). inr (omega (arith, lt, le2)))
-      one,
-)
+use Rattle.pt_schedule.proofs.Moves.{Falls, IsFree, IsStill, IsStillRound, MovesNothing, all_to_do, quiet_turns, then_falls}
+use Rattle.pt_schedule.proofs.Visits.{visit_falls}
 
 -- a turn without claims leaves nothing open
-visit_frees : (g : Graph) (level : ℕ → ℕ) (c : ℕ) (x y : Together) (m : Made) → Makes g level c x m y → m.turn.claimed ≡ [] → (u : Part) → (y.at m.platform).busy u ≡ None
-visit_frees g level c x y m k none u =
-    let got = takes_grown g level m.platform m.turn.taken m.late (after_rows k.is.posted m.turn.last) (after_rows k.is.posted m.turn.last) k.is.got (record { waits = λ a p t v h. h; busy = λ v. refl; outbox = λ l. refl; closed = refl }) k.is.takes in
-    let ready : k.is.ready ≡ raised k.is.got m.turn.last = subst (λ z. Claims g m.turn.last (raised k.is.got m.turn.last) z k.is.ready) none k.is.claims in
-    ap (λ (s : State). s.busy u) k.is.sends.1
+pub turn_frees : (g : Graph) (level : ℕ → ℕ) (i : ℕ) (s new : State) (turn : Turn) (late : Bool) (is : IsTurn g level i s turn late new) → ((u : Part) → is.posted.busy u ≡ None) → turn.claimed ≡ [] → (u : Part) → new.busy u ≡ None
+turn_frees g level i s new turn late is handed none u =
+    let got = takes_grown g level i turn.taken late (after_rows is.posted turn.last) (after_rows is.posted turn.last) is.got (record { waits = λ a p t v h. h; busy = λ v. refl; outbox = λ l. refl; closed = refl }) is.takes in
+    let ready : is.ready ≡ raised is.got turn.last = subst (λ z. Claims g turn.last (raised is.got turn.last) z is.ready) none is.claims in
+    ap (λ (z : State). z.busy u) is.sends.1
     ∙ ⊎_elim
-    (λ (shuts : CanClose g m.platform k.is.ready m.turn.last × (m.late ≡ false) × (k.is.done ≡ shut g m.platform k.is.ready)). ap (λ (s : State). s.busy u) shuts.2)
-    (λ (stays : (CanClose g m.platform k.is.ready m.turn.last → m.late ≡ true) × (k.is.done ≡ k.is.ready)). ap (λ (s : State). s.busy u) stays.1)
-    k.is.closes
-    ∙ ap (λ (s : State). s.busy u) ready ∙ got.busy u ∙ k.handed u
+    (λ (shuts : CanClose g i is.ready turn.last × (late ≡ false) × (is.done ≡ shut g i is.ready)). ap (λ (z : State). z.busy u) shuts.2)
+    (λ (stays : (CanClose g i is.ready turn.last → late ≡ true) × (is.done ≡ is.ready)). ap (λ (z : State). z.busy u) stays.1)
+    is.closes
+    ∙ ap (λ (z : State). z.busy u) ready ∙ got.busy u ∙ handed u
 
 -- where nothing is open, nothing is posted
-nothing_posted : (g : Graph) (ds : List Done) (s new : State) → ((u : Part) → s.busy u ≡ None) → Posts g s ds new → ds ≡ []
+pub nothing_posted : (g : Graph) (ds : List Done) (s new : State) → ((u : Part) → s.busy u ≡ None) → Posts g s ds new → ds ≡ []
 nothing_posted g [] s new free p = refl
 nothing_posted g (d ∷ ds) s new free (busy, result, rest) = absurd (none_some d.task (sym (free (unit_of g d.task)) ∙ busy))
 
-pub round_posts_nothing : (g : Graph) (level : ℕ → ℕ) (c n i : ℕ) (x y : Together) (ms : List Made) → Round g level c n i x ms y → IsFree x n i → Each (λ (m : Made). m.turn.posted ≡ []) ms
+pub round_posts_nothing : (g : Graph) (level : ℕ → ℕ) (c n i : ℕ) (x y : Together) (ms : List Made) → Round g level c n i x ms y → IsFree x.at n i → Each (λ (m : Made). m.turn.posted ≡ []) ms
 round_posts_nothing g level c zero i x y ms round free = subst (Each (λ (m : Made). m.turn.posted ≡ [])) (sym round.0) tt
 round_posts_nothing g level c (suc n) i x y ms round free =
     ⊎_elim
@@ -89,16 +68,16 @@ round_posts_nothing g level c (suc n) i x y ms round free =
     above j i p a b d = omega (arith, a, b, d)
 
 module _ (g : Graph) (level : ℕ → ℕ) (rows : ℕ → List Row) (offset : Part → Option ℤ) (wired : IsWired g) (are : AreLevels g level) (fits : FitRows g rows) (feasible : IsFeasible g) (has : (u : Part) → HasOffset g u (offset u)) (c : ℕ) where
-  pub round_falls : (n i : ℕ) (x y : Together) (ms : List Made) → n + i ≤ length g.platforms → Onward g level rows offset c x → Round g level c n i x ms y → Falls (IsStillRound x ms y) (all_to_do g x) (all_to_do g y)
+  pub round_falls : (n i : ℕ) (x y : Together) (ms : List Made) → n + i ≤ length g.platforms → Onward g level rows offset c x → Round g level c n i x ms y → Falls (IsStillRound x.at ms y.at) (all_to_do g x.at x.did) (all_to_do g y.at y.did)
   round_falls zero i x y ms le h (none, same) =
-      subst (λ z. Falls (IsStillRound x ms z) (all_to_do g x) (all_to_do g z)) (sym same)
+      subst (λ z. Falls (IsStillRound x.at ms z.at) (all_to_do g x.at x.did) (all_to_do g z.at z.did)) (sym same)
       (omega arith, inl (record { turns = subst (Each (λ (m : Made). MovesNothing m.turn)) (sym none) tt; closed = λ j. refl }))
   round_falls (suc n) i x y ms le h round =
       ⊎_elim
       (λ (done : IsFinished g i (x.at i) × Round g level c n (suc i) x ms y). round_falls n (suc i) x y ms (omega (arith, le)) h done.1)
       (λ (one : (IsFinished g i (x.at i) → ⊥) × (m : Made) × (rest : List Made) × (mid : Together) × (ms ≡ m ∷ rest) × (m.platform ≡ i) × Makes g level c x m mid × Round g level c n (suc i) mid rest y).
       let lt : one.1.platform < length g.platforms = subst (λ j. j < length g.platforms) (sym one.5) (omega (arith, le)) in
-      then_falls (IsStill (x.at one.1.platform) one.1.turn (one.3.at one.1.platform)) (IsStillRound one.3 one.2 y) (IsStillRound x ms y) (all_to_do g x) (all_to_do g one.3) (all_to_do g y)
+      then_falls (IsStill (x.at one.1.platform) one.1.turn (one.3.at one.1.platform)) (IsStillRound one.3.at one.2 y.at) (IsStillRound x.at ms y.at) (all_to_do g x.at x.did) (all_to_do g one.3.at one.3.did) (all_to_do g y.at y.did)
       (λ still rest. record {
         turns = subst (Each (λ (m : Made). MovesNothing m.turn)) (sym one.4) (still.nothing, rest.turns);
         closed = λ j. rest.closed j ∙ stays x one.3 one.1 one.6 still.closed j;
@@ -116,9 +95,9 @@ module _ (g : Graph) (level : ℕ → ℕ) (rows : ℕ → List Row) (offset : P
 
   -- a finished platform has nothing open
   finished_free : (i : ℕ) (x : Together) → i < length g.platforms → Onward g level rows offset c x → IsFinished g i (x.at i) → (u : Part) → (x.at i).busy u ≡ None
-  finished_free i x lt h done = ((whole_of g level rows offset wired are (levels_are_small g level wired are) fits feasible has c x i lt h).keeps.is_shut done.closed).busy
+  finished_free i x lt h done = ((whole_of g level rows offset wired are fits feasible has c x i lt h).keeps.is_shut done.closed).busy
 
-  pub round_frees : (n i : ℕ) (x y : Together) (ms : List Made) → n + i ≤ length g.platforms → Onward g level rows offset c x → Round g level c n i x ms y → Each (λ (m : Made). MovesNothing m.turn) ms → IsFree y n i
+  pub round_frees : (n i : ℕ) (x y : Together) (ms : List Made) → n + i ≤ length g.platforms → Onward g level rows offset c x → Round g level c n i x ms y → Each (λ (m : Made). MovesNothing m.turn) ms → IsFree y.at n i
   round_frees zero i x y ms le h round still j from below u = absurd (none i j from below)
     where
       none : (i j : ℕ) → i ≤ j → j < 0 + i → ⊥
@@ -138,7 +117,7 @@ module _ (g : Graph) (level : ℕ → ℕ) (rows : ℕ → List Row) (offset : P
       ⊎_elim
       (λ (here : j ≡ i).
       subst (λ k. (y.at k).busy u ≡ None) (one.5 ∙ sym here)
-      (ap (λ (s : State). s.busy u) (round_leaves g level c n (suc i) one.3 y one.2 one.7 one.1.platform (below_suc one.1.platform i one.5)) ∙ visit_frees g level c x one.3 one.1 one.6 moves.0.claimed u))
+      (ap (λ (s : State). s.busy u) (round_leaves g level c n (suc i) one.3 y one.2 one.7 one.1.platform (below_suc one.1.platform i one.5)) ∙ turn_frees g level one.1.platform (x.at one.1.platform) (one.3.at one.1.platform) one.1.turn one.1.late one.6.is one.6.handed moves.0.claimed u))
       (λ (there : j ≢ i). round_frees n (suc i) one.3 y one.2 (omega (arith, le)) (makes_onward g level rows offset has wired feasible c x one.3 one.1 lt h one.6).1 one.7 moves.1 j (next i j from there) (shift n i j below) u)
       (cases_same j i))
       round
@@ -153,16 +132,5 @@ module _ (g : Graph) (level : ℕ → ℕ) (rows : ℕ → List Row) (offset : P
       below_suc p i e = omega (arith, e)
 
 -- a round without a move that posts nothing is quiet
-pub quiet_still : (x y : Together) (ms : List Made) → IsStillRound x ms y → Each (λ (m : Made). m.turn.posted ≡ []) ms → IsQuietRound x ms y
-quiet_still x y ms still none = record { quiet = each_quiet ms still.turns none; closed = still.closed }
-  where
-    empty : {X : Type 0} (xs : List X) → xs ≡ [] → is_empty xs ≡ true
-    empty xs e = ap is_empty e
-
-    quiet : (turn : Turn) → MovesNothing turn → turn.posted ≡ [] → is_quiet turn ≡ true
-    quiet turn k posted =
-        and_from _ _ (and_from _ _ (and_from _ _ (and_from _ _ (empty turn.posted posted) (empty turn.rows k.rows)) (empty turn.taken k.taken)) (empty turn.claimed k.claimed)) (empty turn.sent k.sent)
-
-    each_quiet : (ns : List Made) → Each (λ (m : Made). MovesNothing m.turn) ns → Each (λ (m : Made). m.turn.posted ≡ []) ns → Each (λ (m : Made). is_quiet m.turn ≡ true) ns
-    each_quiet [] moves posts = tt
-    each_quiet (m ∷ ns) moves posts = (quiet m.turn moves.0 posts.0, each_quiet ns moves.1 posts.1)
+pub quiet_still : (x y : Together) (ms : List Made) → IsStillRound x.at ms y.at → Each (λ (m : Made). m.turn.posted ≡ []) ms → IsQuietRound x ms y
+quiet_still x y ms still none = record { quiet = quiet_turns ms still.turns none; closed = still.closed }

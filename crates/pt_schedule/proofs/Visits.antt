@@ -1,5 +1,5 @@
 -- A visit leaves less to do, or makes no move.
-use Rattle.std.proofs.Common.{◌≡◌, ℕ, ◌<◌, ◌≤◌, ◌≢◌, List, [], ◌∷◌, ◌++◌, Option, Some, None, ℤ, length, slice_get, arith, refl, sym, ap, subst, ◌∙◌, inl, inr, ⊎_elim}
+use Rattle.std.proofs.Common.{◌≡◌, ℕ, ◌<◌, ◌≤◌, ◌≢◌, List, [], ◌∷◌, ◌++◌, Option, Some, None, ℤ, length, slice_get, refl, sym, ap, subst, ◌∙◌, ⊎_elim}
 use Rattle.std.proofs.lemmas.Option.{slice_get_within}
 use Rattle.pt_types.specs.declared.graph.Graph.{Graph}
 use Rattle.pt_types.specs.declared.graph.Link.{Link}
@@ -7,7 +7,6 @@ use Rattle.pt_types.specs.declared.graph.Unit.{Unit as Part}
 use Rattle.pt_types.specs.declared.rows.Row.{Row}
 use Rattle.pt_types.specs.declared.firing.OnLink.{OnLink}
 use Rattle.pt_semantics.specs.Closing.{on_link}
-use Rattle.pt_semantics.specs.Counts.{sum_below}
 use Rattle.pt_types.specs.Lookups.{platform_of}
 use Rattle.pt_semantics.specs.Entering.{after_rows}
 use Rattle.pt_semantics.specs.Linked.{all_sent, all_taken}
@@ -21,24 +20,10 @@ use Rattle.pt_semantics.specs.Wired.{IsWired}
 use Rattle.pt_semantics.proofs.Lookups.{Each-from, IsIn-append_left, none_some, same_some}
 use Rattle.pt_laws.proofs.Onward.{Onward, cases_same, makes_onward}
 use Rattle.pt_laws.proofs.Paces.{InBound, IsForeign, Paces, in_on_link, turn_paces}
-use Rattle.pt_laws.proofs.Sums.{sum_le, sum_lt}
 use Rattle.pt_schedule.proofs.Turns.{turn_does}
-use Rattle.pt_schedule.proofs.Moves.{AreFew, Falls, IsStill, to_do, turn_falls}
-use Rattle.pt_schedule.proofs.Few.{sent_few, taken_few, taken_from}
-
--- what is left to do on all platforms
-abbrev pub all_to_do : Graph → Together → ℕ
-all_to_do g x = sum_below (λ i. to_do g (x.at i) (x.did i)) (length g.platforms)
-
--- what falls on one platform and stays on the others falls in all
-one_falls : (P : Type 0) (before after : ℕ → ℕ) (n i : ℕ) → i < n → ((j : ℕ) → j ≢ i → after j ≡ before j) → Falls P (before i) (after i) → Falls P (sum_below before n) (sum_below after n)
-one_falls P before after n i lt others (le, one) = (
-  sum_le after before n all,
-  ⊎_elim (λ (p : P). inl p) (λ (less : after i < before i). inr (sum_lt after before n i all lt less)) one,
-)
-  where
-    all : (j : ℕ) → after j ≤ before j
-    all j = ⊎_elim (λ (e : j ≡ i). subst (λ k. after k ≤ before k) (sym e) le) (λ (ne : j ≢ i). let e = others j ne in omega (arith, e)) (cases_same j i)
+use Rattle.pt_schedule.proofs.Moves.{AreFew, Falls, IsStill, all_to_do, one_falls, to_do, turn_falls}
+use Rattle.pt_schedule.proofs.Few.{sent_few, taken_few}
+use Rattle.pt_schedule.proofs.SameTurn.{takes_member}
 
 module _ (g : Graph) (level : ℕ → ℕ) (rows : ℕ → List Row) (offset : Part → Option ℤ) (wired : IsWired g) (are : AreLevels g level) (fits : FitRows g rows) (feasible : IsFeasible g) (has : (u : Part) → HasOffset g u (offset u)) where
   -- what a platform sends is on its own links
@@ -67,7 +52,7 @@ module _ (g : Graph) (level : ℕ → ℕ) (rows : ℕ → List Row) (offset : P
           (cases_same (platform_of g link.from) m.platform)
 
   pub visit_falls : (c : ℕ) (x y : Together) (m : Made) → Onward g level rows offset c x → Makes g level c x m y → m.platform < length g.platforms →
-      Falls (IsStill (x.at m.platform) m.turn (y.at m.platform)) (all_to_do g x) (all_to_do g y)
+      Falls (IsStill (x.at m.platform) m.turn (y.at m.platform)) (all_to_do g x.at x.did) (all_to_do g y.at y.did)
   visit_falls c x y m h k lt =
       one_falls (IsStill (x.at m.platform) m.turn (y.at m.platform)) (λ i. to_do g (x.at i) (x.did i)) (λ i. to_do g (y.at i) (y.did i)) (length g.platforms) m.platform lt
       (λ j ne. ap (λ s. to_do g s (y.did j)) (k.others j ne).0 ∙ ap (to_do g (x.at j)) (k.others j ne).1)
@@ -88,9 +73,9 @@ module _ (g : Graph) (level : ℕ → ℕ) (rows : ℕ → List Row) (offset : P
 
       taken : AreFew g m.turn.taken (λ l. length (all_taken l (x.did m.platform ++ m.turn ∷ [])))
       taken = record {
-        link = λ o mem. let on = taken_from g level m.platform m.turn.taken m.late (after_rows k.is.posted m.turn.last) k.is.got k.is.takes o mem in slice_get_within g.links o.link on.0 on.1;
+        link = λ o mem. let on = takes_member g level m.platform m.turn.taken m.late (after_rows k.is.posted m.turn.last) k.is.got k.is.takes o mem in slice_get_within g.links o.link on.0 on.1;
         few = λ o mem.
-            let on = taken_from g level m.platform m.turn.taken m.late (after_rows k.is.posted m.turn.last) k.is.got k.is.takes o mem in
+            let on = takes_member g level m.platform m.turn.taken m.late (after_rows k.is.posted m.turn.last) k.is.got k.is.takes o mem in
             subst (λ z. length (all_taken o.link z) ≤ 200001) k.joins
             (subst (λ i. length (all_taken o.link (y.did i)) ≤ 200001) on.2 (taken_few g level rows offset wired are fits feasible has c y o.link on.0 after on.1));
       }

@@ -1,6 +1,5 @@
 -- A platform after its flight in a quiet round, and the airways that lead to it.
-use Rattle.std.proofs.Common.{◌≡◌, ℕ, ◌<◌, ◌≤◌, ◌+◌, ◌-◌, ◌==◌, ◌&&◌, zero, suc, true, false, List, [], ◌∷◌, ◌++◌, None, Some, filter, length, map, nat_le, slice_get, take, refl, sym, ap, ap₂, subst, ◌∙◌, ⊎_elim, arith, eq-eqb, eqb-true, le-leb}
-use Rattle.std.proofs.Math.Seq.{take-nil}
+use Rattle.std.proofs.Common.{◌≡◌, ℕ, ◌<◌, ◌≤◌, ◌+◌, ◌==◌, ◌&&◌, zero, suc, true, false, List, [], ◌∷◌, ◌++◌, None, Some, filter, length, map, nat_le, slice_get, take, refl, sym, ap, ap₂, subst, ◌∙◌, ⊎_elim, arith, eq-eqb, eqb-true, le-leb}
 use Rattle.std.proofs.lemmas.Bool.{and_parts, cases_Bool, cases_lt, cond-false, cond-true, false≢true}
 use Rattle.pt_tags.specs.declared.message.Message.{Message}
 use Rattle.pt_types.specs.declared.graph.Graph.{Graph}
@@ -14,8 +13,8 @@ use Rattle.pt_semantics.specs.Lists.{IsIn}
 use Rattle.pt_semantics.specs.Platform.{State}
 use Rattle.pt_semantics.specs.Safe.{NothingSafe}
 use Rattle.pt_semantics.specs.Turn.{Turn, is_empty, is_quiet}
-use Rattle.pt_semantics.specs.Visits.{IsVisit, Made}
-use Rattle.pt_laws.proofs.Raise.{Rests, nothing_in, quiet_makes}
+use Rattle.pt_semantics.specs.Visits.{Made}
+use Rattle.pt_laws.proofs.Raise.{Rests, nothing_in, quiet_visit}
 use Rattle.pt_schedule.proofs.Turns.{turn_does}
 use Rattle.pt_air.specs.declared.air.Air.{Air}
 use Rattle.pt_airways.specs.declared.in_air.InAir.{InAir}
@@ -90,34 +89,9 @@ module _ (g : Graph) (level : ℕ → ℕ) (air : Air) (now : ℕ) (x : Sky) (m 
   nothing_left : (l : ℕ) → f.visit.is.done.outbox l ≡ []
   nothing_left l = take_none (f.visit.is.done.outbox l) (sym (f.visit.sends_all l) ∙ ap (on_link l) nothing.sent)
 
-  with_room : (room : ℕ → ℕ) → IsVisit g level 64 room (reading_at air m.platform now) (come_to g m.platform now x) m f.after
-  with_room room = record {
-    fits = f.visit.fits;
-    once = f.visit.once;
-    first = f.visit.first;
-    last = f.visit.last;
-    is = f.visit.is;
-    faults = f.visit.faults;
-    others = f.visit.others;
-    joins = f.visit.joins;
-    handed = f.visit.handed;
-    in_order = f.visit.in_order;
-    rest = f.visit.rest;
-    takes = f.visit.takes;
-    takes_all = f.visit.takes_all;
-    takes_first = f.visit.takes_first;
-    takes_by_link = f.visit.takes_by_link;
-    claims_most = f.visit.claims_most;
-    claims_all = f.visit.claims_all;
-    sends = f.visit.sends;
-    sends_all = λ l. ap (on_link l) nothing.sent ∙ sym (ap (take (room l)) (nothing_left l) ∙ take-nil (room l));
-    sends_by_link = f.visit.sends_by_link;
-  }
-
   rests : Rests g (reading_at air m.platform now) m.platform (f.after.at m.platform) (come_to g m.platform now x).on_way
-  rests = (quiet_makes g level (reading_at air m.platform now) (come_to g m.platform now x) f.after m quiet late fine
-      (ap (λ (s : State). s.closed) (sym same_state) ∙ closed)
-      (with_room (λ l. 64 - length ((come_to g m.platform now x).on_way l)))).0
+  rests = (quiet_visit g level 64 (λ l. 64) (reading_at air m.platform now) (come_to g m.platform now x) f.after m (λ l none. absurd (omega (arith, none))) quiet late fine
+      (ap (λ (s : State). s.closed) (sym same_state) ∙ closed) f.visit).0
 
   outbox_none : (l : ℕ) → (f.after.at m.platform).outbox l ≡ []
   outbox_none l =

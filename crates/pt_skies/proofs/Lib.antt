@@ -3,8 +3,6 @@ pub mod Closing
 pub mod Ended
 pub mod Ending
 pub mod Falling
-pub mod Few
-pub mod Pushing
 pub mod Quiet
 pub mod Replays
 pub mod Sound

@@ -18,11 +18,10 @@ use Rattle.pt_laws.proofs.Onward.{cases_same}
 use Rattle.pt_air.specs.declared.air.Air.{Air}
 use Rattle.pt_flights.specs.Skies.{lag_of, reading_at}
 use Rattle.pt_fixed_order.proofs.Sound.{goes_on_time, turn_reading}
-use Rattle.pt_fixed_order.proofs.Whole.{linked_if_finished}
+use Rattle.pt_fixed_order.proofs.Whole.{linked_if_finished, push_time}
 use Rattle.pt_skies.specs.Between.{FlightsKeep, ReplaysAreLegal, under_way}
 use Rattle.pt_skies.specs.Flights.{FlightRound, FlightRounds, FollowsAt, IsQuiet, IsReplay}
 use Rattle.pt_skies.specs.Sky.{Flies, IsNextTime, Sky, sky_at_start}
-use Rattle.pt_skies.proofs.Pushing.{push_time}
 use Rattle.pt_skies.proofs.Quiet.{Begins, IsSettled, happens_later, quiet_round}
 use Rattle.pt_skies.proofs.Sound.{IsSound, joins, on_time, others, sound_at_start, sound_flight, sound_further, turn_of}
 

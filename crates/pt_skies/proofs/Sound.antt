@@ -1,5 +1,5 @@
 -- The platforms between the flights of a round.
-use Rattle.std.proofs.Common.{◌≡◌, ◌≢◌, ℕ, ◌<◌, ◌≤◌, Bool, true, false, List, [], ◌∷◌, ◌++◌, Some, slice_get, refl, sym, ap, ap₂, subst, ◌∙◌, inl, ⊎_elim, append_assoc, append-nil, arith, length, ◌^◌}
+use Rattle.std.proofs.Common.{◌≡◌, ◌≢◌, ℕ, ◌<◌, ◌≤◌, Bool, true, false, List, [], ◌∷◌, ◌++◌, Some, slice_get, refl, sym, ap, subst, ◌∙◌, inl, ⊎_elim, append_assoc, arith, length, ◌^◌}
 use Rattle.std.proofs.lemmas.Bool.{cases_Bool, false≢true}
 use Rattle.pt_tags.specs.declared.message.Message.{Message}
 use Rattle.pt_types.specs.declared.graph.Graph.{Graph}
@@ -20,7 +20,6 @@ use Rattle.pt_semantics.specs.Turn.{IsLast, IsTurn, Turn}
 use Rattle.pt_semantics.specs.Visits.{Made}
 use Rattle.pt_semantics.specs.Wired.{IsWired}
 use Rattle.pt_semantics.proofs.Longest.{levels_grow}
-use Rattle.pt_semantics.proofs.Lookups.{same_some}
 use Rattle.pt_laws.proofs.Bounds.{outgoing_orderly_after}
 use Rattle.pt_laws.proofs.Home.{home_on_time}
 use Rattle.pt_laws.proofs.Onward.{cases_same}
@@ -28,10 +27,9 @@ use Rattle.pt_air.specs.declared.air.Air.{Air}
 use Rattle.pt_airways.specs.Arrivals.{AirwayView, NeverFall}
 use Rattle.pt_flights.specs.Skies.{delay_on, reading_at, transits_on}
 use Rattle.pt_fixed_order.specs.Sound.{GoesOn, SendsNothingElse}
-use Rattle.pt_fixed_order.proofs.Sound.{Own, goes_on_time, turn_own}
+use Rattle.pt_fixed_order.proofs.Sound.{Own, goes_on_time, one_more_linked, push_last, push_on, sent_push, single_push, takes_own, turn_own}
 use Rattle.pt_skies.specs.Between.{under_way}
 use Rattle.pt_skies.specs.Sky.{Flies, Sky, sky_at_start, taken_off}
-use Rattle.pt_skies.proofs.Pushing.{push_last, push_on, sent_push, single_push, taken_push, takes_own}
 use Rattle.pt_skies.proofs.Ways.{carried, come_front, drop_falls, left_carried, put_carried, put_falls}
 
 -- the same turn, to a state that is the same
@@ -154,32 +152,12 @@ module _ (g : Graph) (level : ℕ → ℕ) (rows : ℕ → List Row) (wired : Is
         (λ (ne : p ≢ m.platform). let same = others g level air now x m y f p ne in subst (λ t. P p (y.at p) t) (sym same.1) (subst (λ s. P p s (x.did p)) (sym same.0) (there p ne)))
         (cases_same p m.platform)
 
-    sent_more : (l : ℕ) (link : Link) → slice_get g.links l ≡ Some link → all_sent l (y.did (platform_of g link.from)) ≡ all_sent l (x.did (platform_of g link.from)) ++ on_link l m.turn.sent
-    sent_more l link at = ⊎_elim
-        (λ (here : platform_of g link.from ≡ m.platform). ap (λ p. all_sent l (y.did p)) here ∙ ap (all_sent l) (joins g level air now x m y f) ∙ sent_push l (x.did m.platform) m.turn ∙ ap (λ p. all_sent l (x.did p) ++ on_link l m.turn.sent) (sym here))
-        (λ (there : platform_of g link.from ≢ m.platform). ap (all_sent l) (others g level air now x m y f (platform_of g link.from) there).1
-        ∙ sym (ap (λ z. all_sent l (x.did (platform_of g link.from)) ++ z) (own_turn.sent l (λ other at2 e. there (ap (λ (z : Link). platform_of g z.from) (same_some link other (sym at ∙ at2)) ∙ e))) ∙ append-nil (all_sent l (x.did (platform_of g link.from)))))
-        (cases_same (platform_of g link.from) m.platform)
-
-    taken_more : (l : ℕ) (link : Link) → slice_get g.links l ≡ Some link → all_taken l (y.did (platform_of g link.to)) ≡ all_taken l (x.did (platform_of g link.to)) ++ on_link l m.turn.taken
-    taken_more l link at = ⊎_elim
-        (λ (here : platform_of g link.to ≡ m.platform). ap (λ p. all_taken l (y.did p)) here ∙ ap (all_taken l) (joins g level air now x m y f) ∙ taken_push l (x.did m.platform) m.turn ∙ ap (λ p. all_taken l (x.did p) ++ on_link l m.turn.taken) (sym here))
-        (λ (there : platform_of g link.to ≢ m.platform). ap (all_taken l) (others g level air now x m y f (platform_of g link.to) there).1
-        ∙ sym (ap (λ z. all_taken l (x.did (platform_of g link.to)) ++ z) (takes_own g level m.platform m.turn.taken m.late (after_rows f.visit.is.posted m.turn.last) f.visit.is.got l link at there f.visit.is.takes) ∙ append-nil (all_taken l (x.did (platform_of g link.to)))))
-        (cases_same (platform_of g link.to) m.platform)
-
     linked_after : (l : ℕ) (link : Link) → slice_get g.links l ≡ Some link → all_sent l (y.did (platform_of g link.from)) ≡ all_taken l (y.did (platform_of g link.to)) ++ under_way y l
     linked_after l link at =
-        let T : List Message = all_taken l (x.did (platform_of g link.to)) in
-        let t : List Message = on_link l m.turn.taken in
-        let s : List Message = on_link l m.turn.sent in
-        let (rest, before, after) = way g level air now x m y f l in
-        sent_more l link at
-        ∙ ap (λ z. z ++ s) (h.linked l link at ∙ ap (λ z. T ++ z) before)
-        ∙ append_assoc T (t ++ rest) s
-        ∙ ap (λ z. T ++ z) (append_assoc t rest s)
-        ∙ sym (append_assoc T t (rest ++ s))
-        ∙ ap₂ (λ a b. a ++ b) (sym (taken_more l link at)) (sym after)
+        let (rest, first, last) = way g level air now x m y f l in
+        one_more_linked g m.platform m.turn x.did y.did (joins g level air now x m y f) (λ p ne. (others g level air now x m y f p ne).1) l link at (own_turn.sent l)
+        (λ away. takes_own g level m.platform m.turn.taken m.late (after_rows f.visit.is.posted m.turn.last) f.visit.is.got l link at away f.visit.is.takes)
+        (under_way x l) rest (under_way y l) first last (h.linked l link at)
 
     orderly_after : (l : ℕ) (link : Link) → slice_get g.links l ≡ Some link → IsOrderly g level link (all_sent l (y.did (platform_of g link.from)) ++ (y.at (platform_of g link.from)).outbox l)
     orderly_after l link at = ⊎_elim

@@ -5,3 +5,4 @@ pub mod Opening
 pub mod Piping
 pub mod Showing
 pub mod Views
+pub mod Passing

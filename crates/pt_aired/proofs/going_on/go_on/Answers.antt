@@ -4,7 +4,7 @@ use Rattle.pt_semantics.proofs.LawfulEdges.{wired}
 use Rattle.pt_causality.specs.Ranked.{level_of}
 use Rattle.pt_flights.specs.Moments.{IsLeast, IsMoment}
 use Rattle.pt_together.specs.Asked.{lists_of}
-use Rattle.pt_rounds.proofs.Few.{rounds_are_few}
+use Rattle.pt_schedule.proofs.FewRounds.{rounds_are_few}
 use Rattle.pt_aired.specs.Passing.{AreEmpty}
 use Rattle.pt_skies.proofs.Ending.{replays_end}
 use Rattle.pt_aired.proofs.Runs.{ended_fault, ended_finished, moment_after_quiet, stands_next}

@@ -1,14 +1,7 @@
-use Rattle.std.proofs.Common.{◌≡◌, ◌∙◌, Bool, true, false, refl, sym}
-use Rattle.std.proofs.lemmas.Bool.{false≢true}
-use mathlib.Core.Bool.{beq}
+use Rattle.std.proofs.Common.{◌∙◌, sym}
 use Rattle.pt_semantics.specs.Kept.{settled}
+use Rattle.pt_together.proofs.Passing.{same_test}
 use Rattle.pt_aired.proofs.passing.fly_one.Goals as goal
-
-same_test : (a b : Bool) → beq a b ≡ true → a ≡ b
-same_test true true e = refl
-same_test true false e = absurd (false≢true e)
-same_test false true e = absurd (false≢true e)
-same_test false false e = refl
 
 pub returns-then-closed : goal.returns-then-closed
 returns-then-closed g c =

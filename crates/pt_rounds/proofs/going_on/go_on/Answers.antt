@@ -7,7 +7,7 @@ use Rattle.pt_causality.specs.Ranked.{level_of}
 use Rattle.pt_offsets.specs.Timings.{offset_of}
 use Rattle.pt_rounds.specs.Asked.{IsLeastOf}
 use Rattle.pt_together.specs.Asked.{lists_of}
-use Rattle.pt_rounds.proofs.Few.{rounds_are_few}
+use Rattle.pt_schedule.proofs.FewRounds.{rounds_are_few}
 use Rattle.pt_rounds.proofs.Runs.{ended_finished, ended_long, open_after_quiet, stands_next}
 use Rattle.pt_rounds.proofs.going_on.go_on.Goals as goal
 use Rattle.pt_rounds.proofs.going_on.go_on.Goals.{then-quiet, else-quiet}

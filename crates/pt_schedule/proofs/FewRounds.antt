@@ -1,5 +1,5 @@
--- No paced run has 10 ^ 21 rounds.
-use Rattle.std.proofs.Common.{◌≡◌, ℕ, zero, suc, ◌+◌, ◌*◌, ◌<◌, ◌≤◌, List, [], ◌∷◌, length, arith, refl}
+-- No paced run and no replay has 10 ^ 21 rounds.
+use Rattle.std.proofs.Common.{◌≡◌, ℕ, ◌+◌, ◌*◌, ◌<◌, ◌≤◌, List, [], ◌∷◌, length, arith, refl}
 use Rattle.std.proofs.Math.Nat.{mul-le-mul_left, mul-le-mul_right}
 use Rattle.std.proofs.lemmas.Bool.{leb-true}
 use Rattle.pt_types.specs.declared.graph.Graph.{Graph}
@@ -9,6 +9,7 @@ use Rattle.pt_semantics.specs.Counts.{sum_below}
 use Rattle.pt_semantics.specs.Lists.{Each}
 use Rattle.pt_semantics.specs.Rows.{FitRows, FitsRow, TimesRise}
 use Rattle.pt_schedule.specs.Ending.{most_moves, most_rounds}
+use Rattle.pt_schedule.proofs.Ending.{sum_at_most}
 
 -- times that rise and are no greater than a last one are few
 few_from : (g : Graph) (a t : ℕ) (rows : List Row) → Each (λ (row : Row). t < row.time) rows → TimesRise rows → Each (FitsRow g a) rows → t ≤ g.until → length rows + t ≤ g.until
@@ -18,10 +19,6 @@ few_from g a t (row ∷ rows) (lt, past) (first, rise) (fits, fit) le = let with
 few_rows : (g : Graph) (a : ℕ) (rows : List Row) → TimesRise rows → Each (FitsRow g a) rows → length rows ≤ g.until + 1
 few_rows g a [] rise fit = omega arith
 few_rows g a (row ∷ rows) (first, rise) (fits, fit) = let within : row.time ≤ g.until = fits.within in let more = few_from g a row.time rows first rise fit within in omega arith
-
-sum_few : (f : ℕ → ℕ) (n k : ℕ) → ((a : ℕ) → f a ≤ k) → sum_below f n ≤ n * k
-sum_few f zero k few = omega arith
-sum_few f (suc n) k few = let here = few n in let more = sum_few f n k few in omega (arith, here, more)
 
 times : (m n j k : ℕ) → m ≤ j → n ≤ k → m * n ≤ j * k
 times m n j k le le2 = let a : m * n ≤ j * n = mul-le-mul_right n le in let b : j * n ≤ j * k = mul-le-mul_left j le2 in omega (arith, a, b)
@@ -44,6 +41,6 @@ rounds_are_few g rows lawful fit =
 
     few : sum_below (λ a. length (rows a)) (length g.actors) ≤ 1024 * 1000000000000001
     few =
-        let sums = sum_few (λ a. length (rows a)) (length g.actors) 1000000000000001 each in
+        let sums = sum_at_most (λ a. length (rows a)) (length g.actors) 1000000000000001 each in
         let le = times (length g.actors) 1000000000000001 1024 1000000000000001 lawful.few_actors (omega arith) in
         omega (arith, sums, le)
