@@ -11,7 +11,8 @@ use Rattle.pt_airways.specs.declared.in_air.InAir.{InAir}
 use Rattle.pt_airways.specs.Arrivals.{AirwayView, NeverFall}
 use Rattle.pt_turn.specs.Platforms.{PlatformView, state_at}
 use Rattle.pt_flights.specs.Skies.{lag_of, true_time}
-use Rattle.pt_flights.specs.Moments.{IsArrival, IsLeast, IsReading, OfOne, lesser}
+use Rattle.pt_flights.specs.Moments.{IsArrival, IsLeast, IsReading, OfOne}
+use Rattle.pt_visits.specs.Least.{lesser}
 
 pub least_both : (P Q : ℕ → Type 0) (a b : Option ℕ) → IsLeast P a → IsLeast Q b → IsLeast (λ n. P n ⊎ Q n) (lesser a b)
 least_both P Q None None p q = λ n h. ⊎_elim (p n) (q n) h

@@ -1,5 +1,5 @@
 -- The next true time at which something can happen.
-use Rattle.std.specs.Prelude.{◌≡◌, ◌≤◌, ◌⊎◌, ℕ, List, None, Option, Some, false, min, slice_get}
+use Rattle.std.specs.Prelude.{◌≡◌, ◌≤◌, ◌⊎◌, ℕ, List, None, Option, Some, false, slice_get}
 use Rattle.pt_semantics.specs.Lists.{IsIn}
 use Rattle.pt_semantics.specs.Paced.{IsCandidate}
 use Rattle.pt_air.specs.declared.air.Air.{Air}
@@ -29,9 +29,3 @@ IsMoment air platforms airways time = OfOne (IsReading air) platforms time ⊎ O
 abbrev pub IsLeast : (ℕ → Type 0) → Option ℕ → Type 0
 IsLeast P None = (n : ℕ) → P n → ⊥
 IsLeast P (Some n) = P n × ((other : ℕ) → P other → n ≤ other)
-
--- the lesser of two numbers, or the one that is there
-abbrev pub lesser : Option ℕ → Option ℕ → Option ℕ
-lesser None b = b
-lesser (Some a) None = Some a
-lesser (Some a) (Some b) = Some (min a b)

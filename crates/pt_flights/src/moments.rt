@@ -1,7 +1,7 @@
 //! The next true time at which something can happen.
 
 ghost use Rattle.std.specs.Prelude.{◌≡◌, IfOk, option_map};
-ghost use Rattle.pt_flights.specs.Moments.{IsArrival, IsLeast, IsMoment, IsReading, OfOne, lesser};
+ghost use Rattle.pt_flights.specs.Moments.{IsArrival, IsLeast, IsMoment, IsReading, OfOne};
 ghost use Rattle.pt_flights.specs.Skies.{true_time};
 
 use crate::flying::lag_of;
@@ -9,6 +9,7 @@ use pt_air::Air;
 use pt_airways::Airway;
 use pt_tags::Memory;
 use pt_turn::Platform;
+use pt_visits::lesser;
 
 /// The least true time, in microseconds, at which something can happen on a platform that is not closed, or a message
 /// arrives; `None` if there is none.
@@ -65,15 +66,4 @@ fn next_arrival(airways: &[Airway]) -> Option<u64>
         least = lesser(least, airways[l].next_arrival());
     }
     least
-}
-
-/// The lesser of two numbers, or the one that is there.
-fn lesser(a: Option<u64>, b: Option<u64>) -> Option<u64>
-    ensures { result ≡ lesser a b }
-{
-    match (a, b) {
-        (None, b) => b,
-        (a, None) => a,
-        (Some(a), Some(b)) => Some(if a < b { a } else { b }),
-    }
 }

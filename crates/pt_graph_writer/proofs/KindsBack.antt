@@ -18,7 +18,7 @@ use Rattle.pt_graph.specs.Ranges.{is_time, kind_in_range, row_in_range, emit_in_
 use Rattle.pt_graph.specs.EndFaults.{has_blocks, guard_has_block, has_name}
 use Rattle.pt_graph.specs.Graphs as graphs
 use Rattle.pt_graph.specs.Graphs.{small, row_from, kind_from, emit_from}
-use Rattle.pt_graph_writer.specs.Text.{fields, natural, block_name, row_data, kind_word, kind_fields, fits, emit_fits, row_fits, kind_fits}
+use Rattle.pt_graph_writer.specs.Text.{fields, natural, block_name, row_data, kind_word, kind_fields, fits, emit_fits, row_numbers_fit, kind_fits}
 use Rattle.pt_graph_writer.proofs.Wholes.{whole_fits, whole_between, whole_time, whole_small, AllBack, each_turned}
 
 -- the value of an actor with this name, platform and kind
@@ -162,7 +162,7 @@ row_back blocks outputs names few state low high next None (Some guard) good = r
 row_back blocks outputs names few state low high next (Some emit) None good = rw (whole_fits state good.state, whole_fits low good.low, whole_fits high good.high, whole_fits next good.next, emit_output outputs emit.0 few good.emit, whole_fits emit.1 good.value) refl
 row_back blocks outputs names few state low high next (Some emit) (Some guard) good = rw (whole_fits state good.state, whole_fits low good.low, whole_fits high good.high, whole_fits next good.next, emit_output outputs emit.0 few good.emit, whole_fits emit.1 good.value, names guard good.known) refl
 
-row_good : (blocks : List Named) (outputs : ℤ) (r : RowText) → row_in_range outputs r ≡ true → row_fits (row_from blocks r) ≡ true → guard_has_block blocks r.guard ≡ true → RowIsGood blocks outputs r
+row_good : (blocks : List Named) (outputs : ℤ) (r : RowText) → row_in_range outputs r ≡ true → row_numbers_fit (row_from blocks r) ≡ true → guard_has_block blocks r.guard ≡ true → RowIsGood blocks outputs r
 unfolding row_from
 row_good blocks outputs r range fit known =
     let four = and_parts (fits r.state && fits r.low && fits r.high && fits r.next) (emit_fits (option_map emit_from r.emit)) fit in
@@ -180,12 +180,12 @@ row_good blocks outputs r range fit known =
     }
 
 rows_back : (blocks : List Named) (outputs : ℤ) → NamesBlocks blocks → is_between (pos 1) (pos 8) outputs ≡ true → (rows : List RowText)
-    → list_all (row_in_range outputs) rows ≡ true → list_all row_fits (map (row_from blocks) rows) ≡ true → list_all (λ (r : RowText). guard_has_block blocks r.guard) rows ≡ true
+    → list_all (row_in_range outputs) rows ≡ true → list_all row_numbers_fit (map (row_from blocks) rows) ≡ true → list_all (λ (r : RowText). guard_has_block blocks r.guard) rows ≡ true
     → AllBack (row_of Second) (λ r. row_data blocks (row_from blocks r)) rows
 rows_back blocks outputs names few [] range fit known = tt
 rows_back blocks outputs names few (r ∷ rows) range fit known =
     let ranges = and_parts (row_in_range outputs r) (list_all (row_in_range outputs) rows) range in
-    let fitting = and_parts (row_fits (row_from blocks r)) (list_all row_fits (map (row_from blocks) rows)) fit in
+    let fitting = and_parts (row_numbers_fit (row_from blocks r)) (list_all row_numbers_fit (map (row_from blocks) rows)) fit in
     let knowing = and_parts (guard_has_block blocks r.guard) (list_all (λ (x : RowText). guard_has_block blocks x.guard) rows) known in
     (row_back blocks outputs names few r.state r.low r.high r.next r.emit r.guard (row_good blocks outputs r ranges.0 fitting.0 knowing.0), rows_back blocks outputs names few rows ranges.1 fitting.1 knowing.1)
 
@@ -193,7 +193,7 @@ machine_back : (blocks : List Named) (start outputs : ℤ) (rows : List RowText)
 unfolding actor_of kind_of number_kind_of other_kind_of machine_of
 machine_back blocks start outputs rows names good name platform =
     let ranges = and_parts (is_between (pos 1) (pos 8) outputs) (list_all (row_in_range outputs) rows) good.range in
-    let fitting = and_parts (fits start) (list_all row_fits (map (row_from blocks) rows)) good.fit in
+    let fitting = and_parts (fits start) (list_all row_numbers_fit (map (row_from blocks) rows)) good.fit in
     let each = each_turned (row_of Second) (row_data blocks) (row_from blocks) rows (rows_back blocks outputs names ranges.0 rows ranges.1 fitting.1 good.known) in
     rw (whole_fits start fitting.0, whole_small 1 8 outputs (omega arith) ranges.0, each) refl
 

@@ -113,14 +113,14 @@ emit_fits None = true
 emit_fits (Some emit) = fits emit.1
 
 -- the numbers of a row fit
-abbrev pub row_fits : MachineRow → Bool
-row_fits r = fits r.state && fits r.low && fits r.high && fits r.next && emit_fits r.emit
+abbrev pub row_numbers_fit : MachineRow → Bool
+row_numbers_fit r = fits r.state && fits r.low && fits r.high && fits r.next && emit_fits r.emit
 
 -- the numbers of a kind that have no range of their own fit
 abbrev pub kind_fits : Kind → Bool
 kind_fits (Shift by) = fits by
 kind_fits (Above limit) = fits limit
-kind_fits (Machine start outputs rows) = fits start && list_all row_fits rows
+kind_fits (Machine start outputs rows) = fits start && list_all row_numbers_fit rows
 kind_fits _ = true
 
 -- an actor has its name, the name of its platform, the word for its kind, and the members of the kind

@@ -13,11 +13,11 @@ use serde_json::{Map, Value, json, put};
 use std::alloc::{AllocError, Global};
 
 impl Encode for MachineRow {
-    ghost use Rattle.pt_graph_writer.specs.Text.{row_data, row_fits};
+    ghost use Rattle.pt_graph_writer.specs.Text.{row_data, row_numbers_fit};
 
     ghost encoded = { λ graph. row_data };
 
-    ghost fits = { row_fits };
+    ghost fits = { row_numbers_fit };
 
     fn encode(&self, alloc: Global, _graph: &Graph, blocks: &[Named]) -> Result<Value, AllocError> {
         let mut members = guard_members(alloc, blocks, self.guard)?;

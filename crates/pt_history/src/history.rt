@@ -340,14 +340,6 @@ impl History {
         self.work.claimed(turn)
     }
 
-    /// Claim `number` of a recorded turn, counted from 0.
-    pub fn task_in(&self, turn: usize, number: usize) -> Task
-        requires { number < length (claimed_in self.now.turns turn) }
-        ensures { slice_get (claimed_in self.now.turns turn) number ≡ Some result }
-    {
-        self.work.task_in(turn, number)
-    }
-
     /// Claim `number` of a recorded turn, counted from 0, without its inputs and its state.
     pub fn claim_mark(&self, turn: usize, number: usize) -> Mark
         requires { number < length (claimed_in self.now.turns turn) }

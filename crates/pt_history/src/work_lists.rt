@@ -141,15 +141,6 @@ impl WorkLists {
         self.claimed.end(list) - self.claimed.start(list)
     }
 
-    /// Claim `number` of a list, counted from 0.
-    pub fn task_in(&self, list: usize, number: usize) -> Task
-        requires list { list < length self.now.claimed.lists }
-        requires number { number < length (slice_index_or self.now.claimed.lists list []) }
-        ensures { slice_get (slice_index_or self.now.claimed.lists list []) number ≡ Some result }
-    {
-        self.work.task(self.claimed.start(list) + number)
-    }
-
     /// Claim `number` of a list, counted from 0, without its inputs and its state.
     pub fn claim_mark(&self, list: usize, number: usize) -> Mark
         requires list { list < length self.now.claimed.lists }

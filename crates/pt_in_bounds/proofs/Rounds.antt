@@ -29,6 +29,7 @@ use Rattle.pt_skies.proofs.Sound.{IsSound, sound_at_start, sound_flight, sound_f
 use Rattle.pt_in_bounds.specs.InBounds.{IsInBounds, without_arrivals}
 use Rattle.pt_in_bounds.proofs.Flights.{IsPaceful, flight_advances, flight_paceful}
 use Rattle.pt_in_bounds.proofs.Ways.{nothing_in_time}
+use Rattle.pt_schedule.proofs.Places.{not_before}
 
 -- a round is one of turns at each platform's own reading
 pub round_advances : (g : Graph) (level : ℕ → ℕ) (air : Air) (now n i : ℕ) (x : Sky) (ms : List Made) (y : Sky) → FlightRound g level air now n i x ms y → AdvanceRound g level (λ j. reading_at air j now) n i (without_arrivals x) ms (without_arrivals y)
@@ -68,16 +69,13 @@ module _ (g : Graph) (level : ℕ → ℕ) (air : Air) (rows : ℕ → List Row)
       round_paceful now n (suc i) x ms y (omega (arith, le)) (sound_further g level rows i (suc i) x (omega arith) sound) h done.1)
       (λ (one : Begins g level air now n i x ms y).
       let lt : one.1.platform < length g.platforms = subst (λ p. p < length g.platforms) (sym one.5) (omega (arith, le)) in
-      let from : i ≤ one.1.platform = from_same one.1.platform i one.5 in
+      let from : i ≤ one.1.platform = not_before one.1.platform i one.5 in
       let flight = flight_paceful g level air rows inside now i x one.1 one.3 sound one.6 from lt h in
       let after : IsSound g level rows (suc i) one.3 = sound_flight g level rows inside.wired inside.levels inside.fit air now i x one.1 one.3 sound one.6 from (suc i) (omega arith) (λ low. absurd (over one.1.platform i one.5 low)) in
       let on = round_paceful now n (suc i) one.3 one.2 y (omega (arith, le)) after flight.1 one.7 in
       (subst (Each (λ (m : Made). m.late ≡ false)) (sym one.4) (flight.0, on.0), on.1))
       round
     where
-      from_same : (p i : ℕ) → p ≡ i → i ≤ p
-      from_same p i e = omega (arith, e)
-
       over : (p i : ℕ) → p ≡ i → suc i ≤ p → ⊥
       over p i e low = omega (arith, e, low)
 

@@ -22,7 +22,8 @@ use Rattle.pt_offsets.specs.Plans.{Parts}
 use Rattle.pt_turn.specs.declared.room.Room.{Room}
 use Rattle.pt_turn.specs.Laws.{IsRunning}
 use Rattle.pt_turn.specs.Platforms.{PlatformView, level_at, messages_of, rows_at, state_at}
-use Rattle.pt_turn.specs.Turned.{IsTurned, MayCome, StaysThere, is_late}
+use Rattle.pt_turn.specs.Turned.{IsTurned, MayCome, is_late}
+use Rattle.pt_visits.proofs.Visits.{MakesTurn, without_room}
 use Rattle.pt_pool.specs.Ends.{End, end_in, end_out, limits_at, limits_of}
 use Rattle.pt_pool.specs.Lanes.{ArePut, AreTaken, Took}
 use Rattle.pt_pool.specs.Station.{Fits, WasVisited}
@@ -86,30 +87,9 @@ may_go_out theorem v mid outs ins r most dones given fits runs legal made i e at
     ap (λ (z : List OnLink). all_sent e.0 v.turns ++ (on_link e.0 z ++ on_link e.0 mid.outbox)) made.at.3 ∙ ap (λ (z : List Message). z ++ on_link e.0 mid.outbox) (sym (fits.sent i e at)) in
     by_orderly v.plan e.0 o.0 e.1.limits (e.1.sent ++ on_link e.0 mid.outbox) o.1 (fits.outs_are.limits i (end_out e) E) (subst (IsOrderly g (level_at v) o.0) all h)
 
--- a turn was made, and what it claimed was handed out
-abbrev pub Makes : PlatformView → PlatformView → ℕ → ℕ → List Done → List OnLink → List Task → List Task → Type 0
-Makes old new r most dones messages handed tasks = (made : IsTurned old new r most dones messages) × (tasks ≡ handed ++ made.turn.claimed) × StaysThere old new
+-- the reserved memory makes no difference to the turn that was made
+pub any_room : {o : Option Room} (old q new : PlatformView) (r most : ℕ) (dones : List Done) (messages : List OnLink) (handed tasks : List Task) → q ≡ record old { room = o } → MakesTurn most q new r dones messages handed tasks → MakesTurn most old new r dones messages handed tasks
+any_room {o} old q new r most dones messages handed tasks e h = without_room most old new o r dones messages handed tasks (subst (λ (p : PlatformView). MakesTurn most p new r dones messages handed tasks) e h)
 
--- the reserved memory makes no difference
-pub without_room : (old new : PlatformView) (room : Option Room) (r most : ℕ) (dones : List Done) (messages : List OnLink) (handed tasks : List Task) → Makes (record old { room = room }) new r most dones messages handed tasks → Makes old new r most dones messages handed tasks
-without_room old new room r most dones messages handed tasks h = (
-  record {
-    turn = h.0.turn;
-    at = h.0.at;
-    is = h.0.is;
-    posted = h.0.posted;
-    taken = h.0.taken;
-    few = h.0.few;
-    all_or = h.0.all_or;
-    last = h.0.last;
-    turns = h.0.turns;
-  },
-  h.1,
-  record { plan = h.2.plan; number = h.2.number; rows = h.2.rows },
-)
-
-pub any_room : {o : Option Room} (old q new : PlatformView) (r most : ℕ) (dones : List Done) (messages : List OnLink) (handed tasks : List Task) → q ≡ record old { room = o } → Makes q new r most dones messages handed tasks → Makes old new r most dones messages handed tasks
-any_room {o} old q new r most dones messages handed tasks e h = without_room old new o r most dones messages handed tasks (subst (λ (p : PlatformView). Makes p new r most dones messages handed tasks) e h)
-
-pub was_visited : (r most : ℕ) (dones : List Done) (old mid new : PlatformView) (outs outs' : List (ℕ × SentBy)) (ins ins' : List (ℕ × TakenBy)) (given : List OnLink) (handed tasks : List Task) → Makes old mid r most dones given handed tasks → AreTaken ins ins' given → ArePut mid new outs outs' → WasVisited r most dones old new outs outs' ins ins' handed tasks
+pub was_visited : (r most : ℕ) (dones : List Done) (old mid new : PlatformView) (outs outs' : List (ℕ × SentBy)) (ins ins' : List (ℕ × TakenBy)) (given : List OnLink) (handed tasks : List Task) → MakesTurn most old mid r dones given handed tasks → AreTaken ins ins' given → ArePut mid new outs outs' → WasVisited r most dones old new outs outs' ins ins' handed tasks
 was_visited r most dones old mid new outs outs' ins ins' given handed tasks h took put = record { given = given; took = took; mid = mid; made = h.0; stays = h.2; tasks = h.1; put = put }

@@ -3,7 +3,8 @@ use Rattle.std.proofs.Common.{◌≡◌, ℕ, ◌+◌, ◌<◌, ◌≤◌, min, 
 use Rattle.std.proofs.lemmas.Bool.{cases_lt, false≢true}
 use Rattle.pt_semantics.specs.Paced.{IsCandidate, IsNextReading}
 use Rattle.pt_turn.specs.Platforms.{PlatformView, state_at}
-use Rattle.pt_rounds.specs.Asked.{IsLeastOf, NoneIsOpen, lesser}
+use Rattle.pt_rounds.specs.Asked.{IsLeastOf, NoneIsOpen}
+use Rattle.pt_visits.specs.Least.{lesser}
 use Rattle.pt_together.proofs.Listed.{one_more}
 
 -- no candidate of an open platform is below b

@@ -1,5 +1,5 @@
 -- What the engine asks the platforms between rounds.
-use Rattle.std.specs.Prelude.{◌≡◌, ◌<◌, ◌≤◌, ℕ, List, None, Option, Some, false, min, slice_get, true}
+use Rattle.std.specs.Prelude.{◌≡◌, ◌<◌, ◌≤◌, ℕ, List, None, Some, false, slice_get, true}
 use Rattle.pt_semantics.specs.Paced.{IsCandidate}
 use Rattle.pt_turn.specs.Platforms.{PlatformView, state_at}
 
@@ -23,9 +23,3 @@ pub record IsLeastOf (n : ℕ) (platforms : List PlatformView) (b : ℕ) : Type 
   pub is_open : view.closed ≡ false
   pub is : IsCandidate view.plan.graph view.number (state_at view) b
   pub least : (i d : ℕ) (v : PlatformView) → i < n → slice_get platforms i ≡ Some v → v.closed ≡ false → IsCandidate v.plan.graph v.number (state_at v) d → b ≤ d
-
--- the lesser of two numbers, or the one that is there
-abbrev pub lesser : Option ℕ → Option ℕ → Option ℕ
-lesser None b = b
-lesser (Some a) None = Some a
-lesser (Some a) (Some b) = Some (min a b)

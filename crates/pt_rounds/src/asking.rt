@@ -1,10 +1,11 @@
 //! What the engine asks the platforms between rounds.
 
 ghost use Rattle.std.specs.Prelude.{◌≡◌, MatchOption, length};
-ghost use Rattle.pt_rounds.specs.Asked.{IsFirstFault, IsLeastOf, NoneIsOpen, lesser};
+ghost use Rattle.pt_rounds.specs.Asked.{IsFirstFault, IsLeastOf, NoneIsOpen};
 ghost use Rattle.pt_together.specs.Asked.{HaveNoFault};
 
 use pt_turn::Platform;
+use pt_visits::lesser;
 
 /// The first platform that has a fault.
 pub fn first_fault(platforms: &[Platform]) -> Option<usize>
@@ -37,16 +38,5 @@ pub fn next_reading(platforms: &[Platform]) -> u64
     match least_next(platforms) {
         None => unreachable!(),
         Some(next) => next,
-    }
-}
-
-/// The lesser of two numbers, or the one that is there.
-fn lesser(a: Option<u64>, b: Option<u64>) -> Option<u64>
-    ensures { result ≡ lesser a b }
-{
-    match (a, b) {
-        (None, b) => b,
-        (a, None) => a,
-        (Some(a), Some(b)) => Some(if a < b { a } else { b }),
     }
 }

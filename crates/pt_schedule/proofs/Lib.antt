@@ -9,6 +9,7 @@ pub mod Members
 pub mod Moves
 pub mod OneOrder
 pub mod OneRun
+pub mod Places
 pub mod Rounds
 pub mod Singles
 pub mod Turns

@@ -19,6 +19,7 @@ use Rattle.pt_laws.proofs.KeptTurns.{kept_is_legal}
 use Rattle.pt_laws.proofs.Onward.{AdvanceRound, Advances, Onward, cases_same, round_advances, round_onward}
 use Rattle.pt_schedule.proofs.PacedRuns.{run_onward, way_empty}
 use Rattle.pt_schedule.proofs.Singles.{single_run}
+use Rattle.pt_schedule.proofs.Places.{is_above}
 
 -- a history none of whose turns is a last one
 abbrev GoesOn : Graph → (ℕ → ℕ) → ℕ → State → List Turn → State → Type 0
@@ -94,12 +95,9 @@ module _ (g : Graph) (level : ℕ → ℕ) (rows : ℕ → List Row) (c : ℕ �
       (λ (one : (IsFinished g i (x.at i) → ⊥) × (m : Made) × (rest : List Made) × (mid : Together) × (ms ≡ m ∷ rest) × (m.platform ≡ i) × Advances g level (c m.platform) x m mid × AdvanceRound g level c n (suc i) mid rest y).
       round_ends n (suc i) one.3 y one.2 one.7
       (advance_lawful x one.3 one.1 one.5 one.6 before after)
-      (λ p k. going_stays x one.3 p (one.6.others p (λ e. above p i one.1.platform k e one.5)) (after p (omega (arith, k)))))
+      (λ p k. going_stays x one.3 p (one.6.others p (λ e. is_above p i one.1.platform k e one.5)) (after p (omega (arith, k)))))
       r
     where
-      above : (p i q : ℕ) → suc i ≤ p → p ≡ q → q ≡ i → ⊥
-      above p i q k e f = omega (arith, k, e, f)
-
       advance_lawful : (x mid : Together) (m : Made) → m.platform ≡ i → Advances g level (c m.platform) x m mid → ((p : ℕ) → p < i → Lawful x p) → ((p : ℕ) → i ≤ p → Going x p) → (p : ℕ) → p < suc i → Lawful mid p
       advance_lawful x mid m home k before after p l =
           ⊎_elim

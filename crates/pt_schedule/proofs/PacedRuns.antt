@@ -40,6 +40,7 @@ use Rattle.pt_laws.proofs.Home.{Home, home_on_time}
 use Rattle.pt_laws.proofs.Paces.{in_on_link}
 use Rattle.pt_laws.proofs.Onward.{Onward, cases_same, round_onward}
 use Rattle.pt_laws.proofs.Raise.{Rests, quiet_makes, raise_near, start_near}
+use Rattle.pt_schedule.proofs.Places.{is_above, is_below, is_later, is_passed, none_left, not_before, one_fewer}
 
 pub round_leaves : (g : Graph) (level : ℕ → ℕ) (c n i : ℕ) (x y : Together) (ms : List Made) → Round g level c n i x ms y → (j : ℕ) → j < i → y.at j ≡ x.at j
 round_leaves g level c zero i x y ms r j lt = ap (λ (z : Together). z.at j) r.1
@@ -47,11 +48,8 @@ round_leaves g level c (suc n) i x y ms r j lt =
     ⊎_elim
     (λ (done : IsFinished g i (x.at i) × Round g level c n (suc i) x ms y). round_leaves g level c n (suc i) x y ms done.1 j (omega arith))
     (λ (one : (IsFinished g i (x.at i) → ⊥) × (m : Made) × (rest : List Made) × (mid : Together) × (ms ≡ m ∷ rest) × (m.platform ≡ i) × Makes g level c x m mid × Round g level c n (suc i) mid rest y).
-    round_leaves g level c n (suc i) one.3 y one.2 one.7 j (omega arith) ∙ (one.6.others j (λ e. differ j i one.1.platform lt e one.5)).0)
+    round_leaves g level c n (suc i) one.3 y one.2 one.7 j (omega arith) ∙ (one.6.others j (λ e. is_below j i one.1.platform lt e one.5)).0)
     r
-  where
-    differ : (j i p : ℕ) → j < i → j ≡ p → p ≡ i → ⊥
-    differ j i p a b d = omega arith
 
 -- a quiet round leaves what is on the links, and each platform at rest or finished
 abbrev pub Settles : Graph → ℕ → Together → ℕ → Type 0
@@ -59,10 +57,7 @@ Settles g c y j = IsFinished g j (y.at j) ⊎ Rests g c j (y.at j) y.on_way
 
 pub quiet_round : (g : Graph) (level : ℕ → ℕ) (c n i : ℕ) (x y : Together) (ms : List Made) → Round g level c n i x ms y → Each (λ (m : Made). m.late ≡ false) ms → Each (λ (m : Made). is_quiet m.turn ≡ true) ms → Each (λ (m : Made). m.fault ≡ false) ms → ((j : ℕ) → i ≤ j → (y.at j).closed ≡ (x.at j).closed) →
     ((l : ℕ) → y.on_way l ≡ x.on_way l) × ((j : ℕ) → i ≤ j → j < n + i → Settles g c y j)
-quiet_round g level c zero i x y ms r late quiet fine closed = ((λ l. ap (λ (z : Together). z.on_way l) r.1), (λ j a b. absurd (none i j a b)))
-  where
-    none : (i j : ℕ) → i ≤ j → j < 0 + i → ⊥
-    none i j a b = omega arith
+quiet_round g level c zero i x y ms r late quiet fine closed = ((λ l. ap (λ (z : Together). z.on_way l) r.1), (λ j a b. absurd (none_left i j a b)))
 quiet_round g level c (suc n) i x y ms r late quiet fine closed =
     ⊎_elim
     (λ (done : IsFinished g i (x.at i) × Round g level c n (suc i) x ms y).
@@ -71,7 +66,7 @@ quiet_round g level c (suc n) i x y ms r late quiet fine closed =
       λ j le lt.
           ⊎_elim
           (λ (here : j ≡ i). subst (Settles g c y) (sym here) (inl (subst (IsFinished g i) (sym (round_leaves g level c n (suc i) x y ms done.1 i (omega arith))) done.0)))
-          (λ (there : j ≢ i). on.1 j (next i j le there) (shift n i j lt))
+          (λ (there : j ≢ i). on.1 j (is_later i j le there) (one_fewer n i j lt))
           (cases_same j i),
     ))
     (λ (one : (IsFinished g i (x.at i) → ⊥) × (m : Made) × (rest : List Made) × (mid : Together) × (ms ≡ m ∷ rest) × (m.platform ≡ i) × Makes g level c x m mid × Round g level c n (suc i) mid rest y).
@@ -80,10 +75,10 @@ quiet_round g level c (suc n) i x y ms r late quiet fine closed =
     let l2 : Each (λ (z : Made). z.late ≡ false) (m ∷ one.2) = subst (Each (λ (z : Made). z.late ≡ false)) one.4 late in
     let q2 : Each (λ (z : Made). is_quiet z.turn ≡ true) (m ∷ one.2) = subst (Each (λ (z : Made). is_quiet z.turn ≡ true)) one.4 quiet in
     let f2 : Each (λ (z : Made). z.fault ≡ false) (m ∷ one.2) = subst (Each (λ (z : Made). z.fault ≡ false)) one.4 fine in
-    let leaves : y.at m.platform ≡ mid.at m.platform = round_leaves g level c n (suc i) mid y one.2 one.7 m.platform (below_suc m.platform i one.5) in
-    let closed_here : (mid.at m.platform).closed ≡ (x.at m.platform).closed = ap (λ (z : State). z.closed) (sym leaves) ∙ closed m.platform (from_same m.platform i one.5) in
+    let leaves : y.at m.platform ≡ mid.at m.platform = round_leaves g level c n (suc i) mid y one.2 one.7 m.platform (is_passed m.platform i one.5) in
+    let closed_here : (mid.at m.platform).closed ≡ (x.at m.platform).closed = ap (λ (z : State). z.closed) (sym leaves) ∙ closed m.platform (not_before m.platform i one.5) in
     let qm = quiet_makes g level c x mid m q2.0 l2.0 f2.0 closed_here one.6 in
-    let on = quiet_round g level c n (suc i) mid y one.2 one.7 l2.1 q2.1 f2.1 (λ j le. closed j (omega arith) ∙ ap (λ (z : State). z.closed) (sym (one.6.others j (λ e. above j i m.platform le e one.5)).0)) in
+    let on = quiet_round g level c n (suc i) mid y one.2 one.7 l2.1 q2.1 f2.1 (λ j le. closed j (omega arith) ∙ ap (λ (z : State). z.closed) (sym (one.6.others j (λ e. is_above j i m.platform le e one.5)).0)) in
     let way : (l : ℕ) → y.on_way l ≡ x.on_way l = λ l. on.0 l ∙ qm.1 l in (
       way,
       λ j le lt.
@@ -92,25 +87,10 @@ quiet_round g level c (suc n) i x y ms r late quiet fine closed =
           let whole : ◌≡◌ {A = ℕ → List Message} x.on_way y.on_way = λ k l. sym (way l) k in
           subst (Settles g c y) (one.5 ∙ sym here)
           (inr (subst (λ z. Rests g c m.platform z y.on_way) (sym leaves) (subst (λ z. Rests g c m.platform (mid.at m.platform) z) whole qm.0))))
-          (λ (there : j ≢ i). on.1 j (next i j le there) (shift n i j lt))
+          (λ (there : j ≢ i). on.1 j (is_later i j le there) (one_fewer n i j lt))
           (cases_same j i),
     ))
     r
-  where
-    next : (i j : ℕ) → i ≤ j → j ≢ i → suc i ≤ j
-    next i j a b = omega arith
-
-    shift : (n i j : ℕ) → j < suc n + i → j < n + suc i
-    shift n i j h = omega arith
-
-    below_suc : (p i : ℕ) → p ≡ i → p < suc i
-    below_suc p i e = omega arith
-
-    from_same : (p i : ℕ) → p ≡ i → i ≤ p
-    from_same p i e = omega arith
-
-    above : (j i p : ℕ) → suc i ≤ j → j ≡ p → p ≡ i → ⊥
-    above j i p a b d = omega arith
 
 -- nothing comes after End
 pub nothing_after_end : (xs ys zs : List Message) → IsIn End xs → InOrder ((xs ++ ys) ++ zs) → ys ≡ []

@@ -30,6 +30,7 @@ use Rattle.pt_laws.proofs.Progress.{Grown, takes_grown, grown_event, or_else_lef
 use Rattle.pt_laws.proofs.Onward.{Onward, cases_same, round_onward}
 use Rattle.pt_laws.proofs.Raise.{Rests, nothing_in}
 use Rattle.pt_schedule.proofs.PacedRuns.{round_leaves, quiet_round, Settles, run_onward, whole_of, way_empty, outbox_empty, no_closing, raise_onward}
+use Rattle.pt_schedule.proofs.Places.{is_later, is_passed, none_left, one_fewer}
 
 -- the turn of a platform that is not finished
 record Found (g : Graph) (level : ℕ → ℕ) (c j : ℕ) (y z : Together) (ns : List Made) : Type 0 where
@@ -43,16 +44,13 @@ record Found (g : Graph) (level : ℕ → ℕ) (c j : ℕ) (y z : Together) (ns 
   mem : IsIn made ns
 
 find : (g : Graph) (level : ℕ → ℕ) (c n i j : ℕ) (y z : Together) (ns : List Made) → Round g level c n i y ns z → i ≤ j → j < n + i → (IsFinished g j (y.at j) → ⊥) → Found g level c j y z ns
-find g level c zero i j y z ns r le lt never = absurd (none i j le lt)
-  where
-    none : (i j : ℕ) → i ≤ j → j < 0 + i → ⊥
-    none i j a b = omega arith
+find g level c zero i j y z ns r le lt never = absurd (none_left i j le lt)
 find g level c (suc n) i j y z ns r le lt never =
     ⊎_elim
     (λ (done : IsFinished g i (y.at i) × Round g level c n (suc i) y ns z).
     ⊎_elim
     (λ (here : j ≡ i). absurd (never (subst (λ k. IsFinished g k (y.at k)) (sym here) done.0)))
-    (λ (there : j ≢ i). find g level c n (suc i) j y z ns done.1 (next i j le there) (shift n i j lt) never)
+    (λ (there : j ≢ i). find g level c n (suc i) j y z ns done.1 (is_later i j le there) (one_fewer n i j lt) never)
     (cases_same j i))
     (λ (one : (IsFinished g i (y.at i) → ⊥) × (m : Made) × (rest : List Made) × (mid : Together) × (ns ≡ m ∷ rest) × (m.platform ≡ i) × Makes g level c y m mid × Round g level c n (suc i) mid rest z).
     ⊎_elim
@@ -63,12 +61,12 @@ find g level c (suc n) i j y z ns r le lt never =
       makes = one.6;
       platform = one.5 ∙ sym here;
       same = refl;
-      after = round_leaves g level c n (suc i) one.3 z one.2 one.7 j (below_suc j i here);
+      after = round_leaves g level c n (suc i) one.3 z one.2 one.7 j (is_passed j i here);
       mem = subst (IsIn one.1) (sym one.4) (inl refl);
     })
     (λ (there : j ≢ i).
     let stays : one.3.at j ≡ y.at j = (one.6.others j (λ e. there (e ∙ one.5))).0 in
-    let f = find g level c n (suc i) j one.3 z one.2 one.7 (next i j le there) (shift n i j lt) (λ fin. never (subst (IsFinished g j) stays fin)) in
+    let f = find g level c n (suc i) j one.3 z one.2 one.7 (is_later i j le there) (one_fewer n i j lt) (λ fin. never (subst (IsFinished g j) stays fin)) in
     record {
       from = f.from;
       made = f.made;
@@ -81,15 +79,6 @@ find g level c (suc n) i j y z ns r le lt never =
     })
     (cases_same j i))
     r
-  where
-    next : (i j : ℕ) → i ≤ j → j ≢ i → suc i ≤ j
-    next i j a b = omega arith
-
-    shift : (n i j : ℕ) → j < suc n + i → j < n + suc i
-    shift n i j h = omega arith
-
-    below_suc : (p i : ℕ) → p ≡ i → p < suc i
-    below_suc p i e = omega arith
 
 -- a turn that posts and claims nothing takes no event away
 event_stays : (g : Graph) (level : ℕ → ℕ) (i : ℕ) (s new : State) (turn : Turn) (late : Bool) → IsTurn g level i s turn late new → turn.posted ≡ [] → turn.claimed ≡ [] → (u : Part) (t : Tag) → HasEvent g s.waits u t → HasEvent g new.waits u t

@@ -26,6 +26,7 @@ use Rattle.pt_schedule.proofs.PacedRuns.{round_leaves, whole_of}
 use Rattle.pt_laws.proofs.Progress.{takes_grown}
 use Rattle.pt_schedule.proofs.Moves.{Falls, IsFree, IsStill, IsStillRound, MovesNothing, all_to_do, quiet_turns, then_falls}
 use Rattle.pt_schedule.proofs.Visits.{visit_falls}
+use Rattle.pt_schedule.proofs.Places.{is_above, is_first, is_later, is_passed, none_left, not_before, one_fewer}
 
 -- a turn without claims leaves nothing open
 pub turn_frees : (g : Graph) (level : ℕ → ℕ) (i : ℕ) (s new : State) (turn : Turn) (late : Bool) (is : IsTurn g level i s turn late new) → ((u : Part) → is.posted.busy u ≡ None) → turn.claimed ≡ [] → (u : Part) → new.busy u ≡ None
@@ -51,21 +52,12 @@ round_posts_nothing g level c (suc n) i x y ms round free =
     (λ (done : IsFinished g i (x.at i) × Round g level c n (suc i) x ms y). round_posts_nothing g level c n (suc i) x y ms done.1 (λ j le lt. free j (omega (arith, le)) (omega (arith, lt))))
     (λ (one : (IsFinished g i (x.at i) → ⊥) × (m : Made) × (rest : List Made) × (mid : Together) × (ms ≡ m ∷ rest) × (m.platform ≡ i) × Makes g level c x m mid × Round g level c n (suc i) mid rest y).
     subst (Each (λ (m : Made). m.turn.posted ≡ [])) (sym one.4) (
-      nothing_posted g one.1.turn.posted (x.at one.1.platform) one.6.is.posted (λ u. free one.1.platform (from_same i one.1.platform one.5) (below i one.1.platform n one.5) u) one.6.is.posts,
+      nothing_posted g one.1.turn.posted (x.at one.1.platform) one.6.is.posted (λ u. free one.1.platform (not_before one.1.platform i one.5) (is_first i one.1.platform n one.5) u) one.6.is.posts,
       round_posts_nothing g level c n (suc i) one.3 y one.2 one.7 (λ j le lt u.
-          ap (λ (s : State). s.busy u) (one.6.others j (λ e. above j i one.1.platform le e one.5)).0
+          ap (λ (s : State). s.busy u) (one.6.others j (λ e. is_above j i one.1.platform le e one.5)).0
           ∙ free j (omega (arith, le)) (omega (arith, lt)) u),
     ))
     round
-  where
-    from_same : (i p : ℕ) → p ≡ i → i ≤ p
-    from_same i p e = omega (arith, e)
-
-    below : (i p n : ℕ) → p ≡ i → p < suc n + i
-    below i p n e = omega (arith, e)
-
-    above : (j i p : ℕ) → suc i ≤ j → j ≡ p → p ≡ i → ⊥
-    above j i p a b d = omega (arith, a, b, d)
 
 module _ (g : Graph) (level : ℕ → ℕ) (rows : ℕ → List Row) (offset : Part → Option ℤ) (wired : IsWired g) (are : AreLevels g level) (fits : FitRows g rows) (feasible : IsFeasible g) (has : (u : Part) → HasOffset g u (offset u)) (c : ℕ) where
   pub round_falls : (n i : ℕ) (x y : Together) (ms : List Made) → n + i ≤ length g.platforms → Onward g level rows offset c x → Round g level c n i x ms y → Falls (IsStillRound x.at ms y.at) (all_to_do g x.at x.did) (all_to_do g y.at y.did)
@@ -98,10 +90,7 @@ module _ (g : Graph) (level : ℕ → ℕ) (rows : ℕ → List Row) (offset : P
   finished_free i x lt h done = ((whole_of g level rows offset wired are fits feasible has c x i lt h).keeps.is_shut done.closed).busy
 
   pub round_frees : (n i : ℕ) (x y : Together) (ms : List Made) → n + i ≤ length g.platforms → Onward g level rows offset c x → Round g level c n i x ms y → Each (λ (m : Made). MovesNothing m.turn) ms → IsFree y.at n i
-  round_frees zero i x y ms le h round still j from below u = absurd (none i j from below)
-    where
-      none : (i j : ℕ) → i ≤ j → j < 0 + i → ⊥
-      none i j a b = omega (arith, a, b)
+  round_frees zero i x y ms le h round still j from below u = absurd (none_left i j from below)
   round_frees (suc n) i x y ms le h round still j from below u =
       ⊎_elim
       (λ (done : IsFinished g i (x.at i) × Round g level c n (suc i) x ms y).
@@ -109,7 +98,7 @@ module _ (g : Graph) (level : ℕ → ℕ) (rows : ℕ → List Row) (offset : P
       (λ (here : j ≡ i).
       subst (λ k. (y.at k).busy u ≡ None) (sym here)
       (ap (λ (s : State). s.busy u) (round_leaves g level c n (suc i) x y ms done.1 i (omega arith)) ∙ finished_free i x (omega (arith, le)) h done.0 u))
-      (λ (there : j ≢ i). round_frees n (suc i) x y ms (omega (arith, le)) h done.1 still j (next i j from there) (shift n i j below) u)
+      (λ (there : j ≢ i). round_frees n (suc i) x y ms (omega (arith, le)) h done.1 still j (is_later i j from there) (one_fewer n i j below) u)
       (cases_same j i))
       (λ (one : (IsFinished g i (x.at i) → ⊥) × (m : Made) × (rest : List Made) × (mid : Together) × (ms ≡ m ∷ rest) × (m.platform ≡ i) × Makes g level c x m mid × Round g level c n (suc i) mid rest y).
       let lt : one.1.platform < length g.platforms = subst (λ k. k < length g.platforms) (sym one.5) (omega (arith, le)) in
@@ -117,19 +106,10 @@ module _ (g : Graph) (level : ℕ → ℕ) (rows : ℕ → List Row) (offset : P
       ⊎_elim
       (λ (here : j ≡ i).
       subst (λ k. (y.at k).busy u ≡ None) (one.5 ∙ sym here)
-      (ap (λ (s : State). s.busy u) (round_leaves g level c n (suc i) one.3 y one.2 one.7 one.1.platform (below_suc one.1.platform i one.5)) ∙ turn_frees g level one.1.platform (x.at one.1.platform) (one.3.at one.1.platform) one.1.turn one.1.late one.6.is one.6.handed moves.0.claimed u))
-      (λ (there : j ≢ i). round_frees n (suc i) one.3 y one.2 (omega (arith, le)) (makes_onward g level rows offset has wired feasible c x one.3 one.1 lt h one.6).1 one.7 moves.1 j (next i j from there) (shift n i j below) u)
+      (ap (λ (s : State). s.busy u) (round_leaves g level c n (suc i) one.3 y one.2 one.7 one.1.platform (is_passed one.1.platform i one.5)) ∙ turn_frees g level one.1.platform (x.at one.1.platform) (one.3.at one.1.platform) one.1.turn one.1.late one.6.is one.6.handed moves.0.claimed u))
+      (λ (there : j ≢ i). round_frees n (suc i) one.3 y one.2 (omega (arith, le)) (makes_onward g level rows offset has wired feasible c x one.3 one.1 lt h one.6).1 one.7 moves.1 j (is_later i j from there) (one_fewer n i j below) u)
       (cases_same j i))
       round
-    where
-      next : (i j : ℕ) → i ≤ j → j ≢ i → suc i ≤ j
-      next i j a b = omega (arith, a, b)
-
-      shift : (n i j : ℕ) → j < suc n + i → j < n + suc i
-      shift n i j h = omega (arith, h)
-
-      below_suc : (p i : ℕ) → p ≡ i → p < suc i
-      below_suc p i e = omega (arith, e)
 
 -- a round without a move that posts nothing is quiet
 pub quiet_still : (x y : Together) (ms : List Made) → IsStillRound x.at ms y.at → Each (λ (m : Made). m.turn.posted ≡ []) ms → IsQuietRound x ms y

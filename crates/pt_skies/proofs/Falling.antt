@@ -34,6 +34,7 @@ use Rattle.pt_skies.specs.Flights.{FlightRound, IsQuiet}
 use Rattle.pt_skies.specs.Sky.{Flies, Sky}
 use Rattle.pt_skies.proofs.Quiet.{Begins, round_leaves}
 use Rattle.pt_skies.proofs.Sound.{IsSound, joins, others, own_turn, sound_flight, turn_of}
+use Rattle.pt_schedule.proofs.Places.{is_above, is_first, is_later, is_passed, none_left, not_before, one_fewer}
 
 -- if nothing is open, nothing is posted
 pub round_posts_nothing : (g : Graph) (level : ℕ → ℕ) (air : Air) (now n i : ℕ) (x : Sky) (ms : List Made) (y : Sky) → FlightRound g level air now n i x ms y → IsFree x.at n i → Each (λ (m : Made). m.turn.posted ≡ []) ms
@@ -42,21 +43,12 @@ round_posts_nothing g level air now (suc n) i x ms y round free = ⊎_elim
     (λ (done : IsFinished g i (x.at i) × FlightRound g level air now n (suc i) x ms y). round_posts_nothing g level air now n (suc i) x ms y done.1 (λ j le lt. free j (omega (arith, le)) (omega (arith, lt))))
     (λ (one : Begins g level air now n i x ms y).
     subst (Each (λ (m : Made). m.turn.posted ≡ [])) (sym one.4) (
-      nothing_posted g one.1.turn.posted (x.at one.1.platform) one.6.visit.is.posted (λ u. free one.1.platform (from_same i one.1.platform one.5) (below i one.1.platform n one.5) u) one.6.visit.is.posts,
+      nothing_posted g one.1.turn.posted (x.at one.1.platform) one.6.visit.is.posted (λ u. free one.1.platform (not_before one.1.platform i one.5) (is_first i one.1.platform n one.5) u) one.6.visit.is.posts,
       round_posts_nothing g level air now n (suc i) one.3 one.2 y one.7 (λ j le lt u.
-          ap (λ (s : State). s.busy u) (others g level air now x one.1 one.3 one.6 j (λ e. above j i one.1.platform le e one.5)).0
+          ap (λ (s : State). s.busy u) (others g level air now x one.1 one.3 one.6 j (λ e. is_above j i one.1.platform le e one.5)).0
           ∙ free j (omega (arith, le)) (omega (arith, lt)) u),
     ))
     round
-  where
-    from_same : (i p : ℕ) → p ≡ i → i ≤ p
-    from_same i p e = omega (arith, e)
-
-    below : (i p n : ℕ) → p ≡ i → p < suc n + i
-    below i p n e = omega (arith, e)
-
-    above : (j i p : ℕ) → suc i ≤ j → j ≡ p → p ≡ i → ⊥
-    above j i p a b d = omega (arith, a, b, d)
 
 -- a round without a move that posts nothing is quiet
 pub quiet_still : (x : Sky) (ms : List Made) (y : Sky) → IsStillRound x.at ms y.at → Each (λ (m : Made). m.turn.posted ≡ []) ms → IsQuiet x ms y
@@ -153,17 +145,14 @@ module _ (g : Graph) (level : ℕ → ℕ) (rows : ℕ → List Row) (air : Air)
       ((on_time_history g level i rows wired (levels_grow g level are) fits (x.did i) (x.at i) (goes_on_time g level i (x.did i) (opened g i rows) (x.at i) (h.goes i (omega arith)))).keeps.is_shut done.closed).busy
 
   pub round_frees : (n i : ℕ) (x : Sky) (ms : List Made) (y : Sky) → IsSound g level rows 0 x → FlightRound g level air now n i x ms y → Each (λ (m : Made). m.fault ≡ false) ms → Each (λ (m : Made). MovesNothing m.turn) ms → IsFree y.at n i
-  round_frees zero i x ms y h round fine still j from below u = absurd (none i j from below)
-    where
-      none : (i j : ℕ) → i ≤ j → j < 0 + i → ⊥
-      none i j a b = omega (arith, a, b)
+  round_frees zero i x ms y h round fine still j from below u = absurd (none_left i j from below)
   round_frees (suc n) i x ms y h round fine still j from below u = ⊎_elim
       (λ (done : IsFinished g i (x.at i) × FlightRound g level air now n (suc i) x ms y).
       ⊎_elim
       (λ (here : j ≡ i).
       subst (λ k. (y.at k).busy u ≡ None) (sym here)
       (ap (λ (s : State). s.busy u) (round_leaves g level air now n (suc i) x ms y done.1 i (omega arith)) ∙ finished_free i x h done.0 u))
-      (λ (there : j ≢ i). round_frees n (suc i) x ms y h done.1 fine still j (next i j from there) (shift n i j below) u)
+      (λ (there : j ≢ i). round_frees n (suc i) x ms y h done.1 fine still j (is_later i j from there) (one_fewer n i j below) u)
       (cases_same j i))
       (λ (one : Begins g level air now n i x ms y).
       let all : Each (λ (m : Made). m.fault ≡ false) (one.1 ∷ one.2) = subst (Each (λ (m : Made). m.fault ≡ false)) one.4 fine in
@@ -171,16 +160,7 @@ module _ (g : Graph) (level : ℕ → ℕ) (rows : ℕ → List Row) (air : Air)
       ⊎_elim
       (λ (here : j ≡ i).
       subst (λ k. (y.at k).busy u ≡ None) (one.5 ∙ sym here)
-      (ap (λ (s : State). s.busy u) (round_leaves g level air now n (suc i) one.3 one.2 y one.7 one.1.platform (below_suc one.1.platform i one.5)) ∙ turn_frees g level one.1.platform (x.at one.1.platform) (one.3.at one.1.platform) one.1.turn one.1.late (turn_of g level air now x one.1 one.3 one.6) one.6.visit.handed moves.0.claimed u))
-      (λ (there : j ≢ i). round_frees n (suc i) one.3 one.2 y (sound_then x one.1 one.3 h one.6 all.0) one.7 all.1 moves.1 j (next i j from there) (shift n i j below) u)
+      (ap (λ (s : State). s.busy u) (round_leaves g level air now n (suc i) one.3 one.2 y one.7 one.1.platform (is_passed one.1.platform i one.5)) ∙ turn_frees g level one.1.platform (x.at one.1.platform) (one.3.at one.1.platform) one.1.turn one.1.late (turn_of g level air now x one.1 one.3 one.6) one.6.visit.handed moves.0.claimed u))
+      (λ (there : j ≢ i). round_frees n (suc i) one.3 one.2 y (sound_then x one.1 one.3 h one.6 all.0) one.7 all.1 moves.1 j (is_later i j from there) (one_fewer n i j below) u)
       (cases_same j i))
       round
-    where
-      next : (i j : ℕ) → i ≤ j → j ≢ i → suc i ≤ j
-      next i j a b = omega (arith, a, b)
-
-      shift : (n i j : ℕ) → j < suc n + i → j < n + suc i
-      shift n i j h = omega (arith, h)
-
-      below_suc : (p i : ℕ) → p ≡ i → p < suc i
-      below_suc p i e = omega (arith, e)

@@ -41,6 +41,7 @@ use Rattle.pt_skies.specs.Flights.{FlightRound}
 use Rattle.pt_skies.specs.Sky.{CanHappen, Flies, Sky}
 use Rattle.pt_skies.proofs.Calm.{IsCalm, arrives_later, calm_airways, calm_flight, has_come}
 use Rattle.pt_skies.proofs.Sound.{IsSound, not_late, others}
+use Rattle.pt_schedule.proofs.Places.{is_above, is_below, is_later, is_passed, none_left, not_before, one_fewer}
 
 -- a flight as a round begins with it
 abbrev pub Begins : Graph → (ℕ → ℕ) → Air → ℕ → ℕ → ℕ → Sky → List Made → Sky → Type 0
@@ -52,21 +53,15 @@ round_leaves g level air now zero i x ms y r j lt = ap (λ (z : Sky). z.at j) r.
 round_leaves g level air now (suc n) i x ms y r j lt = ⊎_elim
     (λ (done : IsFinished g i (x.at i) × FlightRound g level air now n (suc i) x ms y). round_leaves g level air now n (suc i) x ms y done.1 j (omega arith))
     (λ (one : Begins g level air now n i x ms y).
-    round_leaves g level air now n (suc i) one.3 one.2 y one.7 j (omega arith) ∙ (others g level air now x one.1 one.3 one.6 j (λ e. differ j i one.1.platform lt e one.5)).0)
+    round_leaves g level air now n (suc i) one.3 one.2 y one.7 j (omega arith) ∙ (others g level air now x one.1 one.3 one.6 j (λ e. is_below j i one.1.platform lt e one.5)).0)
     r
-  where
-    differ : (j i p : ℕ) → j < i → j ≡ p → p ≡ i → ⊥
-    differ j i p a b d = omega arith
 
 abbrev pub IsSettled : Graph → Air → ℕ → Sky → ℕ → Type 0
 IsSettled g air now y j = IsFinished g j (y.at j) ⊎ IsCalm g air now j (y.at j) y.airways
 
 pub quiet_round : (g : Graph) (level : ℕ → ℕ) (air : Air) (now n i : ℕ) (x : Sky) (ms : List Made) (y : Sky) → FlightRound g level air now n i x ms y → Each (λ (m : Made). is_quiet m.turn ≡ true) ms → Each (λ (m : Made). m.fault ≡ false) ms → ((j : ℕ) → i ≤ j → (y.at j).closed ≡ (x.at j).closed) →
     ((l : ℕ) → y.airways l ≡ x.airways l) × ((j : ℕ) → i ≤ j → j < n + i → IsSettled g air now y j)
-quiet_round g level air now zero i x ms y r quiet fine closed = ((λ l. ap (λ (z : Sky). z.airways l) r.1), (λ j a b. absurd (none i j a b)))
-  where
-    none : (i j : ℕ) → i ≤ j → j < 0 + i → ⊥
-    none i j a b = omega arith
+quiet_round g level air now zero i x ms y r quiet fine closed = ((λ l. ap (λ (z : Sky). z.airways l) r.1), (λ j a b. absurd (none_left i j a b)))
 quiet_round g level air now (suc n) i x ms y r quiet fine closed = ⊎_elim
     (λ (done : IsFinished g i (x.at i) × FlightRound g level air now n (suc i) x ms y).
     let on = quiet_round g level air now n (suc i) x ms y done.1 quiet fine (λ j le. closed j (omega arith)) in (
@@ -74,7 +69,7 @@ quiet_round g level air now (suc n) i x ms y r quiet fine closed = ⊎_elim
       λ j le lt.
           ⊎_elim
           (λ (here : j ≡ i). subst (IsSettled g air now y) (sym here) (inl (subst (IsFinished g i) (sym (round_leaves g level air now n (suc i) x ms y done.1 i (omega arith))) done.0)))
-          (λ (there : j ≢ i). on.1 j (next i j le there) (shift n i j lt))
+          (λ (there : j ≢ i). on.1 j (is_later i j le there) (one_fewer n i j lt))
           (cases_same j i),
     ))
     (λ (one : Begins g level air now n i x ms y).
@@ -82,12 +77,12 @@ quiet_round g level air now (suc n) i x ms y r quiet fine closed = ⊎_elim
     let mid : Sky = one.3 in
     let q2 : Each (λ (z : Made). is_quiet z.turn ≡ true) (m ∷ one.2) = subst (Each (λ (z : Made). is_quiet z.turn ≡ true)) one.4 quiet in
     let f2 : Each (λ (z : Made). z.fault ≡ false) (m ∷ one.2) = subst (Each (λ (z : Made). z.fault ≡ false)) one.4 fine in
-    let leaves : y.at m.platform ≡ mid.at m.platform = round_leaves g level air now n (suc i) mid one.2 y one.7 m.platform (below_suc m.platform i one.5) in
-    let closed_here : (mid.at m.platform).closed ≡ (x.at m.platform).closed = ap (λ (z : State). z.closed) (sym leaves) ∙ closed m.platform (from_same m.platform i one.5) in
+    let leaves : y.at m.platform ≡ mid.at m.platform = round_leaves g level air now n (suc i) mid one.2 y one.7 m.platform (is_passed m.platform i one.5) in
+    let closed_here : (mid.at m.platform).closed ≡ (x.at m.platform).closed = ap (λ (z : State). z.closed) (sym leaves) ∙ closed m.platform (not_before m.platform i one.5) in
     let late : m.late ≡ false = not_late g level air now x m mid one.6 f2.0 in
     let calm = calm_flight g level air now x m mid one.6 q2.0 late f2.0 closed_here in
     let on = quiet_round g level air now n (suc i) mid one.2 y one.7 q2.1 f2.1
-    (λ j le. closed j (omega arith) ∙ ap (λ (z : State). z.closed) (sym (others g level air now x m mid one.6 j (λ e. above j i m.platform le e one.5)).0)) in
+    (λ j le. closed j (omega arith) ∙ ap (λ (z : State). z.closed) (sym (others g level air now x m mid one.6 j (λ e. is_above j i m.platform le e one.5)).0)) in
     let way : (l : ℕ) → y.airways l ≡ x.airways l = λ l. on.0 l ∙ calm_airways g level air now x m mid one.6 q2.0 late f2.0 closed_here l in (
       way,
       λ j le lt.
@@ -96,25 +91,10 @@ quiet_round g level air now (suc n) i x ms y r quiet fine closed = ⊎_elim
           let whole : ◌≡◌ {A = ℕ → AirwayView} x.airways y.airways = λ k l. sym (way l) k in
           subst (IsSettled g air now y) (one.5 ∙ sym here)
           (inr (subst (λ z. IsCalm g air now m.platform z y.airways) (sym leaves) (subst (λ z. IsCalm g air now m.platform (mid.at m.platform) z) whole calm))))
-          (λ (there : j ≢ i). on.1 j (next i j le there) (shift n i j lt))
+          (λ (there : j ≢ i). on.1 j (is_later i j le there) (one_fewer n i j lt))
           (cases_same j i),
     ))
     r
-  where
-    next : (i j : ℕ) → i ≤ j → j ≢ i → suc i ≤ j
-    next i j a b = omega arith
-
-    shift : (n i j : ℕ) → j < suc n + i → j < n + suc i
-    shift n i j h = omega arith
-
-    below_suc : (p i : ℕ) → p ≡ i → p < suc i
-    below_suc p i e = omega arith
-
-    from_same : (p i : ℕ) → p ≡ i → i ≤ p
-    from_same p i e = omega arith
-
-    above : (j i p : ℕ) → suc i ≤ j → j ≡ p → p ≡ i → ⊥
-    above j i p a b d = omega arith
 
 nothing_in : (ms : List InAir) (m : InAir) → map (λ (z : InAir). z.message) ms ≡ [] → IsIn m ms → ⊥
 nothing_in [] m e mem = mem

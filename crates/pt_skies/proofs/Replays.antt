@@ -24,6 +24,7 @@ use Rattle.pt_skies.specs.Flights.{FlightRound, FlightRounds, FollowsAt, IsQuiet
 use Rattle.pt_skies.specs.Sky.{Flies, IsNextTime, Sky, sky_at_start}
 use Rattle.pt_skies.proofs.Quiet.{Begins, IsSettled, happens_later, quiet_round}
 use Rattle.pt_skies.proofs.Sound.{IsSound, joins, on_time, others, sound_at_start, sound_flight, sound_further, turn_of}
+use Rattle.pt_schedule.proofs.Places.{not_before}
 
 -- a turn on time adds to turns on time
 flight_on_time : (g : Graph) (level : ℕ → ℕ) (rows : ℕ → List Row) (air : Air) (now p : ℕ) (x : Sky) (m : Made) (y : Sky) → Flies g level air now x m y → (m.platform ≡ p → m.late ≡ false) → LegalOnTime g level p (opened g p rows) (x.did p) (x.at p) → LegalOnTime g level p (opened g p rows) (y.did p) (y.at p)
@@ -80,12 +81,9 @@ module _ (g : Graph) (level : ℕ → ℕ) (rows : ℕ → List Row) (air : Air)
       (λ (done : IsFinished g i (x.at i) × FlightRound g level air now n (suc i) x ms y). round_sound now n (suc i) k x ms y (omega (arith, e)) (sound_further g level rows i (suc i) x (omega arith) h) done.1)
       (λ (one : Begins g level air now n i x ms y).
       round_sound now n (suc i) k one.3 one.2 y (omega (arith, e))
-      (sound_flight g level rows wired are fits air now i x one.1 one.3 h one.6 (from_same one.1.platform i one.5) (suc i) (omega arith) (λ low. absurd (over one.1.platform i one.5 low))) one.7)
+      (sound_flight g level rows wired are fits air now i x one.1 one.3 h one.6 (not_before one.1.platform i one.5) (suc i) (omega arith) (λ low. absurd (over one.1.platform i one.5 low))) one.7)
       round
     where
-      from_same : (p i : ℕ) → p ≡ i → i ≤ p
-      from_same p i e = omega (arith, e)
-
       over : (p i : ℕ) → p ≡ i → suc i ≤ p → ⊥
       over p i e low = omega (arith, e, low)
 

@@ -28,29 +28,10 @@ use Rattle.pt_airways.specs.Arrivals.{AirwayView, NeverFall}
 use Rattle.pt_flights.specs.Skies.{delay_on, reading_at, transits_on}
 use Rattle.pt_fixed_order.specs.Sound.{GoesOn, SendsNothingElse}
 use Rattle.pt_fixed_order.proofs.Sound.{Own, goes_on_time, one_more_linked, push_last, push_on, sent_push, single_push, takes_own, turn_own}
+use Rattle.pt_visits.proofs.Visits.{turn_to}
 use Rattle.pt_skies.specs.Between.{under_way}
 use Rattle.pt_skies.specs.Sky.{Flies, Sky, sky_at_start, taken_off}
 use Rattle.pt_skies.proofs.Ways.{carried, come_front, drop_falls, left_carried, put_carried, put_falls}
-
--- the same turn, to a state that is the same
-abbrev pub turn_to : (g : Graph) (level : ℕ → ℕ) (i : ℕ) (s new end : State) (turn : Turn) (late : Bool) → new ≡ end → IsTurn g level i s turn late new → IsTurn g level i s turn late end
-turn_to g level i s new end turn late e is = record {
-  rises = is.rises;
-  span = is.span;
-  posted = is.posted;
-  posts = is.posts;
-  rows = is.rows;
-  got = is.got;
-  takes = is.takes;
-  ready = is.ready;
-  claims = is.claims;
-  idle_if_late = is.idle_if_late;
-  greedy = is.greedy;
-  at_most = is.at_most;
-  done = is.done;
-  closes = is.closes;
-  sends = subst (λ (z : State). Sends is.done turn.sent z) e is.sends;
-}
 
 -- what a flight does
 module _ (g : Graph) (level : ℕ → ℕ) (air : Air) (now : ℕ) (x : Sky) (m : Made) (y : Sky) (f : Flies g level air now x m y) where

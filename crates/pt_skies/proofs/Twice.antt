@@ -29,6 +29,7 @@ use Rattle.pt_skies.proofs.Calm.{HasNothing, IsCalm, has_come, quiet_parts, read
 use Rattle.pt_skies.proofs.Quiet.{Begins, IsSettled, arrivals_later, quiet_round, round_leaves}
 use Rattle.pt_skies.proofs.Replays.{round_fine, settled}
 use Rattle.pt_skies.proofs.Sound.{IsSound, not_late, others, turn_of}
+use Rattle.pt_schedule.proofs.Places.{is_above, is_later, is_passed, none_left, not_before, one_fewer}
 
 -- an open platform with nothing to send, and its next reading
 pub record IsReady (g : Graph) (level : ℕ → ℕ) (rows : ℕ → List Row) (v i : ℕ) (s : State) (turns : List Turn) : Type 0 where
@@ -62,15 +63,12 @@ module _ (g : Graph) (level : ℕ → ℕ) (rows : ℕ → List Row) (air : Air)
 
   -- so a round is not quiet in which a ready platform flies
   round_moves : (n i j : ℕ) (x : Sky) (ms : List Made) (y : Sky) → FlightRound g level air now n i x ms y → i ≤ j → j < n + i → IsReady g level rows v j (x.at j) (x.did j) → v ≤ reading_at air j now → Each (λ (m : Made). is_quiet m.turn ≡ true) ms → Each (λ (m : Made). m.fault ≡ false) ms → ((k : ℕ) → i ≤ k → (y.at k).closed ≡ (x.at k).closed) → ⊥
-  round_moves zero i j x ms y round from below ready le quiet fine closed = none i j from below
-    where
-      none : (i j : ℕ) → i ≤ j → j < 0 + i → ⊥
-      none i j a b = omega (arith, a, b)
+  round_moves zero i j x ms y round from below ready le quiet fine closed = none_left i j from below
   round_moves (suc n) i j x ms y round from below ready le quiet fine closed = ⊎_elim
       (λ (done : IsFinished g i (x.at i) × FlightRound g level air now n (suc i) x ms y).
       ⊎_elim
       (λ (here : j ≡ i). false≢true (sym ready.is_open ∙ ap (λ k. (x.at k).closed) here ∙ done.0.closed))
-      (λ (there : j ≢ i). round_moves n (suc i) j x ms y done.1 (next i j from there) (shift n i j below) ready le quiet fine (λ k past. closed k (omega (arith, past))))
+      (λ (there : j ≢ i). round_moves n (suc i) j x ms y done.1 (is_later i j from there) (one_fewer n i j below) ready le quiet fine (λ k past. closed k (omega (arith, past))))
       (cases_same j i))
       (λ (one : Begins g level air now n i x ms y).
       let m : Made = one.1 in
@@ -83,30 +81,15 @@ module _ (g : Graph) (level : ℕ → ℕ) (rows : ℕ → List Row) (air : Air)
       (subst (λ k. IsReady g level rows v k (x.at k) (x.did k)) same ready)
       (subst (λ k. v ≤ reading_at air k now) same le)
       q2.0 f2.0
-      (ap (λ (s : State). s.closed) (sym (round_leaves g level air now n (suc i) one.3 one.2 y one.7 m.platform (below_suc m.platform i one.5))) ∙ closed m.platform (from_same m.platform i one.5)))
+      (ap (λ (s : State). s.closed) (sym (round_leaves g level air now n (suc i) one.3 one.2 y one.7 m.platform (is_passed m.platform i one.5))) ∙ closed m.platform (not_before m.platform i one.5)))
       (λ (there : j ≢ i).
       let stays = others g level air now x m one.3 one.6 j (λ e. there (e ∙ one.5)) in
-      round_moves n (suc i) j one.3 one.2 y one.7 (next i j from there) (shift n i j below)
+      round_moves n (suc i) j one.3 one.2 y one.7 (is_later i j from there) (one_fewer n i j below)
       (subst (λ t. IsReady g level rows v j (one.3.at j) t) (sym stays.1) (subst (λ s. IsReady g level rows v j s (x.did j)) (sym stays.0) ready))
       le q2.1 f2.1
-      (λ k past. closed k (omega (arith, past)) ∙ ap (λ (s : State). s.closed) (sym (others g level air now x m one.3 one.6 k (λ e. above k i m.platform past e one.5)).0)))
+      (λ k past. closed k (omega (arith, past)) ∙ ap (λ (s : State). s.closed) (sym (others g level air now x m one.3 one.6 k (λ e. is_above k i m.platform past e one.5)).0)))
       (cases_same j i))
       round
-    where
-      next : (i j : ℕ) → i ≤ j → j ≢ i → suc i ≤ j
-      next i j a b = omega (arith, a, b)
-
-      shift : (n i j : ℕ) → j < suc n + i → j < n + suc i
-      shift n i j h = omega (arith, h)
-
-      below_suc : (p i : ℕ) → p ≡ i → p < suc i
-      below_suc p i e = omega (arith, e)
-
-      from_same : (p i : ℕ) → p ≡ i → i ≤ p
-      from_same p i e = omega (arith, e)
-
-      above : (k i p : ℕ) → suc i ≤ k → k ≡ p → p ≡ i → ⊥
-      above k i p a b d = omega (arith, a, b, d)
 
 -- before this round a quiet one was made, and this one is at the next time
 pub record FollowsQuiet (g : Graph) (air : Air) (now : ℕ) (x : Sky) : Type 0 where

@@ -25,7 +25,7 @@ use Rattle.pt_offsets.proofs.Sources.{first_unit}
 use Rattle.pt_slacks.specs.declared.hop.Hop.{Hop}
 use Rattle.pt_slacks.specs.Hops.{cost_of, hop_at, hop_of}
 use Rattle.pt_slacks.specs.Needs.{by_hop, by_kind, by_sensor, needed_by}
-use Rattle.pt_slacks.specs.Rows.{IsEnough}
+use Rattle.pt_slacks.specs.Rows.{HaveEnough}
 use Rattle.pt_slacks.specs.Slacks.{Admits, with_slack, with_slacks}
 use Rattle.pt_slacks.proofs.Changed.{bound_link, bound_sensor, goes_from, goes_to, kind_with, output_with}
 use Rattle.pt_slacks.proofs.Costs.{hop_is, hops_len, no_link}
@@ -160,7 +160,7 @@ module _ (g : Graph) (least : Part → Part → Option Delay) (hops : List Hop) 
       (zero_or (by_hop hops least slack a w))
 
   -- slacks that admit the graph are enough
-  pub admits_enough : (other : ℕ → ℕ) → Admits g other → IsEnough g least hops (λ w. other (hop_at hops w).from)
+  pub admits_enough : (other : ℕ → ℕ) → Admits g other → HaveEnough g least hops (λ w. other (hop_at hops w).from)
   admits_enough other admits = record {
     sensors = λ v a below there. let hop = hop_of_link v below in sensor_le other admits (hop_at hops v).from hop.joins.slack a (ap (λ (h : Hop). kind_of g h.from) hop.is ∙ hop.joins.sends) there;
     others = λ v w below there. let hop = hop_of_link v below in hop_le other admits (hop_at hops v).from hop.joins.slack w (ap (λ (h : Hop). kind_of g h.from) hop.is ∙ hop.joins.sends) there;

@@ -13,7 +13,7 @@ use Rattle.pt_offsets.specs.Margins.{unit_at}
 use Rattle.pt_slacks.specs.declared.hop.Hop.{Hop}
 use Rattle.pt_slacks.specs.Hops.{hop_at, hop_of}
 use Rattle.pt_slacks.specs.Needs.{AreNeeds, HasSlack, IsNeed, by_hop, by_sensor}
-use Rattle.pt_slacks.specs.Rows.{IsEnough, IsLeastRow}
+use Rattle.pt_slacks.specs.Rows.{HaveEnough, IsLeastRow}
 use Rattle.pt_slacks.specs.Slacks.{AreLeastSlacks, with_slacks}
 use Rattle.pt_slacks.proofs.Admitting.{admits_enough, below_of, hop_of_link, not_send}
 use Rattle.pt_slacks.proofs.Answering.{need_asks, need_least, needs_admit}
@@ -51,7 +51,7 @@ module _ (g : Graph) (least : Part → Part → Option Delay) (hops : List Hop) 
       omega (arith, is, le))
       need.others.some
 
-  enough : IsEnough g least hops (λ w. slice_index needs (hop_at hops w).from)
+  enough : HaveEnough g least hops (λ w. slice_index needs (hop_at hops w).from)
   enough = record {
     sensors = λ v a below there.
         let need = hop_need v below in

@@ -15,7 +15,7 @@ use Rattle.pt_offsets.specs.Margins.{unit_at}
 use Rattle.pt_slacks.specs.declared.hop.Hop.{Hop}
 use Rattle.pt_slacks.specs.Hops.{hop_at}
 use Rattle.pt_slacks.specs.Needs.{IsBase, IsRaised, by_hop, by_kind, by_sensor, needed_by}
-use Rattle.pt_slacks.specs.Rows.{AreRows, IsEnough, IsLeastRow, IsNext, row_at}
+use Rattle.pt_slacks.specs.Rows.{AreRows, HaveEnough, IsLeastRow, IsNext, row_at}
 use Rattle.pt_slacks.proofs.Most.{up_to}
 
 same_le : (x y z : ℕ) → x ≡ y → y ≤ z → x ≤ z
@@ -42,14 +42,14 @@ module _ (g : Graph) (least : Part → Part → Option Delay) (hops : List Hop) 
   pub hop_more : (s t : ℕ → ℕ) (v w : ℕ) → s w ≤ t w → by_hop hops least s v w ≤ by_hop hops least t v w
   hop_more s t v w h = needed_more (s w) (t w) (hop_at hops w).cost (least (unit_at (hop_at hops w).to 0) (unit_at v 0)) h
 
-  base_least : (other : ℕ → ℕ) (v x : ℕ) → IsEnough g least hops other → v < length hops → IsBase g least (hop_at hops v).from x → x ≤ other v
+  base_least : (other : ℕ → ℕ) (v x : ℕ) → HaveEnough g least hops other → v < length hops → IsBase g least (hop_at hops v).from x → x ≤ other v
   base_least other v x enough below base =
       ⊎_elim
       (λ (e : x ≡ 0). omega (arith, e))
       (λ (e : (a : ℕ) × (a < length g.actors) × (x ≡ by_sensor g least (hop_at hops v).from a)). same_le x (by_sensor g least (hop_at hops v).from e.0) (other v) e.2 (enough.sensors v e.0 below e.1))
       base.some
 
-  raised_least : (other row : ℕ → ℕ) (v x : ℕ) → IsEnough g least hops other → ((w : ℕ) → w < length hops → row w ≤ other w) → v < length hops → IsRaised hops least row (hop_at hops v).from (row v) x → x ≤ other v
+  raised_least : (other row : ℕ → ℕ) (v x : ℕ) → HaveEnough g least hops other → ((w : ℕ) → w < length hops → row w ≤ other w) → v < length hops → IsRaised hops least row (hop_at hops v).from (row v) x → x ≤ other v
   raised_least other row v x enough le below raised =
       ⊎_elim
       (λ (e : x ≡ row v). same_le x (row v) (other v) e (le v below))
@@ -59,7 +59,7 @@ module _ (g : Graph) (least : Part → Part → Option Delay) (hops : List Hop) 
       raised.some
 
   -- no row has more than what is enough
-  pub rows_least : (rows : List (List ℕ)) (m : ℕ) (other : ℕ → ℕ) → AreRows g least hops rows m → IsEnough g least hops other → (k : ℕ) → k ≤ m → (v : ℕ) → v < length hops → slice_index (row_at rows k) v ≤ other v
+  pub rows_least : (rows : List (List ℕ)) (m : ℕ) (other : ℕ → ℕ) → AreRows g least hops rows m → HaveEnough g least hops other → (k : ℕ) → k ≤ m → (v : ℕ) → v < length hops → slice_index (row_at rows k) v ≤ other v
   rows_least rows m other are enough zero h v below = base_least other v (slice_index (row_at rows 0) v) enough below (are.first.each v below)
   rows_least rows m other are enough (suc k) h v below =
       let step : k + 1 ≡ suc k = omega arith in

@@ -19,7 +19,7 @@ use Rattle.pt_slacks.specs.Hops.{hop_at, hop_of}
 use Rattle.pt_slacks.specs.Needs.{by_hop}
 use Rattle.pt_slacks.specs.Rings.{GainsAlong, IsRing}
 use Rattle.pt_slacks.specs.Rows.{AreRows, HasRisen, row_at}
-use Rattle.pt_slacks.specs.Trails.{IsClosing, IsTrail, IsWalk, Raises, Trails}
+use Rattle.pt_slacks.specs.Trails.{IsRaisedByTrail, IsTrail, IsWalk, Raises, Trails}
 use Rattle.pt_slacks.proofs.Admitting.{hop_of_link}
 use Rattle.pt_slacks.proofs.Circles.{Round, along_to, rotate}
 use Rattle.pt_slacks.proofs.Rounds.{hop_more, rows_rise}
@@ -160,7 +160,7 @@ module _ (g : Graph) (least : Part → Part → Option Delay) (hops : List Hop) 
       (λ w less e. none w less
       (ap (λ (r : List ℕ). by_hop hops least (slice_index r) (hop_at hops at).from w) (is_row ∙ ap (row_at rows) place) ∙ e ∙ ap (λ n. slice_index (row_at rows (n + 1)) at) (sym place) ∙ sym is_slack))
 
-  pub closes : (step at from round : ℕ) (trail : List ℕ) (b : Back step trail at) → round ≡ b.risen + 1 → from < length hops → slice_index (row_at rows ((b.risen + 1) + 1)) at ≡ by_hop hops least (slice_index (row_at rows (b.risen + 1))) (hop_at hops at).from from → list_any (λ x. x == from) (reverse trail) ≡ true → IsClosing hops least rows trail round from
+  pub closes : (step at from round : ℕ) (trail : List ℕ) (b : Back step trail at) → round ≡ b.risen + 1 → from < length hops → slice_index (row_at rows ((b.risen + 1) + 1)) at ≡ by_hop hops least (slice_index (row_at rows (b.risen + 1))) (hop_at hops at).from from → list_any (λ x. x == from) (reverse trail) ≡ true → IsRaisedByTrail hops least rows trail round from
   closes step at from round trail b place below is found =
       let limit : b.risen + (step + 1) ≡ length hops = b.place in
       record {
@@ -188,7 +188,7 @@ module _ (g : Graph) (least : Part → Part → Option Delay) (hops : List Hop) 
       links_once_out g a b one.link two.link lawful one.at two.at (sym (ap (λ (h : Hop). h.from) one.is) ∙ same ∙ ap (λ (h : Hop). h.from) two.is)
 
   -- a closed trail is a ring
-  pub closed_ring : (trail : List ℕ) (round from : ℕ) (sends turned : List ℕ) (before after gain : ℕ) → IsClosing hops least rows trail round from →
+  pub closed_ring : (trail : List ℕ) (round from : ℕ) (sends turned : List ℕ) (before after gain : ℕ) → IsRaisedByTrail hops least rows trail round from →
       sends ≡ map (λ l. (hop_at hops l).from) (take_while (λ l. not (l == from)) (reverse trail)) ++ (hop_at hops from).from ∷ [] →
       before ≡ slice_index (row_at rows round) from → after ≡ slice_index (row_at rows (round + length sends)) from → gain ≡ after - before → IsTurned sends turned → IsRing g turned gain × (before < after)
   closed_ring trail round from sends turned before after gain closing are_sends is_before is_after is_gain is_turned =

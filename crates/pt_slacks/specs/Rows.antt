@@ -29,15 +29,15 @@ pub record AreRows (g : Graph) (least : Part → Part → Option Delay) (hops : 
   pub next : (k : ℕ) → k < m → IsNext hops least (row_at rows k) (row_at rows (k + 1))
 
 -- each sender has what it needs
-pub record IsEnough (g : Graph) (least : Part → Part → Option Delay) (hops : List Hop) (slack : ℕ → ℕ) : Type 0 where
+pub record HaveEnough (g : Graph) (least : Part → Part → Option Delay) (hops : List Hop) (slack : ℕ → ℕ) : Type 0 where
   pub sensors : (v a : ℕ) → v < length hops → a < length g.actors → by_sensor g least (hop_at hops v).from a ≤ slack v
   pub others : (v w : ℕ) → v < length hops → w < length hops → by_hop hops least slack (hop_at hops v).from w ≤ slack v
 
 -- each sender has what it needs, and none can do with less; the slacks are far below what 64 bits hold
 pub record IsLeastRow (g : Graph) (least : Part → Part → Option Delay) (hops : List Hop) (row : List ℕ) : Type 0 where
   pub len : length row ≡ length hops
-  pub enough : IsEnough g least hops (slice_index row)
-  pub least_of_all : (other : ℕ → ℕ) → IsEnough g least hops other → (v : ℕ) → v < length hops → slice_index row v ≤ other v
+  pub enough : HaveEnough g least hops (slice_index row)
+  pub least_of_all : (other : ℕ → ℕ) → HaveEnough g least hops other → (v : ℕ) → v < length hops → slice_index row v ≤ other v
   pub fits : (v : ℕ) → v < length hops → slice_index row v < 2 ^ 62
 
 -- the sender of hop v has a greater slack in the second row
@@ -50,6 +50,7 @@ pub record AreRising (g : Graph) (least : Part → Part → Option Delay) (hops 
   pub are : AreRows g least hops rows (length hops + 1)
   pub last : HasRisen (length hops) (row_at rows (length hops)) (row_at rows (length hops + 1)) v
 
-abbrev pub IsSettled : Graph → (Part → Part → Option Delay) → List Hop → Settled → Type 0
-IsSettled g least hops (Row row) = IsLeastRow g least hops row
-IsSettled g least hops (Rising rows link) = AreRising g least hops rows.items link
+-- the rounds end with the least row, or with the rows of all rounds, in the last of which the sender of a hop has risen
+abbrev pub SettlesAs : Graph → (Part → Part → Option Delay) → List Hop → Settled → Type 0
+SettlesAs g least hops (Row row) = IsLeastRow g least hops row
+SettlesAs g least hops (Rising rows link) = AreRising g least hops rows.items link

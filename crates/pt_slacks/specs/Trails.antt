@@ -34,7 +34,7 @@ pub record IsWalk (hops : List Hop) (least : Part → Part → Option Delay) (ro
   pub is_trail : IsTrail hops least rows risen (at ∷ others)
 
 -- the sender of a hop of the trail has raised the one at the trail's end in this round
-pub record IsClosing (hops : List Hop) (least : Part → Part → Option Delay) (rows : List (List ℕ)) (trail : List ℕ) (round from : ℕ) : Type 0 where
+pub record IsRaisedByTrail (hops : List Hop) (least : Part → Part → Option Delay) (rows : List (List ℕ)) (trail : List ℕ) (round from : ℕ) : Type 0 where
   pub risen : ℕ
   pub place : round ≡ risen + 1
   pub rose : HasRisen (length hops) (row_at rows risen) (row_at rows (risen + 1)) from

@@ -7,7 +7,7 @@ ghost use Rattle.pt_slacks.specs.Hops.{hop_at, hop_of};
 ghost use Rattle.pt_slacks.specs.Listed.{listed, with_entry};
 ghost use Rattle.pt_slacks.specs.Needs.{AreNeeds, HasSlack, IsNeed};
 ghost use Rattle.pt_slacks.specs.Rings.{CauseOfSlacks};
-ghost use Rattle.pt_slacks.specs.Rows.{IsLeastRow, IsSettled};
+ghost use Rattle.pt_slacks.specs.Rows.{IsLeastRow, SettlesAs};
 ghost use Rattle.pt_slacks.specs.Slacks.{AreLeastSlacks};
 
 use crate::hop::{Hop, hops_of};
@@ -50,7 +50,7 @@ fn slacks_or_ring(
     requires lawful { IsLawful graph.now }
     requires least { AreLeast graph.now (least_of least.now) }
     requires hops { hops.now ≡ map (hop_of graph.now) graph.now.links }
-    requires settled { IsSettled graph.now (least_of least.now) hops.now settled }
+    requires settled { SettlesAs graph.now (least_of least.now) hops.now settled }
     ensures slacks { IfOk result (λ v. (slack : ℕ → ℕ) × AreLeastSlacks graph.now slack × (v.items ≡ listed graph.now slack)) }
     ensures ring { IfErr result (λ f. CauseOfSlacks f graph.now) }
 {

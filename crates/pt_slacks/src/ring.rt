@@ -9,7 +9,7 @@ ghost use Rattle.pt_slacks.specs.Hops.{hop_at, hop_of};
 ghost use Rattle.pt_slacks.specs.Needs.{by_hop};
 ghost use Rattle.pt_slacks.specs.Rings.{CauseOfSlacks};
 ghost use Rattle.pt_slacks.specs.Rows.{AreRising, AreRows, row_at};
-ghost use Rattle.pt_slacks.specs.Trails.{IsClosing};
+ghost use Rattle.pt_slacks.specs.Trails.{IsRaisedByTrail};
 
 use crate::hop::Hop;
 use crate::needs::by_source;
@@ -133,7 +133,7 @@ fn closed(
     requires least { AreLeast graph.now (least_of least.now) }
     requires hops { hops.now ≡ map (hop_of graph.now) graph.now.links }
     requires rows { AreRows graph.now (least_of least.now) hops.now rows.now (length hops.now + 1) }
-    requires closing { IsClosing hops.now (least_of least.now) rows.now trail.now round from }
+    requires closing { IsRaisedByTrail hops.now (least_of least.now) rows.now trail.now round from }
     ensures { IfOk result (λ f. CauseOfSlacks f graph.now) }
 {
     let mut sends = senders(alloc, hops, trail, from)?;

@@ -4,7 +4,7 @@ ghost use Rattle.std.specs.Prelude.{◌≡◌, ◌<◌, ◌≤◌, ◌^◌, ◌+
 ghost use Rattle.pt_types.specs.Lawful.{IsLawful};
 ghost use Rattle.pt_causality.specs.Delays.{least_of};
 ghost use Rattle.pt_slacks.specs.Hops.{hop_at, hop_of};
-ghost use Rattle.pt_slacks.specs.Rows.{AreBases, HasRisen, IsNext, IsSettled};
+ghost use Rattle.pt_slacks.specs.Rows.{AreBases, HasRisen, IsNext, SettlesAs};
 
 use crate::hop::Hop;
 use crate::needs::{base, raised};
@@ -23,7 +23,7 @@ pub fn settle(
 ) -> Result<Settled, AllocError>
     requires lawful { IsLawful graph.now }
     requires hops { hops.now ≡ map (hop_of graph.now) graph.now.links }
-    ensures { IfOk result (IsSettled graph.now (least_of least.now) hops.now) }
+    ensures { IfOk result (SettlesAs graph.now (least_of least.now) hops.now) }
 {
     let mut rows = Vec::new(alloc);
     rows.push(first_row(alloc, graph, least, hops)?)?;

@@ -460,7 +460,7 @@ visit_shows plan rows x platforms pipes results admitted fits shown most c i v w
     (subst (λ n. ShowsVisit v.plan rows most room (raised_to v.reading c) n x w visited.turn (set platforms n w) piped (set results n next)) number_is
     (shows_here rows x platforms pipes results v (before_of plan rows x platforms pipes results admitted fits shown i v there so_far) most c room rooms_here small w dones next piped (subst (λ n. slice_get results n ≡ Some dones) (sym number_is) mine_at) visited))
 
-same_opened : (g : Graph) (i : ℕ) (some others : ℕ → List Row) → ((a : ℕ) → platform_of g a ≡ i → some a ≡ others a) → opened g i some ≡ opened g i others
+pub same_opened : (g : Graph) (i : ℕ) (some others : ℕ → List Row) → ((a : ℕ) → platform_of g a ≡ i → some a ≡ others a) → opened g i some ≡ opened g i others
 same_opened g i some others same =
     ap (λ (left : ℕ → List Row). record (opened g i some) { left = left })
     (fun_ext (λ a.

@@ -1,5 +1,5 @@
 -- A turn and what is sent after it are a visit.
-use Rattle.std.proofs.Common.{◌≡◌, ℕ, min, ◌+◌, ◌-◌, ◌<◌, ◌≤◌, Bool, List, [], ◌∷◌, ◌++◌, Option, Some, length, map, take, zero, suc, refl, inl, inr, append-nil, sym, ap, subst, ◌∙◌, append_assoc, length-append, arith}
+use Rattle.std.proofs.Common.{◌≡◌, ℕ, min, ◌+◌, ◌-◌, ◌<◌, ◌≤◌, Bool, List, [], ◌∷◌, ◌++◌, Option, Some, length, map, take, zero, suc, refl, inl, inr, append-nil, sym, ap, subst, ◌∙◌, length-append, arith}
 use Rattle.std.proofs.lemmas.List.{length-take}
 use Rattle.std.proofs.lemmas.Option.{slice_get_cases}
 use Rattle.pt_tags.specs.declared.message.Message.{Message}
@@ -21,33 +21,15 @@ use Rattle.pt_turn.specs.Gone.{last_sent}
 use Rattle.pt_turn.specs.Platforms.{PlatformView, level_at, state_at}
 use Rattle.pt_turn.specs.Rested.{HasRested}
 use Rattle.pt_turn.specs.Turned.{IsTurned, StaysThere, is_late}
-use Rattle.pt_turn.proofs.Coming.{on_append}
-use Rattle.pt_turn.proofs.Sending.{last_sent_pushed, taken_still}
+use Rattle.pt_turn.proofs.Sending.{last_sent_pushed, taken_still, turn_more}
 use Rattle.pt_visits.specs.Pipes.{HavePushed, arriving, emptied}
 use Rattle.pt_visits.specs.Pushing.{ArePushed}
 use Rattle.pt_visits.specs.Visited.{IsVisited}
 use Rattle.pt_visits.proofs.Sent.{sent_none}
 
--- these messages are a front of each outbox, and are few
-record IsFrontOf (outbox : ℕ → List Message) (ms : List OnLink) (rest : ℕ → List Message) : Type 0 where
-  splits : (l : ℕ) → outbox l ≡ on_link l ms ++ rest l
-  few : (l : ℕ) → length (on_link l ms) ≤ 64
-
-sends_more : (done mid new : State) (sent ms : List OnLink) (rest : ℕ → List Message) → sent ≡ [] → Sends done sent mid → IsFrontOf mid.outbox ms rest → new ≡ unsent mid rest → Sends done (sent ++ ms) new
-sends_more done mid new sent ms rest none s front is = (
-  rest,
-  is ∙ ap (λ (z : State). unsent z rest) s.1,
-  λ l.
-      s.2 l
-      ∙ ap (λ z. on_link l sent ++ z) (sym (ap (λ (z : State). z.outbox l) s.1) ∙ front.splits l)
-      ∙ sym (append_assoc (on_link l sent) (on_link l ms) (rest l))
-      ∙ ap (λ z. z ++ rest l) (sym (on_append l sent ms)),
-  λ l. subst (λ (z : List OnLink). length (on_link l (z ++ ms)) ≤ 64) (sym none) (front.few l),
-)
-
--- the turn with these messages sent
-abbrev turn_more : (g : Graph) (level : ℕ → ℕ) (i : ℕ) (s mid new : State) (turn : Turn) (late : Bool) (ms : List OnLink) (rest : ℕ → List Message) → turn.sent ≡ [] → IsTurn g level i s turn late mid → IsFrontOf mid.outbox ms rest → new ≡ unsent mid rest → IsTurn g level i s (sending ms turn) late new
-turn_more g level i s mid new turn late ms rest none is front new_is = record {
+-- the same turn, to a state that is the same
+abbrev pub turn_to : (g : Graph) (level : ℕ → ℕ) (i : ℕ) (s new end : State) (turn : Turn) (late : Bool) → new ≡ end → IsTurn g level i s turn late new → IsTurn g level i s turn late end
+turn_to g level i s new end turn late e is = record {
   rises = is.rises;
   span = is.span;
   posted = is.posted;
@@ -62,7 +44,7 @@ turn_more g level i s mid new turn late ms rest none is front new_is = record {
   at_most = is.at_most;
   done = is.done;
   closes = is.closes;
-  sends = sends_more is.done mid new turn.sent ms rest none is.sends front new_is;
+  sends = subst (λ (z : State). Sends is.done turn.sent z) e is.sends;
 }
 
 -- the outbox before sending is that of the platform after its turn
@@ -105,9 +87,9 @@ module _ (most r : ℕ) (dones results : List Done) (old mid : PlatformView) (pi
   visited_sent ms outbox splits pushed = record {
     turn = sending ms made.turn;
     at = (made.at.0, made.at.1, made.at.2);
-    is = turn_more old.plan.graph (level_at old) old.number (state_at old) (state_at mid) (state_at (with_sent mid ms outbox)) made.turn (is_late mid.fault) ms (λ (l : ℕ). on_link l outbox) made.at.3 made.is
-        (record { splits = splits; few = few_sent (λ (l : ℕ). on_link l mid.outbox) (emptied old.plan.graph old.number 0 pipes) piped ms pushed })
-        (state_after mid ms outbox);
+    is = turn_to old.plan.graph (level_at old) old.number (state_at old) (unsent (state_at mid) (λ (l : ℕ). on_link l outbox)) (state_at (with_sent mid ms outbox)) (sending ms made.turn) (is_late mid.fault) (sym (state_after mid ms outbox))
+        (turn_more old.plan.graph (level_at old) old.number (state_at old) (state_at mid) made.turn (is_late mid.fault) ms (λ (l : ℕ). on_link l outbox) made.is splits
+        (λ l before. subst (λ (z : List OnLink). length (on_link l (z ++ ms)) ≤ 64) (sym made.at.3) (few_sent (λ (l : ℕ). on_link l mid.outbox) (emptied old.plan.graph old.number 0 pipes) piped ms pushed l)));
     posted = made.posted;
     taken = made.taken;
     few = made.few;

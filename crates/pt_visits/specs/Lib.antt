@@ -1,3 +1,4 @@
 pub mod Pipes
 pub mod Visited
 pub mod Pushing
+pub mod Least

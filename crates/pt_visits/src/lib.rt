@@ -6,10 +6,12 @@
 
 mod desk;
 mod firing;
+mod least;
 mod pushing;
 mod taking;
 mod visiting;
 
 pub use desk::Desk;
 pub use firing::fire_one;
+pub use least::lesser;
 pub use visiting::visit;

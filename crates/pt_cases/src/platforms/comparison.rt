@@ -3,7 +3,7 @@
 use crate::platforms::drawing::draw;
 use crate::platforms::game::{Game, Played};
 use crate::platforms::random::Random;
-use crate::platforms::report::push_task;
+use crate::platforms::report::push_claim;
 use crate::platforms::search::Plain;
 use pt_actors::Task;
 use pt_blocks::Blocks;
@@ -142,11 +142,11 @@ fn difference(
 ) -> Result<String, AllocError> {
     let mut text = String::from_str(alloc, "the search:")?;
     for task in wanted {
-        push_task(&mut text, graph, task)?;
+        push_claim(&mut text, graph, task.number, task.actor, task.tag)?;
     }
     text.push_str("; the platform:")?;
     for task in claimed {
-        push_task(&mut text, graph, task)?;
+        push_claim(&mut text, graph, task.number, task.actor, task.tag)?;
     }
     Ok(text)
 }

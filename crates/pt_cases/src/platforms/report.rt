@@ -1,7 +1,6 @@
 //! What a turn did, as text.
 
 use crate::platforms::game::{Game, Played};
-use pt_actors::Task;
 use pt_history::History;
 use pt_tags::{Message, Tag};
 use pt_turn::{Platform, TurnFault};
@@ -32,12 +31,17 @@ fn push_message(
 }
 
 /// Appends a claim.
-pub fn push_task(text: &mut String, graph: &Graph, task: &Task) -> Result<(), AllocError> {
-    let number = task.number;
+pub fn push_claim(
+    text: &mut String,
+    graph: &Graph,
+    number: u64,
+    actor: u32,
+    tag: Tag,
+) -> Result<(), AllocError> {
     write!(text, " claim {number} ")?;
-    text.push_str(graph.actor_name(task.actor))?;
+    text.push_str(graph.actor_name(actor))?;
     text.push_str("@")?;
-    push_tag(text, task.tag)
+    push_tag(text, tag)
 }
 
 /// Appends what was posted, entered and taken in a kept turn.
@@ -62,7 +66,8 @@ fn push_kept(
         push_message(text, "take", end_of(graph, taken, false), taken.message)?;
     }
     for claimed in 0..history.claimed(number) {
-        push_task(text, graph, &history.task_in(number, claimed))?;
+        let claim = history.claim_mark(number, claimed);
+        push_claim(text, graph, claim.number, claim.actor, claim.tag)?;
     }
     for sent in history.sent(number) {
         push_message(text, "send", end_of(graph, sent, true), sent.message)?;

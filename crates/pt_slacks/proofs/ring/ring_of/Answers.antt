@@ -4,7 +4,7 @@ use Rattle.std.proofs.lemmas.List.{get_or_read}
 use Rattle.std.specs.Prelude.{reverse}
 use Rattle.pt_causality.specs.Delays.{least_of}
 use Rattle.pt_slacks.specs.Rows.{row_at}
-use Rattle.pt_slacks.specs.Trails.{IsClosing}
+use Rattle.pt_slacks.specs.Trails.{IsRaisedByTrail}
 use Rattle.pt_slacks.proofs.Costs.{cheap, hops_len}
 use Rattle.pt_slacks.proofs.Rounds.{row_len, rows_fit}
 use Rattle.pt_slacks.proofs.Walking.{asks_at, back, closes, none_asks, walk_ends, walk_more}
@@ -53,7 +53,7 @@ closed-requires-clause-closing c =
     let place : n - step ≡ b.risen + 1 = omega (arith, room) in
     let asks = asks_at g least hops rows c.requires.rising.are c.as_slice.result.now c.slack_at-slack.result (n - step) b.risen at from is_row c.slack_at-slack.ensures place c.in-Some.ensures.1 in
     let on : list_any (λ x. x == from) (reverse trail) ≡ true = sym (ap (λ xs. list_any (λ x. x == from) (reverse xs)) c.as_slice-in-loop-step.ensures.value) ∙ sym c.is_on.ensures ∙ c.if-is_on.true in
-    subst (λ xs. IsClosing hops least rows xs (n - step) from) (sym c.as_slice-then-is_on.ensures.value)
+    subst (λ xs. IsRaisedByTrail hops least rows xs (n - step) from) (sym c.as_slice-then-is_on.ensures.value)
     (closes g least hops rows c.requires.rising.are step at from (n - step) trail b place c.in-Some.ensures.0 asks on)
 
 pub loop-step-preserved : goal.loop-step-preserved
