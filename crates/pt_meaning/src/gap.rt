@@ -1,6 +1,7 @@
 //! The gap in a line of events, into which new ones go.
 
-ghost use Rattle.std.specs.Prelude.{◌≡◌, ◌++◌, IfOk, IsTrue, IsSome};
+ghost use Rattle.std.specs.Prelude.{◌≡◌, ◌++◌, ◌∷◌, [], List, IfOk, IsTrue, IsSome, MatchOption};
+ghost use Rattle.pt_meaning.specs.declared.line.Sent.{Sent};
 ghost use Rattle.pt_meaning.specs.Line.{in_line, AreAfter, AreBefore, IsRising};
 ghost use Rattle.pt_meaning.specs.Waiting.{place_cmp};
 
@@ -11,6 +12,16 @@ use std::collections::VecDeque;
 
 /// How many events the gap may move over for a new one: where it would have to move further, a map is faster.
 const MOVED: usize = 256;
+
+/// The place of the first of these events.
+pub(crate) fn place_at_front(events: &VecDeque<Sent>) -> Option<Place>
+    ensures { MatchOption result (events.now.items ≡ []) (λ place. (sent : Sent) × (rest : List Sent) × (events.now.items ≡ sent ∷ rest) × (place ≡ sent.place)) }
+{
+    match events.front() {
+        Some(sent) => Some(sent.place),
+        None => None,
+    }
+}
 
 /// Whether all of these events, which are in order, are before a place.
 pub(crate) fn ends_before(events: &VecDeque<Sent>, place: Place) -> bool

@@ -8,7 +8,7 @@ ghost use Rattle.pt_meaning.specs.Line.{in_line, AreBefore, IsRising};
 ghost use Rattle.pt_meaning.specs.Waiting.{place_cmp};
 
 use crate::front::Front;
-use crate::gap::{ends_at, ends_before, reach};
+use crate::gap::{ends_at, ends_before, place_at_front, reach};
 use crate::place::{Place, is_of};
 use pt_tags::{Memory, Tag};
 use std::alloc::Global;
@@ -68,12 +68,10 @@ impl Line {
         ensures first { MatchOption result (self.now ≡ []) (λ place. (sent : Sent) × (rest : List Sent) × (self.now ≡ sent ∷ rest) × (place ≡ sent.place)) }
         ensures rising { IsRising place_cmp self.now }
     {
-        match self.before.front() {
-            Some(sent) => Some(sent.place),
-            None => match self.after.front() {
-                Some(sent) => Some(sent.place),
-                None => None,
-            },
+        if self.before.is_empty() {
+            place_at_front(&self.after)
+        } else {
+            place_at_front(&self.before)
         }
     }
 
@@ -92,24 +90,21 @@ impl Line {
         Ok(true)
     }
 
-    /// Whether a place is after all events, as that of a new one often is.
+    /// Whether there are events after the gap and a place is after all of them, as that of a new one often is.
     fn is_past(&self, place: Place) -> bool
         ensures { IsTrue result → AreBefore place_cmp place self.now }
     {
-        if self.after.is_empty() {
-            ends_before(&self.before, place)
-        } else {
-            ends_before(&self.after, place)
-        }
+        !self.after.is_empty() && ends_before(&self.after, place)
     }
 
     /// Takes the first event.
     fn pop(&mut self) -> Option<Sent>
         ensures { MatchOption result (self.old ≡ []) (λ sent. self.old ≡ sent ∷ self.new) }
     {
-        match self.before.pop_front() {
-            Some(sent) => Some(sent),
-            None => self.after.pop_front(),
+        if self.before.is_empty() {
+            self.after.pop_front()
+        } else {
+            self.before.pop_front()
         }
     }
 }
