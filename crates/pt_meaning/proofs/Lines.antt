@@ -1,5 +1,5 @@
 -- What waits in a line, and what an event more or less does to it.
-use Rattle.std.proofs.Common.{◌≡◌, ℕ, zero, suc, ◌<◌, ◌==◌, ◌&&◌, List, [], ◌∷◌, ◌++◌, length, get_or, cond, Bool, true, false, Option, Some, None, IsSome, MatchBool, MatchOption, ℤ, refl, sym, ap, subst, ◌∙◌, arith}
+use Rattle.std.proofs.Common.{◌≡◌, ℕ, zero, suc, ◌<◌, ◌==◌, ◌&&◌, List, [], ◌∷◌, ◌++◌, length, get_or, cond, Bool, true, false, Option, Some, None, IsSome, MatchBool, MatchOption, ℤ, refl, sym, ap, subst, ◌∙◌, arith, inl, inr}
 use Rattle.std.specs.declared.cmp.Ordering.{Ordering}
 use Rattle.std.specs.declared.cmp.Ordering.TheVariants.{Less, Equal, Greater}
 use Rattle.std.specs.Ordering.{is_lt, is_gt, is_eq}
@@ -14,9 +14,9 @@ use Rattle.pt_types.specs.Ports.{when}
 use Rattle.pt_semantics.specs.Lists.{or_else, Each}
 use Rattle.pt_meaning.specs.declared.place.Place.{Place}
 use Rattle.pt_meaning.specs.declared.line.Sent.{Sent}
-use Rattle.pt_meaning.specs.Line.{in_line, AreAfter, AreBefore, IsRising}
+use Rattle.pt_meaning.specs.Line.{begins_with, in_line, AreAfter, AreBefore, IsRising}
 use Rattle.pt_meaning.specs.Waiting.{place_cmp}
-use Rattle.pt_meaning.specs.Front.{Enters, IsLeast, Leaves, is_of}
+use Rattle.pt_meaning.specs.Front.{Enters, IsLeast, Leaves, NoneInFront, is_of}
 use Rattle.pt_meaning.proofs.Places.{one_place, same_self}
 
 pub place_total : IsTotalOrder place_cmp
@@ -192,6 +192,29 @@ least_in es (Some place) first rising =
     let least = least_of place_cmp place_total first.0 first.1 (subst (IsRising place_cmp) first.2 rising) in
     let here : IsLeast (in_line place_cmp es) first.0.place = subst (λ zs. IsLeast (in_line place_cmp zs) first.0.place) (sym first.2) (record { there = least.0; least = least.1 }) in
     subst (IsLeast (in_line place_cmp es)) (sym first.3) here
+
+pub begins_at : (t : Tag) (a : ℕ) (es : List Sent) (first : Sent) → 0 < length es → first ≡ get_or es 0 first → is_of t a first.place ≡ begins_with t a es
+begins_at t a [] first some is = absurd (omega (arith, some))
+begins_at t a (x ∷ es) first some is = ap (λ (e : Sent). is_of t a e.place) is
+
+pub begins_none : (t : Tag) (a : ℕ) (es : List Sent) → length es ≡ 0 → false ≡ begins_with t a es
+begins_none t a [] none = refl
+begins_none t a (x ∷ es) none = absurd (omega (arith, none))
+
+-- a line begins as its first part does, and as its second part if there is nothing in the first
+pub begins_front : (t : Tag) (a : ℕ) (xs ys : List Sent) → 0 < length xs → begins_with t a xs ≡ begins_with t a (xs ++ ys)
+begins_front t a [] ys some = absurd (omega (arith, some))
+begins_front t a (x ∷ xs) ys some = refl
+
+pub begins_back : (t : Tag) (a : ℕ) (xs ys : List Sent) → length xs ≡ 0 → begins_with t a ys ≡ begins_with t a (xs ++ ys)
+begins_back t a [] ys none = refl
+begins_back t a (x ∷ xs) ys none = absurd (omega (arith, none))
+
+pub none_in_front : (t : Tag) (a : ℕ) (es : List Sent) → IsRising place_cmp es → begins_with t a es ≡ false → NoneInFront t a (in_line place_cmp es)
+none_in_front t a [] rising other = inl (λ q. refl)
+none_in_front t a (x ∷ es) rising other =
+    let least = least_of place_cmp place_total x es rising in
+    inr (x.place, record { there = least.0; least = least.1 }, other)
 
 -- nothing enters where an event is
 pub enters_not : (es : List Sent) (p : Place) (v : ℤ) → IsSome (in_line place_cmp es p) → (q : Place) → in_line place_cmp es q ≡ or_else (in_line place_cmp es q) (when (is_eq (place_cmp p q)) (Some v))

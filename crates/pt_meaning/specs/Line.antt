@@ -1,9 +1,11 @@
 -- Events in the order of their places.
-use Rattle.std.specs.Prelude.{◌≡◌, List, [], ◌∷◌, cond, Option, Some, None, ℤ}
+use Rattle.std.specs.Prelude.{◌≡◌, ℕ, Bool, false, List, [], ◌∷◌, cond, Option, Some, None, ℤ}
 use Rattle.std.specs.declared.cmp.Ordering.{Ordering}
 use Rattle.std.specs.declared.cmp.Ordering.TheVariants.{Less, Greater}
 use Rattle.std.specs.Ordering.{is_eq}
+use Rattle.pt_tags.specs.declared.tag.Tag.{Tag}
 use Rattle.pt_semantics.specs.Lists.{Each}
+use Rattle.pt_meaning.specs.Front.{is_of}
 use Rattle.pt_meaning.specs.declared.place.Place.{Place}
 use Rattle.pt_meaning.specs.declared.line.Sent.{Sent}
 
@@ -11,6 +13,11 @@ use Rattle.pt_meaning.specs.declared.line.Sent.{Sent}
 abbrev pub in_line : (Place → Place → Ordering) → List Sent → Place → Option ℤ
 in_line cmp [] q = None
 in_line cmp (e ∷ events) q = cond (is_eq (cmp e.place q)) (Some e.value) (in_line cmp events q)
+
+-- the first event is of this tag and actor
+abbrev pub begins_with : Tag → ℕ → List Sent → Bool
+begins_with t actor [] = false
+begins_with t actor (e ∷ events) = is_of t actor e.place
 
 -- each event is before those after it
 abbrev pub IsRising : (Place → Place → Ordering) → List Sent → Type 0

@@ -2,12 +2,12 @@
 
 ghost use Rattle.std.specs.Prelude.{◌≡◌, ◌++◌, ◌∷◌, [], List, IfOk, IsTrue, IsSome, MatchOption};
 ghost use Rattle.pt_meaning.specs.declared.line.Sent.{Sent};
-ghost use Rattle.pt_meaning.specs.Line.{in_line, AreAfter, AreBefore, IsRising};
+ghost use Rattle.pt_meaning.specs.Line.{begins_with, in_line, AreAfter, AreBefore, IsRising};
 ghost use Rattle.pt_meaning.specs.Waiting.{place_cmp};
 
 use crate::line::Sent;
-use crate::place::Place;
-use pt_tags::Memory;
+use crate::place::{Place, is_of};
+use pt_tags::{Memory, Tag};
 use std::collections::VecDeque;
 
 /// How many events the gap may move over for a new one: where it would have to move further, a map is faster.
@@ -20,6 +20,16 @@ pub(crate) fn place_at_front(events: &VecDeque<Sent>) -> Option<Place>
     match events.front() {
         Some(sent) => Some(sent.place),
         None => None,
+    }
+}
+
+/// Whether the first of these events is of this tag and actor.
+pub(crate) fn begins_with(events: &VecDeque<Sent>, tag: Tag, actor: u32) -> bool
+    ensures { result ≡ begins_with tag actor events.now.items }
+{
+    match events.front() {
+        Some(sent) => is_of(tag, actor, &sent.place),
+        None => false,
     }
 }
 

@@ -4,12 +4,12 @@ ghost use Rattle.std.specs.Prelude.{◌≡◌, ◌++◌, ◌∷◌, [], List, If
 ghost use Rattle.pt_meaning.specs.declared.place.Place.{Place};
 ghost use Rattle.pt_meaning.specs.declared.line.Sent.{Sent};
 ghost use Rattle.pt_meaning.specs.Front.{Enters, IsLeast};
-ghost use Rattle.pt_meaning.specs.Line.{in_line, AreBefore, IsRising};
+ghost use Rattle.pt_meaning.specs.Line.{begins_with, in_line, AreBefore, IsRising};
 ghost use Rattle.pt_meaning.specs.Waiting.{place_cmp};
 
 use crate::front::Front;
-use crate::gap::{ends_at, ends_before, place_at_front, reach};
-use crate::place::{Place, is_of};
+use crate::gap::{begins_with, ends_at, ends_before, place_at_front, reach};
+use crate::place::Place;
 use pt_tags::{Memory, Tag};
 use std::alloc::Global;
 use std::collections::VecDeque;
@@ -97,6 +97,18 @@ impl Line {
         !self.after.is_empty() && ends_before(&self.after, place)
     }
 
+    /// Whether the first event is of this tag and actor.
+    fn is_first_of(&self, tag: Tag, actor: u32) -> bool
+        ensures is { result ≡ begins_with tag actor self.now }
+        ensures rising { IsRising place_cmp self.now }
+    {
+        if self.before.is_empty() {
+            begins_with(&self.after, tag, actor)
+        } else {
+            begins_with(&self.before, tag, actor)
+        }
+    }
+
     /// Takes the first event.
     fn pop(&mut self) -> Option<Sent>
         ensures { MatchOption result (self.old ≡ []) (λ sent. self.old ≡ sent ∷ self.new) }
@@ -115,8 +127,7 @@ impl Front for Line {
     ghost count = { λ line. length line };
 
     fn take_first(&mut self, tag: Tag, actor: u32) -> Option<(u32, i64)> {
-        let first = self.head()?;
-        if !is_of(tag, actor, &first) {
+        if !self.is_first_of(tag, actor) {
             return None;
         }
         let sent = self.pop()?;
