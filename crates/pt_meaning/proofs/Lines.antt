@@ -1,29 +1,23 @@
 -- What waits in a line, and what an event more or less does to it.
-use Rattle.std.proofs.Common.{◌≡◌, ℕ, zero, suc, ◌<◌, ◌≤◌, ◌==◌, ◌&&◌, List, [], ◌∷◌, ◌++◌, length, take, drop, get_or, cond, Bool, true, false, Option, Some, None, IsSome, Result, Ok, Err, IfOk, IfErr, ℤ, refl, sym, ap, subst, ◌∙◌, ◌-◌, ◌⊎◌, ⊎_elim, inl, inr, arith}
-use Rattle.std.proofs.Math.Numerals.{add-one}
+use Rattle.std.proofs.Common.{◌≡◌, ℕ, zero, suc, ◌<◌, ◌==◌, ◌&&◌, List, [], ◌∷◌, ◌++◌, length, get_or, cond, Bool, true, false, Option, Some, None, IsSome, MatchBool, MatchOption, ℤ, refl, sym, ap, subst, ◌∙◌, arith, inl, inr}
 use Rattle.std.specs.declared.cmp.Ordering.{Ordering}
 use Rattle.std.specs.declared.cmp.Ordering.TheVariants.{Less, Equal, Greater}
-use Rattle.std.specs.Ordering.{is_lt, is_gt, is_eq, ordering_index}
+use Rattle.std.specs.Ordering.{is_lt, is_gt, is_eq}
 use Rattle.std.specs.Cmp.{IsTotalOrder}
-use Rattle.std.specs.List.Sorted.{IsSearchInRange, IsBinarySearchResult, IsNonDecreasingBy}
 use Rattle.std.proofs.lemmas.Cmp.{alike_right, tied_itself, nat_cmp_total, on_total, then_total}
-use Rattle.std.proofs.lemmas.List.Sorted.{searchable_from_sorted}
 use Rattle.pt_tags.specs.declared.tag.Tag.{Tag}
 use Rattle.pt_tags.specs.Tags.{same_tag}
-use Rattle.std.proofs.lemmas.Bool.{cases_lt}
-use Rattle.std.proofs.lemmas.List.{get_or_default}
-use Rattle.std.proofs.Math.Seq.{take-length, drop-length}
+use Rattle.std.proofs.lemmas.List.{append-nil, length-append}
 use Rattle.std.proofs.lemmas.Bool.Decides.{nat_tests}
 use Rattle.std.proofs.lemmas.Grind.{common_steps}
 use Rattle.pt_types.specs.Ports.{when}
 use Rattle.pt_semantics.specs.Lists.{or_else, Each}
 use Rattle.pt_meaning.specs.declared.place.Place.{Place}
 use Rattle.pt_meaning.specs.declared.line.Sent.{Sent}
-use Rattle.pt_meaning.specs.Line.{in_line, IsGap, IsRising, IsThere}
+use Rattle.pt_meaning.specs.Line.{begins_with, in_line, AreAfter, AreBefore, IsRising}
 use Rattle.pt_meaning.specs.Waiting.{place_cmp}
-use Rattle.pt_meaning.specs.Front.{Leaves, is_of}
-use Rattle.pt_meaning.proofs.Emitting.{each_at}
-use Rattle.pt_meaning.proofs.Places.{same_self}
+use Rattle.pt_meaning.specs.Front.{Enters, IsLeast, Leaves, NoneInFront, is_of}
+use Rattle.pt_meaning.proofs.Places.{one_place, same_self}
 
 pub place_total : IsTotalOrder place_cmp
 place_total =
@@ -39,10 +33,6 @@ eq_of : (o : Ordering) → is_eq o ≡ true → o ≡ Equal
 eq_of Less h = absurd cc
 eq_of Equal h = refl
 eq_of Greater h = absurd cc
-
--- an event at the end
-pub at_the_end : (es : List Sent) (x : Sent) → take (length es) es ++ x ∷ drop (length es) es ≡ es ++ x ∷ []
-at_the_end es x = rw (take-length es, drop-length es) refl
 
 module _ (R : Place → Place → Ordering) (o : IsTotalOrder R) where
   -- where all are after a place, nothing is at it
@@ -90,146 +80,81 @@ module _ (R : Place → Place → Ordering) (o : IsTotalOrder R) where
       by true same some = eq_not_gt (R x.place q) same
       by false same some = after_first x.place es q rising.0 some
 
-  -- of two events the one with the lower index is before the other
-  ordered : (es : List Sent) → IsRising R es → (i j : ℕ) (d : Sent) → i < j → j < length es → R (get_or es i d).place (get_or es j d).place ≡ Less
-  ordered [] rising i j d h within = absurd (omega arith)
-  ordered (x ∷ es) rising i zero d h within = absurd (omega arith)
-  ordered (x ∷ es) rising zero (suc j) d h within = each_at (λ (f : Sent). R x.place f.place ≡ Less) es j d rising.0 (omega arith)
-  ordered (x ∷ es) rising (suc i) (suc j) d h within = ordered es rising.1 i j d (omega arith) (omega arith)
+  -- where the last event is before a place, all are
+  pub all_before : (es : List Sent) (p : Place) (last : Sent) (k : ℕ) → length es ≡ suc k → IsRising R es → last ≡ get_or es k last → R last.place p ≡ Less → AreBefore R p es
+  all_before [] p last k len rising is before = tt
+  all_before (x ∷ []) p last zero len rising is before = (subst (λ (e : Sent). R e.place p ≡ Less) is before, tt)
+  all_before (x ∷ []) p last (suc k) len rising is before = absurd (omega (arith, len))
+  all_before (x ∷ y ∷ es) p last zero len rising is before = absurd (omega (arith, len))
+  all_before (x ∷ y ∷ es) p last (suc k) len rising is before =
+      let rest = all_before (y ∷ es) p last k (omega (arith, len)) rising.1 is before in
+      (o.trans x.place y.place p rising.0.0 rest.0, rest)
 
-  neighbours : (es : List Sent) → IsRising R es → (k : ℕ) (d : Sent) → suc k < length es → R (get_or es k d).place (get_or es (suc k) d).place ≡ Less
-  neighbours es rising k d h = ordered es rising k (suc k) d (omega arith) h
-
-  -- a place after the last event has its gap at the end
-  pub gap_at_end : (es : List Sent) (p : Place) (last : Sent) → IsRising R es → last ≡ get_or es (length es - 1) last → R last.place p ≡ Less → IsGap R p es (length es)
-  gap_at_end es p last rising is after = record {
-    in_range = omega arith;
-    before = λ k d h. before_last k d h;
-    after = λ k d low h. absurd (omega arith);
-  }
+  -- where the first event is after a place, all are
+  pub all_after : (es : List Sent) (p : Place) (first : Sent) → IsRising R es → first ≡ get_or es 0 first → R p first.place ≡ Less → AreAfter R p es
+  all_after [] p first rising is after = tt
+  all_after (x ∷ es) p first rising is after =
+      let here : R p x.place ≡ Less = subst (λ (e : Sent). R p e.place ≡ Less) is after in
+      (back_from_less p x.place here, rest es rising.0)
     where
-      last_at : (d : Sent) → 0 < length es → R (get_or es (length es - 1) d).place p ≡ Less
-      last_at d some = subst (λ (e : Sent). R e.place p ≡ Less) (is ∙ get_or_default es (length es - 1) last d (omega arith)) after
+      rest : (ys : List Sent) → Each (λ (e : Sent). R x.place e.place ≡ Less) ys → AreAfter R p ys
+      rest [] h = tt
+      rest (y ∷ ys) h = (back_from_less p y.place (o.trans p x.place y.place (subst (λ (e : Sent). R p e.place ≡ Less) is after) h.0), rest ys h.1)
 
-      by : (k : ℕ) (d : Sent) → k < length es → (k < length es - 1) ⊎ (k ≡ length es - 1) → R (get_or es k d).place p ≡ Less
-      by k d h (inl low) = o.trans (get_or es k d).place (get_or es (length es - 1) d).place p (ordered es rising k (length es - 1) d low (omega arith)) (last_at d (omega arith))
-      by k d h (inr at) = subst (λ n. R (get_or es n d).place p ≡ Less) (sym at) (last_at d (omega arith))
-
-      before_last : (k : ℕ) (d : Sent) → k < length es → R (get_or es k d).place p ≡ Less
-      before_last k d h = ⊎_elim
-          (λ (low : k < length es - 1). by k d h (inl low))
-          (λ (high : length es - 1 ≤ k). let at : k ≡ length es - 1 = omega (arith, h, high) in by k d h (inr at))
-          (cases_lt k (length es - 1))
-
-  -- a place between two neighbours has its gap there
-  pub gap_between : (es : List Sent) (p : Place) (i : ℕ) (x y : Sent) → IsRising R es → 0 < i → i < length es → x ≡ get_or es (i - 1) x → y ≡ get_or es i y
-      → R x.place p ≡ Less → R p y.place ≡ Less → IsGap R p es i
-  gap_between es p i x y rising low high x_is y_is before after = record {
-    in_range = omega (arith, high);
-    before = λ k d h. first_part k d h;
-    after = λ k d from within. last_part k d from within;
-  }
+  -- the parts of a line that rises do
+  pub rising_front : (xs ys : List Sent) → IsRising R (xs ++ ys) → IsRising R xs
+  rising_front [] ys h = tt
+  rising_front (x ∷ xs) ys h = (each_front xs ys h.0, rising_front xs ys h.1)
     where
-      x_at : (d : Sent) → R (get_or es (i - 1) d).place p ≡ Less
-      x_at d = subst (λ (e : Sent). R e.place p ≡ Less) (x_is ∙ get_or_default es (i - 1) x d (omega (arith, low, high))) before
+      each_front : (xs ys : List Sent) → Each (λ (e : Sent). R x.place e.place ≡ Less) (xs ++ ys) → Each (λ (e : Sent). R x.place e.place ≡ Less) xs
+      each_front [] ys h = tt
+      each_front (e ∷ xs) ys h = (h.0, each_front xs ys h.1)
 
-      y_at : (d : Sent) → R p (get_or es i d).place ≡ Less
-      y_at d = subst (λ (e : Sent). R p e.place ≡ Less) (y_is ∙ get_or_default es i y d high) after
+  pub rising_back : (xs ys : List Sent) → IsRising R (xs ++ ys) → IsRising R ys
+  rising_back [] ys h = h
+  rising_back (x ∷ xs) ys h = rising_back xs ys h.1
 
-      up_to : (k : ℕ) (d : Sent) → (k < i - 1) ⊎ (k ≡ i - 1) → R (get_or es k d).place p ≡ Less
-      up_to k d (inl lower) = o.trans (get_or es k d).place (get_or es (i - 1) d).place p (ordered es rising k (i - 1) d lower (omega (arith, low, high))) (x_at d)
-      up_to k d (inr at) = subst (λ n. R (get_or es n d).place p ≡ Less) (sym at) (x_at d)
-
-      from_on : (k : ℕ) (d : Sent) → k < length es → (i < k) ⊎ (k ≡ i) → R (get_or es k d).place p ≡ Greater
-      from_on k d within (inl higher) = back_from_less p (get_or es k d).place (o.trans p (get_or es i d).place (get_or es k d).place (y_at d) (ordered es rising i k d higher within))
-      from_on k d within (inr at) = back_from_less p (get_or es k d).place (subst (λ n. R p (get_or es n d).place ≡ Less) (sym at) (y_at d))
-
-      first_part : (k : ℕ) (d : Sent) → k < i → R (get_or es k d).place p ≡ Less
-      first_part k d h = ⊎_elim
-          (λ (lower : k < i - 1). up_to k d (inl lower))
-          (λ (higher : i - 1 ≤ k). let at : k ≡ i - 1 = omega (arith, h, higher) in up_to k d (inr at))
-          (cases_lt k (i - 1))
-
-      last_part : (k : ℕ) (d : Sent) → i ≤ k → k < length es → R (get_or es k d).place p ≡ Greater
-      last_part k d from within = ⊎_elim
-          (λ (higher : i < k). from_on k d within (inl higher))
-          (λ (lower : k ≤ i). let at : k ≡ i = omega (arith, from, lower) in from_on k d within (inr at))
-          (cases_lt i k)
-
-  -- in an empty line every place has
-  pub gap_in_none : (es : List Sent) (p : Place) → length es ≡ 0 → IsGap R p es (length es)
-  gap_in_none es p none = record {
-    in_range = omega arith;
-    before = λ k d h. absurd (omega arith);
-    after = λ k d low h. absurd (omega arith);
-  }
-
-  searchable : (es : List Sent) (p : Place) → IsRising R es → IsNonDecreasingBy (λ (e : Sent). ordering_index (R e.place p)) es
-  searchable es p rising = searchable_from_sorted o (λ (e : Sent). e.place) es p (λ k d low h.
-      let h2 : suc k < length es = omega (arith, h) in
-      rw (add-one k, back_from_less (get_or es k d).place (get_or es (suc k) d).place (neighbours es rising k d h2)) refl)
-
-  -- a binary search ends at the place, or at the gap for it
-  pub searched : (es : List Sent) (p : Place) → IsRising R es → (r : Result ℕ ℕ) → IsSearchInRange r (length es) → IsBinarySearchResult (λ (e : Sent). R e.place p) es r
-      → IfOk r (IsThere R p es) × IfErr r (IsGap R p es)
-  searched es p rising (Ok i) within found = (record { in_range = within; same = found }, tt)
-  searched es p rising (Err i) within parted = (
-    tt,
-    record {
-      in_range = within;
-      before = λ k d h. (parted (searchable es p rising)).0 k d (omega arith) h;
-      after = λ k d low h. (parted (searchable es p rising)).1 k d low h;
-    },
-  )
-
-  -- an event that is there is found
-  found_at : (es : List Sent) (p q : Place) (i : ℕ) (d : Sent) → i < length es → R (get_or es i d).place p ≡ Equal → is_eq (R p q) ≡ true → IsSome (in_line R es q)
-  found_at [] p q i d h at same = absurd (omega arith)
-  found_at (x ∷ es) p q zero d h at same =
-      let here : R x.place q ≡ Equal = sym (alike_right o p q x.place (eq_of (R p q) same)) ∙ at in
-      rw here refl
-  found_at (x ∷ es) p q (suc i) d h at same = by (is_eq (R x.place q)) (found_at es p q i d (omega arith) at same)
+  -- where the events of the second part are before a place, so are all
+  pub both_before : (xs : List Sent) (ys : List Sent) (p : Place) → 0 < length ys → IsRising R (xs ++ ys) → AreBefore R p ys → AreBefore R p (xs ++ ys)
+  both_before [] ys p some rising before = before
+  both_before (x ∷ xs) ys p some rising before =
+      let rest = both_before xs ys p some rising.1 before in
+      (next (xs ++ ys) (simp length-append (omega (arith, some))) rising.0 rest, rest)
     where
-      by : (b : Bool) → IsSome (in_line R es q) → IsSome (cond b (Some x.value) (in_line R es q))
+      next : (zs : List Sent) → 0 < length zs → Each (λ (e : Sent). R x.place e.place ≡ Less) zs → AreBefore R p zs → R x.place p ≡ Less
+      next [] some rising before = absurd (omega (arith, some))
+      next (z ∷ zs) some rising before = o.trans x.place z.place p rising.0 before.0
+
+  -- an event that is the last is there
+  pub last_there : (es : List Sent) (last : Sent) (k : ℕ) → length es ≡ suc k → last ≡ get_or es k last → IsSome (in_line R es last.place)
+  last_there [] last k len is = absurd (omega (arith, len))
+  last_there (x ∷ es) last zero len is = subst (λ (e : Sent). IsSome (in_line R (e ∷ es) last.place)) is (rw (tied_itself o last.place) refl)
+  last_there (x ∷ es) last (suc k) len is = by (is_eq (R x.place last.place)) (last_there es last k (omega (arith, len)) is)
+    where
+      by : (b : Bool) → IsSome (in_line R es last.place) → IsSome (cond b (Some x.value) (in_line R es last.place))
       by true rest = refl
       by false rest = rest
 
-  -- nothing enters where one is
-  pub enters_not : (es : List Sent) (p : Place) (v : ℤ) (i : ℕ) → IsThere R p es i → (q : Place) → in_line R es q ≡ or_else (in_line R es q) (when (is_eq (R p q)) (Some v))
-  enters_not es p v i there q = by (is_eq (R p q)) (in_line R es q) (found_at es p q i d there.in_range (there.same d))
+  pub there_in_both : (xs ys : List Sent) (p : Place) → IsSome (in_line R xs p) → IsSome (in_line R (xs ++ ys) p)
+  there_in_both [] ys p some = absurd cc
+  there_in_both (x ∷ xs) ys p some = by (is_eq (R x.place p)) some (there_in_both xs ys p)
     where
-      d : Sent
-      d = record { place = p; value = v }
-
-      by : (b : Bool) (x : Option ℤ) → (b ≡ true → IsSome x) → x ≡ or_else x (when b (Some v))
-      by b (Some w) some = refl
-      by false None some = refl
-      by true None some = let none = some refl in absurd cc
-
-  each_from : (es : List Sent) (p : Place) → ((k : ℕ) (d : Sent) → 0 ≤ k → k < length es → R (get_or es k d).place p ≡ Greater) → Each (λ (e : Sent). R e.place p ≡ Greater) es
-  each_from [] p at = tt
-  each_from (x ∷ es) p at = (at 0 x (omega arith) (omega arith), each_from es p (λ k d low h. at (suc k) d (omega arith) (omega arith)))
-
-  gap_tail : (x : Sent) (es : List Sent) (p : Place) (i : ℕ) → IsGap R p (x ∷ es) (suc i) → IsGap R p es i
-  gap_tail x es p i gap = record {
-    in_range = omega (arith, gap.in_range);
-    before = λ k d h. gap.before (suc k) d (omega arith);
-    after = λ k d low h. gap.after (suc k) d (omega arith) (omega arith);
-  }
+      by : (b : Bool) → IsSome (cond b (Some x.value) (in_line R xs p)) → (IsSome (in_line R xs p) → IsSome (in_line R (xs ++ ys) p)) → IsSome (cond b (Some x.value) (in_line R (xs ++ ys) p))
+      by true some rest = refl
+      by false some rest = rest some
 
   new_value : (b : Bool) (x : Option ℤ) (value : ℤ) → (b ≡ true → x ≡ None) → cond b (Some value) x ≡ or_else x (when b (Some value))
   new_value true x value h = rw (h refl) refl
   new_value false None value h = refl
   new_value false (Some v) value h = refl
 
-  -- an event enters at its gap
-  pub enters_at : (es : List Sent) (p : Place) (v : ℤ) (i : ℕ) → IsGap R p es i → (q : Place)
-      → in_line R (take i es ++ record { place = p; value = v } ∷ drop i es) q ≡ or_else (in_line R es q) (when (is_eq (R p q)) (Some v))
-  enters_at es p v zero gap q = new_value (is_eq (R p q)) (in_line R es q) v (absent p q es (each_from es p gap.after))
-  enters_at [] p v (suc i) gap q = absurd (omega (arith, gap.in_range))
-  enters_at (x ∷ es) p v (suc i) gap q = by (is_eq (R x.place q)) (in_line R (take i es ++ record { place = p; value = v } ∷ drop i es) q) (enters_at es p v i (gap_tail x es p i gap) q)
+  -- an event enters before those that are after it
+  pub enters_between : (xs ys : List Sent) (p : Place) (v : ℤ) → AreAfter R p ys → (q : Place)
+      → in_line R (xs ++ record { place = p; value = v } ∷ ys) q ≡ or_else (in_line R (xs ++ ys) q) (when (is_eq (R p q)) (Some v))
+  enters_between [] ys p v after q = new_value (is_eq (R p q)) (in_line R ys q) v (absent p q ys after)
+  enters_between (x ∷ xs) ys p v after q = by (is_eq (R x.place q)) (in_line R (xs ++ record { place = p; value = v } ∷ ys) q) (enters_between xs ys p v after q)
     where
-      by : (b : Bool) (y : Option ℤ) → y ≡ or_else (in_line R es q) (when (is_eq (R p q)) (Some v)) → cond b (Some x.value) y ≡ or_else (cond b (Some x.value) (in_line R es q)) (when (is_eq (R p q)) (Some v))
+      by : (b : Bool) (y : Option ℤ) → y ≡ or_else (in_line R (xs ++ ys) q) (when (is_eq (R p q)) (Some v)) → cond b (Some x.value) y ≡ or_else (cond b (Some x.value) (in_line R (xs ++ ys) q)) (when (is_eq (R p q)) (Some v))
       by true y rest = refl
       by false y rest = rest
 
@@ -237,27 +162,73 @@ module _ (R : Place → Place → Ordering) (o : IsTotalOrder R) where
   ahead [] p h = tt
   ahead (e ∷ es) p h = (rw (o.antisymm p e.place, h.0) refl, ahead es p h.1)
 
-  each_insert : (P : Sent → Type 0) (es : List Sent) (e : Sent) (i : ℕ) → Each P es → P e → Each P (take i es ++ e ∷ drop i es)
-  each_insert P es e zero each here = (here, each)
-  each_insert P [] e (suc i) each here = (here, each)
-  each_insert P (x ∷ es) e (suc i) each here = (each.0, each_insert P es e i each.1 here)
+  each_between : (P : Sent → Type 0) (xs ys : List Sent) (e : Sent) → Each P (xs ++ ys) → P e → Each P (xs ++ e ∷ ys)
+  each_between P [] ys e each here = (here, each)
+  each_between P (x ∷ xs) ys e each here = (each.0, each_between P xs ys e each.1 here)
 
   -- and the line still rises
-  pub rising_at : (es : List Sent) (p : Place) (v : ℤ) (i : ℕ) → IsGap R p es i → IsRising R es → IsRising R (take i es ++ record { place = p; value = v } ∷ drop i es)
-  rising_at es p v zero gap rising = (ahead es p (each_from es p gap.after), rising)
-  rising_at [] p v (suc i) gap rising = absurd (omega (arith, gap.in_range))
-  rising_at (x ∷ es) p v (suc i) gap rising = (
-    each_insert (λ (f : Sent). R x.place f.place ≡ Less) es (record { place = p; value = v }) i rising.0 (gap.before 0 x (omega arith)),
-    rising_at es p v i (gap_tail x es p i gap) rising.1,
+  pub rising_between : (xs ys : List Sent) (p : Place) (v : ℤ) → AreBefore R p xs → AreAfter R p ys → IsRising R (xs ++ ys) → IsRising R (xs ++ record { place = p; value = v } ∷ ys)
+  rising_between [] ys p v before after rising = (ahead ys p after, rising)
+  rising_between (x ∷ xs) ys p v before after rising = (
+    each_between (λ (f : Sent). R x.place f.place ≡ Less) xs ys (record { place = p; value = v }) rising.0 before.0,
+    rising_between xs ys p v before.1 after rising.1,
   )
 
-  -- the first event, read at index 0, is the least
-  pub least_at_front : (es : List Sent) (d : Sent) → 0 < length es → IsRising R es → IsSome (in_line R es (get_or es 0 d).place) × ((q : Place) → IsSome (in_line R es q) → is_gt (R (get_or es 0 d).place q) ≡ false)
-  least_at_front [] d h rising = absurd (omega arith)
-  least_at_front (x ∷ es) d h rising = (some x es, first_is_least x es rising)
-    where
-      some : (x : Sent) (es : List Sent) → IsSome (in_line R (x ∷ es) x.place)
-      some x es = rw (tied_itself o x.place) refl
+  -- an event put at the end
+  pub enters_last : (es : List Sent) (p : Place) (v : ℤ) (q : Place) → in_line R (es ++ record { place = p; value = v } ∷ []) q ≡ or_else (in_line R es q) (when (is_eq (R p q)) (Some v))
+  enters_last es p v q = enters_between es [] p v tt q ∙ ap (λ xs. or_else (in_line R xs q) (when (is_eq (R p q)) (Some v))) (append-nil es)
+
+  pub rising_last : (es : List Sent) (p : Place) (v : ℤ) → AreBefore R p es → IsRising R es → IsRising R (es ++ record { place = p; value = v } ∷ [])
+  rising_last es p v before rising = rising_between es [] p v before tt (subst (IsRising R) (sym (append-nil es)) rising)
+
+  -- the first event is the least
+  pub least_of : (x : Sent) (es : List Sent) → IsRising R (x ∷ es) → IsSome (in_line R (x ∷ es) x.place) × ((q : Place) → IsSome (in_line R (x ∷ es) q) → is_gt (R x.place q) ≡ false)
+  least_of x es rising = (rw (tied_itself o x.place) refl, first_is_least x es rising)
+
+pub least_in : (es : List Sent) (r : Option Place) → MatchOption r (es ≡ []) (λ place. (sent : Sent) × (rest : List Sent) × (es ≡ sent ∷ rest) × (place ≡ sent.place)) → IsRising place_cmp es
+    → MatchOption r ((q : Place) → in_line place_cmp es q ≡ None) (λ place. IsLeast (in_line place_cmp es) place)
+least_in es None none rising = λ q. ap (λ zs. in_line place_cmp zs q) none
+least_in es (Some place) first rising =
+    let least = least_of place_cmp place_total first.0 first.1 (subst (IsRising place_cmp) first.2 rising) in
+    let here : IsLeast (in_line place_cmp es) first.0.place = subst (λ zs. IsLeast (in_line place_cmp zs) first.0.place) (sym first.2) (record { there = least.0; least = least.1 }) in
+    subst (IsLeast (in_line place_cmp es)) (sym first.3) here
+
+pub begins_at : (t : Tag) (a : ℕ) (es : List Sent) (first : Sent) → 0 < length es → first ≡ get_or es 0 first → is_of t a first.place ≡ begins_with t a es
+begins_at t a [] first some is = absurd (omega (arith, some))
+begins_at t a (x ∷ es) first some is = ap (λ (e : Sent). is_of t a e.place) is
+
+pub begins_none : (t : Tag) (a : ℕ) (es : List Sent) → length es ≡ 0 → false ≡ begins_with t a es
+begins_none t a [] none = refl
+begins_none t a (x ∷ es) none = absurd (omega (arith, none))
+
+-- a line begins as its first part does, and as its second part if there is nothing in the first
+pub begins_front : (t : Tag) (a : ℕ) (xs ys : List Sent) → 0 < length xs → begins_with t a xs ≡ begins_with t a (xs ++ ys)
+begins_front t a [] ys some = absurd (omega (arith, some))
+begins_front t a (x ∷ xs) ys some = refl
+
+pub begins_back : (t : Tag) (a : ℕ) (xs ys : List Sent) → length xs ≡ 0 → begins_with t a ys ≡ begins_with t a (xs ++ ys)
+begins_back t a [] ys none = refl
+begins_back t a (x ∷ xs) ys none = absurd (omega (arith, none))
+
+pub none_in_front : (t : Tag) (a : ℕ) (es : List Sent) → IsRising place_cmp es → begins_with t a es ≡ false → NoneInFront t a (in_line place_cmp es)
+none_in_front t a [] rising other = inl (λ q. refl)
+none_in_front t a (x ∷ es) rising other =
+    let least = least_of place_cmp place_total x es rising in
+    inr (x.place, record { there = least.0; least = least.1 }, other)
+
+-- nothing enters where an event is
+pub enters_not : (es : List Sent) (p : Place) (v : ℤ) → IsSome (in_line place_cmp es p) → (q : Place) → in_line place_cmp es q ≡ or_else (in_line place_cmp es q) (when (is_eq (place_cmp p q)) (Some v))
+enters_not es p v some q = by (is_eq (place_cmp p q)) (in_line place_cmp es q) (λ same. subst (λ z. IsSome (in_line place_cmp es z)) (one_place p q same) some)
+  where
+    by : (b : Bool) (x : Option ℤ) → (b ≡ true → IsSome x) → x ≡ or_else x (when b (Some v))
+    by b (Some w) some = refl
+    by false None some = refl
+    by true None some = let none = some refl in absurd cc
+
+-- an event is at a place, so that nothing enters, or the line stays as it is
+pub there_or_not : (es : List Sent) (p : Place) (v : ℤ) (b : Bool) → (b ≡ true → IsSome (in_line place_cmp es p)) → MatchBool b (Enters p v (in_line place_cmp es) (in_line place_cmp es)) (es ≡ es)
+there_or_not es p v true some = enters_not es p v (some refl)
+there_or_not es p v false some = refl
 
 of_is : (t : Tag) (a b : ℕ) (u : Tag) → (b == a && same_tag t u) ≡ true → (b ≡ a) × (u.time ≡ t.time) × (u.step ≡ t.step)
 of_is t a b u h = (grind (arith, nat_tests, common_steps), grind (arith, nat_tests, common_steps), grind (arith, nat_tests, common_steps))

@@ -19,7 +19,7 @@ use crate::world::Waiting;
 use pt_actors::fire_kind;
 use pt_sensors::SensorRows;
 use pt_tags::{Memory, Tag};
-use pt_types::{Actor, ActorFiring, Edge, Fired, Graph, Kind, Ports};
+use pt_types::{Actor, ActorFiring, Edge, Graph, Kind, Ports};
 use std::alloc::{AllocError, Global};
 
 /// The events that wait, and the states of the actors.
@@ -94,20 +94,11 @@ fn fire(graph: &Graph, states: &[i64], firing: &mut ActorFiring)
     ensures { firing.new ≡ firing_of graph.now (states_in states.now) firing.old.actor firing.old.tag firing.old.inputs }
 {
     let before = states[firing.actor as usize];
-    let fired = fire_actor(graph, firing.actor, before, &firing.inputs);
+    let kind = &graph.actors.as_slice()[firing.actor as usize].kind;
+    let fired = fire_kind(kind, before, &firing.inputs);
     firing.before = before;
     firing.after = fired.state;
     firing.outputs = fired.outputs;
-}
-
-/// The new state and the outputs of an actor that fires in a state with these inputs.
-fn fire_actor(graph: &Graph, actor: u32, state: i64, inputs: &Ports) -> Fired
-    requires runnable { IsRunnable graph.now }
-    requires actor { actor < length graph.now.actors }
-    ensures { result ≡ fired (kind_of graph.now actor) state inputs.now }
-{
-    let kind = &graph.actors.as_slice()[actor as usize].kind;
-    fire_kind(kind, state, inputs)
 }
 
 /// Sets the state of an actor.

@@ -16,6 +16,7 @@ mod emission;
 mod engine;
 mod firings;
 mod front;
+mod gap;
 mod later;
 mod line;
 mod meaning;

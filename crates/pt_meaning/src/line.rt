@@ -1,20 +1,19 @@
 //! A line of events that wait, in the order in which they fire.
 
-ghost use Rattle.std.specs.Prelude.{◌≡◌, [], IfOk, IfErr, MatchBool, MatchOption, None, IsTrue, length};
+ghost use Rattle.std.specs.Prelude.{◌≡◌, ◌++◌, ◌∷◌, [], List, IfOk, IsTrue, MatchBool, MatchOption, None, length};
 ghost use Rattle.pt_meaning.specs.declared.place.Place.{Place};
+ghost use Rattle.pt_meaning.specs.declared.line.Sent.{Sent};
 ghost use Rattle.pt_meaning.specs.Front.{Enters, IsLeast};
-ghost use Rattle.pt_meaning.specs.Line.{in_line, IsGap, IsThere};
+ghost use Rattle.pt_meaning.specs.Line.{begins_with, in_line, AreBefore, IsRising};
 ghost use Rattle.pt_meaning.specs.Waiting.{place_cmp};
 
 use crate::front::Front;
-use crate::place::{Place, is_of};
+use crate::gap::{begins_with, ends_at, ends_before, place_at_front, reach};
+use crate::place::Place;
 use pt_tags::{Memory, Tag};
 use std::alloc::Global;
 use std::collections::VecDeque;
 use std::marker::Model;
-
-/// How many events may move for a new one: where more would have to, a map is faster.
-const MOVED: usize = 256;
 
 /// An event that waits.
 #[derive(Clone, Copy, Debug, PartialEq, Eq)]
@@ -24,24 +23,26 @@ pub struct Sent {
 }
 
 /// Events in the order of their places, no two at one. Contracts see the list of them.
+///
+/// The gap between the two parts is after the event that was last put between others. The next one mostly belongs there, and
+/// then no other event moves.
 #[derive(Drop)]
 pub struct Line {
-    events: VecDeque<Sent>,
-    /// The index after the last event that was put between others, where the next one mostly belongs.
-    next: usize,
+    before: VecDeque<Sent>,
+    after: VecDeque<Sent>,
 }
 
 impl Model for Line {
-    ghost use Rattle.std.specs.Prelude.{List};
+    ghost use Rattle.std.specs.Prelude.{List, ◌++◌};
     ghost use Rattle.pt_meaning.specs.declared.line.Sent.{Sent};
     ghost use Rattle.pt_meaning.specs.Line.{IsRising};
     ghost use Rattle.pt_meaning.specs.Waiting.{place_cmp};
 
     ghost Value = { List Sent };
 
-    ghost view = { λ line. line.events.items };
+    ghost view = { λ line. line.before.items ++ line.after.items };
 
-    ghost invariant = { λ line. IsRising place_cmp line.events.items };
+    ghost invariant = { λ line. IsRising place_cmp (line.before.items ++ line.after.items) };
 }
 
 impl Line {
@@ -50,8 +51,8 @@ impl Line {
         ensures { result ≡ [] }
     {
         Line {
-            events: VecDeque::new(alloc),
-            next: 0,
+            before: VecDeque::new(alloc),
+            after: VecDeque::new(alloc),
         }
     }
 
@@ -59,65 +60,63 @@ impl Line {
     pub fn first(&self) -> Option<Place>
         ensures { MatchOption result ((q : Place) → in_line place_cmp self.now q ≡ None) (λ place. IsLeast (in_line place_cmp self.now) place) }
     {
-        match self.events.front() {
-            Some(sent) => Some(sent.place),
-            None => None,
+        self.head()
+    }
+
+    /// The place of the first event.
+    fn head(&self) -> Option<Place>
+        ensures first { MatchOption result (self.now ≡ []) (λ place. (sent : Sent) × (rest : List Sent) × (self.now ≡ sent ∷ rest) × (place ≡ sent.place)) }
+        ensures rising { IsRising place_cmp self.now }
+    {
+        if self.before.is_empty() {
+            place_at_front(&self.after)
+        } else {
+            place_at_front(&self.before)
         }
     }
 
-    /// Adds an event, unless one waits at its place. Returns false, and adds nothing, if too many others would have to move.
+    /// Adds an event, unless one waits at its place. Returns false, and adds nothing, if it belongs too far from the gap.
     pub fn enter(&mut self, place: Place, value: i64) -> Result<bool, Memory>
         ensures { IfOk result (λ entered. MatchBool entered (Enters place value (in_line place_cmp self.old) (in_line place_cmp self.new)) (self.new ≡ self.old)) }
     {
         if self.is_past(place) {
-            self.events.push_back(Sent { place, value })?;
+            self.after.push_back(Sent { place, value })?;
             return Ok(true);
         }
-        let Err(index) = self.find(place) else {
-            return Ok(true);
-        };
-        if index.min(self.events.len() - index) > MOVED {
-            return Ok(false);
+        if !reach(&mut self.before, &mut self.after, place)? {
+            return Ok(ends_at(&self.before, place));
         }
-        self.events.insert(index, Sent { place, value })?;
-        self.next = index + 1;
+        self.before.push_back(Sent { place, value })?;
         Ok(true)
     }
 
-    /// Where the event of a place is, or where it would go.
-    fn find(&self, place: Place) -> Result<usize, usize>
-        ensures there { IfOk result (IsThere place_cmp place self.now) }
-        ensures gap { IfErr result (IsGap place_cmp place self.now) }
-    {
-        if self.fits(self.next, place) {
-            return Err(self.next);
-        }
-        self.events.binary_search_by_key(&place, |sent| sent.place)
-    }
-
-    /// Whether a place is between the event before an index and the one at it.
-    fn fits(&self, index: usize, place: Place) -> bool
-        ensures { IsTrue result → IsGap place_cmp place self.now index }
-    {
-        if index == 0 {
-            return false;
-        }
-        let Some(before) = self.events.get(index - 1) else {
-            return false;
-        };
-        match self.events.get(index) {
-            Some(after) => before.place < place && place < after.place,
-            None => false,
-        }
-    }
-
-    /// Whether a place is after all events, as that of a new one often is.
+    /// Whether there are events after the gap and a place is after all of them, as that of a new one often is.
     fn is_past(&self, place: Place) -> bool
-        ensures { IsTrue result → IsGap place_cmp place self.now (length self.now) }
+        ensures { IsTrue result → AreBefore place_cmp place self.now }
     {
-        match self.events.back() {
-            Some(last) => last.place < place,
-            None => true,
+        !self.after.is_empty() && ends_before(&self.after, place)
+    }
+
+    /// Whether the first event is of this tag and actor.
+    fn is_first_of(&self, tag: Tag, actor: u32) -> bool
+        ensures is { result ≡ begins_with tag actor self.now }
+        ensures rising { IsRising place_cmp self.now }
+    {
+        if self.before.is_empty() {
+            begins_with(&self.after, tag, actor)
+        } else {
+            begins_with(&self.before, tag, actor)
+        }
+    }
+
+    /// Takes the first event.
+    fn pop(&mut self) -> Option<Sent>
+        ensures { MatchOption result (self.old ≡ []) (λ sent. self.old ≡ sent ∷ self.new) }
+    {
+        if self.before.is_empty() {
+            self.after.pop_front()
+        } else {
+            self.before.pop_front()
         }
     }
 }
@@ -128,12 +127,10 @@ impl Front for Line {
     ghost count = { λ line. length line };
 
     fn take_first(&mut self, tag: Tag, actor: u32) -> Option<(u32, i64)> {
-        let first = self.events.front()?;
-        if !is_of(tag, actor, &first.place) {
+        if !self.is_first_of(tag, actor) {
             return None;
         }
-        let sent = self.events.pop_front()?;
-        self.next = self.next.saturating_sub(1);
+        let sent = self.pop()?;
         Some((sent.place.port, sent.value))
     }
 }
