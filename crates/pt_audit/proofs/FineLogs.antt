@@ -19,6 +19,7 @@ use Rattle.pt_offsets.specs.Plans.{IsAdmitted, Parts}
 use Rattle.pt_tables.specs.Log.{lines_from}
 use Rattle.pt_hints.specs.Hints.{IsTellable}
 use Rattle.pt_hints.specs.Lines.{Block, at_log, blocks_from, lines_of}
+use Rattle.pt_hints.proofs.BlockTexts.{concat_lines}
 use Rattle.pt_hints.proofs.Cut.{log_blocks, log_cut, text_of}
 use Rattle.pt_hints.specs.Numbered.{numbered}
 use Rattle.pt_audit.specs.LawfulLogs.{IsLawfulLog, history_in}
@@ -26,7 +27,6 @@ use Rattle.pt_audit.specs.Theorems.{LawfulLogsAreFine}
 use Rattle.pt_audit.specs.Told.{AreTold, InPlatformOrder, ToldTurn, turns_of}
 use Rattle.pt_audit.specs.Verdicts.{IsHead, IsVerdict}
 use Rattle.pt_audit.specs.declared.verdict.Verdict.TheVariants.{Fine}
-use Rattle.pt_audit.proofs.Texts.{joined_lines}
 use Rattle.pt_audit.proofs.ToldTurns.{other_number, same_number}
 
 abbrev as_told : ℕ × Turn → ToldTurn
@@ -167,7 +167,7 @@ module _ (plan : Parts) (rows : ℕ → List Row) (bytes : List ℕ) (admitted :
     head = lines_of (tables_text plan.graph log.firings);
     rest = lines_of (lines_from plan.graph 0 log.histories);
     lines = lines;
-    tables = record { firings = log.firings; meaning = log.meaning; written = joined_lines (tables_text plan.graph log.firings) };
+    tables = record { firings = log.firings; meaning = log.meaning; written = concat_lines (tables_text plan.graph log.firings) };
   }
 
 pub lawful_is_fine : LawfulLogsAreFine

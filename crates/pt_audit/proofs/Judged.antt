@@ -11,7 +11,7 @@ use Rattle.pt_semantics.specs.Platform.{State, opened}
 use Rattle.pt_semantics.specs.Rows.{FitRows}
 use Rattle.pt_semantics.proofs.LawfulEdges.{wired}
 use Rattle.pt_causality.specs.Ranked.{level_of}
-use Rattle.pt_offsets.specs.Plans.{IsAdmitted, Parts}
+use Rattle.pt_offsets.specs.Plans.{Parts}
 use Rattle.pt_turn.specs.All.{histories_of}
 use Rattle.pt_turn.specs.Platforms.{PlatformView, state_at}
 use Rattle.pt_confluence.specs.Gathered.{HaveFinished}
@@ -39,7 +39,7 @@ module _ (plan : Parts) (rows : ℕ → List Row) (blocks : List Block) (order :
   below i v at = subst (λ n. i < n) r.all.count (slice_get_within platforms i v at)
 
   -- the state of each platform
-  abbrev ends : ℕ → State
+  abbrev pub ends : ℕ → State
   ends i = unwrap_or (option_map state_at (slice_get platforms i)) (opened plan.graph i rows)
 
   ends_at : (i : ℕ) (v : PlatformView) → slice_get platforms i ≡ Some v → ends i ≡ state_at v
@@ -75,8 +75,8 @@ module _ (plan : Parts) (rows : ℕ → List Row) (blocks : List Block) (order :
 
   -- linked platforms
 
-  homes : (a : ℕ) → IsAdmitted plan → platform_of plan.graph a < length plan.graph.platforms
-  homes a admitted = (wired plan.graph admitted.lawful).homes a
+  homes : (a : ℕ) → platform_of plan.graph a < length plan.graph.platforms
+  homes = (wired plan.graph r.admitted.lawful).homes
 
   history_at : (i : ℕ) (v : PlatformView) → slice_get platforms i ≡ Some v → histories_of platforms i ≡ v.turns
   history_at i v at = ap (λ (o : Option PlatformView). unwrap_or (option_map (λ (z : PlatformView). z.turns) o) []) at
@@ -87,54 +87,53 @@ module _ (plan : Parts) (rows : ℕ → List Row) (blocks : List Block) (order :
   taken_same : (i l : ℕ) → i < length plan.graph.platforms → all_taken l (histories_of platforms i) ≡ all_taken l (turns_of i r.told)
   taken_same i l lt = let (v, at) = view i lt in ap (all_taken l) (history_at i v at) ∙ (r.made i v at).taken l
 
-  module _ (admitted : IsAdmitted plan) where
-    linked_told : (l : ℕ) → IsLinked plan.graph (histories_of platforms) l → IsLinked plan.graph (λ i. turns_of i r.told) l
-    linked_told l h link at =
-        sym (sent_same (platform_of plan.graph link.from) l (homes link.from admitted)) ∙ h link at ∙ taken_same (platform_of plan.graph link.to) l (homes link.to admitted)
+  linked_told : (l : ℕ) → IsLinked plan.graph (histories_of platforms) l → IsLinked plan.graph (λ i. turns_of i r.told) l
+  linked_told l h link at =
+      sym (sent_same (platform_of plan.graph link.from) l (homes link.from)) ∙ h link at ∙ taken_same (platform_of plan.graph link.to) l (homes link.to)
 
-    told_linked : (l : ℕ) → IsLinked plan.graph (λ i. turns_of i r.told) l → IsLinked plan.graph (histories_of platforms) l
-    told_linked l h link at =
-        sent_same (platform_of plan.graph link.from) l (homes link.from admitted) ∙ h link at ∙ sym (taken_same (platform_of plan.graph link.to) l (homes link.to admitted))
+  told_linked : (l : ℕ) → IsLinked plan.graph (λ i. turns_of i r.told) l → IsLinked plan.graph (histories_of platforms) l
+  told_linked l h link at =
+      sent_same (platform_of plan.graph link.from) l (homes link.from) ∙ h link at ∙ sym (taken_same (platform_of plan.graph link.to) l (homes link.to))
 
-    pub judged : (v : Verdict) → IsJudged plan.graph platforms v → IsVerdictOn plan rows blocks v
-    judged TooLong h = absurd h
-    judged NoLog h = absurd h
-    judged Table h = absurd h
-    judged (Turn line) h = absurd h
-    judged (Unfinished number) h =
-        let here : number ≡ h.place = h.is ∙ r.all.numbers h.place h.view h.at in
-        record {
-          told = r.told;
-          ends = ends;
-          are_told = r.are_told;
-          lawful = lawful;
-          fact = record {
-            platform = subst (λ n. n < length plan.graph.platforms) (sym here) (below h.place h.view h.at);
-            unfinished = λ f. h.unfinished (not_at_end h.place h.view h.at (subst (λ n. IsFinished plan.graph n (ends n)) here f));
-            first = λ j lt.
-                let le : j < h.place = subst (λ n. j < n) here lt in
-                let within : j < length plan.graph.platforms = before j h.place (length plan.graph.platforms) le (below h.place h.view h.at) in
-                let (v, at) = view j within in
-                finished_at j v at (h.first j v le at);
-          };
-        }
-      where
-        before : (a b c : ℕ) → a < b → b < c → a < c
-        before a b c h k = omega (arith, h, k)
-    judged (Unlinked l) h = record {
-      told = r.told;
-      ends = ends;
-      are_told = r.are_told;
-      lawful = lawful;
-      fact = (finished h.0, record { link = h.1.link; unlinked = λ f. h.1.unlinked (told_linked l f); first = λ k lt. linked_told k (h.1.first k lt) });
-    }
-    judged Fine h = record {
-      told = r.told;
-      ends = ends;
-      are_told = r.are_told;
-      lawful = lawful;
-      fact = (finished h.0, λ l. linked_told l (h.1 l));
-    }
+  pub judged : (v : Verdict) → IsJudged plan.graph platforms v → IsVerdictOn plan rows blocks v
+  judged TooLong h = absurd h
+  judged NoLog h = absurd h
+  judged Table h = absurd h
+  judged (Turn line) h = absurd h
+  judged (Unfinished number) h =
+      let here : number ≡ h.place = h.is ∙ r.all.numbers h.place h.view h.at in
+      record {
+        told = r.told;
+        ends = ends;
+        are_told = r.are_told;
+        lawful = lawful;
+        fact = record {
+          platform = subst (λ n. n < length plan.graph.platforms) (sym here) (below h.place h.view h.at);
+          unfinished = λ f. h.unfinished (not_at_end h.place h.view h.at (subst (λ n. IsFinished plan.graph n (ends n)) here f));
+          first = λ j lt.
+              let le : j < h.place = subst (λ n. j < n) here lt in
+              let within : j < length plan.graph.platforms = before j h.place (length plan.graph.platforms) le (below h.place h.view h.at) in
+              let (v, at) = view j within in
+              finished_at j v at (h.first j v le at);
+        };
+      }
+    where
+      before : (a b c : ℕ) → a < b → b < c → a < c
+      before a b c h k = omega (arith, h, k)
+  judged (Unlinked l) h = record {
+    told = r.told;
+    ends = ends;
+    are_told = r.are_told;
+    lawful = lawful;
+    fact = (finished h.0, record { link = h.1.link; unlinked = λ f. h.1.unlinked (told_linked l f); first = λ k lt. linked_told k (h.1.first k lt) });
+  }
+  judged Fine h = record {
+    told = r.told;
+    ends = ends;
+    are_told = r.are_told;
+    lawful = lawful;
+    fact = (finished h.0, λ l. linked_told l (h.1 l));
+  }
 
   pub all_finished : FitRows plan.graph rows → (v : Verdict) → IsJudged plan.graph platforms v → v ≡ Fine → HaveFinished plan rows platforms
   all_finished fit v h e =

@@ -1,7 +1,7 @@
 -- A fine log whose head is the tables is lawful.
 use Rattle.std.proofs.Common.{◌≡◌, ◌≢◌, ℕ, ◌+◌, ◌≤◌, ◌<◌, Bool, List, [], ◌∷◌, ◌++◌, Some, refl, sym, ap, ap₂, subst, ◌∙◌, ⊎_elim, append_assoc, arith, length}
 use Rattle.std.specs.Prelude.{flat_map}
-use Rattle.std.specs.List.{cons_option}
+use Rattle.std.specs.List.{concat, cons_option}
 use Rattle.pt_types.specs.declared.graph.Graph.{Graph}
 use Rattle.pt_types.specs.declared.rows.Row.{Row}
 use Rattle.pt_types.specs.Lookups.{platform_of}
@@ -19,16 +19,17 @@ use Rattle.pt_offsets.specs.Plans.{IsAdmitted, Parts}
 use Rattle.pt_tables.specs.Log.{lines_from, log_head, log_text}
 use Rattle.pt_hints.specs.Hints.{IsTellable}
 use Rattle.pt_hints.specs.Lines.{Block, blocks_from, lines_of}
+use Rattle.pt_hints.proofs.BlockTexts.{concat_lines, joined, joined_lines}
 use Rattle.pt_audit.specs.LawfulLogs.{IsLawfulLog, history_in}
 use Rattle.pt_audit.specs.Theorems.{FineLogsAreLawful}
 use Rattle.pt_audit.specs.Told.{AreTold, ToldTurn, turns_of}
 use Rattle.pt_audit.specs.Verdicts.{IsHead, IsVerdict, TellsAll, AreFinished}
 use Rattle.pt_audit.specs.declared.verdict.Verdict.TheVariants.{Fine}
 use Rattle.pt_audit.proofs.ByPlatform.{count_from, histories_from, history_from, lines_told, text_by_platform}
-use Rattle.pt_audit.proofs.Texts.{joined, joined_blocks, joined_lines, log_parts, texts}
+use Rattle.pt_audit.proofs.Texts.{log_parts}
 use Rattle.pt_audit.proofs.ToldTurns.{other_number, same_number}
 
-told_texts : (g : Graph) (blocks : List Block) (told : List ToldTurn) → AreTold g blocks told → texts blocks ≡ flat_map (lines_told g) told
+told_texts : (g : Graph) (blocks : List Block) (told : List ToldTurn) → AreTold g blocks told → joined blocks ≡ flat_map (lines_told g) told
 told_texts g [] [] h = refl
 told_texts g [] (t ∷ told) h = absurd h
 told_texts g (b ∷ blocks) [] h = absurd h
@@ -76,20 +77,20 @@ module _ (plan : Parts) (rows : ℕ → List Row) (bytes : List ℕ) (admitted :
   below : Each (λ (t : ToldTurn). t.platform < 0 + count) tells.told
   below = told_below plan.graph (0 + count) blocks tells.told (omega arith) tells.are_told
 
-  rest_is : joined fine.rest ≡ lines_from plan.graph 0 histories
+  rest_is : concat fine.rest ≡ lines_from plan.graph 0 histories
   rest_is =
-      sym (joined_blocks (length fine.head + 2) fine.rest) ∙ told_texts plan.graph blocks tells.told tells.are_told
+      sym (joined_lines (length fine.head + 2) fine.rest) ∙ told_texts plan.graph blocks tells.told tells.are_told
       ∙ text_by_platform plan.graph 0 count tells.told tells.lawful.in_order (from_zero tells.told) below
 
-  head_is : joined fine.head ≡ tables_text plan.graph head.tables.firings
+  head_is : concat fine.head ≡ tables_text plan.graph head.tables.firings
   head_is =
       let same = same_some (fine.head, fine.rest) (head.head, head.rest) (sym fine.lines ∙ head.lines) in
-      ap (λ (parts : List (List ℕ) × List (List ℕ)). joined parts.0) same ∙ head.tables.written
+      ap (λ (parts : List (List ℕ) × List (List ℕ)). concat parts.0) same ∙ head.tables.written
 
   text_is : bytes ≡ tables_text plan.graph head.tables.firings ++ log_text plan.graph histories
   text_is =
-      sym (joined_lines bytes) ∙ log_parts (lines_of bytes) fine.head fine.rest fine.lines
-      ∙ append_assoc (joined fine.head) log_head (joined fine.rest)
+      sym (concat_lines bytes) ∙ log_parts (lines_of bytes) fine.head fine.rest fine.lines
+      ∙ append_assoc (concat fine.head) log_head (concat fine.rest)
       ∙ ap₂ (λ (some more : List ℕ). some ++ (log_head ++ more)) head_is rest_is
 
   pub lawful : IsLawfulLog plan rows bytes

@@ -1,6 +1,7 @@
 pub mod OneState
 pub mod JoinedTurns
 pub mod ToldTurns
+pub mod ToldOnce
 pub mod Changed
 pub mod Making
 pub mod Next

@@ -19,7 +19,9 @@ use Rattle.pt_audit.specs.Told.{AreLawful, AreTold, ToldTurn, turns_of}
 use Rattle.pt_audit.specs.Replaying.{HasMade, HaveReplayed, entered, fresh_order, is_joined, with_turns}
 use Rattle.pt_audit.specs.declared.order.Order.{Order}
 use Rattle.pt_audit.proofs.JoinedTurns.{MayJoin, may_join}
+use Rattle.pt_audit.proofs.Judged.{ends as ends_of, lawful as are_lawful}
 use Rattle.pt_audit.proofs.OneState.{Parted, legal_parted, legal_state}
+use Rattle.pt_audit.proofs.ToldOnce.{told_once}
 use Rattle.pt_audit.proofs.ToldTurns.{LastTold, before_ends, each_last, lawful_before, none_of, order_last, own, told_last}
 
 -- A turn of a plan's platform, as one of the platform itself.
@@ -44,10 +46,9 @@ module _ (plan : Parts) (rows : ℕ → List Row) (blocks : List Block) (order :
   whole = subst (λ (ts : List ToldTurn). AreLawful plan.graph (level_of plan.ranks) rows ts ends) x.is lawful
 
   front_is : x.front ≡ r.told
-  front_is = r.only x.front (before_ends plan.graph (level_of plan.ranks) rows x.front x.turn ends x.tellable.platform whole) x.before (lawful_before plan.graph (level_of plan.ranks) rows x.front x.turn ends x.tellable.platform whole)
-
-  pub others_are : others ≡ r.told ++ x.turn ∷ []
-  others_are = x.is ∙ ap (λ (ts : List ToldTurn). ts ++ x.turn ∷ []) front_is
+  front_is =
+      told_once plan.graph (level_of plan.ranks) rows r.admitted.lawful blocks x.front r.told (before_ends plan.graph (level_of plan.ranks) rows x.front x.turn ends x.tellable.platform whole) (ends_of plan rows blocks order last platforms r)
+      x.before (lawful_before plan.graph (level_of plan.ranks) rows x.front x.turn ends x.tellable.platform whole) r.are_told (are_lawful plan rows blocks order last platforms r)
 
   own_turns : IsLegal plan.graph (level_of plan.ranks) x.turn.platform rows (turns_of x.turn.platform r.told ++ x.turn.turn ∷ []) (ends x.turn.platform)
   own_turns = subst (λ (ts : List ToldTurn). IsLegal plan.graph (level_of plan.ranks) x.turn.platform rows (turns_of x.turn.platform ts ++ x.turn.turn ∷ []) (ends x.turn.platform)) front_is

@@ -1,21 +1,24 @@
--- A log has one verdict, if its blocks are told in one way.
-use Rattle.std.proofs.Common.{◌≡◌, ℕ, ◌≤◌, ◌<◌, ◌⊎◌, List, [], ◌∷◌, ◌++◌, refl, sym, ap, ap₂, subst, ◌∙◌, inl, inr, ⊎_elim, append_assoc, arith, length}
+-- A file has one verdict at most.
+use Rattle.std.proofs.Common.{◌≡◌, ℕ, ◌+◌, ◌≤◌, ◌<◌, ◌⊎◌, None, List, [], ◌∷◌, ◌++◌, refl, sym, ap, ap₂, subst, ◌∙◌, inl, inr, ⊎_elim, append_assoc, arith, length}
 use Rattle.std.proofs.lemmas.Bool.{cases_lt}
 use Rattle.pt_types.specs.declared.graph.Graph.{Graph}
 use Rattle.pt_types.specs.declared.rows.Row.{Row}
-use Rattle.pt_types.specs.Lookups.{platform_of}
 use Rattle.pt_semantics.specs.History.{Legal}
 use Rattle.pt_semantics.specs.Linked.{AreLinked, IsFinished}
+use Rattle.pt_semantics.proofs.Lookups.{none_some, same_some}
 use Rattle.pt_semantics.specs.Platform.{State, opened}
 use Rattle.pt_semantics.specs.Turn.{Turn as Recorded}
 use Rattle.pt_causality.specs.Ranked.{level_of}
-use Rattle.pt_offsets.specs.Plans.{Parts}
-use Rattle.pt_hints.specs.Lines.{Block}
-use Rattle.pt_audit.specs.Told.{AreLawful, AreTold, Tells, ToldTurn, turns_of}
-use Rattle.pt_audit.specs.Verdicts.{AreFinished, IsFirstUnfinished, IsFirstUnlinked, IsLinked, IsVerdictOn, StopsAt, TellsAll}
+use Rattle.pt_offsets.specs.Plans.{IsAdmitted, Parts}
+use Rattle.pt_hints.specs.Lines.{Block, at_log, blocks_from, lines_of}
+use Rattle.pt_audit.specs.Told.{AreLawful, Tells, ToldTurn, turns_of}
+use Rattle.pt_audit.specs.LawfulLogs.{most_bytes}
+use Rattle.pt_audit.specs.Theorems.{VerdictsAreOne}
+use Rattle.pt_audit.specs.Verdicts.{AreFinished, HasLog, IsFirstUnfinished, IsFirstUnlinked, IsLinked, IsVerdict, IsVerdictOn, StopsAt, TellsAll}
 use Rattle.pt_audit.specs.declared.verdict.Verdict.{Verdict}
 use Rattle.pt_audit.specs.declared.verdict.Verdict.TheVariants.{TooLong, NoLog, Turn, Unfinished, Unlinked, Table, Fine}
 use Rattle.pt_audit.proofs.OneState.{legal_state}
+use Rattle.pt_audit.proofs.ToldOnce.{told_once}
 use Rattle.pt_audit.proofs.ToldTurns.{before_ends, lawful_before, told_last}
 
 -- Blocks that tell turns, without the last ones.
@@ -79,8 +82,7 @@ first_one P i j ni below_i nj below_j =
     (λ (le : j ≤ i). ⊎_elim (λ (gt : j < i). absurd (nj (below_i j gt))) (λ (ge : i ≤ j). omega (arith, le, ge)) (cases_lt j i))
     (cases_lt i j)
 
-module _ (plan : Parts) (rows : ℕ → List Row) (blocks : List Block) (homes : (a : ℕ) → platform_of plan.graph a < length plan.graph.platforms)
-    (unique : (some others : List ToldTurn) (ends theirs : ℕ → State) → AreTold plan.graph blocks some → AreLawful plan.graph (level_of plan.ranks) rows some ends → AreTold plan.graph blocks others → AreLawful plan.graph (level_of plan.ranks) rows others theirs → some ≡ others) where
+module _ (plan : Parts) (rows : ℕ → List Row) (blocks : List Block) (admitted : IsAdmitted plan) where
   abbrev Told : ((ℕ → List Recorded) → (ℕ → State) → Type 0) → Type 0
   Told Fact = TellsAll plan.graph (level_of plan.ranks) rows blocks Fact
 
@@ -89,7 +91,7 @@ module _ (plan : Parts) (rows : ℕ → List Row) (blocks : List Block) (homes :
 
   module _ (Some_fact Other_fact : (ℕ → List Recorded) → (ℕ → State) → Type 0) (t : Told Some_fact) (u : Told Other_fact) where
     pub same_told : t.told ≡ u.told
-    same_told = unique t.told u.told t.ends u.ends t.are_told t.lawful u.are_told u.lawful
+    same_told = told_once plan.graph (level_of plan.ranks) rows admitted.lawful blocks t.told u.told t.ends u.ends t.are_told t.lawful u.are_told u.lawful
 
     pub same_end : (i : ℕ) → i < length plan.graph.platforms → t.ends i ≡ u.ends i
     same_end i lt =
@@ -159,3 +161,51 @@ module _ (plan : Parts) (rows : ℕ → List Row) (blocks : List Block) (homes :
   verdict_once Fine (Unfinished j) hv hw = absurd (open_or j Done hw hv hv.fact.0)
   verdict_once Fine (Unlinked m) hv hw = absurd (apart_or_done m hw hv)
   verdict_once Fine Fine hv hw = refl
+
+-- Whole files.
+
+-- a file that is too long has no other verdict
+too_long_only : (plan : Parts) (rows : ℕ → List Row) (bytes : List ℕ) → most_bytes < length bytes → (w : Verdict) → IsVerdict plan rows bytes w → w ≡ TooLong
+too_long_only plan rows bytes long TooLong h = refl
+too_long_only plan rows bytes long NoLog h = absurd (omega (arith, long, h.0))
+too_long_only plan rows bytes long (Turn l) h = absurd (omega (arith, long, h.short))
+too_long_only plan rows bytes long (Unfinished i) h = absurd (omega (arith, long, h.short))
+too_long_only plan rows bytes long (Unlinked l) h = absurd (omega (arith, long, h.short))
+too_long_only plan rows bytes long Table h = absurd (omega (arith, long, h.short))
+too_long_only plan rows bytes long Fine h = absurd (omega (arith, long, h.short))
+
+-- nor has a file without a line `log`
+no_log_only : (plan : Parts) (rows : ℕ → List Row) (bytes : List ℕ) → length bytes ≤ most_bytes → at_log (lines_of bytes) ≡ None → (w : Verdict) → IsVerdict plan rows bytes w → w ≡ NoLog
+no_log_only plan rows bytes short none TooLong h = absurd (omega (arith, short, h))
+no_log_only plan rows bytes short none NoLog h = refl
+no_log_only plan rows bytes short none (Turn l) h = absurd (none_some (h.head, h.rest) (sym none ∙ h.lines))
+no_log_only plan rows bytes short none (Unfinished i) h = absurd (none_some (h.head, h.rest) (sym none ∙ h.lines))
+no_log_only plan rows bytes short none (Unlinked l) h = absurd (none_some (h.head, h.rest) (sym none ∙ h.lines))
+no_log_only plan rows bytes short none Table h = absurd (none_some (h.head, h.rest) (sym none ∙ h.lines))
+no_log_only plan rows bytes short none Fine h = absurd (none_some (h.head, h.rest) (sym none ∙ h.lines))
+
+-- two verdicts on the log of a file are one
+log_once : (plan : Parts) (rows : ℕ → List Row) (bytes : List ℕ) (v w : Verdict) → IsAdmitted plan → HasLog bytes (λ blocks. IsVerdictOn plan rows blocks v) → HasLog bytes (λ blocks. IsVerdictOn plan rows blocks w) → v ≡ w
+log_once plan rows bytes v w admitted h k =
+    let same = same_some (k.head, k.rest) (h.head, h.rest) (sym k.lines ∙ h.lines) in
+    let blocks : blocks_from (length k.head + 2) k.rest ≡ blocks_from (length h.head + 2) h.rest = ap (λ (parts : List (List ℕ) × List (List ℕ)). blocks_from (length parts.0 + 2) parts.1) same in
+    verdict_once plan rows (blocks_from (length h.head + 2) h.rest) admitted v w h.fact (subst (λ (bs : List Block). IsVerdictOn plan rows bs w) blocks k.fact)
+
+-- a file with a line `log` has no verdict but that on its log
+log_only : (plan : Parts) (rows : ℕ → List Row) (bytes : List ℕ) (v w : Verdict) → IsAdmitted plan → HasLog bytes (λ blocks. IsVerdictOn plan rows blocks v) → IsVerdict plan rows bytes w → v ≡ w
+log_only plan rows bytes v TooLong admitted h k = absurd (omega (arith, h.short, k))
+log_only plan rows bytes v NoLog admitted h k = absurd (none_some (h.head, h.rest) (sym k.1 ∙ h.lines))
+log_only plan rows bytes v (Turn l) admitted h k = log_once plan rows bytes v (Turn l) admitted h k
+log_only plan rows bytes v (Unfinished i) admitted h k = log_once plan rows bytes v (Unfinished i) admitted h k
+log_only plan rows bytes v (Unlinked l) admitted h k = log_once plan rows bytes v (Unlinked l) admitted h k
+log_only plan rows bytes v Table admitted h k = log_once plan rows bytes v Table admitted h k
+log_only plan rows bytes v Fine admitted h k = log_once plan rows bytes v Fine admitted h k
+
+pub file_once : VerdictsAreOne
+file_once plan rows bytes TooLong w admitted h k = sym (too_long_only plan rows bytes h w k)
+file_once plan rows bytes NoLog w admitted h k = sym (no_log_only plan rows bytes h.0 h.1 w k)
+file_once plan rows bytes (Turn l) w admitted h k = log_only plan rows bytes (Turn l) w admitted h k
+file_once plan rows bytes (Unfinished i) w admitted h k = log_only plan rows bytes (Unfinished i) w admitted h k
+file_once plan rows bytes (Unlinked l) w admitted h k = log_only plan rows bytes (Unlinked l) w admitted h k
+file_once plan rows bytes Table w admitted h k = log_only plan rows bytes Table w admitted h k
+file_once plan rows bytes Fine w admitted h k = log_only plan rows bytes Fine w admitted h k

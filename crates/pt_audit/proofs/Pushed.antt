@@ -1,11 +1,9 @@
 -- A log replayed one block further.
 use Rattle.std.proofs.Common.{◌≡◌, ◌≢◌, ℕ, ◌≤◌, true, List, [], ◌∷◌, ◌++◌, Option, Some, refl, sym, ap, subst, ◌∙◌, ⊎_elim, arith, set, slice_get}
-use Rattle.std.proofs.lemmas.List.{append_cancel_left, length-set}
+use Rattle.std.proofs.lemmas.List.{length-set}
 use Rattle.pt_tags.specs.declared.message.Message.{Message}
 use Rattle.pt_types.specs.declared.rows.Row.{Row}
-use Rattle.pt_semantics.specs.Kept.{kept_with, settled}
 use Rattle.pt_semantics.specs.Lists.{Each}
-use Rattle.pt_semantics.specs.Platform.{State}
 use Rattle.pt_semantics.specs.Turn.{Turn}
 use Rattle.pt_semantics.proofs.Lookups.{Each-from, Each-in}
 use Rattle.pt_causality.specs.Ranked.{level_of}
@@ -16,38 +14,24 @@ use Rattle.pt_tables.specs.Log.{turn_lines}
 use Rattle.pt_hints.specs.Hints.{AreHints, IsTellable}
 use Rattle.pt_hints.specs.Lines.{Block}
 use Rattle.pt_hints.specs.declared.hints.Hints.{Hints}
-use Rattle.pt_retell.specs.Following.{CanFollow}
 use Rattle.pt_retell.specs.Lasts.{AreLast, KeepOthers}
-use Rattle.pt_retell.specs.Retold.{IsOnly, at_last}
-use Rattle.pt_audit.specs.Told.{AreLawful, AreTold, ToldTurn, turns_of}
+use Rattle.pt_audit.specs.Told.{ToldTurn, turns_of}
 use Rattle.pt_audit.specs.Replaying.{HasMade, HaveReplayed, fresh_order, is_joined, quiet_count, with_turn, with_turns}
 use Rattle.pt_audit.specs.Retelling.{HasTold}
 use Rattle.pt_audit.specs.declared.order.Order.{Order}
 use Rattle.pt_audit.proofs.Changed.{set_cases}
 use Rattle.pt_audit.proofs.JoinedTurns.{joined_more, with_turns_push}
 use Rattle.pt_audit.proofs.Making.{made_more, step_of}
-use Rattle.pt_audit.proofs.Next.{IsEntered, may_follow, others_are, x as next}
+use Rattle.pt_audit.proofs.Next.{IsEntered}
 use Rattle.pt_audit.proofs.ToldTurns.{each_last, each_push, order_push, told_push, turns_here, turns_there}
 
 order_platform : (turns : List Turn) (order : Order) → (with_turns turns order).platform ≡ order.platform
 order_platform [] order = refl
 order_platform (x ∷ turns) order = order_platform turns (with_turn (quiet_count x) order)
 
-last_same : (x y : Turn) → x ∷ [] ≡ y ∷ [] → x ≡ y
-last_same x y e = cc
-
--- two turns with the same hints, which a platform recorded as the same turn
-pub same_turn : (p q : ℕ) (a b : Turn) (hints : Hints) (turns kept : List Turn) → AreHints p a hints → AreHints q b hints → kept ≡ kept_with turns (at_last a) → kept ≡ kept_with turns (at_last b) → a ≡ b
-same_turn p q a b hints turns kept ha hb ka kb =
-    let e : at_last a ≡ at_last b = last_same (at_last a) (at_last b) (append_cancel_left (settled turns) (at_last a ∷ []) (at_last b ∷ []) (sym ka ∙ kb)) in
-    let first : a.first ≡ b.first = sym ha.first ∙ hb.first in
-    let last : a.last ≡ b.last = sym ha.last ∙ hb.last in
-    let count : a.count ≡ b.count = sym ha.count ∙ hb.count in
-    λ i. record { first = first i; last = last i; count = count i; posted = (e i).posted; rows = (e i).rows; taken = (e i).taken; claimed = (e i).claimed; sent = (e i).sent }
-
 module _ (plan : Parts) (rows : ℕ → List Row) (blocks : List Block) (order entered : Order) (last now : List (Option Message)) (platforms : List PlatformView) (r : HaveReplayed plan rows blocks order last platforms)
-    (b : Block) (p : ℕ) (old new : PlatformView) (hints : Hints) (quiet : Option ℕ) (at : slice_get platforms p ≡ Some old) (named : hints.platform ≡ p) (in_order : IsEntered r.told order p entered)
-    (told : HasTold b.text hints old new) (only : IsOnly hints old new) (back : (q : ℕ) (t : Turn) → IsTellable plan.graph q t → b.text ≡ turn_lines plan.graph q t → AreHints q t hints)
+    (b : Block) (p : ℕ) (old new : PlatformView) (hints : Hints) (quiet : Option ℕ) (at : slice_get platforms p ≡ Some old) (in_order : IsEntered r.told order p entered)
+    (told : HasTold b.text hints old new)
     (tellable : (q : ℕ) (t : Turn) → AreHints q t hints → IsTellable plan.graph q t)
     (lasts : AreLast old.plan.graph old.number (state_at new).taken now) (keeps : KeepOthers old.plan.graph old.number last now) (is_quiet : quiet ≡ quiet_count told.made.turn) where
   plan_is : old.plan ≡ plan
@@ -97,18 +81,6 @@ module _ (plan : Parts) (rows : ℕ → List Row) (blocks : List Block) (order e
         (set_cases platforms p j new old v at there);
   }
 
-  -- whoever tells the blocks and this one tells the turn that was made
-  only_now : (others : List ToldTurn) (ends : ℕ → State) → AreTold plan.graph (blocks ++ b ∷ []) others → AreLawful plan.graph (level_of plan.ranks) rows others ends → others ≡ r.told ++ t ∷ []
-  only_now others ends are lawful =
-      let u : ToldTurn = (next plan rows blocks order last platforms r b others ends are lawful).turn in
-      let theirs : AreHints u.platform u.turn hints = back u.platform u.turn (next plan rows blocks order last platforms r b others ends are lawful).tellable (next plan rows blocks order last platforms r b others ends are lawful).text in
-      let here : p ≡ u.platform = sym named ∙ theirs.platform in
-      let can : CanFollow old u.turn = may_follow plan rows blocks order last platforms r b others ends are lawful old (subst (λ n. slice_get platforms n ≡ Some old) here at) in
-      let made = only u.turn can.late can.new (subst (λ n. AreHints n u.turn hints) (sym here ∙ sym number_is) theirs) can.is in
-      let same : u.turn ≡ turn = same_turn u.platform p u.turn turn hints old.turns new.turns theirs their_hints made.0 told.made.kept in
-      let is : u ≡ t = λ i. record { platform = (sym here) i; turn = same i } in
-      others_are plan rows blocks order last platforms r b others ends are lawful ∙ ap (λ (z : ToldTurn). r.told ++ z ∷ []) is
-
   at_p : (with_turn quiet entered).platform ≡ p
   at_p = ap (λ (o : Order). o.platform) in_order.turns ∙ order_platform (turns_of p r.told) (fresh_order p)
 
@@ -141,10 +113,10 @@ module _ (plan : Parts) (rows : ℕ → List Row) (blocks : List Block) (order e
 
   pub pushed : HaveReplayed plan rows (blocks ++ b ∷ []) (with_turn quiet entered) now (set platforms p new)
   pushed = record {
+    admitted = r.admitted;
     all = all_now;
     told = r.told ++ t ∷ [];
     are_told = told_push plan.graph blocks r.told b t r.are_told text is_tellable;
-    only = only_now;
     in_order = order_push r.told t r.in_order up_to_p;
     up_to = subst (λ n. Each (λ (u : ToldTurn). u.platform ≤ n) (r.told ++ t ∷ [])) (sym at_p) (each_push (λ (u : ToldTurn). u.platform ≤ p) r.told t up_to_p (omega arith));
     reached = λ i h. let le : p ≤ i = each_last (λ (u : ToldTurn). u.platform ≤ i) r.told t h in omega (arith, at_p, le);

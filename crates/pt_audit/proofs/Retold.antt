@@ -13,12 +13,12 @@ use Rattle.pt_hints.specs.Hints.{AreHints}
 use Rattle.pt_hints.specs.declared.hints.Hints.{Hints}
 use Rattle.pt_retell.specs.Following.{CanFollow}
 use Rattle.pt_retell.specs.Retold.{HasRetold, IsOnly, at_last}
+use Rattle.pt_retell.proofs.Told.{same_turn}
 use Rattle.pt_audit.specs.Replaying.{quiet_count}
 use Rattle.pt_audit.specs.Retelling.{HasTold, NoneTold}
 use Rattle.pt_audit.proofs.Members.{last_member}
-use Rattle.pt_audit.proofs.Pushed.{same_turn}
 
-module _ (old new : PlatformView) (hints : Hints) (block : List ℕ) (g : Graph) (turns : List Turn) (made : HasRetold hints old new) (only : IsOnly hints old new) (named : hints.platform ≡ old.number) (g_is : g ≡ old.plan.graph) (turns_are : turns ≡ new.turns) where
+module _ (old new : PlatformView) (hints : Hints) (block : List ℕ) (g : Graph) (turns : List Turn) (made : HasRetold hints old new) (named : hints.platform ≡ old.number) (g_is : g ≡ old.plan.graph) (turns_are : turns ≡ new.turns) where
   are_kept : turns ≡ kept_with old.turns (at_last made.turn)
   are_kept = turns_are ∙ made.kept
 
@@ -26,15 +26,15 @@ module _ (old new : PlatformView) (hints : Hints) (block : List ℕ) (g : Graph)
   recorded : slice_get turns (length turns - 1) ≡ Some (at_last made.turn)
   recorded = subst (λ (ts : List Turn). slice_get ts (length ts - 1) ≡ Some (at_last made.turn)) (sym are_kept) (last_member (settled old.turns) (at_last made.turn))
 
-  -- whichever turn may follow with these hints is the one that was made
-  same_made : (turn : Turn) → AreHints old.number turn hints → CanFollow old turn → turn ≡ made.turn
-  same_made turn h can = same_turn old.number old.number turn made.turn hints old.turns new.turns h made.told (only turn can.late can.new h can.is).0 made.kept
-
   -- the count that was read of the last recorded turn
   pub quiet_here : (o : Option ℕ) → ((turn : Turn) → slice_get turns (length turns - 1) ≡ Some turn → o ≡ quiet_count (record turn { count = hints.count })) → o ≡ quiet_count made.turn
   quiet_here o counts = counts (at_last made.turn) recorded ∙ ap (λ n. if is_quiet made.turn then Some n else None) made.told.count
 
-  module _ (quiet : Bool) (reads_quiet : option_map is_quiet (slice_get turns (length turns - 1)) ≡ Some quiet) where
+  module _ (only : IsOnly hints old new) (quiet : Bool) (reads_quiet : option_map is_quiet (slice_get turns (length turns - 1)) ≡ Some quiet) where
+    -- whichever turn may follow with these hints is the one that was made
+    same_made : (turn : Turn) → AreHints old.number turn hints → CanFollow old turn → turn ≡ made.turn
+    same_made turn h can = same_turn hints old new made only turn can.late can.new h can.is
+
     quiet_is : is_quiet made.turn ≡ quiet
     quiet_is = same_some (is_quiet made.turn) quiet (ap (option_map is_quiet) (sym recorded) ∙ reads_quiet)
 

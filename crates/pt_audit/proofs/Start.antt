@@ -1,5 +1,5 @@
 -- Platforms just opened, before the first turn of a log.
-use Rattle.std.proofs.Common.{◌≡◌, ℕ, zero, suc, ◌<◌, true, false, List, [], ◌∷◌, Option, Some, None, cond, refl, sym, ap, subst, ◌∙◌, ⊎_elim, arith, length, replicate, slice_get}
+use Rattle.std.proofs.Common.{◌≡◌, ℕ, zero, suc, ◌<◌, true, false, List, [], Option, Some, None, cond, refl, sym, ap, subst, ◌∙◌, ⊎_elim, arith, length, replicate, slice_get}
 use Rattle.std.specs.Prelude.{◌==◌}
 use Rattle.std.proofs.Math.Path.{fun_ext}
 use Rattle.std.proofs.lemmas.Bool.{cases_Bool, cond-false, eqb-true}
@@ -15,13 +15,12 @@ use Rattle.pt_semantics.specs.Linked.{all_sent, all_taken}
 use Rattle.pt_semantics.specs.Platform.{opened}
 use Rattle.pt_semantics.specs.Turn.{Turn}
 use Rattle.pt_causality.specs.Ranked.{level_of}
-use Rattle.pt_offsets.specs.Plans.{Parts}
+use Rattle.pt_offsets.specs.Plans.{IsAdmitted, Parts}
 use Rattle.pt_turn.specs.All.{AreReady}
 use Rattle.pt_turn.specs.Platforms.{PlatformView, level_at, messages_of, rows_at, state_at}
 use Rattle.pt_confluence.specs.Gathered.{AreLegal}
 use Rattle.pt_retell.specs.Lasts.{last_of}
 use Rattle.pt_audit.specs.Replaying.{HasMade, HaveReplayed, fresh_order}
-use Rattle.pt_audit.specs.Told.{AreTold, ToldTurn}
 
 same_opened : (g : Graph) (i : ℕ) (some others : ℕ → List Row) → ((a : ℕ) → platform_of g a ≡ i → some a ≡ others a) → opened g i some ≡ opened g i others
 same_opened g i some others same =
@@ -32,10 +31,6 @@ same_opened g i some others same =
     (λ (other : (platform_of g a == i) ≡ false). cond-false (platform_of g a == i) (some a) [] other ∙ sym (cond-false (platform_of g a == i) (others a) [] other))
     (cases_Bool (platform_of g a == i))))
 
-no_others : (g : Graph) (others : List ToldTurn) → AreTold g [] others → others ≡ []
-no_others g [] h = refl
-no_others g (t ∷ others) h = absurd h
-
 abbrev no_message : Option Message
 no_message = None
 
@@ -44,7 +39,7 @@ none_at zero l lt = absurd (omega arith)
 none_at (suc n) zero lt = refl
 none_at (suc n) (suc l) lt = none_at n l (omega arith)
 
-module _ (plan : Parts) (rows : ℕ → List Row) (platforms : List PlatformView) (last : List (Option Message)) (ready : AreReady plan rows platforms) (legal : AreLegal platforms) (none : last ≡ replicate (length plan.graph.links) None) where
+module _ (plan : Parts) (rows : ℕ → List Row) (platforms : List PlatformView) (last : List (Option Message)) (admitted : IsAdmitted plan) (ready : AreReady plan rows platforms) (legal : AreLegal platforms) (none : last ≡ replicate (length plan.graph.links) None) where
   state_is : (i : ℕ) (v : PlatformView) → slice_get platforms i ≡ Some v → state_at v ≡ opened plan.graph i rows
   state_is i v at =
       let here = (legal i v at).leads in
@@ -65,10 +60,10 @@ module _ (plan : Parts) (rows : ℕ → List Row) (platforms : List PlatformView
 
   pub starts : HaveReplayed plan rows [] (fresh_order 0) last platforms
   starts = record {
+    admitted = admitted;
     all = ready.all;
     told = [];
     are_told = tt;
-    only = λ others ends h lawful. no_others plan.graph others h;
     in_order = tt;
     up_to = tt;
     reached = λ i h. omega arith;

@@ -9,13 +9,13 @@ use Rattle.pt_semantics.specs.Lists.{Each}
 use Rattle.pt_semantics.specs.Platform.{State, opened}
 use Rattle.pt_semantics.specs.Turn.{Turn, is_quiet}
 use Rattle.pt_causality.specs.Ranked.{level_of}
-use Rattle.pt_offsets.specs.Plans.{Parts}
+use Rattle.pt_offsets.specs.Plans.{IsAdmitted, Parts}
 use Rattle.pt_turn.specs.All.{AreAll}
 use Rattle.pt_turn.specs.Platforms.{PlatformView, state_at}
 use Rattle.pt_turn.specs.Running.{GoesOn}
 use Rattle.pt_hints.specs.Lines.{Block}
 use Rattle.pt_retell.specs.Lasts.{AreLast}
-use Rattle.pt_audit.specs.Told.{AreLawful, AreTold, InPlatformOrder, ToldTurn, turns_of}
+use Rattle.pt_audit.specs.Told.{AreTold, InPlatformOrder, ToldTurn, turns_of}
 use Rattle.pt_audit.specs.declared.order.Order.{Order}
 
 -- the count of a turn, if it is quiet
@@ -57,12 +57,12 @@ pub record HasMade (g : Graph) (level : ℕ → ℕ) (i : ℕ) (rows : ℕ → L
   pub sent : (l : ℕ) → all_sent l v.turns ≡ all_sent l turns
   pub taken : (l : ℕ) → all_taken l v.turns ≡ all_taken l turns
 
--- these blocks tell turns, which the platforms have made, and no others
+-- these blocks tell turns, which the platforms have made
 pub record HaveReplayed (plan : Parts) (rows : ℕ → List Row) (blocks : List Block) (order : Order) (last : List (Option Message)) (platforms : List PlatformView) : Type 0 where
+  pub admitted : IsAdmitted plan
   pub all : AreAll plan rows platforms
   pub told : List ToldTurn
   pub are_told : AreTold plan.graph blocks told
-  pub only : (others : List ToldTurn) (ends : ℕ → State) → AreTold plan.graph blocks others → AreLawful plan.graph (level_of plan.ranks) rows others ends → others ≡ told
   pub in_order : InPlatformOrder told
   -- `order` is that after the last turn
   pub up_to : Each (λ (t : ToldTurn). t.platform ≤ order.platform) told

@@ -15,7 +15,12 @@ use Rattle.pt_tables.specs.Platforms.{histories}
 use Rattle.pt_confluence.specs.Gathered.{HaveFinished}
 use Rattle.pt_audit.specs.LawfulLogs.{IsLawfulLog, most_bytes}
 use Rattle.pt_audit.specs.Verdicts.{IsHead, IsVerdict}
+use Rattle.pt_audit.specs.declared.verdict.Verdict.{Verdict}
 use Rattle.pt_audit.specs.declared.verdict.Verdict.TheVariants.{Fine}
+
+-- of any bytes at most one verdict is right
+abbrev pub VerdictsAreOne : Type 0
+VerdictsAreOne = (plan : Parts) (rows : ℕ → List Row) (bytes : List ℕ) (v w : Verdict) → IsAdmitted plan → IsVerdict plan rows bytes v → IsVerdict plan rows bytes w → v ≡ w
 
 -- a lawful log is fine, and its head is the tables
 abbrev pub LawfulLogsAreFine : Type 0

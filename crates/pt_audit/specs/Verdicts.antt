@@ -1,5 +1,6 @@
--- The verdicts on a file. (`replay` gives one, and shows that the file has no other.)
-use Rattle.std.specs.Prelude.{◌≡◌, ◌<◌, ◌≤◌, ◌+◌, ◌++◌, ◌∷◌, [], ℕ, List, None, Some, flat_map, length, slice_get}
+-- The verdicts on a file: at most one is right.
+use Rattle.std.specs.Prelude.{◌≡◌, ◌<◌, ◌≤◌, ◌+◌, ◌++◌, ◌∷◌, [], ℕ, List, None, Some, length, slice_get}
+use Rattle.std.specs.List.{concat}
 use Rattle.pt_types.specs.declared.graph.Graph.{Graph}
 use Rattle.pt_types.specs.declared.graph.Link.{Link}
 use Rattle.pt_types.specs.declared.rows.Row.{Row}
@@ -83,7 +84,7 @@ pub record IsHead (plan : Parts) (rows : ℕ → List Row) (bytes : List ℕ) : 
   pub head : List (List ℕ)
   pub rest : List (List ℕ)
   pub lines : at_log (lines_of bytes) ≡ Some (head, rest)
-  pub tables : AreTables plan rows (flat_map (λ (line : List ℕ). line) head)
+  pub tables : AreTables plan rows (concat head)
 
 -- where the first line `log` is; 0 if there is none, or if the file is too long
 abbrev pub BeginsAt : List ℕ → Verdict → ℕ → Type 0

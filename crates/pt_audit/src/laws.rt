@@ -1,6 +1,11 @@
 //! Theorems about logs.
 
-ghost use Rattle.pt_audit.specs.Theorems.{FineLogsAreLawful, LawfulLogsAreFine, PrintedLogsAreLawful};
+ghost use Rattle.pt_audit.specs.Theorems.{FineLogsAreLawful, LawfulLogsAreFine, PrintedLogsAreLawful, VerdictsAreOne};
+
+/// Of any bytes at most one verdict is right.
+pub fn verdicts_are_one()
+    ensures { VerdictsAreOne }
+{}
 
 /// A lawful log is fine, and its head is the tables.
 pub fn lawful_logs_are_fine()

@@ -19,6 +19,8 @@ mod telling;
 mod turn;
 mod verdict;
 
-pub use laws::{fine_logs_are_lawful, lawful_logs_are_fine, printed_logs_are_lawful};
+pub use laws::{
+    fine_logs_are_lawful, lawful_logs_are_fine, printed_logs_are_lawful, verdicts_are_one,
+};
 pub use replayed::{Replayed, replay};
 pub use verdict::Verdict;

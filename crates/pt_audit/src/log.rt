@@ -5,7 +5,6 @@ ghost use Rattle.pt_types.specs.declared.rows.Row.{Row};
 ghost use Rattle.pt_turn.specs.All.{AreNew, AreReady};
 ghost use Rattle.pt_confluence.specs.Gathered.{AreLegal, HaveFinished};
 ghost use Rattle.pt_audit.specs.Verdicts.{IsVerdictOn};
-ghost use Rattle.pt_audit.specs.declared.verdict.Verdict.{Verdict};
 ghost use Rattle.pt_audit.specs.declared.verdict.Verdict.TheVariants.{Fine};
 
 use crate::blocks::replay_blocks;
@@ -37,7 +36,6 @@ pub(crate) fn replay_log(
 ) -> Result<Ended, Memory>
     requires ready { (rows : ℕ → List Row) × AreReady plan.now rows platforms.items }
     ensures verdict { (rows : ℕ → List Row) → AreReady plan.now rows platforms.items → IfOk result (λ ended. IsVerdictOn plan.now rows log.entry ended.verdict) }
-    ensures one { (rows : ℕ → List Row) → AreReady plan.now rows platforms.items → IfOk result (λ ended. (other : Verdict) → IsVerdictOn plan.now rows log.entry other → other ≡ ended.verdict) }
     ensures fine { (rows : ℕ → List Row) → AreReady plan.now rows platforms.items → IfOk result (λ ended. ended.verdict ≡ Fine → HaveFinished plan.now rows ended.platforms.items) }
 {
     let mut platforms = platforms;

@@ -7,7 +7,6 @@ ghost use Rattle.pt_sensors.specs.Listed.{rows_for};
 ghost use Rattle.pt_sensors.specs.Places.{StandInPlace, of_run};
 ghost use Rattle.pt_confluence.specs.Gathered.{HaveFinished};
 ghost use Rattle.pt_audit.specs.Verdicts.{BeginsAt, IsVerdict};
-ghost use Rattle.pt_audit.specs.declared.verdict.Verdict.{Verdict};
 ghost use Rattle.pt_audit.specs.declared.verdict.Verdict.TheVariants.{Fine};
 
 use crate::log::replay_log;
@@ -34,7 +33,8 @@ pub struct Replayed {
     pub platforms: Vec<Platform>,
 }
 
-/// Replays a log and says what the file is. Only its head, the lines before `log`, is not looked at.
+/// Replays a log and says what the file is: no other verdict is right, by `verdicts_are_one`. Only its head, the lines before
+/// `log`, is not looked at.
 ///
 /// `entries` has one entry for each actor, without late rows.
 pub fn replay(
@@ -47,7 +47,6 @@ pub fn replay(
     requires places { StandInPlace (arc_value plan.now).graph entries.items }
     requires fit { FitRows (arc_value plan.now).graph (of_run (arc_value plan.now).graph (rows_for entries.items)) }
     ensures verdict { IfOk result (λ r. IsVerdict (arc_value plan.now) (of_run (arc_value plan.now).graph (rows_for entries.items)) bytes.now r.verdict) }
-    ensures one { IfOk result (λ r. (other : Verdict) → IsVerdict (arc_value plan.now) (of_run (arc_value plan.now).graph (rows_for entries.items)) bytes.now other → other ≡ r.verdict) }
     ensures fine { IfOk result (λ r. r.verdict ≡ Fine → HaveFinished (arc_value plan.now) (of_run (arc_value plan.now).graph (rows_for entries.items)) r.platforms.items) }
     ensures log_at { IfOk result (λ r. BeginsAt bytes.now r.verdict r.log_at) }
 {

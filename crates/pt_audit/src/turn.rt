@@ -7,7 +7,6 @@ ghost use Rattle.pt_turn.specs.Platforms.{state_at};
 ghost use Rattle.pt_hints.specs.Hints.{AreHints};
 ghost use Rattle.pt_retell.specs.Following.{CanFollow};
 ghost use Rattle.pt_retell.specs.Lasts.{AreLast, KeepOthers};
-ghost use Rattle.pt_retell.specs.Retold.{IsOnly};
 ghost use Rattle.pt_audit.specs.Retelling.{HasTold, NoneTold};
 ghost use Rattle.pt_audit.specs.Replaying.{quiet_count};
 
@@ -52,7 +51,6 @@ pub(crate) fn replay_turn(
     requires named { hints.now.platform ≡ platform.old.number }
     requires last { AreLast platform.old.plan.graph platform.old.number (state_at platform.old).taken last.old }
     ensures told { IfOk result (λ told. told ≡ true → HasTold block.now hints.now platform.old platform.new) }
-    ensures only { IfOk result (λ told. told ≡ true → IsOnly hints.now platform.old platform.new) }
     ensures none { IfOk result (λ told. told ≡ false → NoneTold block.now hints.now platform.old) }
     ensures last { IfOk result (λ told. told ≡ true → AreLast platform.old.plan.graph platform.old.number (state_at platform.new).taken last.new) }
     ensures others { IfOk result (λ told. told ≡ true → KeepOthers platform.old.plan.graph platform.old.number last.old last.new) }

@@ -1,4 +1,4 @@
--- The blocks of a text, joined, are the text.
+-- The blocks of a text, joined, and its lines, joined.
 use Rattle.std.proofs.Common.{◌≡◌, ℕ, suc, Bool, true, false, ◌==◌, List, [], ◌∷◌, ◌++◌, flat_map, refl, ap, ◌∙◌, append_assoc, ⊎_elim}
 use Rattle.std.specs.List.{concat}
 use Rattle.std.proofs.lemmas.Bool.{cases_Bool}
@@ -16,7 +16,8 @@ joined_line : (n : ℕ) (line : List ℕ) (blocks : List Block) → joined (with
 joined_line n line [] = refl
 joined_line n line (block ∷ blocks) = joined_line_at n line block blocks (begins_turn block.text) refl
 
-joined_lines : (n : ℕ) (lines : List (List ℕ)) → joined (blocks_from n lines) ≡ concat lines
+-- the blocks of lines, joined, are the lines, joined
+pub joined_lines : (n : ℕ) (lines : List (List ℕ)) → joined (blocks_from n lines) ≡ concat lines
 joined_lines n [] = refl
 joined_lines n (line ∷ lines) = joined_line n line (blocks_from (suc n) lines) ∙ ap (λ (xs : List ℕ). line ++ xs) (joined_lines (suc n) lines)
 
@@ -24,12 +25,10 @@ concat_first : (b : ℕ) (lines : List (List ℕ)) → concat (before_first b li
 concat_first b [] = refl
 concat_first b (line ∷ lines) = refl
 
+-- the lines of a text, joined, are the text
 pub concat_lines : (text : List ℕ) → concat (lines_of text) ≡ text
 concat_lines [] = refl
 concat_lines (b ∷ bs) = ⊎_elim
     (λ (ends : (b == 10) ≡ true). rw ends (ap (λ (xs : List ℕ). b ∷ xs) (concat_lines bs)))
     (λ (other : (b == 10) ≡ false). rw other (concat_first b (lines_of bs) ∙ ap (λ (xs : List ℕ). b ∷ xs) (concat_lines bs)))
     (cases_Bool (b == 10))
-
-pub joined_blocks : (n : ℕ) (text : List ℕ) → joined (blocks_from n (lines_of text)) ≡ text
-joined_blocks n text = joined_lines n (lines_of text) ∙ concat_lines text

@@ -8,5 +8,6 @@ pub mod Heads
 pub mod ItemLines
 pub mod Reading
 pub mod TurnTexts
+pub mod SameTexts
 pub mod Cut
 pub mod BlockTexts

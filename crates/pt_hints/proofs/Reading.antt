@@ -68,6 +68,12 @@ body_of g item = word_of item ++ 44 ∷ fields_of g item
 pub body_lacks : (g : Graph) (item : Item) → IsLawful g → Lacks 10 (body_of g item)
 body_lacks g item lawful = fields_lack (word_of item) (fields_of g item) (word_lacks_feed item) (fields_lack_feed g item lawful)
 
+-- a text that begins with a line, cut after it
+pub line_cut : (g : Graph) (item : Item) (text later : List ℕ) → IsLawful g → text ≡ item_line g item ++ later → (before 10 text ++ 10 ∷ [] ≡ item_line g item) × (after 10 text ≡ later)
+line_cut g item text later lawful e =
+    let shape : text ≡ body_of g item ++ 10 ∷ later = e ∙ ap (λ (line : List ℕ). line ++ later) (item_line_is g item) ∙ append_assoc (body_of g item) (10 ∷ []) later in
+    (ap (λ (xs : List ℕ). before 10 xs ++ 10 ∷ []) shape ∙ ap (λ (xs : List ℕ). xs ++ 10 ∷ []) (before_at 10 (body_of g item) later (body_lacks g item lawful)) ∙ sym (item_line_is g item), ap (after 10) shape ∙ after_at 10 (body_of g item) later (body_lacks g item lawful))
+
 -- the next line, where some are left
 pub record IsNext (g : Graph) (items : List Item) (begun : Hints) (rest : List ℕ) (hints : Hints) : Type 0 where
   pub item : Item
@@ -81,15 +87,14 @@ pub record IsNext (g : Graph) (items : List Item) (begun : Hints) (rest : List �
 next_of : (g : Graph) (items : List Item) (begun : Hints) (rest : List ℕ) (hints : Hints) (left : List Item) → IsLawful g → 0 < length rest → Each (IsTellableItem g) left → rest ≡ flat_map (item_line g) left → with_entries (tally hints) (map entry_of left) ≡ with_entries (tally begun) (map entry_of items) → IsNext g items begun rest hints
 next_of g items begun rest hints [] lawful some told e total = absurd (omega (arith, ap length e))
 next_of g items begun rest hints (item ∷ more) lawful some told e total =
-    let later = flat_map (item_line g) more in
-    let shape : rest ≡ body_of g item ++ 10 ∷ later = e ∙ ap (λ (line : List ℕ). line ++ later) (item_line_is g item) ∙ append_assoc (body_of g item) (10 ∷ []) later in
+    let cut = line_cut g item rest (flat_map (item_line g) more) lawful e in
     record {
       item = item;
       more = more;
       told = told.0;
       all_told = told.1;
-      line = ap (λ (xs : List ℕ). before 10 xs ++ 10 ∷ []) shape ∙ ap (λ (xs : List ℕ). xs ++ 10 ∷ []) (before_at 10 (body_of g item) later (body_lacks g item lawful)) ∙ sym (item_line_is g item);
-      text = ap (after 10) shape ∙ after_at 10 (body_of g item) later (body_lacks g item lawful);
+      line = cut.0;
+      text = cut.1;
       total = total;
     }
 
@@ -97,7 +102,7 @@ pub next_item : (g : Graph) (items : List Item) (begun : Hints) (rest : List ℕ
 next_item g items begun rest hints lawful some are = next_of g items begun rest hints are.left lawful some are.told are.text are.total
 
 -- a line has at least its line feed
-line_some : (g : Graph) (item : Item) (later : List ℕ) → [] ≡ item_line g item ++ later → ⊥
+pub line_some : (g : Graph) (item : Item) (later : List ℕ) → [] ≡ item_line g item ++ later → ⊥
 line_some g item later e =
     let shape : [] ≡ (body_of g item ++ 10 ∷ []) ++ later = e ∙ ap (λ (line : List ℕ). line ++ later) (item_line_is g item) in
     omega (arith, ap length shape, length-append (body_of g item ++ 10 ∷ []) later, length-append (body_of g item) (10 ∷ []))

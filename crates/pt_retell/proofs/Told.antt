@@ -4,6 +4,7 @@ use Rattle.std.proofs.lemmas.List.{append_cancel_left}
 use Rattle.pt_types.specs.declared.firing.Done.{Done}
 use Rattle.pt_types.specs.declared.firing.OnLink.{OnLink}
 use Rattle.pt_types.specs.declared.firing.Task.{Task}
+use Rattle.pt_types.specs.declared.graph.Graph.{Graph}
 use Rattle.pt_history.specs.Lists.{on_last}
 use Rattle.pt_history.specs.Turns.{sending}
 use Rattle.pt_history.proofs.LastMember.{on_last-push}
@@ -19,6 +20,7 @@ use Rattle.pt_turn.proofs.Sending.{sends_more, taken_still}
 use Rattle.pt_visits.specs.Visited.{HasSent}
 use Rattle.pt_hints.specs.declared.hints.Hints.{Hints}
 use Rattle.pt_hints.specs.Hints.{AreHints}
+use Rattle.pt_hints.proofs.SameTexts.{HaveSameHints, hints_same}
 use Rattle.pt_retell.proofs.Results.{number_of}
 use Rattle.pt_retell.specs.Retold.{HasRetold, IsOnly, at_last}
 use Rattle.pt_retell.specs.Steps.{AreOf, CanSend, HasCounts, IsInForm}
@@ -120,20 +122,22 @@ module _ (hints : Hints) (old mid : PlatformView) (claims : List Task) (dones : 
       let is : new ≡ record mid { turns = on_last (sending hints.sent.items) mid.turns; outbox = new.outbox } = sent.stays ∙ ap (λ (ts : List Turn). record mid { turns = ts; outbox = new.outbox }) sent.turns in
       subst (HasRetold hints old) (sym is) (retold_with new.outbox sent.rest can.few)
 
+-- two turns from one tidy state, of which the same hints are right, are one and lead to one state
+pub one_turn : (g : Graph) (level : ℕ → ℕ) (i p q : ℕ) (claims : List Task) (s new other : State) (turn told : Turn) (late slow : Bool) → IsTidy g level i claims s → IsTurn g level i s turn late new → IsTurn g level i s told slow other → HaveSameHints p q turn told
+    → (turn ≡ told) × (late ≡ slow) × (new ≡ other)
+one_turn g level i p q claims s new other turn told late slow tidy k j same =
+    let posted : turn.posted ≡ told.posted = same_numbers g level i claims s turn.posted told.posted tidy (posts_open g turn.posted s k.posted k.posts) (posts_open g told.posted s j.posted j.posts) same.posts in
+    let rows : turn.rows ≡ told.rows = same_rows g level i s new other turn told late slow k j same.last posted in
+    let both = took g level i s new other turn told late slow k j same.last posted same.taken in
+    let claimed = same_claims g level i s new other turn told late slow k j same.last posted same.taken same.claims in
+    let state : new ≡ other = new_state g level i s new other turn told late slow k j same.last posted same.taken same.claims same.sent in
+    (λ n. record { first = same.first n; last = same.last n; count = same.count n; posted = posted n; rows = rows n; taken = same.taken n; claimed = claimed.0 n; sent = same.sent n }, both.0, state)
+
 -- each turn with these hints that leads from the old state is the one that was made
 pub only_one : (hints : Hints) (old new : PlatformView) (claims : List Task) → IsTidy old.plan.graph (level_at old) old.number claims (state_at old) → HasRetold hints old new → IsOnly hints old new
 only_one hints old new claims tidy h turn late s told is =
-    let last : h.turn.last ≡ turn.last = sym h.told.last ∙ told.last in
-    let posted : h.turn.posted ≡ turn.posted = same_numbers old.plan.graph (level_at old) old.number claims (state_at old) h.turn.posted turn.posted tidy (posts_open old.plan.graph h.turn.posted (state_at old) h.is.posted h.is.posts) (posts_open old.plan.graph turn.posted (state_at old) is.posted is.posts) (sym h.told.posts ∙ told.posts) in
-    let taken : h.turn.taken ≡ turn.taken = sym h.told.taken ∙ told.taken in
-    let count : length h.turn.claimed ≡ length turn.claimed = sym h.told.claims ∙ told.claims in
-    let sent : h.turn.sent ≡ turn.sent = sym h.told.sent ∙ told.sent in
-    let rows : h.turn.rows ≡ turn.rows = same_rows old.plan.graph (level_at old) old.number (state_at old) (state_at new) s h.turn turn (is_late new.fault) late h.is is last posted in
-    let both = took old.plan.graph (level_at old) old.number (state_at old) (state_at new) s h.turn turn (is_late new.fault) late h.is is last posted taken in
-    let claimed = same_claims old.plan.graph (level_at old) old.number (state_at old) (state_at new) s h.turn turn (is_late new.fault) late h.is is last posted taken count in
-    let state : state_at new ≡ s = new_state old.plan.graph (level_at old) old.number (state_at old) (state_at new) s h.turn turn (is_late new.fault) late h.is is last posted taken count sent in
-    let turn_is : at_last h.turn ≡ at_last turn = λ i. record { first = last i; last = last i; count = 1; posted = posted i; rows = rows i; taken = taken i; claimed = claimed.0 i; sent = sent i } in
-    (h.kept ∙ ap (kept_with old.turns) turn_is, sym both.0, sym state)
+    let one = one_turn old.plan.graph (level_at old) old.number old.number old.number claims (state_at old) (state_at new) s h.turn turn (is_late new.fault) late tidy h.is is (hints_same old.number old.number h.turn turn hints h.told told) in
+    (h.kept ∙ ap (λ (t : Turn). kept_with old.turns (at_last t)) one.0, sym one.1, sym one.2)
 
 -- so it is the turn that was made again
 pub same_turn : (hints : Hints) (old new : PlatformView) (h : HasRetold hints old new) → IsOnly hints old new → (turn : Turn) (late : Bool) (s : State) → AreHints old.number turn hints → IsTurn old.plan.graph (level_at old) old.number (state_at old) turn late s → turn ≡ h.turn

@@ -1,17 +1,14 @@
 -- A turn that was made from hints, before its messages are sent.
-use Rattle.std.proofs.Common.{◌≡◌, ℕ, ◌+◌, ◌-◌, max, List, [], ◌∷◌, ◌++◌, Option, Some, None, length, slice_get, sym, ap, subst, ◌∙◌, arith, length-append}
+use Rattle.std.proofs.Common.{◌≡◌, ◌+◌, ◌-◌, List, [], ◌∷◌, ◌++◌, Option, Some, length, slice_get, sym, ap, subst, ◌∙◌, arith, length-append}
 use Rattle.pt_tags.specs.declared.message.Message.{Message}
-use Rattle.pt_types.specs.declared.firing.Done.{Done}
 use Rattle.pt_types.specs.declared.firing.OnLink.{OnLink}
 use Rattle.pt_semantics.specs.Closing.{on_link}
 use Rattle.pt_semantics.specs.Kept.{settled}
 use Rattle.pt_offsets.specs.Plans.{Parts}
 use Rattle.pt_semantics.specs.Turn.{Turn}
-use Rattle.pt_post.specs.Posted.{AreDone}
 use Rattle.pt_turn.specs.Gone.{last_sent}
-use Rattle.pt_turn.specs.Laws.{IsRunning}
 use Rattle.pt_turn.specs.Platforms.{PlatformView, level_at, messages_of, state_at}
-use Rattle.pt_turn.specs.Turned.{IsTurned, StaysThere, is_late}
+use Rattle.pt_turn.specs.Turned.{is_late}
 use Rattle.pt_turn.proofs.Coming.{on_append}
 use Rattle.pt_turn.proofs.Turns.{messages_more}
 use Rattle.pt_turn.proofs.Sending.{last_sent_pushed}
@@ -21,53 +18,26 @@ use Rattle.pt_retell.specs.Following.{CanFollow}
 use Rattle.pt_hints.specs.Hints.{AreHints}
 use Rattle.pt_retell.specs.Lasts.{AreLast, last_of}
 use Rattle.pt_retell.specs.Retold.{HasRetold, at_last}
-use Rattle.pt_retell.specs.Steps.{AreOf, CanSend, HasCounts, IsInForm, MakesTurn, OnlyLinks}
-use Rattle.pt_retell.proofs.Results.{numbers_are}
-use Rattle.pt_retell.proofs.Histories.{claims_in, running_tidy}
+use Rattle.pt_retell.specs.Steps.{CanSend, HasCounts, HasMade, OnlyLinks, claims_in}
+use Rattle.pt_retell.proofs.Histories.{running_tidy}
 use Rattle.pt_retell.proofs.Tidy.{IsTidy, at_seam, turn_tidy}
 use Rattle.pt_retell.proofs.Counts.{counts_hold, sends_hold}
 use Rattle.pt_retell.proofs.Told.{retold}
 
--- a turn was made from hints, and the messages remain to be sent
-pub record HasMade (hints : Hints) (old mid : PlatformView) (dones : List Done) : Type 0 where
-  pub named : hints.platform ≡ old.number
-  pub no_fault : old.fault ≡ None
-  pub running : IsRunning old
-  pub form : IsInForm old.reading hints
-  pub are : AreOf (claims_in old.turns) hints.posts.items dones
-  pub done : AreDone old.plan.graph dones
-  pub made : IsTurned old mid hints.last (max 1 hints.claims) dones hints.taken.items
-  pub stays : StaysThere old mid
-
-pub has_made : (hints : Hints) (old mid : PlatformView) (dones given : List Done) (numbers : List ℕ) → hints.platform ≡ old.number → old.fault ≡ None → IsRunning old → IsInForm old.reading hints
-    → AreOf (claims_in old.turns) numbers dones → numbers ≡ hints.posts.items → AreDone old.plan.graph dones → MakesTurn hints given old mid → given ≡ dones → HasMade hints old mid dones
-has_made hints old mid dones given numbers named no_fault running form are numbers_are done makes given_are =
-    let turned : MakesTurn hints dones old mid = subst (λ ds. MakesTurn hints ds old mid) given_are makes in
-    record {
-      named = named;
-      no_fault = no_fault;
-      running = running;
-      form = form;
-      are = subst (λ ns. AreOf (claims_in old.turns) ns dones) numbers_are are;
-      done = done;
-      made = turned.0;
-      stays = turned.1;
-    }
-
-module _ (hints : Hints) (old mid : PlatformView) (dones : List Done) (h : HasMade hints old mid dones) where
+module _ (hints : Hints) (old mid : PlatformView) (h : HasMade hints old mid) where
   tidy_there : IsTidy old.plan.graph (level_at old) old.number (claims_in old.turns) (state_at old)
   tidy_there = running_tidy old h.running
 
   pub counts_must : (turn : Turn) → AreHints old.number turn hints → CanFollow old turn → HasCounts hints h.made.turn
-  counts_must turn told follows = counts_hold hints old mid (claims_in old.turns) dones tidy_there h.form h.are h.done h.made turn told follows.late follows.new follows.is
+  counts_must turn told follows = counts_hold hints old mid (claims_in old.turns) h.dones tidy_there h.form h.are h.done h.made turn told follows.late follows.new follows.is
 
   pub sends_must : (turn : Turn) → AreHints old.number turn hints → CanFollow old turn → CanSend mid.outbox hints.sent.items
-  sends_must turn told follows = sends_hold hints old mid (claims_in old.turns) dones tidy_there h.form h.are h.done h.made turn told follows.late follows.new follows.is
+  sends_must turn told follows = sends_hold hints old mid (claims_in old.turns) h.dones tidy_there h.form h.are h.done h.made turn told follows.late follows.new follows.is
 
   pub retold_from : HasCounts hints h.made.turn → (new : PlatformView) (messages : List OnLink) → messages ≡ hints.sent.items → HasSent mid new messages × CanSend mid.outbox messages → HasRetold hints old new
   retold_from counts new messages are sent =
       let both : HasSent mid new hints.sent.items × CanSend mid.outbox hints.sent.items = subst (λ ms. HasSent mid new ms × CanSend mid.outbox ms) are sent in
-      retold hints old mid (claims_in old.turns) dones h.named h.no_fault tidy_there h.form h.are h.done h.made h.stays counts new both.0 both.1
+      retold hints old mid (claims_in old.turns) h.dones h.named h.no_fault tidy_there h.form h.are h.done h.made h.stays counts new both.0 both.1
 
   -- the last recorded turn is the one that was made
   pub last_made : (turns : List Turn) → turns ≡ mid.turns → slice_get turns (length turns - 1) ≡ Some h.made.turn
@@ -86,11 +56,11 @@ module _ (hints : Hints) (old mid : PlatformView) (dones : List Done) (h : HasMa
   only_links l none = (turn_tidy old.plan.graph (level_at old) old.number (claims_in old.turns) (state_at old) (state_at mid) h.made.turn (is_late mid.fault) h.made.is tidy_there).foreign l (ap (λ (p : Parts). slice_get p.graph.links l) (sym h.stays.plan) ∙ none)
 
 -- the last messages after the turn
-pub last_after : (hints : Hints) (old new : PlatformView) (messages : List OnLink) (last : List (Option Message)) → HasRetold hints old new → messages ≡ hints.taken.items → AreLast old.plan.graph old.number (λ l. (state_at old).taken l ++ on_link l messages) last → AreLast old.plan.graph old.number (state_at new).taken last
-last_after hints old new messages last h are lasts = record {
+pub last_after : (hints : Hints) (old new : PlatformView) (last : List (Option Message)) → HasRetold hints old new → AreLast old.plan.graph old.number (λ l. (state_at old).taken l ++ on_link l hints.taken.items) last → AreLast old.plan.graph old.number (state_at new).taken last
+last_after hints old new last h lasts = record {
   count = lasts.count;
   is = λ l link at home.
       lasts.is l link at home
-      ∙ ap (λ z. Some (last_of ((state_at old).taken l ++ on_link l z))) (are ∙ h.told.taken)
+      ∙ ap (λ z. Some (last_of ((state_at old).taken l ++ on_link l z))) h.told.taken
       ∙ ap (λ z. Some (last_of z)) (sym (on_append l (messages_of old.turns) h.turn.taken) ∙ ap (on_link l) (sym (ap messages_of h.kept ∙ messages_more old.turns (at_last h.turn))));
 }

@@ -1,5 +1,5 @@
 -- The steps from hints to a turn.
-use Rattle.std.specs.Prelude.{◌≡◌, ◌++◌, ◌<◌, ◌≤◌, [], ℕ, List, None, Option, Some, length, max, slice_get, slice_index_or}
+use Rattle.std.specs.Prelude.{◌≡◌, ◌++◌, ◌<◌, ◌≤◌, [], ℕ, List, None, Option, Some, flat_map, length, max, slice_get, slice_index_or}
 use Rattle.pt_tags.specs.declared.message.Message.{Message}
 use Rattle.pt_types.specs.declared.firing.Done.{Done}
 use Rattle.pt_types.specs.declared.firing.OnLink.{OnLink}
@@ -10,6 +10,8 @@ use Rattle.pt_types.specs.Lookups.{platform_of}
 use Rattle.pt_semantics.specs.Closing.{on_link}
 use Rattle.pt_semantics.specs.Orderly.{ComesAfter, FitsStep}
 use Rattle.pt_semantics.specs.Turn.{Turn}
+use Rattle.pt_post.specs.Posted.{AreDone}
+use Rattle.pt_turn.specs.Laws.{IsRunning}
 use Rattle.pt_turn.specs.Platforms.{PlatformView}
 use Rattle.pt_turn.specs.Turned.{IsTurned, StaysThere}
 use Rattle.pt_hints.specs.declared.hints.Hints.{Hints}
@@ -43,6 +45,23 @@ pub record AreOf (claims : List Task) (numbers : List ℕ) (dones : List Done) :
 -- a turn was made from hints and these results
 abbrev pub MakesTurn : Hints → List Done → PlatformView → PlatformView → Type 0
 MakesTurn hints dones old new = IsTurned old new hints.last (max 1 hints.claims) dones hints.taken.items × StaysThere old new
+
+-- the claims of all recorded turns
+abbrev pub claims_in : List Turn → List Task
+claims_in turns = flat_map (λ (turn : Turn). turn.claimed) turns
+
+-- a platform that may make a turn made one from hints that are in form, with the results of the claims that the hints name. That
+-- it has their counts is not said, and nothing is sent yet
+pub record HasMade (hints : Hints) (old new : PlatformView) : Type 0 where
+  pub named : hints.platform ≡ old.number
+  pub no_fault : old.fault ≡ None
+  pub running : IsRunning old
+  pub form : IsInForm old.reading hints
+  pub dones : List Done
+  pub are : AreOf (claims_in old.turns) hints.posts.items dones
+  pub done : AreDone old.plan.graph dones
+  pub made : IsTurned old new hints.last (max 1 hints.claims) dones hints.taken.items
+  pub stays : StaysThere old new
 
 -- as many results were posted, messages taken and tasks claimed as the hints say
 pub record HasCounts (hints : Hints) (turn : Turn) : Type 0 where

@@ -1,9 +1,11 @@
 //! A turn from its hints.
 
-ghost use Rattle.std.specs.Prelude.{◌≡◌, IfOk, false, true};
+ghost use Rattle.std.specs.Prelude.{◌≡◌, ◌++◌, IfOk, false, true};
+ghost use Rattle.pt_semantics.specs.Closing.{on_link};
 ghost use Rattle.pt_turn.specs.Platforms.{state_at};
 ghost use Rattle.pt_retell.specs.Lasts.{AreLast, KeepOthers};
 ghost use Rattle.pt_retell.specs.Retold.{HasRetold, IsOnly, NoneFollows};
+ghost use Rattle.pt_retell.specs.Steps.{HasMade};
 
 use crate::coming::may_come;
 use crate::form::is_in_form;
@@ -55,6 +57,31 @@ pub fn retell(
     ensures last { IfOk result (λ told. told ≡ true → AreLast platform.old.plan.graph platform.old.number (state_at platform.new).taken last.new) }
     ensures others { IfOk result (λ told. told ≡ true → KeepOthers platform.old.plan.graph platform.old.number last.old last.new) }
 {
+    if !make_again(platform, hints, last, desk, blocks)? {
+        return Ok(false);
+    }
+    if !has_counts(platform.history(), hints) {
+        return Ok(false);
+    }
+    Ok(send_all(platform, hints.sent.as_slice()))
+}
+
+/// Makes a turn from these hints, without its sent messages, and returns whether there can be one. Whether it has the counts of
+/// the hints is not looked at.
+fn make_again(
+    platform: &mut Platform,
+    hints: &Hints,
+    last: &mut [Option<Message>],
+    desk: &mut Retelling,
+    blocks: &Blocks,
+) -> Result<bool, Memory>
+    requires named { hints.now.platform ≡ platform.old.number }
+    requires last { AreLast platform.old.plan.graph platform.old.number (state_at platform.old).taken last.old }
+    ensures made { IfOk result (λ can. can ≡ true → HasMade hints.now platform.old platform.new) }
+    ensures never { IfOk result (λ can. can ≡ false → NoneFollows hints.now platform.old) }
+    ensures last { IfOk result (λ can. can ≡ true → AreLast platform.old.plan.graph platform.old.number (λ l. (state_at platform.old).taken l ++ on_link l hints.now.taken.items) last.new) }
+    ensures others { IfOk result (λ can. can ≡ true → KeepOthers platform.old.plan.graph platform.old.number last.old last.new) }
+{
     if platform.fault().is_some() {
         return Ok(false);
     }
@@ -68,8 +95,5 @@ pub fn retell(
         return Ok(false);
     }
     make_turn(platform, hints, desk.dones.as_slice(), &mut desk.tasks)?;
-    if !has_counts(platform.history(), hints) {
-        return Ok(false);
-    }
-    Ok(send_all(platform, hints.sent.as_slice()))
+    Ok(true)
 }

@@ -1,5 +1,6 @@
 -- What the replay of a log, and the comparison of its head, say of the file.
 use Rattle.std.proofs.Common.{◌≡◌, ◌≢◌, ◌↔◌, Bool, true, ℕ, ◌+◌, ◌<◌, ◌≤◌, List, Option, Some, None, IfSome, length, take, drop, refl, sym, ap, subst, ◌∙◌, arith}
+use Rattle.std.specs.List.{concat}
 use Rattle.std.proofs.lemmas.Bool.Decides.{nat_tests}
 use Rattle.std.proofs.lemmas.List.{length-take, take_all}
 use Rattle.pt_types.specs.declared.rows.Row.{Row}
@@ -12,13 +13,14 @@ use Rattle.pt_confluence.specs.Gathered.{AreTables, HaveFinished}
 use Rattle.pt_turn.specs.Platforms.{PlatformView}
 use Rattle.pt_hints.specs.Lines.{lines_of}
 use Rattle.pt_hints.specs.Places.{IsLogAt}
+use Rattle.pt_hints.proofs.BlockTexts.{concat_lines}
 use Rattle.pt_audit.specs.LawfulLogs.{most_bytes}
 use Rattle.pt_audit.specs.Verdicts.{IsHead, IsVerdict}
 use Rattle.pt_audit.specs.declared.verdict.Verdict.{Verdict}
 use Rattle.pt_audit.specs.declared.verdict.Verdict.TheVariants.{TooLong, NoLog, Turn, Unfinished, Unlinked, Table, Fine}
 use Rattle.pt_audit.proofs.FineLogs.{lawful_is_fine}
 use Rattle.pt_audit.proofs.Lawful.{fine_is_lawful}
-use Rattle.pt_audit.proofs.Texts.{joined, joined_lines}
+use Rattle.pt_audit.proofs.OneVerdict.{file_once}
 use Rattle.pt_run.specs.Auditing.{Accepts, IsJudged, IsUnlawful, Refuses}
 
 -- a text is the tables of the meaning if it is the tables that were written
@@ -34,9 +36,12 @@ table_fine e = cc
 
 module _ (plan : Parts) (rows : ℕ → List Row) (bytes : List ℕ) (admitted : IsAdmitted plan) where
   -- the replay found a fault
-  pub replay_refuses : (v : Verdict) → v ≢ Fine → IsVerdict plan rows bytes v → ((other : Verdict) → IsVerdict plan rows bytes other → other ≡ v) → IsJudged plan rows bytes v
-  replay_refuses v ne is one = judged v ne unlawful
+  pub replay_refuses : (v : Verdict) → v ≢ Fine → IsVerdict plan rows bytes v → IsJudged plan rows bytes v
+  replay_refuses v ne is = judged v ne unlawful
     where
+      one : (other : Verdict) → IsVerdict plan rows bytes other → other ≡ v
+      one other k = file_once plan rows bytes other v admitted k is
+
       refuses : (u : Verdict) → u ≢ Fine → IsVerdict plan rows bytes u → Refuses plan rows bytes u
       refuses TooLong ne k = k
       refuses NoLog ne k = k
@@ -69,16 +74,19 @@ module _ (plan : Parts) (rows : ℕ → List Row) (bytes : List ℕ) (admitted :
 
   -- the replay found none
   module _ (place line : ℕ) (at : IsLogAt bytes place line) (fine : IsVerdict plan rows bytes Fine) where
+    one : (other : Verdict) → IsVerdict plan rows bytes other → other ≡ Fine
+    one other k = file_once plan rows bytes other Fine admitted k fine
+
     -- and the text before `log` is the tables
-    pub head_is_table : AreTables plan rows (take place bytes) → ((other : Verdict) → IsVerdict plan rows bytes other → other ≡ Fine) → Accepts plan rows bytes
-    head_is_table tables one = record { lawful = fine_is_lawful plan rows bytes admitted fine head; only = only }
+    pub head_is_table : AreTables plan rows (take place bytes) → Accepts plan rows bytes
+    head_is_table tables = record { lawful = fine_is_lawful plan rows bytes admitted fine head; only = only }
       where
         head : IsHead plan rows bytes
         head = record {
           head = lines_of (take place bytes);
           rest = lines_of (drop (place + 4) bytes);
           lines = at.lines;
-          tables = record { firings = tables.firings; meaning = tables.meaning; written = joined_lines (take place bytes) ∙ tables.written };
+          tables = record { firings = tables.firings; meaning = tables.meaning; written = concat_lines (take place bytes) ∙ tables.written };
         }
 
         only : (v : Verdict) → Refuses plan rows bytes v → ⊥
@@ -94,11 +102,11 @@ module _ (plan : Parts) (rows : ℕ → List Row) (bytes : List ℕ) (admitted :
     of_head : IsHead plan rows bytes → AreTables plan rows (take place bytes)
     of_head head =
         let parts = same_some (head.head, head.rest) (lines_of (take place bytes), lines_of (drop (place + 4) bytes)) (sym head.lines ∙ at.lines) in
-        subst (AreTables plan rows) (ap (λ (p : List (List ℕ) × List (List ℕ)). joined p.0) parts ∙ joined_lines (take place bytes)) head.tables
+        subst (AreTables plan rows) (ap (λ (p : List (List ℕ) × List (List ℕ)). concat p.0) parts ∙ concat_lines (take place bytes)) head.tables
 
     -- or it isn't
-    pub head_is_other : (AreTables plan rows (take place bytes) → ⊥) → ((other : Verdict) → IsVerdict plan rows bytes other → other ≡ Fine) → IsUnlawful plan rows bytes Table
-    head_is_other other one = record {
+    pub head_is_other : (AreTables plan rows (take place bytes) → ⊥) → IsUnlawful plan rows bytes Table
+    head_is_other other = record {
       refuses = (fine, λ head. other (of_head head));
       only = only;
       never = λ lawful. other (of_head (lawful_is_fine plan rows bytes admitted lawful).1);

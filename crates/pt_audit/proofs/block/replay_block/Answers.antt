@@ -1,4 +1,4 @@
-use Rattle.std.proofs.Common.{◌≡◌, ◌<◌, ℕ, true, [], ◌∷◌, ◌++◌, Some, set, get_or, length, slice_get, refl, sym, ap, subst, ◌∙◌, arith}
+use Rattle.std.proofs.Common.{◌≡◌, ◌<◌, ℕ, true, [], ◌∷◌, ◌++◌, Some, set, get_or, length, slice_get, sym, ap, subst, ◌∙◌, arith}
 use Rattle.std.proofs.lemmas.Option.{slice_get-get_or}
 use Rattle.pt_types.specs.declared.graph.Graph.{Graph}
 use Rattle.pt_semantics.specs.Turn.{Turn}
@@ -70,7 +70,6 @@ returns-then-not-branch-2-clause-none g c = λ rows before line h e tells.
 
 pub returns-clause-told : goal.returns-clause-told
 returns-clause-told g c = λ rows before line h e.
-    let back : ReadsBack c.args.plan.now.graph c.args.block.now c.in_ok-read_hints.field-0 c.read_hints.new.hints = subst (λ (z : Graph). ReadsBack z c.args.block.now c.in_ok-read_hints.field-0 c.read_hints.new.hints) c.graph-graph.ensures.value c.in_ok-read_hints.ensures.back in
     let here : c.read_hints.new.hints.platform < length c.graph-graph.result.now.platforms = c.are_tellable.ensures.platform c.if-not-are_tellable.false in
     let same : length c.graph-graph.result.now.platforms ≡ length c.args.plan.now.graph.platforms = ap (λ (z : Graph). length z.platforms) c.graph-graph.ensures.value in
     let lt : c.read_hints.new.hints.platform < length c.args.platforms.now = omega (arith, here, same, h.all.count) in
@@ -79,12 +78,11 @@ returns-clause-told g c = λ rows before line h e.
     let tellable : Tellable c.args.plan.now.graph = subst Tellable c.graph-graph.ensures.value (c.are_tellable.ensures.yes c.if-not-are_tellable.false) in
     let yes : c.in_ok-replay_turn.field-0 ≡ true = c.if-not-branch-2.false in
     let told : HasTold c.args.block.now c.read_hints.new.hints (get_or c.args.platforms.now c.read_hints.new.hints.platform c.index-platforms-number.result) c.replay_turn.new.platform = c.in_ok-replay_turn.ensures.told yes in
-    let only = c.in_ok-replay_turn.ensures.only yes in
-    let quiet = quiet_here (get_or c.args.platforms.now c.read_hints.new.hints.platform c.index-platforms-number.result) c.replay_turn.new.platform c.read_hints.new.hints c.args.block.now c.graph-graph.result.now c.history.result.now.turns told.made only
+    let quiet = quiet_here (get_or c.args.platforms.now c.read_hints.new.hints.platform c.index-platforms-number.result) c.replay_turn.new.platform c.read_hints.new.hints c.args.block.now c.graph-graph.result.now c.history.result.now.turns told.made
     (sym (h.all.numbers c.read_hints.new.hints.platform (get_or c.args.platforms.now c.read_hints.new.hints.platform c.index-platforms-number.result) at))
     (c.graph-graph.ensures.value ∙ ap (λ (z : Parts). z.graph) (sym (h.all.plans c.read_hints.new.hints.platform (get_or c.args.platforms.now c.read_hints.new.hints.platform c.index-platforms-number.result) at)))
     c.history.ensures.turns c.quiet_count.result c.quiet_count.ensures in
     subst (λ (o : Order). HaveReplayed c.args.plan.now rows (before ++ (record { line = line; text = c.args.block.now }) ∷ []) o c.replay_turn.new.last (set c.args.platforms.now c.read_hints.new.hints.platform c.replay_turn.new.platform)) (sym c.with_turn.ensures)
-    (pushed c.args.plan.now rows before c.args.order.now c.in-Some.entered c.args.last.now c.replay_turn.new.last c.args.platforms.now h (record { line = line; text = c.args.block.now }) c.read_hints.new.hints.platform (get_or c.args.platforms.now c.read_hints.new.hints.platform c.index-platforms-number.result) c.replay_turn.new.platform c.read_hints.new.hints c.quiet_count.result at refl
+    (pushed c.args.plan.now rows before c.args.order.now c.in-Some.entered c.args.last.now c.replay_turn.new.last c.args.platforms.now h (record { line = line; text = c.args.block.now }) c.read_hints.new.hints.platform (get_or c.args.platforms.now c.read_hints.new.hints.platform c.index-platforms-number.result) c.replay_turn.new.platform c.read_hints.new.hints c.quiet_count.result at
     (is_entered h.told c.args.order.now h.up_to h.two c.read_hints.new.hints.platform c.in-Some.entered (sym c.entered.ensures ∙ c.in-Some.is))
-    told only (λ q t i text. (back q t i text).1) tellable (c.in_ok-replay_turn.ensures.last yes) (c.in_ok-replay_turn.ensures.others yes) quiet)
+    told tellable (c.in_ok-replay_turn.ensures.last yes) (c.in_ok-replay_turn.ensures.others yes) quiet)

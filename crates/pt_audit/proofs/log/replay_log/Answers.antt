@@ -2,7 +2,7 @@ use Rattle.std.proofs.Common.{◌≡◌, ℕ, List, [], None, Option, length, re
 use Rattle.pt_tags.specs.declared.message.Message.{Message}
 use Rattle.pt_types.specs.declared.graph.Graph.{Graph}
 use Rattle.pt_types.specs.declared.rows.Row.{Row}
-use Rattle.pt_offsets.specs.Plans.{Parts}
+use Rattle.pt_offsets.specs.Plans.{IsAdmitted, Parts}
 use Rattle.pt_turn.specs.All.{AreReady}
 use Rattle.pt_turn.specs.Platforms.{PlatformView}
 use Rattle.pt_confluence.specs.Gathered.{AreLegal, HaveFinished}
@@ -11,23 +11,23 @@ use Rattle.pt_audit.specs.Finishing.{IsJudged}
 use Rattle.pt_audit.specs.Replaying.{HaveReplayed, fresh_order}
 use Rattle.pt_audit.specs.declared.verdict.Verdict.{Verdict}
 use Rattle.pt_audit.specs.declared.verdict.Verdict.TheVariants.{Turn}
-use Rattle.pt_audit.proofs.Ended.{finished_is, verdict_is, verdict_one, written}
+use Rattle.pt_audit.proofs.Ended.{finished_is, verdict_is, written}
 use Rattle.pt_audit.proofs.Start.{starts}
 use Rattle.pt_audit.proofs.log.replay_log.Goals as goal
 
 -- at the start, with the lists as they are lent
-started : (plan : Parts) (rows : ℕ → List Row) (platforms sliced lent : List PlatformView) (last last_lent : List (Option Message)) (g : Graph) (links : ℕ) → AreReady plan rows platforms → AreLegal sliced → sliced ≡ platforms → lent ≡ platforms → last_lent ≡ last → last ≡ replicate links None → links ≡ length g.links → g ≡ plan.graph
+started : (plan : Parts) (rows : ℕ → List Row) (platforms sliced lent : List PlatformView) (last last_lent : List (Option Message)) (g : Graph) (links : ℕ) → IsAdmitted plan → AreReady plan rows platforms → AreLegal sliced → sliced ≡ platforms → lent ≡ platforms → last_lent ≡ last → last ≡ replicate links None → links ≡ length g.links → g ≡ plan.graph
     → HaveReplayed plan rows [] (fresh_order 0) last_lent lent
-started plan rows platforms sliced lent last last_lent g links ready legal same lends lasts none count graph =
+started plan rows platforms sliced lent last last_lent g links admitted ready legal same lends lasts none count graph =
     subst (λ (vs : List PlatformView). HaveReplayed plan rows [] (fresh_order 0) last_lent vs) (sym lends)
-    (starts plan rows platforms last_lent ready (subst AreLegal same legal) (lasts ∙ none ∙ ap (λ n. replicate n None) (count ∙ ap (λ (z : Graph). length z.links) graph)))
+    (starts plan rows platforms last_lent admitted ready (subst AreLegal same legal) (lasts ∙ none ∙ ap (λ n. replicate n None) (count ∙ ap (λ (z : Graph). length z.links) graph)))
 
 pub replay_blocks-requires : goal.replay_blocks-requires
 replay_blocks-requires g c = record {
   begun =
       let (rows, ready) = c.requires.ready in (
         rows,
-        started c.args.plan.now rows c.args.platforms.items c.as_slice.result.now c.as_mut_slice.result.now c.in_ok-last.last.items c.as_mut_slice-2.result.now c.graph.result.now (length c.as_slice-2.result.now) ready c.have_not_moved.ensures.legal c.as_slice.ensures.value c.as_mut_slice.ensures.value c.as_mut_slice-2.ensures.value c.in_ok-last.ensures (ap length c.as_slice-2.ensures) c.graph.ensures.value,
+        started c.args.plan.now rows c.args.platforms.items c.as_slice.result.now c.as_mut_slice.result.now c.in_ok-last.last.items c.as_mut_slice-2.result.now c.graph.result.now (length c.as_slice-2.result.now) c.graph.ensures.admitted ready c.have_not_moved.ensures.legal c.as_slice.ensures.value c.as_mut_slice.ensures.value c.as_mut_slice-2.ensures.value c.in_ok-last.ensures (ap length c.as_slice-2.ensures) c.graph.ensures.value,
       );
 }
 
@@ -38,21 +38,14 @@ judged_by stop g h some all v graph same k =
 
 pub returns-clause-verdict : goal.returns-clause-verdict
 returns-clause-verdict g c = λ rows ready.
-    let stopped = c.in_ok-stop.ensures rows (started c.args.plan.now rows c.args.platforms.items c.as_slice.result.now c.as_mut_slice.result.now c.in_ok-last.last.items c.as_mut_slice-2.result.now c.graph.result.now (length c.as_slice-2.result.now) ready c.have_not_moved.ensures.legal c.as_slice.ensures.value c.as_mut_slice.ensures.value c.as_mut_slice-2.ensures.value c.in_ok-last.ensures (ap length c.as_slice-2.ensures) c.graph.ensures.value) in
+    let stopped = c.in_ok-stop.ensures rows (started c.args.plan.now rows c.args.platforms.items c.as_slice.result.now c.as_mut_slice.result.now c.in_ok-last.last.items c.as_mut_slice-2.result.now c.graph.result.now (length c.as_slice-2.result.now) c.graph.ensures.admitted ready c.have_not_moved.ensures.legal c.as_slice.ensures.value c.as_mut_slice.ensures.value c.as_mut_slice-2.ensures.value c.in_ok-last.ensures (ap length c.as_slice-2.ensures) c.graph.ensures.value) in
     let all : c.as_slice-3.result.now ≡ c.replay_blocks.new.platforms = c.as_slice-3.ensures.value ∙ written c.args.platforms.len c.replay_blocks.new.platforms c.args.platforms.items (omega (arith, c.replay_blocks.auto.platforms, c.as_mut_slice.ensures.len)) in
     let after = judged_by c.in_ok-stop.stop c.graph-2.result.now c.args.plan.now.graph c.as_slice-3.result.now c.replay_blocks.new.platforms c.in_ok-verdict.verdict c.graph-2.ensures.value all c.in_ok-verdict.ensures in
-    verdict_is c.args.plan.now rows c.args.log c.replay_blocks.new.order c.replay_blocks.new.last c.replay_blocks.new.platforms c.in_ok-stop.stop c.in_ok-verdict.verdict c.graph.ensures.admitted stopped after
-
-pub returns-clause-one : goal.returns-clause-one
-returns-clause-one g c = λ rows ready.
-    let stopped = c.in_ok-stop.ensures rows (started c.args.plan.now rows c.args.platforms.items c.as_slice.result.now c.as_mut_slice.result.now c.in_ok-last.last.items c.as_mut_slice-2.result.now c.graph.result.now (length c.as_slice-2.result.now) ready c.have_not_moved.ensures.legal c.as_slice.ensures.value c.as_mut_slice.ensures.value c.as_mut_slice-2.ensures.value c.in_ok-last.ensures (ap length c.as_slice-2.ensures) c.graph.ensures.value) in
-    let all : c.as_slice-3.result.now ≡ c.replay_blocks.new.platforms = c.as_slice-3.ensures.value ∙ written c.args.platforms.len c.replay_blocks.new.platforms c.args.platforms.items (omega (arith, c.replay_blocks.auto.platforms, c.as_mut_slice.ensures.len)) in
-    let after = judged_by c.in_ok-stop.stop c.graph-2.result.now c.args.plan.now.graph c.as_slice-3.result.now c.replay_blocks.new.platforms c.in_ok-verdict.verdict c.graph-2.ensures.value all c.in_ok-verdict.ensures in
-    verdict_one c.args.plan.now rows c.args.log c.replay_blocks.new.order c.replay_blocks.new.last c.replay_blocks.new.platforms c.in_ok-stop.stop c.in_ok-verdict.verdict c.graph.ensures.admitted stopped after
+    verdict_is c.args.plan.now rows c.args.log c.replay_blocks.new.order c.replay_blocks.new.last c.replay_blocks.new.platforms c.in_ok-stop.stop c.in_ok-verdict.verdict stopped after
 
 pub returns-clause-fine : goal.returns-clause-fine
 returns-clause-fine g c = λ rows ready e.
-    let stopped = c.in_ok-stop.ensures rows (started c.args.plan.now rows c.args.platforms.items c.as_slice.result.now c.as_mut_slice.result.now c.in_ok-last.last.items c.as_mut_slice-2.result.now c.graph.result.now (length c.as_slice-2.result.now) ready c.have_not_moved.ensures.legal c.as_slice.ensures.value c.as_mut_slice.ensures.value c.as_mut_slice-2.ensures.value c.in_ok-last.ensures (ap length c.as_slice-2.ensures) c.graph.ensures.value) in
+    let stopped = c.in_ok-stop.ensures rows (started c.args.plan.now rows c.args.platforms.items c.as_slice.result.now c.as_mut_slice.result.now c.in_ok-last.last.items c.as_mut_slice-2.result.now c.graph.result.now (length c.as_slice-2.result.now) c.graph.ensures.admitted ready c.have_not_moved.ensures.legal c.as_slice.ensures.value c.as_mut_slice.ensures.value c.as_mut_slice-2.ensures.value c.in_ok-last.ensures (ap length c.as_slice-2.ensures) c.graph.ensures.value) in
     let all : c.as_slice-3.result.now ≡ c.replay_blocks.new.platforms = c.as_slice-3.ensures.value ∙ written c.args.platforms.len c.replay_blocks.new.platforms c.args.platforms.items (omega (arith, c.replay_blocks.auto.platforms, c.as_mut_slice.ensures.len)) in
     let after = judged_by c.in_ok-stop.stop c.graph-2.result.now c.args.plan.now.graph c.as_slice-3.result.now c.replay_blocks.new.platforms c.in_ok-verdict.verdict c.graph-2.ensures.value all c.in_ok-verdict.ensures in
     subst (λ (vs : List PlatformView). HaveFinished c.args.plan.now rows vs) (sym (written c.args.platforms.len c.replay_blocks.new.platforms c.args.platforms.items (omega (arith, c.replay_blocks.auto.platforms, c.as_mut_slice.ensures.len))))

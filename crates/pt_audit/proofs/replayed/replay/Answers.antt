@@ -7,9 +7,8 @@ use Rattle.pt_turn.specs.All.{AreReady}
 use Rattle.pt_hints.specs.Lines.{Block, blocks_from, lines_of}
 use Rattle.pt_audit.specs.LawfulLogs.{most_bytes}
 use Rattle.pt_audit.specs.Verdicts.{IsVerdict, IsVerdictOn}
-use Rattle.pt_audit.specs.declared.verdict.Verdict.{Verdict}
 use Rattle.pt_audit.specs.declared.verdict.Verdict.TheVariants.{Fine}
-use Rattle.pt_audit.proofs.Ended.{one_on_file, rest_of, verdict_on_file}
+use Rattle.pt_audit.proofs.Ended.{rest_of, verdict_on_file}
 use Rattle.pt_audit.proofs.replayed.replay.Goals as goal
 
 pub returns-then-ne-clause-verdict : goal.returns-then-ne-clause-verdict
@@ -34,28 +33,3 @@ returns-clause-verdict g c =
     (subst (λ (bs : List Block). IsVerdictOn (arc_value c.args.plan.now) rows bs c.in_ok-ended.ended.verdict) (c.new-log.ensures ∙ ap (λ (ys : List ℕ). blocks_from (c.in-Some.at.line + 1) (lines_of ys)) (rest_of c.args.bytes.now (c.in-Some.at.place + 4))) planned) in
     let same : c.in_ok-ended.ended.verdict ≡ Fine = search rules in
     subst (IsVerdict (arc_value c.args.plan.now) rows c.args.bytes.now) same whole
-
-pub returns-then-ne-clause-one : goal.returns-then-ne-clause-one
-returns-then-ne-clause-one g c =
-    let rows = of_run (arc_value c.args.plan.now).graph (rows_for c.args.entries.items) in
-    let ready = subst (λ (p : Parts). AreReady p rows c.in_ok-platforms.platforms.items) (sym c.deref.ensures) c.in_ok-platforms.ensures in
-    let short : length c.args.bytes.now ≤ most_bytes = omega (arith, c.if-bytes-gt-MOST_BYTES.false) in
-    let One : Parts → List Block → Type 0 = λ p bs. (other : Verdict) → IsVerdictOn p rows bs other → other ≡ c.in_ok-ended.ended.verdict in
-    let on : One c.deref.result.now c.new-log.result = c.in_ok-ended.ensures.one rows ready in
-    let planned : One (arc_value c.args.plan.now) c.new-log.result = subst (λ (p : Parts). One p c.new-log.result) c.deref.ensures on in
-    let only = one_on_file (arc_value c.args.plan.now) rows c.args.bytes.now c.in-Some.at.place c.in-Some.at.line c.in_ok-ended.ended.verdict short c.in-Some.ensures
-    (subst (One (arc_value c.args.plan.now)) (c.new-log.ensures ∙ ap (λ (ys : List ℕ). blocks_from (c.in-Some.at.line + 1) (lines_of ys)) (rest_of c.args.bytes.now (c.in-Some.at.place + 4))) planned) in
-    λ other h. only other h ∙ sym c.unlawful-then-ne.ensures.verdict
-
-pub returns-clause-one : goal.returns-clause-one
-returns-clause-one g c =
-    let rows = of_run (arc_value c.args.plan.now).graph (rows_for c.args.entries.items) in
-    let ready = subst (λ (p : Parts). AreReady p rows c.in_ok-platforms.platforms.items) (sym c.deref.ensures) c.in_ok-platforms.ensures in
-    let short : length c.args.bytes.now ≤ most_bytes = omega (arith, c.if-bytes-gt-MOST_BYTES.false) in
-    let One : Parts → List Block → Type 0 = λ p bs. (other : Verdict) → IsVerdictOn p rows bs other → other ≡ c.in_ok-ended.ended.verdict in
-    let on : One c.deref.result.now c.new-log.result = c.in_ok-ended.ensures.one rows ready in
-    let planned : One (arc_value c.args.plan.now) c.new-log.result = subst (λ (p : Parts). One p c.new-log.result) c.deref.ensures on in
-    let only = one_on_file (arc_value c.args.plan.now) rows c.args.bytes.now c.in-Some.at.place c.in-Some.at.line c.in_ok-ended.ended.verdict short c.in-Some.ensures
-    (subst (One (arc_value c.args.plan.now)) (c.new-log.ensures ∙ ap (λ (ys : List ℕ). blocks_from (c.in-Some.at.line + 1) (lines_of ys)) (rest_of c.args.bytes.now (c.in-Some.at.place + 4))) planned) in
-    let same : c.in_ok-ended.ended.verdict ≡ Fine = search rules in
-    λ other h. only other h ∙ same

@@ -6,9 +6,8 @@ use Rattle.pt_post.specs.Posted.{IsDone}
 use Rattle.pt_semantics.specs.Lists.{IsIn}
 use Rattle.pt_semantics.specs.Turn.{Turn}
 use Rattle.pt_semantics.proofs.Lookups.{IsIn-append_right}
-use Rattle.pt_retell.specs.Steps.{AreOf}
+use Rattle.pt_retell.specs.Steps.{AreOf, claims_in}
 use Rattle.pt_retell.proofs.Fires.{FiresOn, nothing_fired, one_fires}
-use Rattle.pt_retell.proofs.Histories.{claims_in}
 use Rattle.pt_retell.proofs.Parts.{parted}
 use Rattle.pt_retell.proofs.posting.fire_claims.Goals as goal
 
