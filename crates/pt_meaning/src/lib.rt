@@ -1,7 +1,7 @@
 //! The meaning as a program: one global list of events, whose first event's actor fires, again and again.
 //!
 //! The list has two parts. The events known at the start are sorted once; those sent since are in the same order, by tag, rank,
-//! actor and port: nearly all in a line, into which a new one goes near either end, and the rest in a map. The first of all fires
+//! actor and port: nearly all in a line, into which a new one goes at the end or at a gap, and the rest in a map. The first of all fires
 //! next. The definition is `IsMeaning` in `specs/Meaning.antt` of pt_semantics.
 //!
 //! A receiver takes the firings as they happen. `Firings` is a compact list of them: only values that are present are stored,

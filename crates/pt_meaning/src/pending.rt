@@ -17,7 +17,7 @@ use pt_tags::{Memory, Tag};
 use pt_types::Ports;
 use std::alloc::Global;
 
-/// The events that wait, sent since the start. Nearly all are in the line; a map has those far from both its ends, and those
+/// The events that wait, sent since the start. Nearly all are in the line; a map has those far from its gap, and those
 /// that do not come before the map's first. If both have an event at a place, that of the line counts.
 #[derive(Drop)]
 pub struct Pending {
