@@ -13,6 +13,8 @@ pub mod Judging
 pub mod OnePlan
 pub mod SlackRuns
 pub mod LawfulRuns
+pub mod LateTurns
+pub mod FlownInBounds
 pub mod Headline
 pub mod CauseTable
 pub mod OneCause
