@@ -13,6 +13,14 @@ pub mod Judging
 pub mod OnePlan
 pub mod SlackRuns
 pub mod LawfulRuns
+pub mod LateTurns
+pub mod FlownInBounds
+pub mod InBounds
+pub mod Replayed
+pub mod Begun
+pub mod CompleteInBounds
+pub mod PastRows
+pub mod AirFound
 pub mod Headline
 pub mod CauseTable
 pub mod OneCause

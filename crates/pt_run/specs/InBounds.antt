@@ -10,7 +10,7 @@ use Rattle.pt_semantics.specs.Lists.{Each}
 use Rattle.pt_semantics.specs.Platform.{opened}
 use Rattle.pt_schedule.specs.Schedule.{AreAllClaimed, AreClaimedAsMeant, AreMissedAsMeant, IsOnSchedule, SendsWithinSlack}
 use Rattle.pt_causality.specs.Ranked.{level_of}
-use Rattle.pt_offsets.specs.Plans.{IsAdmitted, Parts}
+use Rattle.pt_offsets.specs.Plans.{Parts}
 use Rattle.pt_turn.specs.declared.fault.TurnFault.{TurnFault}
 use Rattle.pt_turn.specs.All.{histories_of}
 use Rattle.pt_turn.specs.Platforms.{PlatformView, state_at}
@@ -46,7 +46,7 @@ pub record DoAsPaced (plan : Parts) (rows : ℕ → List Row) (platforms : List 
 -- a replay does so if no row of its recording breaks a stated bound
 abbrev pub ReplaysInBoundsDoAsPaced : Type 0
 ReplaysInBoundsDoAsPaced = (tells : Contents) (air : List ℕ) (log : Bool) (outcome : Option Fault) (left : Leaves) (w : Writing) (plan : Parts) (rows : ℕ → List Row) →
-    IsAdmitted plan → (on : OnAir tells air (LeavesReplay log outcome left w) plan rows) → on.recorded.breach ≡ None → DoAsPaced plan rows left.platforms (stop_of_replay outcome)
+    (on : OnAir tells air (LeavesReplay log outcome left w) plan rows) → on.recorded.breach ≡ None → DoAsPaced plan rows left.platforms (stop_of_replay outcome)
 
 -- the files are known and a replay within the bounds can run: these firings are the meaning, and no row of the recording breaks a
 -- stated bound

@@ -14,13 +14,12 @@ use Rattle.pt_air.specs.declared.air.Air.{Air}
 use Rattle.pt_air.specs.declared.fault.AirFault.{AirFault}
 use Rattle.pt_air.specs.AirOf.{air_of}
 use Rattle.pt_air.specs.Bounds.{KeepsBounds}
-use Rattle.pt_aired.specs.HaveFlown.{IsAfter}
+use Rattle.pt_aired.specs.HaveFlown.{HaveFlown}
 use Rattle.pt_run.specs.declared.fault.Fault.{Fault}
 use Rattle.pt_run.specs.declared.fault.Fault.TheVariants as fault
 use Rattle.pt_run.specs.Auditing.{AsksLog, AsksToLog, LogFails, PlanWith, is_before_log}
 use Rattle.pt_run.specs.Causes.{IsCause, Writing}
 use Rattle.pt_run.specs.Headline.{PutsMeaning, RunWith}
-use Rattle.pt_run.specs.Runs.{IsKept}
 use Rattle.pt_run.specs.Texts.{AsksFor, AsksInOrder, EndsOver}
 use Rattle.pt_run.specs.Words.{Order, paced_run, replay}
 use Rattle.pt_run.specs.Written.{HasNothing, Leaves}
@@ -52,13 +51,11 @@ abbrev pub NamesBreach : Option Fault → Air → Type 0
 NamesBreach (Some (fault.LateAir platform actor tag reading limit row)) recorded = recorded.breach ≡ Some row
 NamesBreach _ recorded = Unit {0}
 
--- what a replay of this plan over these rows leaves and writes. The platforms of the graph have legal histories from their rows to
--- their states, took only what was sent, and are finished and took all of it unless one stopped the replay, as its history shows
--- (`IsKept`); their turns are those of the rounds in which messages take their recorded transits and clocks lag as recorded
--- (`IsAfter`)
+-- what a replay of this plan over these rows leaves and writes. Its platforms are those of the plan after a replayed run over these
+-- rows, in which messages take their recorded transits and clocks lag as recorded (`HaveFlown`): their histories are legal, they took
+-- only what was sent, and they are finished and took all of it unless one stopped the replay, as its history shows
 pub record LeavesReplay (log : Bool) (outcome : Option Fault) (left : Leaves) (w : Writing) (plan : Parts) (rows : ℕ → List Row) (recorded : Air) : Type 0 where
-  pub kept : IsKept plan rows left.platforms (stop_of_replay outcome)
-  pub rounds : IsAfter plan rows (level_of plan.ranks) recorded left.platforms
+  pub flown : HaveFlown plan (level_of plan.ranks) rows recorded left.platforms (stop_of_replay outcome)
   -- all was written, and the misses are those of the recorded turns; or a write failed after a prefix
   pub written : outcome ≡ None → PutsMeaning plan rows log left.platforms (Appends w.written_before w.written_now)
   pub misses : outcome ≡ None → left.misses ≡ flat_map missed_by left.platforms

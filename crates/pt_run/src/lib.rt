@@ -36,7 +36,9 @@ mod words;
 
 pub use fault::Fault;
 pub use finished_run::Ran;
-pub use laws::{calls_agree, runs_agree, slack_runs_miss_nothing, written_logs_are_lawful};
+pub use laws::{
+    calls_agree, replays_in_bounds_do_as_paced, runs_agree, slack_runs_miss_nothing, written_logs_are_lawful,
+};
 pub use outcome::Outcome;
 pub use plan_laws::{finished_runs_agree, plan_runs_agree, step_runs_agree};
 pub use plan_run::{RunFault, run_of};
