@@ -28,7 +28,7 @@ use Rattle.pt_semantics.proofs.Lookups.{none_some}
 use Rattle.pt_laws.proofs.Unique.{meaning_is_one}
 use Rattle.pt_schedule.specs.Schedule.{IsMissedByMeaning}
 use Rattle.pt_offsets.specs.Margins.{IsFirstInfeasible}
-use Rattle.pt_offsets.specs.Plans.{Parts}
+use Rattle.pt_offsets.specs.Plans.{IsAdmitted, Parts}
 use Rattle.pt_turn.specs.Platforms.{PlatformView}
 use Rattle.pt_rounds.specs.HaveRun.{HaveRun, IsLongOn}
 use Rattle.pt_sensors.specs.declared.recorded_fault.LateRows.TheVariants.{Refused}
@@ -172,23 +172,24 @@ module _ (tells : Contents) (blocks : List Named) (name : List ℕ) (g : Graph) 
     is_long : (plan : Parts) (rows : ℕ → List Row) (platforms : List PlatformView) (stop : Option ℕ) → plan.graph ≡ g → AreRows tells plan.graph rows → HaveRun plan (level_of plan.ranks) (of_run plan.graph rows) platforms stop → IsLongOn plan.graph xs stop
     is_long plan rows platforms stop same are run = run.long means.rank xs (subst (λ h. AreRanks h means.rank) (sym same) means.ranks) (meaning plan rows same are)
 
+    -- the firings of a plan of this graph with these rows are those of the meaning
+    pub one_meaning : (plan : Parts) (rows : ℕ → List Row) (firings : List ActorFiring) → plan.graph ≡ g → AreRows tells plan.graph rows → IsAdmitted plan → IsMeaning plan.graph (rank_of plan.ranks) (of_run plan.graph rows) firings → firings ≡ xs
+    one_meaning plan rows firings same are admitted found =
+        meaning_is_one plan.graph (rank_of plan.ranks) (of_run plan.graph rows) firings xs found
+        (subst (λ rank. IsMeaning plan.graph rank (of_run plan.graph rows) xs)
+        (ranks_are_one plan.graph means.rank (rank_of plan.ranks) (subst (λ h. AreRanks h means.rank) (sym same) means.ranks) admitted.ranks)
+        (meaning plan rows same are))
+
     -- a run that finished
-    finished : (status : ℕ) (c : Clocking) (plan : Parts) (log : Bool) (platforms : List PlatformView) (misses : List Miss) (text : List ℕ) → c.choice ≡ Paced → status ≡ status_of None misses → plan.graph ≡ g →
-        IsFinishedRun tells c plan log platforms misses text → StatusIsMeant status g xs
-    finished status c plan log platforms misses text paced is same done = by_misses status g xs misses is few meant
-      where
-        firings : done.firings ≡ xs
-        firings =
-            meaning_is_one plan.graph (rank_of plan.ranks) (of_run plan.graph done.run.rows) done.firings xs done.meaning
-            (subst (λ rank. IsMeaning plan.graph rank (of_run plan.graph done.run.rows) xs)
-            (ranks_are_one plan.graph means.rank (rank_of plan.ranks) (subst (λ h. AreRanks h means.rank) (sym same) means.ranks) done.run.admitted.ranks)
-            (meaning plan done.run.rows same done.run.sensors))
+    module _ (c : Clocking) (plan : Parts) (log : Bool) (platforms : List PlatformView) (misses : List Miss) (text : List ℕ) (paced : c.choice ≡ Paced) (same : plan.graph ≡ g) (done : IsFinishedRun tells c plan log platforms misses text) where
+      pub firings_meant : done.firings ≡ xs
+      firings_meant = one_meaning plan done.run.rows done.firings same done.run.sensors done.run.admitted done.meaning
 
-        few : FitsClaims g xs
-        few = subst (λ h. FitsClaims h xs) same (is_long plan done.run.rows platforms None same done.run.sensors (done.run.went.paced paced))
+      pub missed_meant : (m : Miss) → IsIn m misses ↔ IsMissedByMeaning g xs m.actor m.tag m.reading m.limit
+      missed_meant m = subst (λ h. IsIn m misses ↔ IsMissedByMeaning h xs m.actor m.tag m.reading m.limit) same (subst (λ zs. IsIn m misses ↔ IsMissedByMeaning plan.graph zs m.actor m.tag m.reading m.limit) firings_meant (done.missed_as_meant paced m))
 
-        meant : (m : Miss) → IsIn m misses ↔ IsMissedByMeaning g xs m.actor m.tag m.reading m.limit
-        meant m = subst (λ h. IsIn m misses ↔ IsMissedByMeaning h xs m.actor m.tag m.reading m.limit) same (subst (λ zs. IsIn m misses ↔ IsMissedByMeaning plan.graph zs m.actor m.tag m.reading m.limit) firings (done.missed_as_meant paced m))
+      finished : (status : ℕ) → status ≡ status_of None misses → StatusIsMeant status g xs
+      finished status is = by_misses status g xs misses is (subst (λ h. FitsClaims h xs) same (is_long plan done.run.rows platforms None same done.run.sensors (done.run.went.paced paced))) missed_meant
 
     -- a run that stopped
     stopped : (status workers : ℕ) (left : Leaves) (platform : ℕ) (f : TurnFault) → status ≡ 6 → RunStops tells g workers Paced left platform f → StatusIsMeant status g xs
@@ -225,7 +226,7 @@ module _ (tells : Contents) (blocks : List Named) (name : List ℕ) (g : Graph) 
           on_graph fault.Write is k = absurd k.1
 
       by_outcome : (o : Option Fault) → status ≡ status_of o left.misses → EndsBy o left (Some (Run workers Paced log, name)) tells blocks r w → StatusIsMeant status g xs
-      by_outcome None is (text, (h, file, (free, run)), appends) = finished status (clocking workers Paced left) run.plan log left.platforms left.misses text refl is (run.graph ∙ this_graph h file) run.finished
+      by_outcome None is (text, (h, file, (free, run)), appends) = finished (clocking workers Paced left) run.plan log left.platforms left.misses text refl (run.graph ∙ this_graph h file) run.finished status is
       by_outcome (Some fault.Usage) is k = absurd k
       by_outcome (Some (fault.Graph f)) is k = absurd (no_fault f k.0)
       by_outcome (Some (fault.Read None)) is k = absurd (reads k.0.rose)

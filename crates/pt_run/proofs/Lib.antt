@@ -21,6 +21,7 @@ pub mod InBounds
 pub mod Replayed
 pub mod Begun
 pub mod CompleteInBounds
+pub mod AgreeingInBounds
 pub mod PastRows
 pub mod AirFound
 pub mod Headline

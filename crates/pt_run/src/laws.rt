@@ -2,7 +2,9 @@
 
 ghost use Rattle.pt_run.specs.Agreeing.{RunsAgree};
 ghost use Rattle.pt_run.specs.CallsAgreeing.{CallsAgree};
-ghost use Rattle.pt_run.specs.InBounds.{ReplaysInBoundsDoAsPaced};
+ghost use Rattle.pt_run.specs.InBounds.{
+    ReplaysInBoundsAgreeWithRuns, ReplaysInBoundsDoAsPaced,
+};
 ghost use Rattle.pt_run.specs.LawfulRuns.{
     FinishedRunsAreLawful, ReplaysWriteLawfulLogs, RunsWriteLawfulLogs,
 };
@@ -41,4 +43,10 @@ pub fn written_logs_are_lawful()
 /// paced readings alone, and it stops only where the meaning has more firings on a platform than it may claim.
 pub fn replays_in_bounds_do_as_paced()
     ensures { ReplaysInBoundsDoAsPaced }
+{}
+
+/// A replay whose recording breaks no stated bound writes the tables that a paced run over the same files writes, and misses the
+/// same entries at the same readings, if both end without a fault.
+pub fn replays_in_bounds_agree_with_runs()
+    ensures { ReplaysInBoundsAgreeWithRuns }
 {}

@@ -9,9 +9,11 @@ ghost use Rattle.pt_run.specs.Complete.{IsComplete, IsCompleteByAnyClock};
 ghost use Rattle.pt_run.specs.declared.fault.Fault.TheVariants.{Memory};
 ghost use Rattle.pt_run.specs.Exact.{IsExact};
 ghost use Rattle.pt_run.specs.Headline.{IsHeadline};
+ghost use Rattle.pt_run.specs.InBounds.{IsCompleteInBounds};
 ghost use Rattle.pt_run.specs.Statuses.{status_of};
 ghost use Rattle.pt_run.specs.Words.{order_of};
 ghost use Rattle.pt_run.specs.Making.{AsksOf, Ends, TellsOf};
+ghost use Rattle.pt_run.specs.Replaying.{IsReplayHeadline};
 ghost use Rattle.pt_run.specs.Telling.{Tells, TellsBy};
 ghost use Rattle.pt_run.specs.Texts.{Answers, AsksBy, AsksFor, EndsBy, EndsOver, left_at, left_of, left_over};
 
@@ -67,6 +69,9 @@ pub fn ptides<S: Source, K: Sink, E: Sink, C: Clock + Send, R: Threads + Wait + 
     // The headline: what a run has written, what it leaves, by which readings, and why it stopped.
     ensures headline { IsHeadline result.fault (left_of result (order_of words.now) (tell C.told C.ahead clocks.items) (tell C.told C.ahead result.clocks.items)) (order_of words.now) (S.tells source.old) blocks.now.listed.items
         (record { before = K.faults out.old; now = K.faults out.new; written_before = K.written out.old; written_now = K.written out.new }) }
+    // The same of a replay: what it has written, what it leaves, by which lags and transits, and why it stopped.
+    ensures replay_headline { IsReplayHeadline result.fault (left_of result (order_of words.now) (tell C.told C.ahead clocks.items) (tell C.told C.ahead result.clocks.items)) (order_of words.now) (S.tells source.old) blocks.now.listed.items
+        (record { before = K.faults out.old; now = K.faults out.new; written_before = K.written out.old; written_now = K.written out.new }) }
     // Why the call ended as it did: one field for each answer.
     ensures causes { CauseTable result.status result.fault (left_of result (order_of words.now) (tell C.told C.ahead clocks.items) (tell C.told C.ahead result.clocks.items)) (order_of words.now) (S.tells source.old) blocks.now.listed.items
         (record { asked_before = S.asked source.old; asked_now = S.asked source.new; before = S.faults source.old; now = S.faults source.new })
@@ -81,6 +86,10 @@ pub fn ptides<S: Source, K: Sink, E: Sink, C: Clock + Send, R: Threads + Wait + 
         (record { before = K.faults out.old; now = K.faults out.new; written_before = K.written out.old; written_now = K.written out.new }) }
     // A paced run of a program that can run ends as its meaning says: by cases in `StatusIsMeant`.
     ensures complete { IsComplete result.status (order_of words.now) (S.tells source.old) blocks.now.listed.items
+        (record { asked_before = S.asked source.old; asked_now = S.asked source.new; before = S.faults source.old; now = S.faults source.new })
+        (record { before = K.faults out.old; now = K.faults out.new; written_before = K.written out.old; written_now = K.written out.new }) }
+    // So ends a replay of such a program whose recording breaks no stated bound, by the same cases.
+    ensures complete_in_bounds { IsCompleteInBounds result.status (order_of words.now) (S.tells source.old) blocks.now.listed.items
         (record { asked_before = S.asked source.old; asked_now = S.asked source.new; before = S.faults source.old; now = S.faults source.new })
         (record { before = K.faults out.old; now = K.faults out.new; written_before = K.written out.old; written_now = K.written out.new }) }
     // By whatever clock, it finishes or its platforms show why not: by cases in `EndsAsShown`.
