@@ -1,9 +1,11 @@
 -- How a replay over a graph ends, by how it ends over its plan.
-use Rattle.std.proofs.Common.{◌≡◌, ◌≢◌, ◌∙◌, ℕ, ◌+◌, Bool, true, false, cond, List, [], ◌∷◌, ◌++◌, Option, Some, None, Result, Ok, Err, IfSome, length, take, refl, sym, ap, subst, inl, inr, ⊎_elim, arith}
+use Rattle.std.proofs.Common.{◌≡◌, ◌≢◌, ◌∙◌, ◌↔◌, ℕ, ◌+◌, Bool, true, false, cond, List, [], ◌∷◌, ◌++◌, Option, Some, None, Result, Ok, Err, IfErr, IfOk, IfSome, length, take, refl, sym, ap, subst, inl, inr, ⊎_elim, arith}
 use Rattle.std.specs.Prelude.{nat_lt, string_bytes}
 use Rattle.std.proofs.lemmas.Bool.Decides.{nat_tests}
 use Rattle.std.proofs.lemmas.List.{length-take, take_all}
 use Rattle.pt_io.specs.Causes.{Appends, AppendsPart}
+use Rattle.csv.specs.Reading.{strip_bom}
+use Rattle.csv.specs.declared.parser.State.TheVariants as st
 use Rattle.pt_types.specs.declared.graph.Graph.{Graph}
 use Rattle.pt_types.specs.declared.rows.Row.{Row}
 use Rattle.pt_semantics.specs.Cycles.{NoFreeCycle}
@@ -21,6 +23,9 @@ use Rattle.pt_sensors.specs.declared.recorded_fault.RecordedFault.{RecordedFault
 use Rattle.pt_sensors.specs.declared.recorded_fault.RecordedFault.TheVariants as rows
 use Rattle.pt_sensors.specs.declared.recorded_fault.LateRows.TheVariants.{Refused}
 use Rattle.pt_sensors.specs.Asked.{AsksFiles, Contents, Reading}
+use Rattle.pt_sensors.specs.declared.sensor_rows.SensorRows.{SensorRows}
+use Rattle.pt_sensors.specs.Listed.{rows_for}
+use Rattle.pt_sensors.specs.RowsOf.{next}
 use Rattle.pt_sensors.specs.Places.{of_run as rows_of_run}
 use Rattle.pt_sensors.specs.Recorded.{CauseOfRows, SensorFails, SensorLate, SensorUnread}
 use Rattle.pt_air.specs.declared.air.Air.{Air}
@@ -28,6 +33,7 @@ use Rattle.pt_air.specs.declared.fault.AirFault.{AirFault}
 use Rattle.pt_air.specs.declared.fault.AirFault.TheVariants as airs
 use Rattle.pt_air.specs.declared.row.AirRow.{AirRow}
 use Rattle.pt_air.specs.AirOf.{after_header, air_of, air_with, rows_of}
+use Rattle.pt_air.specs.Bounds.{KeepsBounds}
 use Rattle.pt_air.specs.Rows.{◌>>=◌}
 use Rattle.pt_aired.specs.HaveFlown.{HaveFlown}
 use Rattle.pt_run.specs.declared.fault.Fault.{Fault}
@@ -40,7 +46,7 @@ use Rattle.pt_run.specs.declared.replay.Stopped.{Stopped}
 use Rattle.pt_run.specs.Auditing.{AsksLog, LogFails, PlanWith}
 use Rattle.pt_run.specs.Causes.{Writing}
 use Rattle.pt_run.specs.Faults.{fault_of_air, fault_of_plan, fault_of_rows}
-use Rattle.pt_run.specs.Flown.{CauseOfNoAir, EndsWith, HasFlown, HasReplayed, IsOfReplay, StopsReplay, stop_in}
+use Rattle.pt_run.specs.Flown.{CauseOfNoAir, EndsWith, HasFlown, HasReplayed, IsOfReplay, IsRecorded, NamesRow, StopsInAir, StopsReplay, stop_in}
 use Rattle.pt_run.specs.Headline.{PutsMeaning}
 use Rattle.pt_run.specs.Replaying.{AsksReplayed, EndsReplayed, LeavesReplay, OnAir}
 use Rattle.pt_run.specs.Runs.{RunOver, log_if}
@@ -48,6 +54,7 @@ use Rattle.pt_run.specs.Texts.{AsksFor, IsUnplanned, LeftAll, WroteRun, left_by,
 use Rattle.pt_run.specs.Words.{paced_run}
 use Rattle.pt_run.specs.Written.{nothing}
 use Rattle.pt_run.proofs.Asks.{asks_nothing, memory_asks}
+use Rattle.pt_run.proofs.FlownInBounds.{never_late}
 
 -- What is read.
 
@@ -67,7 +74,7 @@ cut limit e f bytes =
 -- the first bytes of a recording, one more than it may have, say what all of them say
 rows_of-fetched : (g : Graph) (bytes : List ℕ) → rows_of g (take 8388609 bytes) ≡ rows_of g bytes
 unfolding rows_of
-rows_of-fetched g bytes = cut 8388608 _ _ bytes
+rows_of-fetched g bytes = cut 8388608 (Err airs.TooLong) (λ bs. after_header g (next st.StartRecord (strip_bom bs))) bytes
 
 pub air_of-fetched : (g : Graph) (bytes : List ℕ) → air_of g (take 8388609 bytes) ≡ air_of g bytes
 air_of-fetched g bytes = ap (λ (rows : Result (List AirRow) AirFault). rows >>= λ rows. Ok (air_with g rows)) (rows_of-fetched g bytes)
@@ -107,6 +114,64 @@ air_asked air g (airs.Unknown row) before now h = h
 air_asked air g (airs.Number row) before now h = h
 air_asked air g (airs.Repeated row) before now h = h
 air_asked air g airs.TooManyRows before now h = h
+
+-- What flies.
+
+-- a fact of what was read
+pub over_air : (air : List ℕ) (tells : Contents) (p : Parts) (entries : List SensorRows) (recorded : Air) (Fact : Parts → (ℕ → List Row) → Air → Type 0) → IsRecorded tells air p entries recorded → Fact p (rows_of_run p.graph (rows_for entries)) recorded → RunOver tells p (OnAir tells air Fact p)
+over_air air tells p entries recorded Fact is fact = record {
+  admitted = is.admitted;
+  rows = rows_for entries;
+  sensors = is.sensors;
+  in_time = is.in_time;
+  went = record { recorded = recorded; file = is.file; bounds = is.bounds; fact = fact };
+}
+
+-- nothing flew
+pub unread_stops : (f : Fault) (ps : List PlatformView) (air : List ℕ) (tells : Contents) (p : Parts) (r : Reading) → ps ≡ [] → CauseOfNoAir f air tells p r → StopsReplay f ps air tells p r
+unread_stops (fault.Long (Some platform)) ps air tells p r none k = absurd k
+unread_stops (fault.LateAir platform actor tag reading limit row) ps air tells p r none k = absurd k
+unread_stops (fault.Long None) ps air tells p r none k = (none, k)
+unread_stops (fault.Air f) ps air tells p r none k = (none, k)
+unread_stops fault.ReadAir ps air tells p r none k = (none, k)
+unread_stops (fault.Read sensor) ps air tells p r none k = (none, k)
+unread_stops (fault.Sensor actor f) ps air tells p r none k = (none, k)
+unread_stops (fault.LateRow actor row seen limit) ps air tells p r none k = (none, k)
+unread_stops fault.Memory ps air tells p r none k = (none, k)
+unread_stops fault.Usage ps air tells p r none k = (none, k)
+unread_stops (fault.Graph f) ps air tells p r none k = (none, k)
+unread_stops (fault.Cycle actors) ps air tells p r none k = (none, k)
+unread_stops (fault.Infeasible send offset slack) ps air tells p r none k = (none, k)
+unread_stops (fault.Ring sends gain) ps air tells p r none k = (none, k)
+unread_stops (fault.LateMessage platform actor tag reading limit) ps air tells p r none k = (none, k)
+unread_stops fault.ReadLog ps air tells p r none k = (none, k)
+unread_stops (fault.Unlawful v) ps air tells p r none k = (none, k)
+unread_stops fault.Write ps air tells p r none k = (none, k)
+
+-- a late message breaks a stated bound
+pub names_row : (f : RunFault) (p : Parts) (rows : ℕ → List Row) (recorded : Air) → (recorded.breach ≡ None) ↔ KeepsBounds p.graph recorded → StopsInAir f p rows recorded → NamesRow f recorded.breach
+names_row (stop.Late platform actor tag reading limit left) p rows recorded bounds flown = λ none. never_late p rows recorded left.items (Some (platform, turn.Late actor tag reading limit)) flown (bounds.0 none) platform actor tag reading limit refl
+names_row (stop.Rows f) p rows recorded bounds k = tt
+names_row (stop.Long platform left) p rows recorded bounds k = tt
+names_row stop.Memory p rows recorded bounds k = tt
+
+-- a platform or memory stopped it
+module _ (air : List ℕ) (tells : Contents) (p : Parts) (entries : List SensorRows) (recorded : Air) (is : IsRecorded tells air p entries recorded) (e : Fault) (ps : List PlatformView) where
+  pub flown_stops : (f : RunFault) (r : Reading) → StopsInAir f p (rows_of_run p.graph (rows_for entries)) recorded → IsOfReplay f recorded.breach e ps → StopsReplay e ps air tells p r
+  flown_stops (stop.Rows f) r k of = absurd k
+  flown_stops (stop.Long platform left) r k of =
+      subst (λ z. StopsReplay z ps air tells p r) (sym of.0) (subst (λ z. StopsReplay (fault.Long (Some platform)) z air tells p r) (sym of.1)
+      (over_air air tells p entries recorded (λ q rows recorded. HaveFlown q (level_of q.ranks) rows recorded left.items (Some (platform, turn.Long))) is k))
+  flown_stops (stop.Late platform actor tag reading limit left) r k (row, breach, is_late, left_are) =
+      subst (λ z. StopsReplay z ps air tells p r) (sym is_late) (subst (λ z. StopsReplay (fault.LateAir platform actor tag reading limit row) z air tells p r) (sym left_are)
+      (over_air air tells p entries recorded (λ q rows recorded. HaveFlown q (level_of q.ranks) rows recorded left.items (Some (platform, turn.Late actor tag reading limit)) × (recorded.breach ≡ Some row)) is (k, breach)))
+  flown_stops stop.Memory r k of = subst (λ z. StopsReplay z ps air tells p r) (sym of.0) (of.1, tt)
+
+  pub flown_asked : (f : RunFault) (before now : Option (List (List ℕ))) → StopsInAir f p (rows_of_run p.graph (rows_for entries)) recorded → IsOfReplay f recorded.breach e ps → AsksLog air p.graph before now → AsksReplayed (Some e) air p.graph before now
+  flown_asked (stop.Rows f) before now k of h = absurd k
+  flown_asked (stop.Long platform left) before now k of h = subst (λ z. AsksReplayed (Some z) air p.graph before now) (sym of.0) h
+  flown_asked (stop.Late platform actor tag reading limit left) before now k (row, breach, is_late, left_are) h = subst (λ z. AsksReplayed (Some z) air p.graph before now) (sym is_late) h
+  flown_asked stop.Memory before now k of h = subst (λ z. AsksReplayed (Some z) air p.graph before now) (sym of.0) (inr h)
 
 -- what was put is the tables of the meaning, and the log if it is asked for
 puts : (log : Bool) (ran : Ran) (p : Parts) (rows : ℕ → List Row) (recorded : Air) (Put : List ℕ → Type 0) → HasFlown log ran p rows recorded → Put (string_bytes ran.text) → PutsMeaning p rows log ran.platforms.items Put

@@ -9,7 +9,6 @@ pub mod Agreeing
 pub mod Made
 pub mod Migrating
 pub mod Auditing
-pub mod Flying
 pub mod Replaying
 pub mod Judging
 pub mod OnePlan
@@ -17,6 +16,7 @@ pub mod SlackRuns
 pub mod LawfulRuns
 pub mod LateTurns
 pub mod FlownInBounds
+pub mod Flying
 pub mod InBounds
 pub mod Replayed
 pub mod Begun
