@@ -23,7 +23,8 @@ use Rattle.pt_run.specs.Faults.{fault_of_rows}
 use Rattle.pt_run.specs.Making.{AsksOf}
 use Rattle.pt_run.specs.Texts.{Answers, AsksAfterGraph, AsksFor, AsksInOrder, EndsOver, HasEnded, MeaningFails, PutBy, fault_in, files_for, is_refused}
 use Rattle.pt_run.specs.Auditing.{AsksAudit}
-use Rattle.pt_run.specs.Words.{Order, audit, make, migrate, over}
+use Rattle.pt_run.specs.Replaying.{AsksReplay}
+use Rattle.pt_run.specs.Words.{Order, audit, make, migrate, over, replay}
 use Rattle.pt_run.specs.Written.{Leaves}
 use Rattle.pt_run.proofs.Ending.{never}
 
@@ -48,6 +49,7 @@ asked_nothing (Some (over command name)) outcome tells blocks r is h = subst (λ
 asked_nothing (Some (make number workers)) outcome tells blocks r is h = h
 asked_nothing (Some (migrate name)) outcome tells blocks r is h = inl h
 asked_nothing (Some (audit name log)) outcome tells blocks r is h = subst (λ o. AsksAudit o name log tells blocks r.asked_before r.asked_now) (sym is) (inl (inl h))
+asked_nothing (Some (replay name air workers log)) outcome tells blocks r is h = subst (λ o. AsksReplay o name air tells blocks r.asked_before r.asked_now) (sym is) (inl (inl h))
 
 -- the files of a graph that is not refused
 not_refused : (outcome : Option Fault) (g : Graph) (before now : Option (List (List ℕ))) → is_refused outcome ≡ false → AsksFiles g before now → (n : ℕ) × Asks before now (if is_refused outcome then [] else files_before g n)
