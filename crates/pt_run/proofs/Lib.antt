@@ -9,6 +9,8 @@ pub mod Agreeing
 pub mod Made
 pub mod Migrating
 pub mod Auditing
+pub mod Flying
+pub mod Replaying
 pub mod Judging
 pub mod OnePlan
 pub mod SlackRuns

@@ -12,6 +12,7 @@ pub mod Making
 pub mod Migrating
 pub mod Auditing
 pub mod Replaying
+pub mod Flown
 pub mod InBounds
 pub mod SlackRuns
 pub mod LawfulRuns

@@ -2,7 +2,7 @@
 
 ghost use Rattle.std.specs.Prelude.{◌≡◌};
 ghost use Rattle.pt_run.specs.Statuses.{status_of_fault};
-ghost use Rattle.pt_run.specs.Faults.{fault_of_cycle, fault_of_graph, fault_of_offset, fault_of_plan, fault_of_rows, fault_of_slacks};
+ghost use Rattle.pt_run.specs.Faults.{fault_of_air, fault_of_cycle, fault_of_graph, fault_of_offset, fault_of_plan, fault_of_rows, fault_of_slacks};
 
 use pt_air::AirFault;
 use pt_audit::Verdict;
@@ -202,5 +202,15 @@ pub fn fault_of_rows(fault: RecordedFault) -> Fault
             seen,
             limit,
         },
+    }
+}
+
+/// The fault of a call, from that of the recording of a network.
+pub fn fault_of_air(fault: AirFault) -> Fault
+    ensures { result ≡ fault_of_air fault }
+{
+    match fault {
+        AirFault::Memory => Fault::Memory,
+        _ => Fault::Air(fault),
     }
 }

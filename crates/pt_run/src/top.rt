@@ -28,6 +28,7 @@ use crate::notes::{tell, tell_write};
 use crate::outcome::{Ending, Outcome};
 use crate::output::put_text;
 use crate::own_clocks::run_own;
+use crate::replay::replay;
 use crate::run::run_graph;
 use crate::slacks::slacks_answer;
 use crate::words::{Asked, Command, order_of};
@@ -40,14 +41,14 @@ use std::sync::Wait;
 use std::thread::Threads;
 
 /// Runs the command of these words, those after the program's name: `run GRAPH`, `check GRAPH`, `meaning GRAPH`,
-/// `make NUMBER`, `migrate GRAPH`, `slacks GRAPH` or `audit GRAPH LOG`.
+/// `make NUMBER`, `migrate GRAPH`, `slacks GRAPH`, `audit GRAPH LOG` or `replay GRAPH AIR`.
 ///
 /// Files are read from the source by name; `make` reads none. The text goes to `out`, line by line. After a fault, one line
 /// on `notes` says why; after a run with misses, one line for each. In a run by the machine's clock platform i reads clock i of
 /// the 16 that are handed in; no other call reads them. `blocks` has the functions that actors may name.
 ///
-/// This call may wait. No clause says which commands end: the parts of `check`, `meaning`, `make`, `migrate`, `slacks`, `audit` and a
-/// paced run that don't take `rt` do, and a run by a clock of its own, `--clock step:..` or `--clock machine`, may go on forever if its
+/// This call may wait. No clause says which commands end: the parts of `check`, `meaning`, `make`, `migrate`, `slacks`, `audit`,
+/// `replay` and a paced run that don't take `rt` do, and a run by a clock of its own, `--clock step:..` or `--clock machine`, may go on forever if its
 /// clock stops.
 pub fn ptides<S: Source, K: Sink, E: Sink, C: Clock + Send, R: Threads + Wait + Sync>(
     rt: &R,
@@ -62,7 +63,7 @@ pub fn ptides<S: Source, K: Sink, E: Sink, C: Clock + Send, R: Threads + Wait + 
     requires clocks { length clocks.items ≡ 16 }
     ensures status { result.status ≡ status_of result.fault result.misses }
     // The source is asked for the graph file and, if the graph is not refused, for the files of its sensors, in order, and then
-    // for the log of an audit.
+    // for the log of an audit, or the recording of a replay.
     ensures asks { AsksOf result.fault (order_of words.now) (S.tells source.old) blocks.now.listed.items
         (record { asked_before = S.asked source.old; asked_now = S.asked source.new; before = S.faults source.old; now = S.faults source.new }) }
     // The headline: what a run has written, what it leaves, by which readings, and why it stopped.
@@ -151,6 +152,16 @@ fn run_words<S: Source, K: Sink, E: Sink, C: Clock + Send, R: Threads + Wait + S
         }
         Ok(Some(Asked::Audit { graph, log })) => {
             return audit(alloc, graph, log, source, out, notes, blocks);
+        }
+        Ok(Some(Asked::Replay {
+            graph,
+            air,
+            workers,
+            log,
+        })) => {
+            return replay(
+                alloc, graph, air, workers, log, source, out, notes, blocks,
+            );
         }
         Ok(None) => Fault::Usage,
         Err(_) => Fault::Memory,
