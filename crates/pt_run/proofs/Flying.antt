@@ -10,12 +10,12 @@ use Rattle.pt_types.specs.declared.graph.Graph.{Graph}
 use Rattle.pt_types.specs.declared.rows.Row.{Row}
 use Rattle.pt_semantics.specs.Cycles.{NoFreeCycle}
 use Rattle.pt_semantics.specs.Offsets.{IsFeasible}
-use Rattle.pt_semantics.specs.Tables.{tables_text}
 use Rattle.pt_causality.specs.Ranked.{level_of}
 use Rattle.pt_offsets.specs.Faults.{CauseOfPlan}
 use Rattle.pt_offsets.specs.declared.fault.PlanFault.{PlanFault}
 use Rattle.pt_offsets.specs.declared.fault.PlanFault.TheVariants as plan
 use Rattle.pt_offsets.specs.Plans.{IsAdmitted, Parts}
+use Rattle.pt_turn.specs.declared.fault.TurnFault.{TurnFault}
 use Rattle.pt_turn.specs.declared.fault.TurnFault.TheVariants as turn
 use Rattle.pt_turn.specs.Platforms.{PlatformView}
 use Rattle.pt_confluence.specs.Gathered.{HaveFinished}
@@ -49,7 +49,7 @@ use Rattle.pt_run.specs.Faults.{fault_of_air, fault_of_plan, fault_of_rows}
 use Rattle.pt_run.specs.Flown.{CauseOfNoAir, EndsWith, HasFlown, HasReplayed, IsOfReplay, IsRecorded, NamesRow, StopsInAir, StopsReplay, stop_in}
 use Rattle.pt_run.specs.Headline.{PutsMeaning}
 use Rattle.pt_run.specs.Replaying.{AsksReplayed, EndsReplayed, LeavesReplay, OnAir}
-use Rattle.pt_run.specs.Runs.{RunOver, log_if}
+use Rattle.pt_run.specs.Runs.{IsOutput, IsStop, IsTold, RunOver}
 use Rattle.pt_run.specs.Texts.{AsksFor, IsUnplanned, LeftAll, WroteRun, left_by, of_run}
 use Rattle.pt_run.specs.Words.{paced_run}
 use Rattle.pt_run.specs.Written.{nothing}
@@ -126,6 +126,25 @@ over_air air tells p entries recorded Fact is fact = record {
   in_time = is.in_time;
   went = record { recorded = recorded; file = is.file; bounds = is.bounds; fact = fact };
 }
+
+-- by how the platforms went
+pub flown_ran : (log : Bool) (p : Parts) (rows : ℕ → List Row) (recorded : Air) (platforms : List PlatformView) (went : Option (ℕ × TurnFault)) (result : Result Ran RunFault) → HaveFlown p (level_of p.ranks) rows recorded platforms went →
+    IfOk result (IsOutput went p log platforms) → IfErr result (IsStop went platforms) → IfOk result (λ ran. HasFlown log ran p rows recorded) × IfErr result (λ f. StopsInAir f p rows recorded)
+flown_ran log p rows recorded platforms went result flown output stopped = (by_output result output, by_stop result stopped)
+  where
+    at : (ps : List PlatformView) (f : Option (ℕ × TurnFault)) → ps ≡ platforms → went ≡ f → HaveFlown p (level_of p.ranks) rows recorded ps f
+    at ps f same is = subst (λ z. HaveFlown p (level_of p.ranks) rows recorded z f) (sym same) (subst (λ z. HaveFlown p (level_of p.ranks) rows recorded platforms z) is flown)
+
+    by_output : (result : Result Ran RunFault) → IfOk result (IsOutput went p log platforms) → IfOk result (λ ran. HasFlown log ran p rows recorded)
+    by_output (Ok ran) (none, told) = (at ran.platforms.items None told.platforms_are none, subst (λ ps. IsTold p log ps ran) (sym told.platforms_are) told)
+    by_output (Err f) h = tt
+
+    by_stop : (result : Result Ran RunFault) → IfErr result (IsStop went platforms) → IfErr result (λ f. StopsInAir f p rows recorded)
+    by_stop (Ok ran) h = tt
+    by_stop (Err (stop.Rows f)) h = absurd h
+    by_stop (Err (stop.Long platform left)) h = at left.items (Some (platform, turn.Long)) h.1 h.0
+    by_stop (Err (stop.Late platform actor tag reading limit left)) h = at left.items (Some (platform, turn.Late actor tag reading limit)) h.1 h.0
+    by_stop (Err stop.Memory) h = tt
 
 -- nothing flew
 pub unread_stops : (f : Fault) (ps : List PlatformView) (air : List ℕ) (tells : Contents) (p : Parts) (r : Reading) → ps ≡ [] → CauseOfNoAir f air tells p r → StopsReplay f ps air tells p r

@@ -66,13 +66,17 @@ at_part tag reading limit = codes " at " ++ decimal tag.time ++ codes "." ++ dec
 abbrev pub late_message_line : List ℕ → Tag → ℕ → ℕ → List ℕ
 late_message_line name tag reading limit = (codes "late " ++ name) ++ at_part tag reading limit
 
---  at TIME.STEP, reading N past L, air row R
-abbrev pub at_row_part : Tag → ℕ → ℕ → ℕ → List ℕ
-at_row_part tag reading limit row = codes " at " ++ decimal tag.time ++ codes "." ++ decimal tag.step ++ codes ", reading " ++ decimal reading ++ codes " past " ++ decimal limit ++ codes ", air row " ++ decimal row ++ 10 ∷ []
+--  at TIME.STEP, reading N past L
+abbrev pub past_part : Tag → ℕ → ℕ → List ℕ
+past_part tag reading limit = codes " at " ++ decimal tag.time ++ codes "." ++ decimal tag.step ++ codes ", reading " ++ decimal reading ++ codes " past " ++ decimal limit
+
+-- , air row R
+abbrev pub row_part : ℕ → List ℕ
+row_part row = codes ", air row " ++ decimal row ++ 10 ∷ []
 
 -- late RECEIVER at TIME.STEP, reading N past L, air row R
 abbrev pub late_air_line : List ℕ → Tag → ℕ → ℕ → ℕ → List ℕ
-late_air_line name tag reading limit row = (codes "late " ++ name) ++ at_row_part tag reading limit row
+late_air_line name tag reading limit row = (codes "late " ++ name) ++ (past_part tag reading limit ++ row_part row)
 
 -- the line of a platform that needed more claims than it may make, or of a meaning that is too long
 abbrev pub long_line : Option ℕ → Option Graph → List ℕ

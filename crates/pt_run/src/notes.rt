@@ -3,7 +3,7 @@
 ghost use Rattle.std.specs.Prelude.{◌≡◌, ◌⊎◌, ◌++◌, [], ◌∷◌, IfOk, None, OnOk, Some, option_map, string_bytes};
 ghost use Rattle.pt_run.specs.declared.fault.Fault.TheVariants.{Memory, Write};
 ghost use Rattle.pt_run.specs.Telling.{Tells};
-ghost use Rattle.pt_run.specs.Notes.{actor_name, at_part, at_row_part, cycle_line, gain_part, infeasible_line, late_air_line, late_line, late_message_line, long_line, names_of, note_line, offset_part, platform_name, read_line, ring_line, sender_name, turn_part, unlawful_line, verdict_part};
+ghost use Rattle.pt_run.specs.Notes.{actor_name, at_part, cycle_line, gain_part, infeasible_line, late_air_line, late_line, late_message_line, long_line, names_of, note_line, offset_part, past_part, platform_name, read_line, ring_line, row_part, sender_name, turn_part, unlawful_line, verdict_part};
 
 use crate::fault::Fault;
 use pt_air::fault_line as air_line;
@@ -238,24 +238,28 @@ fn push_late_air(
     ensures { OnOk result (string_bytes line.new ≡ string_bytes line.old ++ late_air_line name.now tag.now reading limit row) }
 {
     push_words(line, "late ", name)?;
-    push_at_row(line, tag.time, tag.step, reading, limit, row)
+    push_past(line, tag.time, tag.step, reading, limit)?;
+    push_row(line, row)
 }
 
-/// Appends a tag, a reading, a limit and a row, and ends the line.
-fn push_at_row(
+/// Appends a tag, a reading and a limit.
+fn push_past(
     line: &mut String,
     time: u64,
     step: u64,
     reading: u64,
     limit: u64,
-    row: u32,
 ) -> Result<(), AllocError>
-    ensures { OnOk result (string_bytes line.new ≡ string_bytes line.old ++ at_row_part (record { time = time; step = step }) reading limit row) }
+    ensures { OnOk result (string_bytes line.new ≡ string_bytes line.old ++ past_part (record { time = time; step = step }) reading limit) }
 {
-    write!(
-        line,
-        " at {time}.{step}, reading {reading} past {limit}, air row {row}\n"
-    )
+    write!(line, " at {time}.{step}, reading {reading} past {limit}")
+}
+
+/// Appends a row of a recording, and ends the line.
+fn push_row(line: &mut String, row: u32) -> Result<(), AllocError>
+    ensures { OnOk result (string_bytes line.new ≡ string_bytes line.old ++ row_part row) }
+{
+    write!(line, ", air row {row}\n")
 }
 
 /// Appends the line of a meaning that is too long.

@@ -4,6 +4,7 @@ ghost use Rattle.std.specs.Prelude.{◌≡◌, IfErr, IfOk, None, Some, flat_map
 ghost use Rattle.std.specs.Arc.{arc_value};
 ghost use Rattle.pt_types.specs.Lawful.{IsLawful};
 ghost use Rattle.pt_semantics.specs.Rows.{FitRows};
+ghost use Rattle.pt_offsets.specs.Plans.{IsAdmitted};
 ghost use Rattle.pt_sensors.specs.Listed.{rows_for};
 ghost use Rattle.pt_sensors.specs.Places.{StandInPlace, of_run};
 ghost use Rattle.pt_tables.specs.Misses.{miss_line};
@@ -178,6 +179,7 @@ fn fly(
     log: bool,
     blocks: &Blocks,
 ) -> Result<Ran, RunFault>
+    requires admitted { IsAdmitted (arc_value plan.now) }
     requires places { StandInPlace (arc_value plan.now).graph entries.items }
     requires fit { FitRows (arc_value plan.now).graph (of_run (arc_value plan.now).graph (rows_for entries.items)) }
     requires transits { length air.now.transits ≡ length (arc_value plan.now).graph.links }

@@ -48,8 +48,8 @@ use std::thread::Threads;
 /// the 16 that are handed in; no other call reads them. `blocks` has the functions that actors may name.
 ///
 /// This call may wait. No clause says which commands end: the parts of `check`, `meaning`, `make`, `migrate`, `slacks`, `audit`,
-/// `replay` and a paced run that don't take `rt` do, and a run by a clock of its own, `--clock step:..` or `--clock machine`, may go on forever if its
-/// clock stops.
+/// `replay` and a paced run that don't take `rt` do, and a run by a clock of its own, `--clock step:..` or `--clock machine`, may go
+/// on forever if its clock stops.
 pub fn ptides<S: Source, K: Sink, E: Sink, C: Clock + Send, R: Threads + Wait + Sync>(
     rt: &R,
     alloc: Global,
