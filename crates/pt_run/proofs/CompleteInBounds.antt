@@ -1,11 +1,10 @@
 -- A replay within the stated bounds, of a program that can run, ends as its meaning says.
-use Rattle.std.proofs.Common.{◌≡◌, ℕ, ◌<◌, Bool, true, List, [], ◌∷◌, ◌++◌, Option, Some, None, Result, Ok, Err, IfSome, length, refl, sym, ap, subst, ◌∙◌, inr}
+use Rattle.std.proofs.Common.{◌≡◌, ℕ, ◌<◌, Bool, true, List, ◌++◌, Option, Some, None, Result, Ok, Err, IfSome, length, refl, sym, ap, subst, ◌∙◌, inr}
 use Rattle.std.specs.Prelude.{◌↔◌}
 use Rattle.std.proofs.lemmas.Option.{slice_get_within}
 use Rattle.pt_io.specs.Causes.{Appends, Rose}
 use Rattle.pt_types.specs.declared.graph.Graph.{Graph}
 use Rattle.pt_types.specs.declared.firing.ActorFiring.{ActorFiring}
-use Rattle.pt_types.specs.declared.rows.Row.{Row}
 use Rattle.pt_types.specs.Limits.{most_claims}
 use Rattle.pt_blocks.specs.declared.blocks.Named.{Named}
 use Rattle.pt_history.specs.declared.miss.Miss.{Miss}
@@ -17,7 +16,6 @@ use Rattle.pt_semantics.specs.Ranks.{AreRanks}
 use Rattle.pt_semantics.proofs.Lookups.{none_some}
 use Rattle.pt_semantics.specs.Tables.{tables_text}
 use Rattle.pt_schedule.specs.Schedule.{IsMissedByMeaning}
-use Rattle.pt_offsets.specs.Plans.{Parts}
 use Rattle.pt_sensors.specs.Asked.{Contents, Reading}
 use Rattle.pt_sensors.specs.Places.{of_run}
 use Rattle.pt_air.specs.declared.air.Air.{Air}

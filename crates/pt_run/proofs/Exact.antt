@@ -39,8 +39,6 @@ use Rattle.pt_run.specs.Exact.{CanAudit, Defines, IsExact, WantsGraph, WantsMemo
 use Rattle.pt_run.specs.Making.{Ends}
 use Rattle.pt_run.specs.Migrating.{EndsMigrated}
 use Rattle.pt_run.specs.Texts.{EndsBy}
-use Rattle.pt_run.specs.Auditing.{Accepts, EndsAudit, IsUnlawful, LogFails, OnLog}
-use Rattle.pt_run.specs.Headline.{RunWith}
 use Rattle.pt_run.specs.Words.{Order, audit, make, migrate, over, paced_run, refused_as, replay}
 use Rattle.pt_run.specs.Written.{GraphWith, IsMeant, Leaves, Writes, clocking}
 use Rattle.pt_run.proofs.Audited.{Audited, audited, finds_lawful, finds_unlawful, finds_verdict}

@@ -1,5 +1,5 @@
 -- An audit and a replay end as a paced run is refused, or the rows of the sensors were read and none is late.
-use Rattle.std.proofs.Common.{◌≡◌, ℕ, Bool, List, Option, Some, None}
+use Rattle.std.proofs.Common.{ℕ, Bool, List, Option, Some, None}
 use Rattle.pt_types.specs.declared.rows.Row.{Row}
 use Rattle.pt_blocks.specs.declared.blocks.Named.{Named}
 use Rattle.pt_offsets.specs.Plans.{Parts}

@@ -1,5 +1,5 @@
 -- What holds of a replay, of how it ends.
-use Rattle.std.proofs.Common.{◌≡◌, ◌≢◌, ℕ, Bool, true, false, List, [], ◌∷◌, Option, Some, None, refl, sym, ap, subst}
+use Rattle.std.proofs.Common.{◌≡◌, ◌≢◌, ℕ, Bool, true, false, List, Option, Some, None, refl, sym, ap, subst}
 use Rattle.pt_types.specs.declared.rows.Row.{Row}
 use Rattle.pt_blocks.specs.declared.blocks.Named.{Named}
 use Rattle.pt_semantics.proofs.Lookups.{none_some}

@@ -3,10 +3,13 @@
 ghost use Rattle.pt_run.specs.Agreeing.{RunsAgree};
 ghost use Rattle.pt_run.specs.CallsAgreeing.{CallsAgree};
 ghost use Rattle.pt_run.specs.InBounds.{
-    ReplaysInBoundsAgreeWithRuns, ReplaysInBoundsDoAsPaced,
+  ReplaysInBoundsAgreeWithRuns,
+  ReplaysInBoundsDoAsPaced,
 };
 ghost use Rattle.pt_run.specs.LawfulRuns.{
-    FinishedRunsAreLawful, ReplaysWriteLawfulLogs, RunsWriteLawfulLogs,
+  FinishedRunsAreLawful,
+  ReplaysWriteLawfulLogs,
+  RunsWriteLawfulLogs,
 };
 ghost use Rattle.pt_run.specs.SlackRuns.{SlackRoundsMissNothing, SlackRunsMissNothing};
 
