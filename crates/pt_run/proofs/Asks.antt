@@ -23,7 +23,8 @@ use Rattle.pt_run.specs.Faults.{fault_of_rows}
 use Rattle.pt_run.specs.Making.{AsksOf}
 use Rattle.pt_run.specs.Texts.{Answers, AsksAfterGraph, AsksFor, AsksInOrder, EndsOver, HasEnded, MeaningFails, PutBy, fault_in, files_for, is_refused}
 use Rattle.pt_run.specs.Auditing.{AsksAudit}
-use Rattle.pt_run.specs.Words.{Order, audit, make, migrate, over}
+use Rattle.pt_run.specs.Replaying.{AsksReplay}
+use Rattle.pt_run.specs.Words.{Order, audit, make, migrate, over, replay}
 use Rattle.pt_run.specs.Written.{Leaves}
 use Rattle.pt_run.proofs.Ending.{never}
 
@@ -48,6 +49,7 @@ asked_nothing (Some (over command name)) outcome tells blocks r is h = subst (λ
 asked_nothing (Some (make number workers)) outcome tells blocks r is h = h
 asked_nothing (Some (migrate name)) outcome tells blocks r is h = inl h
 asked_nothing (Some (audit name log)) outcome tells blocks r is h = subst (λ o. AsksAudit o name log tells blocks r.asked_before r.asked_now) (sym is) (inl (inl h))
+asked_nothing (Some (replay name air workers log)) outcome tells blocks r is h = subst (λ o. AsksReplay o name air tells blocks r.asked_before r.asked_now) (sym is) (inl (inl h))
 
 -- the files of a graph that is not refused
 not_refused : (outcome : Option Fault) (g : Graph) (before now : Option (List (List ℕ))) → is_refused outcome ≡ false → AsksFiles g before now → (n : ℕ) × Asks before now (if is_refused outcome then [] else files_before g n)
@@ -83,6 +85,9 @@ meaning_asks tells g r made before now fails files = not_refused (fault_in made)
     by_fault (fault.Ring sends gain) h = absurd h
     by_fault fault.ReadLog h = absurd h
     by_fault (fault.Unlawful v) h = absurd h
+    by_fault (fault.LateAir platform actor tag reading limit row) h = absurd h
+    by_fault (fault.Air e) h = absurd h
+    by_fault fault.ReadAir h = absurd h
     by_fault (fault.Sensor actor e) h = refl
     by_fault (fault.LateRow actor row seen limit) h = refl
     by_fault (fault.LateMessage platform actor tag reading limit) h = refl
@@ -148,6 +153,9 @@ asked_in_order c outcome left tells told blocks name g r w first asked now read 
     by_fault (fault.Ring sends gain) h all = all
     by_fault fault.ReadLog h all = all
     by_fault (fault.Unlawful v) h all = all
+    by_fault (fault.LateAir platform actor tag reading limit row) h all = all
+    by_fault (fault.Air e) h all = all
+    by_fault fault.ReadAir h all = all
     by_fault (fault.Sensor actor e) h all = all
     by_fault (fault.LateRow actor row seen limit) h all = all
     by_fault (fault.LateMessage platform actor tag reading limit) h all = all
@@ -181,6 +189,9 @@ asked_for_graph c outcome f told tells blocks name r first now is tell cause ask
     by_fault (fault.Ring sends gain) h one = absurd h
     by_fault fault.ReadLog h one = absurd h
     by_fault (fault.Unlawful v) h one = absurd h
+    by_fault (fault.LateAir platform actor tag reading limit row) h one = absurd h
+    by_fault (fault.Air e) h one = absurd h
+    by_fault fault.ReadAir h one = absurd h
     by_fault (fault.Sensor actor e) h one = absurd h
     by_fault (fault.LateRow actor row seen limit) h one = absurd h
     by_fault (fault.LateMessage platform actor tag reading limit) h one = absurd h

@@ -93,6 +93,9 @@ module _ (order : Option Order) (left : Leaves) (tells : Contents) (blocks : Lis
       absurd (late_all tells plan.graph begins.files actor row seen limit (subst (λ (z : Graph). SensorLate tells z actor row seen limit) (sym (this_graph g other)) cause.1.1) (begins.rows, begins.sensors, begins.in_time))
   audited (Some fault.Usage) k = absurd (not_before k.0)
   audited (Some (fault.Ring sends gain)) k = absurd (not_before k.0)
+  audited (Some (fault.LateAir platform actor tag reading limit row)) k = absurd (not_before k.0)
+  audited (Some (fault.Air e)) k = absurd (not_before k.0)
+  audited (Some fault.ReadAir) k = absurd (not_before k.0)
   audited (Some (fault.LateMessage platform actor tag reading limit)) k = absurd (not_before k.0)
   audited (Some (fault.Long platform)) k = absurd (not_before k.0)
 

@@ -76,6 +76,9 @@ module _ (name log : List ℕ) (left : Leaves) (tells : Contents) (blocks : List
       by_outcome (Some (fault.LateRow actor row seen limit)) k = (k.0, k.1, ends_file paced_run (Some (fault.LateRow actor row seen limit)) left tells tells blocks name g first asked now start before last w refl read asks grew k.2)
       by_outcome (Some fault.Usage) k = absurd (not_before k.0)
       by_outcome (Some (fault.Ring sends gain)) k = absurd (not_before k.0)
+      by_outcome (Some (fault.LateAir platform actor tag reading limit row)) k = absurd (not_before k.0)
+      by_outcome (Some (fault.Air e)) k = absurd (not_before k.0)
+      by_outcome (Some fault.ReadAir) k = absurd (not_before k.0)
       by_outcome (Some (fault.LateMessage platform actor tag reading limit)) k = absurd (not_before k.0)
       by_outcome (Some (fault.Long platform)) k = absurd (not_before k.0)
 
@@ -100,6 +103,9 @@ module _ (name log : List ℕ) (left : Leaves) (tells : Contents) (blocks : List
   asks_audit (Some (fault.LateRow actor row seen limit)) k h = asked_in_order paced_run (Some (fault.LateRow actor row seen limit)) left tells tells blocks name g inner w first asked now read k.2 asks h
   asks_audit (Some fault.Usage) k h = absurd (not_before k.0)
   asks_audit (Some (fault.Ring sends gain)) k h = absurd (not_before k.0)
+  asks_audit (Some (fault.LateAir platform actor tag reading limit row)) k h = absurd (not_before k.0)
+  asks_audit (Some (fault.Air e)) k h = absurd (not_before k.0)
+  asks_audit (Some fault.ReadAir) k h = absurd (not_before k.0)
   asks_audit (Some (fault.LateMessage platform actor tag reading limit)) k h = absurd (not_before k.0)
   asks_audit (Some (fault.Long platform)) k h = absurd (not_before k.0)
 
@@ -117,6 +123,9 @@ module _ (name log : List ℕ) (left : Leaves) (tells : Contents) (blocks : List
   nothing_left (Some (fault.LateRow actor row seen limit)) k = k.1
   nothing_left (Some fault.Usage) k = k.1
   nothing_left (Some (fault.Ring sends gain)) k = k.1
+  nothing_left (Some (fault.LateAir platform actor tag reading limit row)) k = k.1
+  nothing_left (Some (fault.Air e)) k = k.1
+  nothing_left (Some fault.ReadAir) k = k.1
   nothing_left (Some (fault.LateMessage platform actor tag reading limit)) k = k.1
   nothing_left (Some (fault.Long platform)) k = k.1
 
@@ -141,6 +150,9 @@ module _ (name log : List ℕ) (tells : Contents) (blocks : List Named) (r : Rea
       by_fault (fault.Cycle actors) k = absurd k
       by_fault (fault.Infeasible send offset slack) k = absurd k
       by_fault (fault.Ring sends gain) k = absurd k
+      by_fault (fault.LateAir platform actor tag reading limit row) k = absurd k
+      by_fault (fault.Air e) k = absurd k
+      by_fault fault.ReadAir k = absurd k
       by_fault (fault.Sensor actor e) k = absurd k
       by_fault (fault.LateRow actor row seen limit) k = absurd k
       by_fault (fault.LateMessage platform actor tag reading limit) k = absurd k
@@ -165,6 +177,9 @@ module _ (name log : List ℕ) (tells : Contents) (blocks : List Named) (r : Rea
       by_fault (fault.Cycle actors) k h = absurd k
       by_fault (fault.Infeasible send offset slack) k h = absurd k
       by_fault (fault.Ring sends gain) k h = absurd k
+      by_fault (fault.LateAir platform actor tag reading limit row) k h = absurd k
+      by_fault (fault.Air e) k h = absurd k
+      by_fault fault.ReadAir k h = absurd k
       by_fault (fault.Sensor actor e) k h = absurd k
       by_fault (fault.LateRow actor row seen limit) k h = absurd k
       by_fault (fault.LateMessage platform actor tag reading limit) k h = absurd k
@@ -200,6 +215,9 @@ module _ (log : List ℕ) (tells : Contents) (g : Graph) (r : Reading) (w : Writ
     refused (fault.Cycle actors) still k = absurd k
     refused (fault.Infeasible send offset slack) still k = absurd k
     refused (fault.Ring sends gain) still k = absurd k
+    refused (fault.LateAir platform actor tag reading limit row) still k = absurd k
+    refused (fault.Air e) still k = absurd k
+    refused fault.ReadAir still k = absurd k
     refused (fault.LateMessage platform actor tag reading limit) still k = absurd k
     refused (fault.Long platform) still k = absurd k
     refused fault.Write still k = absurd k
@@ -305,6 +323,9 @@ judged_asks {X} judged o w log g h before now same answers asks = by_judged judg
     by_memory (fault.Cycle actors) k = inl (memory_asks paced_run (fault.Cycle actors) g before now k)
     by_memory (fault.Infeasible send offset slack) k = inl (memory_asks paced_run (fault.Infeasible send offset slack) g before now k)
     by_memory (fault.Ring sends gain) k = inl (memory_asks paced_run (fault.Ring sends gain) g before now k)
+    by_memory (fault.LateAir platform actor tag reading limit row) k = inl (memory_asks paced_run (fault.LateAir platform actor tag reading limit row) g before now k)
+    by_memory (fault.Air e) k = inl (memory_asks paced_run (fault.Air e) g before now k)
+    by_memory fault.ReadAir k = inl (memory_asks paced_run fault.ReadAir g before now k)
     by_memory (fault.Sensor actor e) k = inl (memory_asks paced_run (fault.Sensor actor e) g before now k)
     by_memory (fault.LateRow actor row seen limit) k = inl (memory_asks paced_run (fault.LateRow actor row seen limit) g before now k)
     by_memory (fault.LateMessage platform actor tag reading limit) k = inl (memory_asks paced_run (fault.LateMessage platform actor tag reading limit) g before now k)

@@ -149,6 +149,9 @@ module _ (clock : ClockChoice) (log : Bool) (tells : Contents) (blocks : List Na
     classify (Some (fault.Ring sends gain)) ((g, file, (free, cause)), same) calm = absurd cause
     classify (Some fault.ReadLog) ((g, file, (free, cause)), same) calm = absurd cause
     classify (Some (fault.Unlawful v)) ((g, file, (free, cause)), same) calm = absurd cause
+    classify (Some (fault.LateAir platform actor tag reading limit row)) ((g, file, (free, cause)), same) calm = absurd cause
+    classify (Some (fault.Air e)) ((g, file, (free, cause)), same) calm = absurd cause
+    classify (Some fault.ReadAir) ((g, file, (free, cause)), same) calm = absurd cause
     classify (Some (fault.Long (Some platform))) ((g, file, (free, stop)), same) calm =
         inl (halted (Some (fault.Long (Some platform))) g refl refl (λ e. none_some (fault.Long (Some platform)) (sym e)) file stop.plan stop.graph stop.run stop.no_misses same)
     classify (Some (fault.LateMessage platform actor tag reading limit)) ((g, file, (free, stop)), same) calm =

@@ -4,6 +4,8 @@ use Rattle.std.specs.Prelude.{flat_map}
 use Rattle.pt_io.specs.Causes.{Rose}
 use Rattle.pt_audit.specs.declared.verdict.Verdict.{Verdict}
 use Rattle.pt_types.specs.declared.graph.Graph.{Graph}
+use Rattle.pt_air.specs.declared.fault.AirFault.{AirFault}
+use Rattle.pt_air.specs.AirOf.{air_of}
 use Rattle.pt_blocks.specs.declared.blocks.Named.{Named}
 use Rattle.pt_graph_text.specs.declared.fault.GraphFault.{GraphFault}
 use Rattle.pt_graph.specs.GraphOf.{graph_of}
@@ -17,6 +19,7 @@ use Rattle.pt_slacks.specs.Rings.{IsRing}
 use Rattle.pt_semantics.specs.Offsets.{IsFeasible}
 use Rattle.pt_monitors.specs.Platforms.{missed_by}
 use Rattle.pt_sensors.specs.Asked.{Contents, ReadFails, Reading}
+use Rattle.pt_sensors.specs.Places.{of_run}
 use Rattle.pt_sensors.specs.Recorded.{SensorFails, SensorLate, SensorUnread}
 use Rattle.pt_run.specs.declared.fault.Fault.{Fault}
 use Rattle.pt_run.specs.declared.fault.Fault.TheVariants as fault
@@ -30,14 +33,16 @@ use Rattle.pt_turn.specs.Running.{Shows, ShowsLate, ShowsLong}
 use Rattle.pt_words.specs.declared.orders.ClockChoice.{ClockChoice}
 use Rattle.pt_words.specs.declared.orders.ClockChoice.TheVariants.{Paced}
 use Rattle.pt_run.specs.Causes.{CauseOfText, IsCause, MeansLong, RunStops, Writing}
-use Rattle.pt_run.specs.CauseTable.{AsksFeasible, CauseTable, IsAccepted, IsNotPaced, IsRunCommand, OfRows, OnPlatform, OverFile, OverGraph, OverLog}
+use Rattle.pt_run.specs.CauseTable.{AsksFeasible, CauseTable, IsAccepted, IsNotPaced, IsRunCommand, OfRows, OnPlatform, OverAir, OverFile, OverGraph, OverLog}
 use Rattle.pt_run.specs.Making.{Ends}
 use Rattle.pt_run.specs.Statuses.{status_of, status_of_fault}
 use Rattle.pt_run.specs.Auditing.{Accepts, IsUnlawful, LogFails, OnLog}
 use Rattle.pt_run.specs.Headline.{RunWith}
-use Rattle.pt_run.specs.Words.{Order, over, make, migrate, audit, paced_run}
+use Rattle.pt_run.specs.Replaying.{LeavesReplay, OnAir}
+use Rattle.pt_run.specs.Words.{Order, over, make, migrate, audit, replay, paced_run}
 use Rattle.pt_run.specs.Written.{GraphWith, Leaves, WritesText}
 use Rattle.pt_run.proofs.Auditing.{not_before}
+use Rattle.pt_run.proofs.Replayed.{stopped_in_air, unwritten_in_air}
 
 -- the status of a fault is not 5
 not_missed : (f : Fault) → status_of_fault f ≡ 5 → ⊥
@@ -48,6 +53,9 @@ not_missed (fault.Infeasible send offset slack) e = omega (arith, e)
 not_missed (fault.Ring sends gain) e = omega (arith, e)
 not_missed fault.ReadLog e = omega (arith, e)
 not_missed (fault.Unlawful v) e = omega (arith, e)
+not_missed (fault.LateAir platform actor tag reading limit row) e = omega (arith, e)
+not_missed (fault.Air f) e = omega (arith, e)
+not_missed fault.ReadAir e = omega (arith, e)
 not_missed (fault.Sensor actor f) e = omega (arith, e)
 not_missed (fault.LateRow actor row seen limit) e = omega (arith, e)
 not_missed (fault.LateMessage platform actor tag reading limit) e = omega (arith, e)
@@ -72,6 +80,7 @@ module _ (left : Leaves) (tells : Contents) (blocks : List Named) (r : Reading) 
   usage (Some (make n workers)) k = absurd k
   usage (Some (migrate name)) k = absurd k.1
   usage (Some (audit name log)) k = absurd (not_before k.0)
+  usage (Some (replay name air workers log)) k = absurd (not_before k.0)
 
   graph_unread : (order : Option Order) → Ends (Some (fault.Read None)) left order tells blocks r w → OverFile order (λ name. ReadFails [] name r)
   graph_unread None k = absurd (let e = k.0 in cc)
@@ -79,6 +88,7 @@ module _ (left : Leaves) (tells : Contents) (blocks : List Named) (r : Reading) 
   graph_unread (Some (make n workers)) k = absurd k
   graph_unread (Some (migrate name)) k = k.1
   graph_unread (Some (audit name log)) k = k.2.0
+  graph_unread (Some (replay name air workers log)) k = k.2.0
 
   graph : (f : GraphFault) (order : Option Order) → Ends (Some (fault.Graph f)) left order tells blocks r w → OverFile order (λ name. IfSome (tells name) (λ bytes. graph_of blocks bytes ≡ Err f))
   graph f None k = absurd (let e = k.0 in cc)
@@ -86,6 +96,7 @@ module _ (left : Leaves) (tells : Contents) (blocks : List Named) (r : Reading) 
   graph f (Some (make n workers)) k = absurd k
   graph f (Some (migrate name)) k = k.1
   graph f (Some (audit name log)) k = k.2.0
+  graph f (Some (replay name air workers log)) k = k.2.0
 
   cycle : (actors : List ℕ) (order : Option Order) → Ends (Some (fault.Cycle actors)) left order tells blocks r w → OverGraph order tells blocks (λ command name g. IsFreeCycle g actors)
   cycle actors None k = absurd (let e = k.0 in cc)
@@ -93,6 +104,7 @@ module _ (left : Leaves) (tells : Contents) (blocks : List Named) (r : Reading) 
   cycle actors (Some (make n workers)) k = absurd k
   cycle actors (Some (migrate name)) k = absurd k.1
   cycle actors (Some (audit name log)) (is, none, (k, same)) = (k.0, k.1, k.2.0)
+  cycle actors (Some (replay name air workers log)) (is, none, (k, same)) = (k.0, k.1, k.2.0)
 
   infeasible_over : (send : ℕ) (offset : ℤ) (slack : ℕ) (command : Command) (name : List ℕ) → IsCause (fault.Infeasible send offset slack) left command tells blocks name r w → GraphWith tells blocks name (λ g. AsksFeasible command × NoFreeCycle g × IsFirstInfeasible g send offset slack)
   infeasible_over send offset slack command name (k, same) = (k.0, k.1, of command k.0 k.2.0 k.2.1)
@@ -109,6 +121,7 @@ module _ (left : Leaves) (tells : Contents) (blocks : List Named) (r : Reading) 
   infeasible send offset slack (Some (make n workers)) k = absurd k
   infeasible send offset slack (Some (migrate name)) k = absurd k.1
   infeasible send offset slack (Some (audit name log)) k = infeasible_over send offset slack paced_run name k.2
+  infeasible send offset slack (Some (replay name air workers log)) k = infeasible_over send offset slack paced_run name k.2
 
   ring : (sends : List ℕ) (gain : ℕ) (order : Option Order) → Ends (Some (fault.Ring sends gain)) left order tells blocks r w → OverGraph order tells blocks (λ command name g. (command ≡ Slacks) × NoFreeCycle g × IsRing g sends gain)
   ring sends gain None k = absurd (let e = k.0 in cc)
@@ -122,6 +135,7 @@ module _ (left : Leaves) (tells : Contents) (blocks : List Named) (r : Reading) 
   ring sends gain (Some (make n workers)) k = absurd k
   ring sends gain (Some (migrate name)) k = absurd k.1
   ring sends gain (Some (audit name log)) k = absurd (not_before k.0)
+  ring sends gain (Some (replay name air workers log)) k = absurd (not_before k.0)
 
   sensor_unread_over : (actor : ℕ) (command : Command) (name : List ℕ) → IsCause (fault.Read (Some actor)) left command tells blocks name r w → GraphWith tells blocks name (λ g. IsAccepted command g × OfRows command (λ late. SensorUnread late tells g actor (name ∷ []) r))
   sensor_unread_over actor command name (k, same) = (k.0, k.1, of command k.0 k.2.0 k.2.1)
@@ -138,6 +152,7 @@ module _ (left : Leaves) (tells : Contents) (blocks : List Named) (r : Reading) 
   sensor_unread actor (Some (make n workers)) k = absurd k
   sensor_unread actor (Some (migrate name)) k = absurd k.1
   sensor_unread actor (Some (audit name log)) k = sensor_unread_over actor paced_run name k.2
+  sensor_unread actor (Some (replay name air workers log)) k = sensor_unread_over actor paced_run name k.2
 
   sensor_over : (actor : ℕ) (f : RowFault) (command : Command) (name : List ℕ) → IsCause (fault.Sensor actor f) left command tells blocks name r w → GraphWith tells blocks name (λ g. IsAccepted command g × OfRows command (λ late. SensorFails late tells g actor f))
   sensor_over actor f command name (k, same) = (k.0, k.1, of command k.0 k.2.0 k.2.1)
@@ -154,6 +169,7 @@ module _ (left : Leaves) (tells : Contents) (blocks : List Named) (r : Reading) 
   sensor actor f (Some (make n workers)) k = absurd k
   sensor actor f (Some (migrate name)) k = absurd k.1
   sensor actor f (Some (audit name log)) k = sensor_over actor f paced_run name k.2
+  sensor actor f (Some (replay name air workers log)) k = sensor_over actor f paced_run name k.2
 
   late_row_over : (actor row seen limit : ℕ) (command : Command) (name : List ℕ) → IsCause (fault.LateRow actor row seen limit) left command tells blocks name r w → GraphWith tells blocks name (λ g. IsRunCommand command × IsAccepted command g × SensorLate tells g actor row seen limit)
   late_row_over actor row seen limit command name (k, same) = (k.0, k.1, of command k.0 k.2.0 k.2.1)
@@ -170,6 +186,7 @@ module _ (left : Leaves) (tells : Contents) (blocks : List Named) (r : Reading) 
   late_row actor row seen limit (Some (make n workers)) k = absurd k
   late_row actor row seen limit (Some (migrate name)) k = absurd k.1
   late_row actor row seen limit (Some (audit name log)) k = late_row_over actor row seen limit paced_run name k.2
+  late_row actor row seen limit (Some (replay name air workers log)) k = late_row_over actor row seen limit paced_run name k.2
 
   -- the platform that stopped a run, as its recorded turns show
   pub stopped : (g : Graph) (workers : ℕ) (clock : ClockChoice) (platform : ℕ) (f : TurnFault) → RunStops tells g workers clock left platform f → OnPlatform left g platform (λ v. Shows g v.turns (state_at v) f)
@@ -199,6 +216,7 @@ module _ (left : Leaves) (tells : Contents) (blocks : List Named) (r : Reading) 
   late_message platform actor tag reading limit (Some (make n workers)) k = absurd k
   late_message platform actor tag reading limit (Some (migrate name)) k = absurd k.1
   late_message platform actor tag reading limit (Some (audit name log)) k = absurd (not_before k.0)
+  late_message platform actor tag reading limit (Some (replay name air workers log)) k = absurd (not_before k.0)
 
   long : (platform : ℕ) (order : Option Order) → Ends (Some (fault.Long (Some platform))) left order tells blocks r w → OverGraph order tells blocks (λ command name g. IsRunCommand command × IsAccepted command g × OnPlatform left g platform (λ v. ShowsLong g (state_at v)))
   long platform None k = absurd (let e = k.0 in cc)
@@ -212,6 +230,9 @@ module _ (left : Leaves) (tells : Contents) (blocks : List Named) (r : Reading) 
   long platform (Some (make n workers)) k = absurd k
   long platform (Some (migrate name)) k = absurd k.1
   long platform (Some (audit name log)) k = absurd (not_before k.0)
+  long platform (Some (replay name air workers log)) k =
+      let went : LeavesReplay log (Some (fault.Long (Some platform))) left w k.plan (of_run k.plan.graph k.over.rows) k.over.went.recorded = k.over.went.fact in
+      (k.plan.graph, k.file, (tt, (k.over.admitted.no_free_cycle, λ reads. k.over.admitted.feasible), stopped_in_air left k.plan (of_run k.plan.graph k.over.rows) k.over.went.recorded platform turn.Long went.flown))
 
   long_meaning : (order : Option Order) → Ends (Some (fault.Long None)) left order tells blocks r w → OverGraph order tells blocks (λ command name g. (command ≡ Meaning) × NoFreeCycle g × MeansLong tells g)
   long_meaning None k = absurd (let e = k.0 in cc)
@@ -225,6 +246,7 @@ module _ (left : Leaves) (tells : Contents) (blocks : List Named) (r : Reading) 
   long_meaning (Some (make n workers)) k = absurd k
   long_meaning (Some (migrate name)) k = absurd k.1
   long_meaning (Some (audit name log)) k = absurd (not_before k.0)
+  long_meaning (Some (replay name air workers log)) k = absurd (not_before k.0)
 
   -- the log could not be read, and no other order asks for one
   log_unread : (order : Option Order) → Ends (Some fault.ReadLog) left order tells blocks r w → OverLog order (λ name log. RunWith tells blocks name (λ plan rows. LogFails plan.graph (name ∷ []) log r))
@@ -239,6 +261,7 @@ module _ (left : Leaves) (tells : Contents) (blocks : List Named) (r : Reading) 
   log_unread (Some (make n workers)) k = absurd k
   log_unread (Some (migrate name)) k = absurd k.1
   log_unread (Some (audit name log)) k = k.1
+  log_unread (Some (replay name air workers log)) k = absurd (not_before k.0)
 
   unlawful : (v : Verdict) (order : Option Order) → Ends (Some (fault.Unlawful v)) left order tells blocks r w → OverLog order (λ name log. RunWith tells blocks name (OnLog tells log (λ plan rows bytes. IsUnlawful plan rows bytes v)))
   unlawful v None k = absurd (let e = k.0 in cc)
@@ -252,9 +275,71 @@ module _ (left : Leaves) (tells : Contents) (blocks : List Named) (r : Reading) 
   unlawful v (Some (make n workers)) k = absurd k
   unlawful v (Some (migrate name)) k = absurd k.1
   unlawful v (Some (audit name log)) k = k.1
+  unlawful v (Some (replay name air workers log)) k = absurd (not_before k.0)
 
   lawful : (order : Option Order) (name log : List ℕ) → order ≡ Some (audit name log) → Ends None left order tells blocks r w → RunWith tells blocks name (OnLog tells log Accepts)
   lawful order name log is k = let h = subst (λ o. Ends None left o tells blocks r w) is k in h.1
+
+  -- the recording could not be read, and no other order asks for one
+  air_unread : (order : Option Order) → Ends (Some fault.ReadAir) left order tells blocks r w → OverAir order (λ name air. RunWith tells blocks name (λ plan rows. LogFails plan.graph (name ∷ []) air r))
+  air_unread None k = absurd (let e = k.0 in cc)
+  air_unread (Some (over command name)) (k, same) = of command k.0 k.2.1
+    where
+      of : (c : Command) (g : Graph) → CauseOfText c fault.ReadAir left tells g (name ∷ []) r → ⊥
+      of (Run workers clock log) g h = h
+      of Check g h = h.0
+      of Meaning g h = h.0
+      of Slacks g h = h.0
+  air_unread (Some (make n workers)) k = absurd k
+  air_unread (Some (migrate name)) k = absurd k.1
+  air_unread (Some (audit name log)) k = absurd (not_before k.0)
+  air_unread (Some (replay name air workers log)) k = k.1
+
+  air_fails : (f : AirFault) (order : Option Order) → Ends (Some (fault.Air f)) left order tells blocks r w → OverAir order (λ name air. RunWith tells blocks name (λ plan rows. IfSome (tells air) (λ bytes. air_of plan.graph bytes ≡ Err f)))
+  air_fails f None k = absurd (let e = k.0 in cc)
+  air_fails f (Some (over command name)) (k, same) = of command k.0 k.2.1
+    where
+      of : (c : Command) (g : Graph) → CauseOfText c (fault.Air f) left tells g (name ∷ []) r → ⊥
+      of (Run workers clock log) g h = h
+      of Check g h = h.0
+      of Meaning g h = h.0
+      of Slacks g h = h.0
+  air_fails f (Some (make n workers)) k = absurd k
+  air_fails f (Some (migrate name)) k = absurd k.1
+  air_fails f (Some (audit name log)) k = absurd (not_before k.0)
+  air_fails f (Some (replay name air workers log)) k = k.1
+
+  late_air : (platform actor : ℕ) (tag : Tag) (reading limit row : ℕ) (order : Option Order) → Ends (Some (fault.LateAir platform actor tag reading limit row)) left order tells blocks r w →
+      OverAir order (λ name air. RunWith tells blocks name (OnAir tells air (λ plan rows recorded. (recorded.breach ≡ Some row) × OnPlatform left plan.graph platform (λ v. ShowsLate plan.graph v.turns actor tag reading limit))))
+  late_air platform actor tag reading limit row None k = absurd (let e = k.0 in cc)
+  late_air platform actor tag reading limit row (Some (over command name)) (k, same) = of command k.0 k.2.1
+    where
+      of : (c : Command) (g : Graph) → CauseOfText c (fault.LateAir platform actor tag reading limit row) left tells g (name ∷ []) r → ⊥
+      of (Run workers clock log) g h = h
+      of Check g h = h.0
+      of Meaning g h = h.0
+      of Slacks g h = h.0
+  late_air platform actor tag reading limit row (Some (make n workers)) k = absurd k
+  late_air platform actor tag reading limit row (Some (migrate name)) k = absurd k.1
+  late_air platform actor tag reading limit row (Some (audit name log)) k = absurd (not_before k.0)
+  late_air platform actor tag reading limit row (Some (replay name air workers log)) k =
+      let went : LeavesReplay log (Some (fault.LateAir platform actor tag reading limit row)) left w k.plan (of_run k.plan.graph k.over.rows) k.over.went.recorded = k.over.went.fact in
+      record {
+        plan = k.plan;
+        file = k.file;
+        over = record {
+          admitted = k.over.admitted;
+          rows = k.over.rows;
+          sensors = k.over.sensors;
+          in_time = k.over.in_time;
+          went = record {
+            recorded = k.over.went.recorded;
+            file = k.over.went.file;
+            bounds = k.over.went.bounds;
+            fact = (went.breach, stopped_in_air left k.plan (of_run k.plan.graph k.over.rows) k.over.went.recorded platform (turn.Late actor tag reading limit) went.flown);
+          };
+        };
+      }
 
   write : (order : Option Order) → Ends (Some fault.Write) left order tells blocks r w → Rose w.before w.now
   write None k = absurd (let e = k.0 in cc)
@@ -262,6 +347,7 @@ module _ (left : Leaves) (tells : Contents) (blocks : List Named) (r : Reading) 
   write (Some (make n workers)) k = k.0
   write (Some (migrate name)) k = k.1
   write (Some (audit name log)) k = k.2
+  write (Some (replay name air workers log)) k = k.0
 
   unwritten : (f : Fault) (order : Option Order) → f ≢ fault.Write → Ends (Some f) left order tells blocks r w → w.written_now ≡ w.written_before
   unwritten fault.Memory None never k = k.1
@@ -272,6 +358,9 @@ module _ (left : Leaves) (tells : Contents) (blocks : List Named) (r : Reading) 
   unwritten (fault.Ring sends gain) None never k = k.2
   unwritten fault.ReadLog None never k = k.2
   unwritten (fault.Unlawful v) None never k = k.2
+  unwritten (fault.LateAir platform actor tag reading limit row) None never k = k.2
+  unwritten (fault.Air f) None never k = k.2
+  unwritten fault.ReadAir None never k = k.2
   unwritten (fault.Sensor actor f) None never k = k.2
   unwritten (fault.LateRow actor row seen limit) None never k = k.2
   unwritten (fault.LateMessage platform actor tag reading limit) None never k = k.2
@@ -286,6 +375,9 @@ module _ (left : Leaves) (tells : Contents) (blocks : List Named) (r : Reading) 
   unwritten (fault.Ring sends gain) (Some (over command name)) never k = k.1
   unwritten fault.ReadLog (Some (over command name)) never k = k.1
   unwritten (fault.Unlawful v) (Some (over command name)) never k = k.1
+  unwritten (fault.LateAir platform actor tag reading limit row) (Some (over command name)) never k = k.1
+  unwritten (fault.Air f) (Some (over command name)) never k = k.1
+  unwritten fault.ReadAir (Some (over command name)) never k = k.1
   unwritten (fault.Sensor actor f) (Some (over command name)) never k = k.1
   unwritten (fault.LateRow actor row seen limit) (Some (over command name)) never k = k.1
   unwritten (fault.LateMessage platform actor tag reading limit) (Some (over command name)) never k = k.1
@@ -305,9 +397,15 @@ module _ (left : Leaves) (tells : Contents) (blocks : List Named) (r : Reading) 
   unwritten (fault.Ring sends gain) (Some (make n workers)) never k = absurd k
   unwritten fault.ReadLog (Some (make n workers)) never k = absurd k
   unwritten (fault.Unlawful v) (Some (make n workers)) never k = absurd k
+  unwritten (fault.LateAir platform actor tag reading limit row) (Some (make n workers)) never k = absurd k
+  unwritten (fault.Air f) (Some (make n workers)) never k = absurd k
+  unwritten fault.ReadAir (Some (make n workers)) never k = absurd k
   unwritten (fault.Ring sends gain) (Some (migrate name)) never k = k.2
   unwritten fault.ReadLog (Some (migrate name)) never k = k.2
   unwritten (fault.Unlawful v) (Some (migrate name)) never k = k.2
+  unwritten (fault.LateAir platform actor tag reading limit row) (Some (migrate name)) never k = k.2
+  unwritten (fault.Air f) (Some (migrate name)) never k = k.2
+  unwritten fault.ReadAir (Some (migrate name)) never k = k.2
   unwritten (fault.Sensor actor f) (Some (make n workers)) never k = absurd k
   unwritten (fault.Sensor actor f) (Some (migrate name)) never k = k.2
   unwritten (fault.LateRow actor row seen limit) (Some (make n workers)) never k = absurd k
@@ -332,6 +430,10 @@ module _ (left : Leaves) (tells : Contents) (blocks : List Named) (r : Reading) 
   unwritten (fault.Ring sends gain) (Some (audit name log)) never k = absurd (not_before k.0)
   unwritten (fault.LateMessage platform actor tag reading limit) (Some (audit name log)) never k = absurd (not_before k.0)
   unwritten (fault.Long platform) (Some (audit name log)) never k = absurd (not_before k.0)
+  unwritten (fault.LateAir platform actor tag reading limit row) (Some (audit name log)) never k = absurd (not_before k.0)
+  unwritten (fault.Air f) (Some (audit name log)) never k = absurd (not_before k.0)
+  unwritten fault.ReadAir (Some (audit name log)) never k = absurd (not_before k.0)
+  unwritten f (Some (replay name air workers log)) never k = unwritten_in_air left name air log tells blocks r w f never k
 
   missed_are : (order : Option Order) → Ends None left order tells blocks r w → left.misses ≡ flat_map missed_by left.platforms
   missed_are None k = absurd (let e = k.0 in cc)
@@ -345,6 +447,7 @@ module _ (left : Leaves) (tells : Contents) (blocks : List Named) (r : Reading) 
   missed_are (Some (make n workers)) (none, text, run, appends) = none ∙ sym run.none_missed
   missed_are (Some (migrate name)) k = k.0.0 ∙ sym (ap (flat_map missed_by) k.0.1)
   missed_are (Some (audit name log)) k = k.0.0 ∙ sym (ap (flat_map missed_by) k.0.1)
+  missed_are (Some (replay name air workers log)) k = k.over.went.fact.misses refl
 
 pub caused : (status : ℕ) (o : Option Fault) (left : Leaves) (order : Option Order) (tells : Contents) (blocks : List Named) (r : Reading) (w : Writing) → status ≡ status_of o left.misses → Ends o left order tells blocks r w → CauseTable status o left order tells blocks r w
 caused status o left order tells blocks r w is ends = record {
@@ -363,6 +466,9 @@ caused status o left order tells blocks r w is ends = record {
   log_unread = λ e. log_unread left tells blocks r w order (by fault.ReadLog e);
   unlawful = λ v e. unlawful left tells blocks r w v order (by (fault.Unlawful v) e);
   lawful = λ name log words e. lawful left tells blocks r w order name log words (subst (λ z. Ends z left order tells blocks r w) e ends);
+  air_unread = λ e. air_unread left tells blocks r w order (by fault.ReadAir e);
+  air = λ f e. air_fails left tells blocks r w f order (by (fault.Air f) e);
+  late_air = λ platform actor tag reading limit row e. late_air left tells blocks r w platform actor tag reading limit row order (by (fault.LateAir platform actor tag reading limit row) e);
   write = λ e. write left tells blocks r w order (by fault.Write e);
   unwritten = λ f e never. unwritten left tells blocks r w f order never (by f e);
   missed = (λ five. none_misses o left.misses (sym is ∙ five), λ h. is ∙ ap (λ z. status_of z left.misses) h.0 ∙ is_missed left.misses h.1);

@@ -28,7 +28,7 @@ use Rattle.pt_semantics.proofs.Lookups.{none_some}
 use Rattle.pt_laws.proofs.Unique.{meaning_is_one}
 use Rattle.pt_schedule.specs.Schedule.{IsMissedByMeaning}
 use Rattle.pt_offsets.specs.Margins.{IsFirstInfeasible}
-use Rattle.pt_offsets.specs.Plans.{Parts}
+use Rattle.pt_offsets.specs.Plans.{IsAdmitted, Parts}
 use Rattle.pt_turn.specs.Platforms.{PlatformView}
 use Rattle.pt_rounds.specs.HaveRun.{HaveRun, IsLongOn}
 use Rattle.pt_sensors.specs.declared.recorded_fault.LateRows.TheVariants.{Refused}
@@ -76,27 +76,39 @@ too_late g send slack offset feasible h =
     late : (b d slack : ℕ) (offset : ℤ) → (pos b -ℤ pos d) ≡ offset → b + 1 ≤ slack + d → pos slack <ℤ (offset +ℤ pos 1) → ⊥
     late b d slack offset e le lt = omega (arith, ints)
 
+-- the status of a run that finished, by what it missed
+pub by_misses : (status : ℕ) (g : Graph) (xs : List ActorFiring) (ms : List Miss) → status ≡ status_of None ms → FitsClaims g xs → ((m : Miss) → IsIn m ms ↔ IsMissedByMeaning g xs m.actor m.tag m.reading m.limit) → StatusIsMeant status g xs
+by_misses status g xs [] e few all = inl (e, few, (λ missed. (all (record { actor = missed.0; tag = missed.1; reading = missed.2; limit = missed.3 })).1 missed.4))
+by_misses status g xs (m ∷ ms) e few all = inr (inl (e, few, (m.actor, m.tag, m.reading, m.limit, (all m).0 (inl refl))))
+
+-- and of one that a platform stopped
+pub by_platform : (status : ℕ) (g : Graph) (xs : List ActorFiring) (platform : ℕ) → status ≡ 6 → platform < length g.platforms → most_claims < unit_firings g platform (parts g xs) → StatusIsMeant status g xs
+by_platform status g xs platform is within over = inr (inr (inl (is, λ few. clash (unit_firings g platform (parts g xs)) over (few platform within))))
+  where
+    clash : (n : ℕ) → most_claims < n → n ≤ most_claims → ⊥
+    clash n over le = omega arith
+
 module _ (tells : Contents) (blocks : List Named) (name : List ℕ) (g : Graph) (can : CanBegin tells blocks name g) where
   read : IfSome (tells name) (λ bytes. graph_of blocks bytes ≡ Ok g)
   read = subst (λ told. IfSome told (λ bytes. graph_of blocks bytes ≡ Ok g)) (sym can.told) can.graph
 
   -- a graph that the file defines is this one, and it has no fault
-  this_graph : (h : Graph) → IfSome (tells name) (λ bytes. graph_of blocks bytes ≡ Ok h) → h ≡ g
+  pub this_graph : (h : Graph) → IfSome (tells name) (λ bytes. graph_of blocks bytes ≡ Ok h) → h ≡ g
   this_graph h other = sym (same_ok {E = GraphFault} g h (agrees (graph_of blocks) (tells name) can.bytes (Ok g) (Ok h) can.told read other))
 
-  no_fault : (f : GraphFault) → IfSome (tells name) (λ bytes. graph_of blocks bytes ≡ Err f) → ⊥
+  pub no_fault : (f : GraphFault) → IfSome (tells name) (λ bytes. graph_of blocks bytes ≡ Err f) → ⊥
   no_fault f other = ok_err g f (agrees (graph_of blocks) (tells name) can.bytes (Ok g) (Err f) can.told read other)
 
   -- no sensor's file has a fault, and no row is late
   of_sensor : (a : ℕ) (file : List ℕ) (bound : ℕ) → kind_of g a ≡ Sensor file bound → IfSome (tells file) (λ bytes. rows_of bytes ≡ Ok (can.rows a))
   of_sensor a file bound kind = subst (λ (k : Kind). RowsOfKind tells k (can.rows a)) kind (can.sensors a)
 
-  sensor_fails : (actor : ℕ) (f : RowFault) → SensorFails Refused tells g actor f → ⊥
+  pub sensor_fails : (actor : ℕ) (f : RowFault) → SensorFails Refused tells g actor f → ⊥
   sensor_fails actor f h =
       let told = can.files actor h.file h.bound h.sensor in
       ok_err (can.rows actor) f (agrees rows_of (tells h.file) told.0 (Ok (can.rows actor)) (Err f) told.1 (of_sensor actor h.file h.bound h.sensor) h.fails)
 
-  sensor_late : (actor row seen limit : ℕ) → SensorLate tells g actor row seen limit → ⊥
+  pub sensor_late : (actor row seen limit : ℕ) → SensorLate tells g actor row seen limit → ⊥
   sensor_late actor row seen limit h =
       let told = can.files actor h.file h.bound h.sensor in
       let rows : can.rows actor ≡ h.rows = same_ok {E = RowFault} (can.rows actor) h.rows (agrees rows_of (tells h.file) told.0 (Ok (can.rows actor)) (Ok h.rows) told.1 (of_sensor actor h.file h.bound h.sensor) h.read) in
@@ -121,6 +133,9 @@ module _ (tells : Contents) (blocks : List Named) (name : List ℕ) (g : Graph) 
         on_graph (fault.Ring sends gain) k = absurd k.1
         on_graph fault.ReadLog k = absurd k.1
         on_graph (fault.Unlawful v) k = absurd k.1
+        on_graph (fault.LateAir platform actor tag reading limit row) k = absurd k.1
+        on_graph (fault.Air e) k = absurd k.1
+        on_graph fault.ReadAir k = absurd k.1
         on_graph (fault.Read None) k = absurd k.1
         on_graph fault.Usage k = absurd k.1
         on_graph (fault.Graph e) k = absurd k.1
@@ -138,6 +153,9 @@ module _ (tells : Contents) (blocks : List Named) (name : List ℕ) (g : Graph) 
     own_outcome (Some (fault.Ring sends gain)) k = own_cause (fault.Ring sends gain) k.0
     own_outcome (Some fault.ReadLog) k = own_cause fault.ReadLog k.0
     own_outcome (Some (fault.Unlawful v)) k = own_cause (fault.Unlawful v) k.0
+    own_outcome (Some (fault.LateAir platform actor tag reading limit row)) k = own_cause (fault.LateAir platform actor tag reading limit row) k.0
+    own_outcome (Some (fault.Air e)) k = own_cause (fault.Air e) k.0
+    own_outcome (Some fault.ReadAir) k = own_cause fault.ReadAir k.0
     own_outcome (Some (fault.Read (Some actor))) k = own_cause (fault.Read (Some actor)) k.0
     own_outcome (Some (fault.Sensor actor e)) k = own_cause (fault.Sensor actor e) k.0
     own_outcome (Some (fault.LateRow actor row seen limit)) k = own_cause (fault.LateRow actor row seen limit) k.0
@@ -146,7 +164,7 @@ module _ (tells : Contents) (blocks : List Named) (name : List ℕ) (g : Graph) 
 
   module _ (xs : List ActorFiring) (means : Means g can.rows xs) where
     -- the meaning of a plan of this graph with the rows of the run
-    meaning : (plan : Parts) (rows : ℕ → List Row) → plan.graph ≡ g → AreRows tells plan.graph rows → IsMeaning plan.graph means.rank (of_run plan.graph rows) xs
+    pub meaning : (plan : Parts) (rows : ℕ → List Row) → plan.graph ≡ g → AreRows tells plan.graph rows → IsMeaning plan.graph means.rank (of_run plan.graph rows) xs
     meaning plan rows same are =
         subst (λ h. IsMeaning h means.rank (of_run h rows) xs) (sym same)
         (subst (λ r. IsMeaning g means.rank (of_run g r) xs) (rows_are_one tells g can.rows rows can.files can.sensors (subst (λ h. AreRows tells h rows) same are)) means.meaning)
@@ -154,41 +172,32 @@ module _ (tells : Contents) (blocks : List Named) (name : List ℕ) (g : Graph) 
     is_long : (plan : Parts) (rows : ℕ → List Row) (platforms : List PlatformView) (stop : Option ℕ) → plan.graph ≡ g → AreRows tells plan.graph rows → HaveRun plan (level_of plan.ranks) (of_run plan.graph rows) platforms stop → IsLongOn plan.graph xs stop
     is_long plan rows platforms stop same are run = run.long means.rank xs (subst (λ h. AreRanks h means.rank) (sym same) means.ranks) (meaning plan rows same are)
 
+    -- the firings of a plan of this graph with these rows are those of the meaning
+    pub one_meaning : (plan : Parts) (rows : ℕ → List Row) (firings : List ActorFiring) → plan.graph ≡ g → AreRows tells plan.graph rows → IsAdmitted plan → IsMeaning plan.graph (rank_of plan.ranks) (of_run plan.graph rows) firings → firings ≡ xs
+    one_meaning plan rows firings same are admitted found =
+        meaning_is_one plan.graph (rank_of plan.ranks) (of_run plan.graph rows) firings xs found
+        (subst (λ rank. IsMeaning plan.graph rank (of_run plan.graph rows) xs)
+        (ranks_are_one plan.graph means.rank (rank_of plan.ranks) (subst (λ h. AreRanks h means.rank) (sym same) means.ranks) admitted.ranks)
+        (meaning plan rows same are))
+
     -- a run that finished
-    finished : (status : ℕ) (c : Clocking) (plan : Parts) (log : Bool) (platforms : List PlatformView) (misses : List Miss) (text : List ℕ) → c.choice ≡ Paced → status ≡ status_of None misses → plan.graph ≡ g →
-        IsFinishedRun tells c plan log platforms misses text → StatusIsMeant status g xs
-    finished status c plan log platforms misses text paced is same done = by_misses misses is meant
-      where
-        firings : done.firings ≡ xs
-        firings =
-            meaning_is_one plan.graph (rank_of plan.ranks) (of_run plan.graph done.run.rows) done.firings xs done.meaning
-            (subst (λ rank. IsMeaning plan.graph rank (of_run plan.graph done.run.rows) xs)
-            (ranks_are_one plan.graph means.rank (rank_of plan.ranks) (subst (λ h. AreRanks h means.rank) (sym same) means.ranks) done.run.admitted.ranks)
-            (meaning plan done.run.rows same done.run.sensors))
+    module _ (c : Clocking) (plan : Parts) (log : Bool) (platforms : List PlatformView) (misses : List Miss) (text : List ℕ) (paced : c.choice ≡ Paced) (same : plan.graph ≡ g) (done : IsFinishedRun tells c plan log platforms misses text) where
+      pub firings_meant : done.firings ≡ xs
+      firings_meant = one_meaning plan done.run.rows done.firings same done.run.sensors done.run.admitted done.meaning
 
-        few : FitsClaims g xs
-        few = subst (λ h. FitsClaims h xs) same (is_long plan done.run.rows platforms None same done.run.sensors (done.run.went.paced paced))
+      pub missed_meant : (m : Miss) → IsIn m misses ↔ IsMissedByMeaning g xs m.actor m.tag m.reading m.limit
+      missed_meant m = subst (λ h. IsIn m misses ↔ IsMissedByMeaning h xs m.actor m.tag m.reading m.limit) same (subst (λ zs. IsIn m misses ↔ IsMissedByMeaning plan.graph zs m.actor m.tag m.reading m.limit) firings_meant (done.missed_as_meant paced m))
 
-        meant : (m : Miss) → IsIn m misses ↔ IsMissedByMeaning g xs m.actor m.tag m.reading m.limit
-        meant m = subst (λ h. IsIn m misses ↔ IsMissedByMeaning h xs m.actor m.tag m.reading m.limit) same (subst (λ zs. IsIn m misses ↔ IsMissedByMeaning plan.graph zs m.actor m.tag m.reading m.limit) firings (done.missed_as_meant paced m))
-
-        by_misses : (ms : List Miss) → status ≡ status_of None ms → ((m : Miss) → IsIn m ms ↔ IsMissedByMeaning g xs m.actor m.tag m.reading m.limit) → StatusIsMeant status g xs
-        by_misses [] e all = inl (e, few, (λ missed. (all (record { actor = missed.0; tag = missed.1; reading = missed.2; limit = missed.3 })).1 missed.4))
-        by_misses (m ∷ ms) e all = inr (inl (e, few, (m.actor, m.tag, m.reading, m.limit, (all m).0 (inl refl))))
+      finished : (status : ℕ) → status ≡ status_of None misses → StatusIsMeant status g xs
+      finished status is = by_misses status g xs misses is (subst (λ h. FitsClaims h xs) same (is_long plan done.run.rows platforms None same done.run.sensors (done.run.went.paced paced))) missed_meant
 
     -- a run that stopped
     stopped : (status workers : ℕ) (left : Leaves) (platform : ℕ) (f : TurnFault) → status ≡ 6 → RunStops tells g workers Paced left platform f → StatusIsMeant status g xs
-    stopped status workers left platform f is h = inr (inr (inl (
-      is,
-      λ few.
-          let over : most_claims < unit_firings g platform (parts g xs) = subst (λ z. most_claims < unit_firings z platform (parts z xs)) h.graph (is_long h.plan h.run.rows left.platforms (Some platform) h.graph h.run.sensors (h.run.went.paced refl).1) in
-          let view = h.run.went.kept.ends in
-          let within : platform < length g.platforms = subst (λ z. platform < length z) (ap (λ (z : Graph). z.platforms) h.graph) (subst (λ n. platform < n) h.run.went.kept.all.count (slice_get_within left.platforms platform view.0 view.1)) in
-          clash (unit_firings g platform (parts g xs)) over (few platform within),
-    )))
-      where
-        clash : (n : ℕ) → most_claims < n → n ≤ most_claims → ⊥
-        clash n over le = omega arith
+    stopped status workers left platform f is h =
+        let over : most_claims < unit_firings g platform (parts g xs) = subst (λ z. most_claims < unit_firings z platform (parts z xs)) h.graph (is_long h.plan h.run.rows left.platforms (Some platform) h.graph h.run.sensors (h.run.went.paced refl).1) in
+        let view = h.run.went.kept.ends in
+        let within : platform < length g.platforms = subst (λ z. platform < length z) (ap (λ (z : Graph). z.platforms) h.graph) (subst (λ n. platform < n) h.run.went.kept.all.count (slice_get_within left.platforms platform view.0 view.1)) in
+        by_platform status g xs platform is within over
 
     module _ (status : ℕ) (left : Leaves) (workers : ℕ) (log : Bool) (r : Reading) (w : Writing) (reads : Rose r.before r.now → ⊥) (writes : Rose w.before w.now → ⊥) where
       -- by the fault over the graph
@@ -208,13 +217,16 @@ module _ (tells : Contents) (blocks : List Named) (name : List ℕ) (g : Graph) 
           on_graph (fault.Ring sends gain) is k = absurd k.1
           on_graph fault.ReadLog is k = absurd k.1
           on_graph (fault.Unlawful v) is k = absurd k.1
+          on_graph (fault.LateAir platform actor tag reading limit row) is k = absurd k.1
+          on_graph (fault.Air e) is k = absurd k.1
+          on_graph fault.ReadAir is k = absurd k.1
           on_graph (fault.Read None) is k = absurd k.1
           on_graph fault.Usage is k = absurd k.1
           on_graph (fault.Graph e) is k = absurd k.1
           on_graph fault.Write is k = absurd k.1
 
       by_outcome : (o : Option Fault) → status ≡ status_of o left.misses → EndsBy o left (Some (Run workers Paced log, name)) tells blocks r w → StatusIsMeant status g xs
-      by_outcome None is (text, (h, file, (free, run)), appends) = finished status (clocking workers Paced left) run.plan log left.platforms left.misses text refl is (run.graph ∙ this_graph h file) run.finished
+      by_outcome None is (text, (h, file, (free, run)), appends) = finished (clocking workers Paced left) run.plan log left.platforms left.misses text refl (run.graph ∙ this_graph h file) run.finished status is
       by_outcome (Some fault.Usage) is k = absurd k
       by_outcome (Some (fault.Graph f)) is k = absurd (no_fault f k.0)
       by_outcome (Some (fault.Read None)) is k = absurd (reads k.0.rose)
@@ -225,6 +237,9 @@ module _ (tells : Contents) (blocks : List Named) (name : List ℕ) (g : Graph) 
       by_outcome (Some (fault.Ring sends gain)) is k = by_cause (fault.Ring sends gain) is k.0
       by_outcome (Some fault.ReadLog) is k = by_cause fault.ReadLog is k.0
       by_outcome (Some (fault.Unlawful v)) is k = by_cause (fault.Unlawful v) is k.0
+      by_outcome (Some (fault.LateAir platform actor tag reading limit row)) is k = by_cause (fault.LateAir platform actor tag reading limit row) is k.0
+      by_outcome (Some (fault.Air e)) is k = by_cause (fault.Air e) is k.0
+      by_outcome (Some fault.ReadAir) is k = by_cause fault.ReadAir is k.0
       by_outcome (Some (fault.Read (Some actor))) is k = by_cause (fault.Read (Some actor)) is k.0
       by_outcome (Some (fault.Sensor actor e)) is k = by_cause (fault.Sensor actor e) is k.0
       by_outcome (Some (fault.LateRow actor row seen limit)) is k = by_cause (fault.LateRow actor row seen limit) is k.0

@@ -39,13 +39,12 @@ use Rattle.pt_run.specs.Exact.{CanAudit, Defines, IsExact, WantsGraph, WantsMemo
 use Rattle.pt_run.specs.Making.{Ends}
 use Rattle.pt_run.specs.Migrating.{EndsMigrated}
 use Rattle.pt_run.specs.Texts.{EndsBy}
-use Rattle.pt_run.specs.Auditing.{Accepts, EndsAudit, IsUnlawful, LogFails, OnLog}
-use Rattle.pt_run.specs.Headline.{RunWith}
-use Rattle.pt_run.specs.Words.{Order, audit, make, migrate, over, paced_run, refused_as}
+use Rattle.pt_run.specs.Words.{Order, audit, make, migrate, over, paced_run, refused_as, replay}
 use Rattle.pt_run.specs.Written.{GraphWith, IsMeant, Leaves, Writes, clocking}
 use Rattle.pt_run.proofs.Audited.{Audited, audited, finds_lawful, finds_unlawful, finds_verdict}
-use Rattle.pt_run.proofs.Auditing.{not_before}
+use Rattle.pt_run.proofs.AirFound.{finds_air}
 use Rattle.pt_run.proofs.Complete.{agrees, ok_err, same_ok, too_late}
+use Rattle.pt_run.proofs.PastRows.{PastRows, as_run, audit_past, past_rows, replay_past}
 use Rattle.pt_run.proofs.OneCause.{AllHave, fails_all, fails_late, fails_rows, late_all, meant_long, one_fails, one_infeasible, one_late, same_err}
 
 -- a graph has no cycle that takes no time, and each sender can send in time, if the command refuses others
@@ -206,56 +205,18 @@ module _ (tells : Contents) (blocks : List Named) (name bytes : List ℕ) (told 
       by_outcome (Some fault.Memory) k = inr (inl refl)
       by_outcome (Some e) k = absurd (no_graph k.0.0 k.0.1)
 
-  -- an audit of a log of a graph
-  audit_answer : (log : List ℕ) (g : Graph) (outcome : Option Fault) → graph_of blocks bytes ≡ Ok g → EndsAudit outcome left name log tells blocks r w → Answer paced_run tells g outcome
-  audit_answer log g outcome is ends = by_outcome outcome ends
-    where
-      over_rows : (o : Option Fault) (Fact : Parts → (ℕ → List Row) → Type 0) → RunWith tells blocks name Fact → Answer paced_run tells g o
-      over_rows o Fact h =
-          let same : h.plan.graph ≡ g = sym (same_ok {E = GraphFault} g h.plan.graph (one_defined (Ok g) (Ok h.plan.graph) is h.file)) in
-          whole (subst NoFreeCycle same h.over.admitted.no_free_cycle, λ e. subst IsFeasible same h.over.admitted.feasible) (λ e. subst (λ z. AllHave Refused tells z) same (h.over.rows, h.over.sensors, h.over.in_time))
-          (λ e. absurd (run_meaning 1 Paced false e)) (λ e. absurd (run_slacks 1 Paced false e))
-
-      by_outcome : (o : Option Fault) → EndsAudit o left name log tells blocks r w → Answer paced_run tells g o
-      by_outcome None k = over_rows None (OnLog tells log Accepts) k.1
-      by_outcome (Some fault.Write) k = over_rows (Some fault.Write) (OnLog tells log Accepts) k.1
-      by_outcome (Some (fault.Unlawful v)) k = over_rows (Some (fault.Unlawful v)) (OnLog tells log (λ plan rows bytes. IsUnlawful plan rows bytes v)) k.1
-      by_outcome (Some fault.ReadLog) k = over_rows (Some fault.ReadLog) (λ plan rows. LogFails plan.graph (name ∷ []) log r) k.1
-      by_outcome (Some fault.Memory) k = memory refl
-      by_outcome (Some (fault.Graph f)) k = answer paced_run g (Some (fault.Graph f)) is k.2
-      by_outcome (Some (fault.Cycle actors)) k = answer paced_run g (Some (fault.Cycle actors)) is k.2
-      by_outcome (Some (fault.Infeasible send offset slack)) k = answer paced_run g (Some (fault.Infeasible send offset slack)) is k.2
-      by_outcome (Some (fault.Read sensor)) k = answer paced_run g (Some (fault.Read sensor)) is k.2
-      by_outcome (Some (fault.Sensor actor f)) k = answer paced_run g (Some (fault.Sensor actor f)) is k.2
-      by_outcome (Some (fault.LateRow actor row seen limit)) k = answer paced_run g (Some (fault.LateRow actor row seen limit)) is k.2
-      by_outcome (Some fault.Usage) k = absurd (not_before k.0)
-      by_outcome (Some (fault.Ring sends gain)) k = absurd (not_before k.0)
-      by_outcome (Some (fault.LateMessage platform actor tag reading limit)) k = absurd (not_before k.0)
-      by_outcome (Some (fault.Long platform)) k = absurd (not_before k.0)
+  -- an audit or a replay of a graph
+  past_answer : (g : Graph) (outcome : Option Fault) → graph_of blocks bytes ≡ Ok g → PastRows left name tells blocks r w outcome → Answer paced_run tells g outcome
+  past_answer g outcome is (past_rows h) =
+      let same : h.plan.graph ≡ g = sym (same_ok {E = GraphFault} g h.plan.graph (one_defined (Ok g) (Ok h.plan.graph) is h.file)) in
+      whole (subst NoFreeCycle same h.over.admitted.no_free_cycle, λ e. subst IsFeasible same h.over.admitted.feasible) (λ e. subst (λ z. AllHave Refused tells z) same (h.over.rows, h.over.sensors, h.over.in_time))
+      (λ e. absurd (run_meaning 1 Paced false e)) (λ e. absurd (run_slacks 1 Paced false e))
+  past_answer g outcome is (as_run k) = answer paced_run g outcome is k
 
   -- and of a file with a fault
-  unaudited : (log : List ℕ) (f : GraphFault) (outcome : Option Fault) → graph_of blocks bytes ≡ Err f → EndsAudit outcome left name log tells blocks r w → (outcome ≡ Some (fault.Graph f)) ⊎ WantsGraph outcome
-  unaudited log f outcome is ends = by_outcome outcome ends
-    where
-      no_graph : (h : Graph) → IfSome (tells name) (λ bytes. graph_of blocks bytes ≡ Ok h) → ⊥
-      no_graph h other = ok_err h f (sym (one_defined (Err f) (Ok h) is other))
-
-      by_outcome : (o : Option Fault) → EndsAudit o left name log tells blocks r w → (o ≡ Some (fault.Graph f)) ⊎ WantsGraph o
-      by_outcome None k = absurd (no_graph k.1.plan.graph k.1.file)
-      by_outcome (Some fault.Write) k = absurd (no_graph k.1.plan.graph k.1.file)
-      by_outcome (Some (fault.Unlawful v)) k = absurd (no_graph k.1.plan.graph k.1.file)
-      by_outcome (Some fault.ReadLog) k = absurd (no_graph k.1.plan.graph k.1.file)
-      by_outcome (Some fault.Memory) k = inr (inl refl)
-      by_outcome (Some (fault.Graph e)) k = refused paced_run f (Some (fault.Graph e)) is k.2
-      by_outcome (Some (fault.Cycle actors)) k = refused paced_run f (Some (fault.Cycle actors)) is k.2
-      by_outcome (Some (fault.Infeasible send offset slack)) k = refused paced_run f (Some (fault.Infeasible send offset slack)) is k.2
-      by_outcome (Some (fault.Read sensor)) k = refused paced_run f (Some (fault.Read sensor)) is k.2
-      by_outcome (Some (fault.Sensor actor e)) k = refused paced_run f (Some (fault.Sensor actor e)) is k.2
-      by_outcome (Some (fault.LateRow actor row seen limit)) k = refused paced_run f (Some (fault.LateRow actor row seen limit)) is k.2
-      by_outcome (Some fault.Usage) k = absurd (not_before k.0)
-      by_outcome (Some (fault.Ring sends gain)) k = absurd (not_before k.0)
-      by_outcome (Some (fault.LateMessage platform actor tag reading limit)) k = absurd (not_before k.0)
-      by_outcome (Some (fault.Long platform)) k = absurd (not_before k.0)
+  past_refused : (f : GraphFault) (outcome : Option Fault) → graph_of blocks bytes ≡ Err f → PastRows left name tells blocks r w outcome → (outcome ≡ Some (fault.Graph f)) ⊎ WantsGraph outcome
+  past_refused f outcome is (past_rows h) = absurd (ok_err h.plan.graph f (sym (one_defined (Err f) (Ok h.plan.graph) is h.file)))
+  past_refused f outcome is (as_run k) = refused paced_run f outcome is k
 
   -- `migrate` of a file with a fault
   unmigrated : (f : GraphFault) (outcome : Option Fault) → graph_of blocks bytes ≡ Err f → EndsMigrated outcome left name tells blocks r w → (outcome ≡ Some (fault.Graph f)) ⊎ WantsGraph outcome
@@ -284,22 +245,24 @@ module _ (tells : Contents) (blocks : List Named) (name bytes : List ℕ) (told 
       by_outcome (Some fault.Memory) k = inr (inl refl)
       by_outcome (Some e) k = absurd k.1
 
--- an order that is refused as this command on this file is that command, or an audit
-refused_by : (order : Option Order) (command : Command) (name : List ℕ) → refused_as order ≡ Some (over command name) → (order ≡ Some (over command name)) ⊎ ((log : List ℕ) × (command ≡ paced_run) × (order ≡ Some (audit name log)))
-refused_by None command name e = absurd (none_some (over command name) e)
-refused_by (Some (over c n)) command name e = inl e
-refused_by (Some (make n k)) command name e = absurd (other e)
+same_paced : (n : List ℕ) (command : Command) (name : List ℕ) → Some (over paced_run n) ≡ Some (over command name) → (command ≡ paced_run) × (n ≡ name)
+same_paced n command name e = (cc, cc)
+
+-- a call that is refused as this command on this file ends as that command does, or as an audit or a replay
+refused_by : (o : Option Fault) (left : Leaves) (order : Option Order) (tells : Contents) (blocks : List Named) (r : Reading) (w : Writing) (command : Command) (name : List ℕ) → refused_as order ≡ Some (over command name) → Ends o left order tells blocks r w →
+    EndsBy o left (Some (command, name)) tells blocks r w ⊎ ((command ≡ paced_run) × PastRows left name tells blocks r w o)
+refused_by o left None tells blocks r w command name e ends = absurd (none_some (over command name) e)
+refused_by o left (Some (over c n)) tells blocks r w command name e ends = inl (subst (λ z. Ends o left z tells blocks r w) e ends)
+refused_by o left (Some (make n k)) tells blocks r w command name e ends = absurd (other e)
   where
     other : Some (make n k) ≡ Some (over command name) → ⊥
     other e = cc
-refused_by (Some (migrate n)) command name e = absurd (other e)
+refused_by o left (Some (migrate n)) tells blocks r w command name e ends = absurd (other e)
   where
     other : Some (migrate n) ≡ Some (over command name) → ⊥
     other e = cc
-refused_by (Some (audit n log)) command name e = let (is, names) = same e in inr (log, is, ap (λ z. Some (audit z log)) names)
-  where
-    same : Some (over paced_run n) ≡ Some (over command name) → (command ≡ paced_run) × (n ≡ name)
-    same e = (cc, cc)
+refused_by o left (Some (audit n log)) tells blocks r w command name e ends = let (is, names) = same_paced n command name e in inr (is, subst (λ z. PastRows left z tells blocks r w o) names (audit_past left n tells blocks r w log o ends))
+refused_by o left (Some (replay n air workers log)) tells blocks r w command name e ends = let (is, names) = same_paced n command name e in inr (is, subst (λ z. PastRows left z tells blocks r w o) names (replay_past left n tells blocks r w air log o ends))
 
 -- the words are no command
 usage : (left : Leaves) (tells : Contents) (blocks : List Named) (r : Reading) (w : Writing) (outcome : Option Fault) → Ends outcome left None tells blocks r w → (outcome ≡ Some fault.Usage) ⊎ WantsMemory outcome
@@ -438,6 +401,7 @@ exact o left order tells blocks r w ends = record {
   migrated = λ g d. migrated tells blocks d.name d.bytes d.told left r w g o d.defines (by_migrate (Ok g) d);
   lawful = λ plan rows bytes can lawful. finds_lawful plan rows bytes o lawful (by_audit plan rows bytes can);
   unlawful = λ plan rows bytes can never. finds_unlawful plan rows bytes o never (by_audit plan rows bytes can);
+  air = λ g bytes f can is. finds_air order left tells blocks r w g bytes f can is o (by_words (replay can.name can.air can.workers can.log) can.words);
   verdict = λ plan rows bytes v can refuses. finds_verdict plan rows bytes o v refuses (by_audit plan rows bytes can);
 }
   where
@@ -456,14 +420,13 @@ exact o left order tells blocks r w ends = record {
     no_graph : (command : Command) (f : GraphFault) → Defines (refused_as order) tells blocks (over command) (Err f) → (o ≡ Some (fault.Graph f)) ⊎ WantsGraph o
     no_graph command f d =
         ⊎_elim
-        (λ (words : order ≡ Some (over command d.name)). refused tells blocks d.name d.bytes d.told left r w command f o d.defines (by_words (over command d.name) words))
-        (λ (of : (log : List ℕ) × (command ≡ paced_run) × (order ≡ Some (audit d.name log))). unaudited tells blocks d.name d.bytes d.told left r w of.0 f o d.defines (by_words (audit d.name of.0) of.2))
-        (refused_by order command d.name d.words)
+        (λ (k : EndsBy o left (Some (command, d.name)) tells blocks r w). refused tells blocks d.name d.bytes d.told left r w command f o d.defines k)
+        (λ (k : (command ≡ paced_run) × PastRows left d.name tells blocks r w o). past_refused tells blocks d.name d.bytes d.told left r w f o d.defines k.1)
+        (refused_by o left order tells blocks r w command d.name d.words ends)
 
     over_graph : (command : Command) (g : Graph) → Defines (refused_as order) tells blocks (over command) (Ok g) → Answer command tells g o
     over_graph command g d =
         ⊎_elim
-        (λ (words : order ≡ Some (over command d.name)). answer tells blocks d.name d.bytes d.told left r w command g o d.defines (by_words (over command d.name) words))
-        (λ (of : (log : List ℕ) × (command ≡ paced_run) × (order ≡ Some (audit d.name log))).
-        subst (λ c. Answer c tells g o) (sym of.1) (audit_answer tells blocks d.name d.bytes d.told left r w of.0 g o d.defines (by_words (audit d.name of.0) of.2)))
-        (refused_by order command d.name d.words)
+        (λ (k : EndsBy o left (Some (command, d.name)) tells blocks r w). answer tells blocks d.name d.bytes d.told left r w command g o d.defines k)
+        (λ (k : (command ≡ paced_run) × PastRows left d.name tells blocks r w o). subst (λ c. Answer c tells g o) (sym k.0) (past_answer tells blocks d.name d.bytes d.told left r w g o d.defines k.1))
+        (refused_by o left order tells blocks r w command d.name d.words ends)

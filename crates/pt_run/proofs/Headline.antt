@@ -160,6 +160,9 @@ module _ (left : Leaves) (workers : ℕ) (clock : ClockChoice) (log : Bool) (tel
   by_outcome (Some (fault.Ring sends gain)) ((g, file, (free, cause)), same) = absurd cause
   by_outcome (Some fault.ReadLog) ((g, file, (free, cause)), same) = absurd cause
   by_outcome (Some (fault.Unlawful v)) ((g, file, (free, cause)), same) = absurd cause
+  by_outcome (Some (fault.LateAir platform actor tag reading limit row)) ((g, file, (free, cause)), same) = absurd cause
+  by_outcome (Some (fault.Air e)) ((g, file, (free, cause)), same) = absurd cause
+  by_outcome (Some fault.ReadAir) ((g, file, (free, cause)), same) = absurd cause
   by_outcome (Some fault.Usage) k = absurd k
   by_outcome (Some (fault.Graph f)) k = refused (fault.Graph f) refl (k.1, k.2) (λ platform actor tag reading limit e. absurd cc) (λ actor row seen limit e. absurd cc)
   by_outcome (Some (fault.Cycle actors)) ((g, file, cause), same) = refused (fault.Cycle actors) refl (cause.1, same) (λ platform actor tag reading limit e. absurd cc) (λ actor row seen limit e. absurd cc)

@@ -56,7 +56,7 @@ use Rattle.pt_run.specs.Telling.{Tells}
 use Rattle.pt_offsets.specs.Faults.{CauseOfPlan}
 use Rattle.pt_offsets.specs.declared.fault.PlanFault.{PlanFault}
 use Rattle.pt_offsets.specs.declared.fault.PlanFault.TheVariants as unplanned
-use Rattle.pt_run.specs.Words.{audit, make, migrate, order_by, order_of, over}
+use Rattle.pt_run.specs.Words.{audit, make, migrate, order_by, order_of, over, replay}
 use Rattle.pt_types.specs.Limits.{most_claims}
 
 -- a made graph has a plan, unless memory runs out
@@ -192,6 +192,10 @@ made_number_in words order n k says is = by_request (grammar.order_of words) ref
       where
         other : (graph log : List ℕ) → Some (audit graph log) ≡ Some (make n k) → ⊥
         other graph log e = cc
+    by_request (Some (grammar.replay graph air workers log)) e h = absurd (other graph air workers log h)
+      where
+        other : (graph air : List ℕ) (workers : ℕ) (log : Bool) → Some (replay graph air workers log) ≡ Some (make n k) → ⊥
+        other graph air workers log e = cc
     by_request (Some (grammar.make number workers)) e h = made_number words n k (e ∙ ap Some (same number workers h))
       where
         same : (a b : ℕ) → Some (make a b) ≡ Some (make n k) → grammar.make a b ≡ grammar.make n k

@@ -24,6 +24,7 @@ abbrev pub IsUndisturbed : Option Fault → Type 0
 IsUndisturbed (Some fault.Memory) = ⊥
 IsUndisturbed (Some (fault.Read sensor)) = ⊥
 IsUndisturbed (Some fault.ReadLog) = ⊥
+IsUndisturbed (Some fault.ReadAir) = ⊥
 IsUndisturbed (Some fault.Write) = ⊥
 IsUndisturbed _ = Unit {0}
 

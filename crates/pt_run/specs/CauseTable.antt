@@ -28,31 +28,41 @@ use Rattle.pt_run.specs.declared.words.Command.{Command}
 use Rattle.pt_run.specs.declared.words.Command.TheVariants.{Run, Check, Meaning, Slacks}
 use Rattle.pt_run.specs.Causes.{MeansLong, Writing}
 use Rattle.pt_run.specs.Auditing.{Accepts, IsUnlawful, LogFails, OnLog}
+use Rattle.pt_air.specs.declared.fault.AirFault.{AirFault}
+use Rattle.pt_air.specs.AirOf.{air_of}
 use Rattle.pt_run.specs.Headline.{RunWith}
-use Rattle.pt_run.specs.Words.{Order, over, make, migrate, audit, paced_run}
+use Rattle.pt_run.specs.Replaying.{OnAir}
+use Rattle.pt_run.specs.Words.{Order, over, make, migrate, audit, replay, paced_run}
 use Rattle.pt_run.specs.Written.{GraphWith, Leaves}
 
--- the words are a command on a graph file, `migrate` and `audit` included, and a fact holds of the file's name
+-- the words are a command on a graph file, `migrate`, `audit` and `replay` included, and a fact holds of the file's name
 abbrev pub OverFile : Option Order → (List ℕ → Type 0) → Type 0
 OverFile None Fact = ⊥
 OverFile (Some (make number workers)) Fact = ⊥
 OverFile (Some (migrate name)) Fact = Fact name
 OverFile (Some (audit name log)) Fact = Fact name
+OverFile (Some (replay name air workers log)) Fact = Fact name
 OverFile (Some (over command name)) Fact = Fact name
 
 -- they are a command that needs more of the graph than its text, and a fact holds of the command, the file's name and the graph
--- that the file defines. An audit refuses what a paced run refuses, so a fact of it is one of such a run
+-- that the file defines. An audit and a replay refuse what a paced run refuses, so a fact of them is one of such a run
 abbrev pub OverGraph : Option Order → Contents → List Named → (Command → List ℕ → Graph → Type 0) → Type 0
 OverGraph None tells blocks Fact = ⊥
 OverGraph (Some (make number workers)) tells blocks Fact = ⊥
 OverGraph (Some (migrate name)) tells blocks Fact = ⊥
 OverGraph (Some (over command name)) tells blocks Fact = GraphWith tells blocks name (Fact command name)
 OverGraph (Some (audit name log)) tells blocks Fact = GraphWith tells blocks name (Fact paced_run name)
+OverGraph (Some (replay name air workers log)) tells blocks Fact = GraphWith tells blocks name (Fact paced_run name)
 
 -- they are an audit, and a fact holds of the names of the graph file and of the log
 abbrev pub OverLog : Option Order → (List ℕ → List ℕ → Type 0) → Type 0
 OverLog (Some (audit name log)) Fact = Fact name log
 OverLog _ Fact = ⊥
+
+-- they are a replay, and a fact holds of the names of the graph file and of the recording
+abbrev pub OverAir : Option Order → (List ℕ → List ℕ → Type 0) → Type 0
+OverAir (Some (replay name air workers log)) Fact = Fact name air
+OverAir _ Fact = ⊥
 
 -- a run, by whatever clock
 abbrev pub IsRunCommand : Command → Type 0
@@ -113,6 +123,12 @@ pub record CauseTable (status : ℕ) (outcome : Option Fault) (left : Leaves) (o
   pub log_unread : outcome ≡ Some fault.ReadLog → OverLog order (λ name log. RunWith tells blocks name (λ plan rows. LogFails plan.graph (name ∷ []) log r))
   pub unlawful : (v : Verdict) → outcome ≡ Some (fault.Unlawful v) → OverLog order (λ name log. RunWith tells blocks name (OnLog tells log (λ plan rows bytes. IsUnlawful plan rows bytes v)))
   pub lawful : (name log : List ℕ) → order ≡ Some (audit name log) → outcome ≡ None → RunWith tells blocks name (OnLog tells log Accepts)
+  -- the recording could not be read, or its text has that fault; or the recorded turns of that platform end with that late message,
+  -- and that row of the recording is the first that breaks a stated bound
+  pub air_unread : outcome ≡ Some fault.ReadAir → OverAir order (λ name air. RunWith tells blocks name (λ plan rows. LogFails plan.graph (name ∷ []) air r))
+  pub air : (f : AirFault) → outcome ≡ Some (fault.Air f) → OverAir order (λ name air. RunWith tells blocks name (λ plan rows. IfSome (tells air) (λ bytes. air_of plan.graph bytes ≡ Err f)))
+  pub late_air : (platform actor : ℕ) (tag : Tag) (reading limit row : ℕ) → outcome ≡ Some (fault.LateAir platform actor tag reading limit row) →
+      OverAir order (λ name air. RunWith tells blocks name (OnAir tells air (λ plan rows recorded. (recorded.breach ≡ Some row) × OnPlatform left plan.graph platform (λ v. ShowsLate plan.graph v.turns actor tag reading limit))))
   -- the sink's count of faults rose; with any other fault nothing is written
   pub write : outcome ≡ Some fault.Write → Rose w.before w.now
   pub unwritten : (f : Fault) → outcome ≡ Some f → f ≢ fault.Write → w.written_now ≡ w.written_before

@@ -1,7 +1,7 @@
 -- If the words and the known files have a cause, and none before it in the order of `CauseTable`, the answer is that fault,
 -- or one that known files cannot rule out: out of memory, or a failed read. So with `CauseTable` each of these answers comes
 -- exactly if it has its cause. How else a run ends is in `IsComplete`. What is said of a command that refuses a graph or a file
--- of a sensor is said of an audit too, as of a paced run (`refused_as`).
+-- of a sensor is said of an audit and of a replay too, as of a paced run (`refused_as`).
 use Rattle.std.specs.Prelude.{◌≡◌, ◌⊎◌, ℕ, ℤ, Bool, List, Option, Some, None, Result, Ok, Err}
 use Rattle.pt_audit.specs.LawfulLogs.{IsLawfulLog}
 use Rattle.pt_audit.specs.declared.verdict.Verdict.{Verdict}
@@ -30,9 +30,11 @@ use Rattle.pt_run.specs.declared.words.Command.{Command}
 use Rattle.pt_run.specs.declared.words.Command.TheVariants.{Run, Meaning, Slacks}
 use Rattle.pt_run.specs.Causes.{IsTooLongForAll}
 use Rattle.pt_run.specs.CauseTable.{AsksFeasible, OfRows}
+use Rattle.pt_air.specs.declared.fault.AirFault.{AirFault}
+use Rattle.pt_air.specs.AirOf.{air_of}
 use Rattle.pt_run.specs.Auditing.{Refuses}
 use Rattle.pt_run.specs.Complete.{CanBegin}
-use Rattle.pt_run.specs.Words.{Order, over, migrate, audit, refused_as}
+use Rattle.pt_run.specs.Words.{Order, over, migrate, audit, replay, refused_as}
 
 -- memory ran out
 abbrev pub WantsMemory : Option Fault → Type 0
@@ -49,6 +51,10 @@ WantsRows outcome = WantsGraph outcome ⊎ ((actor : ℕ) × (outcome ≡ Some (
 -- the same, or the log could not be read
 abbrev pub WantsLog : Option Fault → Type 0
 WantsLog outcome = WantsRows outcome ⊎ (outcome ≡ Some fault.ReadLog)
+
+-- the same, or the recording could not be read
+abbrev pub WantsAir : Option Fault → Type 0
+WantsAir outcome = WantsRows outcome ⊎ (outcome ≡ Some fault.ReadAir)
 
 -- the words give this order for a graph file whose content is known, and it defines this graph or has this fault
 pub record Defines (order : Option Order) (tells : Contents) (blocks : List Named) (order_for : List ℕ → Order) (defined : Result Graph GraphFault) : Type 0 where
@@ -77,6 +83,16 @@ pub record CanAudit (order : Option Order) (tells : Contents) (blocks : List Nam
   pub over : rows ≡ of_run plan.graph begins.rows
   pub told : tells log ≡ Some bytes
 
+-- the words are a replay with a recording with this content, on a file that defines this graph, and a run of it can begin
+pub record CanReadAir (order : Option Order) (tells : Contents) (blocks : List Named) (g : Graph) (bytes : List ℕ) : Type 0 where
+  pub name : List ℕ
+  pub air : List ℕ
+  pub workers : ℕ
+  pub log : Bool
+  pub words : order ≡ Some (replay name air workers log)
+  pub begins : CanBegin tells blocks name g
+  pub told : tells air ≡ Some bytes
+
 -- each cause that the words and the known files decide gives its answer
 pub record IsExact (outcome : Option Fault) (order : Option Order) (tells : Contents) (blocks : List Named) : Type 0 where
   -- the words are not a valid command line
@@ -103,3 +119,5 @@ pub record IsExact (outcome : Option Fault) (order : Option Order) (tells : Cont
   pub lawful : (plan : Parts) (rows : ℕ → List Row) (bytes : List ℕ) → CanAudit order tells blocks plan rows bytes → IsLawfulLog plan rows bytes → ((outcome ≡ None) ⊎ (outcome ≡ Some fault.Write)) ⊎ WantsLog outcome
   pub unlawful : (plan : Parts) (rows : ℕ → List Row) (bytes : List ℕ) → CanAudit order tells blocks plan rows bytes → (IsLawfulLog plan rows bytes → ⊥) → ((v : Verdict) × Refuses plan rows bytes v × (outcome ≡ Some (fault.Unlawful v))) ⊎ WantsLog outcome
   pub verdict : (plan : Parts) (rows : ℕ → List Row) (bytes : List ℕ) (v : Verdict) → CanAudit order tells blocks plan rows bytes → Refuses plan rows bytes v → (outcome ≡ Some (fault.Unlawful v)) ⊎ WantsLog outcome
+  -- the recording's text has that fault
+  pub air : (g : Graph) (bytes : List ℕ) (f : AirFault) → CanReadAir order tells blocks g bytes → air_of g bytes ≡ Err f → (outcome ≡ Some (fault.Air f)) ⊎ WantsAir outcome

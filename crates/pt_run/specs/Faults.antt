@@ -10,6 +10,8 @@ use Rattle.pt_offsets.specs.declared.fault.PlanFault.{PlanFault}
 use Rattle.pt_offsets.specs.declared.fault.PlanFault.TheVariants as plan
 use Rattle.pt_sensors.specs.declared.recorded_fault.RecordedFault.{RecordedFault}
 use Rattle.pt_sensors.specs.declared.recorded_fault.RecordedFault.TheVariants as recorded
+use Rattle.pt_air.specs.declared.fault.AirFault.{AirFault}
+use Rattle.pt_air.specs.declared.fault.AirFault.TheVariants as air
 use Rattle.pt_slacks.specs.declared.slack.SlackFault.{SlackFault}
 use Rattle.pt_slacks.specs.declared.slack.SlackFault.TheVariants as slack
 use Rattle.pt_run.specs.declared.fault.Fault.{Fault}
@@ -47,3 +49,8 @@ fault_of_rows recorded.Memory = fault.Memory
 fault_of_rows (recorded.Read sensor) = fault.Read (Some sensor)
 fault_of_rows (recorded.Sensor actor f) = fault.Sensor actor f
 fault_of_rows (recorded.Late actor row seen limit) = fault.LateRow actor row seen limit
+
+-- the fault of a call, from that of the recording of a network
+abbrev pub fault_of_air : AirFault → Fault
+fault_of_air air.Memory = fault.Memory
+fault_of_air f = fault.Air f

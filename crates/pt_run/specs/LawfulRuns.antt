@@ -1,4 +1,4 @@
--- The log that a finished run writes is lawful.
+-- The log that a finished run or replay writes is lawful.
 use Rattle.std.specs.Prelude.{◌≤◌, ℕ, List, None, length, true}
 use Rattle.pt_io.specs.Causes.{Appends}
 use Rattle.pt_types.specs.declared.rows.Row.{Row}
@@ -13,6 +13,7 @@ use Rattle.pt_words.specs.declared.orders.ClockChoice.{ClockChoice}
 use Rattle.pt_run.specs.Causes.{Writing}
 use Rattle.pt_run.specs.Headline.{Headline, RunWith}
 use Rattle.pt_run.specs.Readings.{Clocking}
+use Rattle.pt_run.specs.Replaying.{ReplayHeadline}
 use Rattle.pt_run.specs.Runs.{IsFinishedRun}
 use Rattle.pt_run.specs.Written.{Leaves}
 
@@ -29,3 +30,8 @@ WritesLawfulLog w plan rows = (text : List ℕ) × Appends w.written_before w.wr
 abbrev pub RunsWriteLawfulLogs : Type 0
 RunsWriteLawfulLogs = (left : Leaves) (workers : ℕ) (clock : ClockChoice) (tells : Contents) (blocks : List Named) (name : List ℕ) (w : Writing) →
     Headline None left workers clock true tells blocks name w → RunWith tells blocks name (WritesLawfulLog w)
+
+-- and so is what `replay` writes with its log, whatever its recording says
+abbrev pub ReplaysWriteLawfulLogs : Type 0
+ReplaysWriteLawfulLogs = (left : Leaves) (tells : Contents) (blocks : List Named) (name air : List ℕ) (w : Writing) →
+    ReplayHeadline None left true tells blocks name air w → RunWith tells blocks name (WritesLawfulLog w)

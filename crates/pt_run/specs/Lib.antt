@@ -11,6 +11,9 @@ pub mod Telling
 pub mod Making
 pub mod Migrating
 pub mod Auditing
+pub mod Replaying
+pub mod Flown
+pub mod InBounds
 pub mod SlackRuns
 pub mod LawfulRuns
 pub mod Asking

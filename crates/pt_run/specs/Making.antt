@@ -18,10 +18,11 @@ use Rattle.pt_run.specs.declared.fault.Fault.TheVariants as fault
 use Rattle.pt_run.specs.Causes.{Writing}
 use Rattle.pt_run.specs.Migrating.{EndsMigrated}
 use Rattle.pt_run.specs.Auditing.{AsksAudit, EndsAudit}
+use Rattle.pt_run.specs.Replaying.{AsksReplay, EndsReplay}
 use Rattle.pt_run.specs.Written.{HasNothing, Leaves}
 use Rattle.pt_run.specs.Telling.{Tells, TellsBy}
 use Rattle.pt_run.specs.Texts.{AsksBy, EndsBy}
-use Rattle.pt_run.specs.Words.{Order, over, make, migrate, audit, paced_run}
+use Rattle.pt_run.specs.Words.{Order, over, make, migrate, audit, replay, paced_run}
 
 -- what a run of the input made from n must write and leave: its platforms ran in paced rounds until all were finished and
 -- missed nothing, and the text is the summary of the meaning
@@ -49,20 +50,23 @@ Ends outcome left (Some (over command graph)) tells blocks r w = EndsBy outcome 
 Ends outcome left (Some (make number workers)) tells blocks r w = EndsMade outcome left number w
 Ends outcome left (Some (migrate graph)) tells blocks r w = EndsMigrated outcome left graph tells blocks r w
 Ends outcome left (Some (audit graph log)) tells blocks r w = EndsAudit outcome left graph log tells blocks r w
+Ends outcome left (Some (replay graph air workers log)) tells blocks r w = EndsReplay outcome left graph air log tells blocks r w
 
--- which files are asked for: none for a made input, at most the graph file for `migrate`, and the log too for an audit
+-- which files are asked for: none for a made input, at most the graph file for `migrate`, and one more for an audit or a replay
 abbrev pub AsksOf : Option Fault → Option Order → Contents → List Named → Reading → Type 0
 AsksOf outcome None tells blocks r = AsksBy outcome None tells blocks r
 AsksOf outcome (Some (over command graph)) tells blocks r = AsksBy outcome (Some (command, graph)) tells blocks r
 AsksOf outcome (Some (make number workers)) tells blocks r = Asks r.asked_before r.asked_now []
 AsksOf outcome (Some (migrate graph)) tells blocks r = AsksOrNot r.asked_before r.asked_now (graph ∷ [])
 AsksOf outcome (Some (audit graph log)) tells blocks r = AsksAudit outcome graph log tells blocks r.asked_before r.asked_now
+AsksOf outcome (Some (replay graph air workers log)) tells blocks r = AsksReplay outcome graph air tells blocks r.asked_before r.asked_now
 
--- what is put on notes: the lines of a run of a made input and those of `migrate` have no names, and the lines of an audit have
--- names as those of a run
+-- what is put on notes: the lines of a run of a made input and those of `migrate` have no names, and the lines of an audit and of a
+-- replay have names as those of a run
 abbrev pub TellsOf : Option Fault → List Miss → List PlatformView → Option Order → Contents → List Named → Writing → Type 0
 TellsOf outcome misses platforms None tells blocks w = TellsBy outcome misses platforms None tells blocks w
 TellsOf outcome misses platforms (Some (over command graph)) tells blocks w = TellsBy outcome misses platforms (Some (command, graph)) tells blocks w
 TellsOf outcome misses platforms (Some (make number workers)) tells blocks w = Tells outcome misses None w
 TellsOf outcome misses platforms (Some (migrate graph)) tells blocks w = Tells outcome misses None w
 TellsOf outcome misses platforms (Some (audit graph log)) tells blocks w = TellsBy outcome misses platforms (Some (paced_run, graph)) tells blocks w
+TellsOf outcome misses platforms (Some (replay graph air workers log)) tells blocks w = TellsBy outcome misses platforms (Some (paced_run, graph)) tells blocks w

@@ -7,6 +7,7 @@ use Rattle.pt_types.specs.declared.graph.Graph.{Graph}
 use Rattle.pt_types.specs.declared.graph.Link.{Link}
 use Rattle.pt_graph_text.specs.Lines as graph
 use Rattle.pt_sensors.specs.Lines as sensor
+use Rattle.pt_air.specs.Lines as air
 use Rattle.pt_types.specs.Groups.{no_actor}
 use Rattle.pt_audit.specs.declared.verdict.Verdict.{Verdict}
 use Rattle.pt_audit.specs.declared.verdict.Verdict.TheVariants as verdict
@@ -65,6 +66,18 @@ at_part tag reading limit = codes " at " ++ decimal tag.time ++ codes "." ++ dec
 abbrev pub late_message_line : List ℕ → Tag → ℕ → ℕ → List ℕ
 late_message_line name tag reading limit = (codes "late " ++ name) ++ at_part tag reading limit
 
+--  at TIME.STEP, reading N past L
+abbrev pub past_part : Tag → ℕ → ℕ → List ℕ
+past_part tag reading limit = codes " at " ++ decimal tag.time ++ codes "." ++ decimal tag.step ++ codes ", reading " ++ decimal reading ++ codes " past " ++ decimal limit
+
+-- , air row R
+abbrev pub row_part : ℕ → List ℕ
+row_part row = codes ", air row " ++ decimal row ++ 10 ∷ []
+
+-- late RECEIVER at TIME.STEP, reading N past L, air row R
+abbrev pub late_air_line : List ℕ → Tag → ℕ → ℕ → ℕ → List ℕ
+late_air_line name tag reading limit row = (codes "late " ++ name) ++ (past_part tag reading limit ++ row_part row)
+
 -- the line of a platform that needed more claims than it may make, or of a meaning that is too long
 abbrev pub long_line : Option ℕ → Option Graph → List ℕ
 long_line None g = codes "long meaning" ++ 10 ∷ []
@@ -95,7 +108,7 @@ unlawful_line v g = codes "unlawful: " ++ verdict_part v g
 
 -- the line of each fault
 abbrev pub note_line : Fault → Option Graph → List ℕ
-note_line fault.Usage g = codes "usage: ptides run GRAPH [--workers N] [--clock paced|step:START:STEP|machine] [--log] | check GRAPH | meaning GRAPH | make NUMBER [--workers N] | migrate GRAPH | audit GRAPH LOG | slacks GRAPH" ++ 10 ∷ []
+note_line fault.Usage g = codes "usage: ptides run GRAPH [--workers N] [--clock paced|step:START:STEP|machine] [--log] | check GRAPH | meaning GRAPH | make NUMBER [--workers N] | migrate GRAPH | audit GRAPH LOG | slacks GRAPH | replay GRAPH AIR [--workers N] [--log]" ++ 10 ∷ []
 note_line (fault.Graph f) g = graph.fault_line f
 note_line (fault.Cycle actors) g = cycle_line g actors
 note_line (fault.Infeasible send offset slack) g = infeasible_line (actor_name g send) offset slack
@@ -103,9 +116,12 @@ note_line (fault.Ring sends gain) g = ring_line g sends gain
 note_line (fault.Sensor actor f) g = sensor.fault_line (actor_name g actor) f
 note_line (fault.LateRow actor row seen limit) g = late_line (actor_name g actor) row seen limit
 note_line (fault.LateMessage platform actor tag reading limit) g = late_message_line (actor_name g actor) tag reading limit
+note_line (fault.LateAir platform actor tag reading limit row) g = late_air_line (actor_name g actor) tag reading limit row
 note_line (fault.Long platform) g = long_line platform g
 note_line (fault.Read sensor) g = read_line sensor g
 note_line fault.ReadLog g = codes "read fault: log" ++ 10 ∷ []
+note_line (fault.Air f) g = air.fault_line f
+note_line fault.ReadAir g = codes "read fault: air" ++ 10 ∷ []
 note_line (fault.Unlawful v) g = unlawful_line v g
 note_line fault.Write g = codes "write fault" ++ 10 ∷ []
 note_line fault.Memory g = codes "memory" ++ 10 ∷ []

@@ -2,8 +2,9 @@
 
 ghost use Rattle.std.specs.Prelude.{◌≡◌};
 ghost use Rattle.pt_run.specs.Statuses.{status_of_fault};
-ghost use Rattle.pt_run.specs.Faults.{fault_of_cycle, fault_of_graph, fault_of_offset, fault_of_plan, fault_of_rows, fault_of_slacks};
+ghost use Rattle.pt_run.specs.Faults.{fault_of_air, fault_of_cycle, fault_of_graph, fault_of_offset, fault_of_plan, fault_of_rows, fault_of_slacks};
 
+use pt_air::AirFault;
 use pt_audit::Verdict;
 use pt_causality::CycleFault;
 use pt_graph::GraphFault;
@@ -54,6 +55,17 @@ pub enum Fault {
         reading: u64,
         limit: u64,
     },
+    /// In a replay a message for this receiver at this tag was late on this platform: its last reading was `reading`, past
+    /// `limit`, the tag's time plus the link's bound. Its recorded turns end with it. Row `row`, from 1, of the recording is the
+    /// first that breaks a stated bound.
+    LateAir {
+        platform: u32,
+        actor: u32,
+        tag: Tag,
+        reading: u64,
+        limit: u64,
+        row: u32,
+    },
     /// This platform made 200,000 claims and needed more: in a paced run, the meaning has more firings of units on it. For
     /// `None`, the meaning has more than 200,000 firings times the number of platforms.
     Long {
@@ -65,6 +77,10 @@ pub enum Fault {
     },
     /// The log to be audited could not be read.
     ReadLog,
+    /// The recording of a network has this fault.
+    Air(AirFault),
+    /// The recording of a network could not be read.
+    ReadAir,
     /// The log to be audited is not what a run of the graph writes: this is the verdict on it, never `Verdict::Fine`.
     Unlawful(Verdict),
     /// The output could not be written in full.
@@ -86,9 +102,12 @@ pub fn status_of(fault: &Fault) -> u8
         Fault::Sensor { .. } => 3,
         Fault::LateRow { .. } => 4,
         Fault::LateMessage { .. } => 4,
+        Fault::LateAir { .. } => 4,
         Fault::Long { .. } => 6,
         Fault::Read { .. } => 7,
         Fault::ReadLog => 7,
+        Fault::Air(_) => 3,
+        Fault::ReadAir => 7,
         Fault::Unlawful(_) => 10,
         Fault::Write => 8,
         Fault::Memory => 9,
@@ -183,5 +202,15 @@ pub fn fault_of_rows(fault: RecordedFault) -> Fault
             seen,
             limit,
         },
+    }
+}
+
+/// The fault of a call, from that of the recording of a network.
+pub fn fault_of_air(fault: AirFault) -> Fault
+    ensures { result ≡ fault_of_air fault }
+{
+    match fault {
+        AirFault::Memory => Fault::Memory,
+        _ => Fault::Air(fault),
     }
 }

@@ -1,8 +1,16 @@
-//! Theorems about paced runs and calls of `run`.
+//! Theorems about paced runs, and about calls of `run` and `replay`.
 
 ghost use Rattle.pt_run.specs.Agreeing.{RunsAgree};
 ghost use Rattle.pt_run.specs.CallsAgreeing.{CallsAgree};
-ghost use Rattle.pt_run.specs.LawfulRuns.{FinishedRunsAreLawful, RunsWriteLawfulLogs};
+ghost use Rattle.pt_run.specs.InBounds.{
+  ReplaysInBoundsAgreeWithRuns,
+  ReplaysInBoundsDoAsPaced,
+};
+ghost use Rattle.pt_run.specs.LawfulRuns.{
+  FinishedRunsAreLawful,
+  ReplaysWriteLawfulLogs,
+  RunsWriteLawfulLogs,
+};
 ghost use Rattle.pt_run.specs.SlackRuns.{SlackRoundsMissNothing, SlackRunsMissNothing};
 
 /// What a paced run must write and what it leaves is a function of the graph file and the files of its sensors.
@@ -26,8 +34,22 @@ pub fn slack_runs_miss_nothing()
 
 /// The log of a finished run is lawful: what `run` writes with its log, if it ends without a fault, with misses or without, is the
 /// tables of the meaning and then legal histories of finished platforms that took all that was sent, unless it is longer than a
-/// log may be.
+/// log may be. So is the log of a finished replay.
 pub fn written_logs_are_lawful()
     ensures finished { FinishedRunsAreLawful }
     ensures written { RunsWriteLawfulLogs }
+    ensures replayed { ReplaysWriteLawfulLogs }
+{}
+
+/// A replay whose recording breaks no stated bound does what the paced run does: no message is late, each claim is made at its
+/// paced reading, and it claims what the meaning fires, all of it if it finishes. What it missed depends on the meaning and the
+/// paced readings alone, and it stops only where the meaning has more firings on a platform than it may claim.
+pub fn replays_in_bounds_do_as_paced()
+    ensures { ReplaysInBoundsDoAsPaced }
+{}
+
+/// A replay whose recording breaks no stated bound writes the tables that a paced run over the same files writes, and misses the
+/// same entries at the same readings, if both end without a fault.
+pub fn replays_in_bounds_agree_with_runs()
+    ensures { ReplaysInBoundsAgreeWithRuns }
 {}

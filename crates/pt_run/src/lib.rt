@@ -3,13 +3,14 @@
 //! `run GRAPH` reads the graph file and the rows of its sensors, runs all platforms by the clock that the words name, and writes
 //! the table of every actuator. `make NUMBER` makes a graph and rows from a number and writes a summary. `migrate GRAPH`
 //! writes the graph file as one of version 2, and `slacks GRAPH` the least slacks with which the graph can run. `audit GRAPH LOG`
-//! judges a file that `run --log` wrote. What holds of a run is in `specs/Headline.antt`, why a call ended as it did in
-//! `specs/CauseTable.antt` and `specs/Exact.antt`, and what each command must write in `specs/Written.antt`, `specs/Runs.antt`,
-//! `specs/Making.antt`, `specs/Migrating.antt` and `specs/Auditing.antt`.
+//! judges a file that `run --log` wrote. `replay GRAPH AIR` runs a graph with the transit times and clock lags of a recorded
+//! network. What holds of a run is in `specs/Headline.antt`, why a call ended as it did in `specs/CauseTable.antt` and
+//! `specs/Exact.antt`, and what each command must write in `specs/Written.antt`, `specs/Runs.antt`, `specs/Making.antt`,
+//! `specs/Migrating.antt`, `specs/Auditing.antt` and `specs/Replaying.antt`.
 //!
 //! Read first: `ptides`, then `specs/Headline.antt`; `run_of` is a paced run of a plan. Only the functions between `ptides` and
-//! `engines` may wait and start threads; paced runs, `check`, `meaning`, `make`, `migrate`, `slacks` and `audit` return, as the
-//! absence of that bound in them says.
+//! `engines` may wait and start threads; paced runs, `check`, `meaning`, `make`, `migrate`, `slacks`, `audit` and `replay` return,
+//! as the absence of that bound in them says.
 #![tactic(auto)]
 
 mod admission;
@@ -28,6 +29,7 @@ mod output;
 mod own_clocks;
 mod plan_laws;
 mod plan_run;
+mod replay;
 mod run;
 mod slacks;
 mod top;
@@ -36,7 +38,10 @@ mod words;
 
 pub use fault::Fault;
 pub use finished_run::Ran;
-pub use laws::{calls_agree, runs_agree, slack_runs_miss_nothing, written_logs_are_lawful};
+pub use laws::{
+    calls_agree, replays_in_bounds_agree_with_runs, replays_in_bounds_do_as_paced, runs_agree,
+    slack_runs_miss_nothing, written_logs_are_lawful,
+};
 pub use outcome::Outcome;
 pub use plan_laws::{finished_runs_agree, plan_runs_agree, step_runs_agree};
 pub use plan_run::{RunFault, run_of};

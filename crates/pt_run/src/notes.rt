@@ -3,9 +3,10 @@
 ghost use Rattle.std.specs.Prelude.{◌≡◌, ◌⊎◌, ◌++◌, [], ◌∷◌, IfOk, None, OnOk, Some, option_map, string_bytes};
 ghost use Rattle.pt_run.specs.declared.fault.Fault.TheVariants.{Memory, Write};
 ghost use Rattle.pt_run.specs.Telling.{Tells};
-ghost use Rattle.pt_run.specs.Notes.{actor_name, at_part, cycle_line, gain_part, infeasible_line, late_line, late_message_line, long_line, names_of, note_line, offset_part, platform_name, read_line, ring_line, sender_name, turn_part, unlawful_line, verdict_part};
+ghost use Rattle.pt_run.specs.Notes.{actor_name, at_part, cycle_line, gain_part, infeasible_line, late_air_line, late_line, late_message_line, long_line, names_of, note_line, offset_part, past_part, platform_name, read_line, ring_line, row_part, sender_name, turn_part, unlawful_line, verdict_part};
 
 use crate::fault::Fault;
+use pt_air::fault_line as air_line;
 use pt_audit::Verdict;
 use pt_graph::fault_line as graph_line;
 use pt_io::Sink;
@@ -16,7 +17,7 @@ use std::alloc::{AllocError, Global};
 
 /// The line for a command line that is not valid.
 const USAGE: &str =
-    "usage: ptides run GRAPH [--workers N] [--clock paced|step:START:STEP|machine] [--log] | check GRAPH | meaning GRAPH | make NUMBER [--workers N] | migrate GRAPH | audit GRAPH LOG | slacks GRAPH\n";
+    "usage: ptides run GRAPH [--workers N] [--clock paced|step:START:STEP|machine] [--log] | check GRAPH | meaning GRAPH | make NUMBER [--workers N] | migrate GRAPH | audit GRAPH LOG | slacks GRAPH | replay GRAPH AIR [--workers N] [--log]\n";
 
 /// Puts the line of a fault on `notes`, and returns the fault; if there is no memory for the line, that becomes the fault.
 /// A failed put has no other effect.
@@ -82,9 +83,26 @@ fn push_line(line: &mut String, fault: &Fault, graph: Option<&Graph>) -> Result<
             reading,
             limit,
         } => push_late_message(line, actor_name(graph, *actor), tag, *reading, *limit),
+        Fault::LateAir {
+            platform: _,
+            actor,
+            tag,
+            reading,
+            limit,
+            row,
+        } => push_late_air(
+            line,
+            actor_name(graph, *actor),
+            tag,
+            *reading,
+            *limit,
+            *row,
+        ),
         Fault::Long { platform } => push_long(line, *platform, graph),
         Fault::Read { sensor } => push_read(line, *sensor, graph),
         Fault::ReadLog => line.push_str("read fault: log\n"),
+        Fault::Air(fault) => air_line(line, fault),
+        Fault::ReadAir => line.push_str("read fault: air\n"),
         Fault::Unlawful(verdict) => push_unlawful(line, verdict, graph),
         Fault::Write => line.push_str("write fault\n"),
         Fault::Memory => line.push_str("memory\n"),
@@ -206,6 +224,42 @@ fn push_at(
     ensures { OnOk result (string_bytes line.new ≡ string_bytes line.old ++ at_part (record { time = time; step = step }) reading limit) }
 {
     write!(line, " at {time}.{step}, reading {reading} past {limit}\n")
+}
+
+/// Appends the line of a late message of a replay, with a row of its recording.
+fn push_late_air(
+    line: &mut String,
+    name: &str,
+    tag: &Tag,
+    reading: u64,
+    limit: u64,
+    row: u32,
+) -> Result<(), AllocError>
+    ensures { OnOk result (string_bytes line.new ≡ string_bytes line.old ++ late_air_line name.now tag.now reading limit row) }
+{
+    push_words(line, "late ", name)?;
+    push_past(line, tag.time, tag.step, reading, limit)?;
+    push_row(line, row)
+}
+
+/// Appends a tag, a reading and a limit.
+fn push_past(
+    line: &mut String,
+    time: u64,
+    step: u64,
+    reading: u64,
+    limit: u64,
+) -> Result<(), AllocError>
+    ensures { OnOk result (string_bytes line.new ≡ string_bytes line.old ++ past_part (record { time = time; step = step }) reading limit) }
+{
+    write!(line, " at {time}.{step}, reading {reading} past {limit}")
+}
+
+/// Appends a row of a recording, and ends the line.
+fn push_row(line: &mut String, row: u32) -> Result<(), AllocError>
+    ensures { OnOk result (string_bytes line.new ≡ string_bytes line.old ++ row_part row) }
+{
+    write!(line, ", air row {row}\n")
 }
 
 /// Appends the line of a meaning that is too long.

@@ -9,7 +9,7 @@ ghost use Rattle.pt_run.specs.declared.words.Command.TheVariants.{Run};
 ghost use Rattle.pt_run.specs.Statuses.{status_of};
 ghost use Rattle.pt_tables.specs.Misses.{miss_line};
 ghost use Rattle.pt_run.specs.Telling.{Tells};
-ghost use Rattle.pt_run.specs.Texts.{AsksFor, EndsOver, HasEnded, IsOfRun, IsStopped, IsUnplanned, WroteRun, left_by};
+ghost use Rattle.pt_run.specs.Texts.{AsksFor, EndsOver, HasEnded, IsOfRun, IsStopped, IsUnplanned, LeftAll, WroteRun, left_by};
 
 use crate::fault::{Fault, fault_of_plan, fault_of_rows};
 use crate::notes::{tell, tell_write};
@@ -101,7 +101,7 @@ pub fn end_run<K: Sink, E: Sink>(
 }
 
 /// Puts the text of a run on `out`, and the lines of its misses on `notes`.
-fn write_run<K: Sink, E: Sink>(
+pub fn write_run<K: Sink, E: Sink>(
     alloc: Global,
     graph: &Graph,
     ran: Ran,
@@ -137,6 +137,23 @@ fn stop_run<E: Sink>(alloc: Global, graph: &Graph, fault: RunFault, notes: &mut 
         (record { before = E.faults notes.old; now = E.faults notes.new; written_before = E.written notes.old; written_now = E.written notes.new }) }
 {
     let (fault, platforms) = faults_of(alloc, fault);
+    leave(alloc, graph, fault, platforms, notes)
+}
+
+/// Reports a fault that leaves these platforms, if there is memory for its line.
+pub fn leave<E: Sink>(
+    alloc: Global,
+    graph: &Graph,
+    fault: Fault,
+    platforms: Vec<Platform>,
+    notes: &mut E,
+) -> Ending
+    ensures status { result.status ≡ status_of result.fault result.misses }
+    ensures left { LeftAll fault platforms.items result }
+    ensures fault { result.fault ≢ None }
+    ensures notes { Tells result.fault result.misses (Some graph.now)
+        (record { before = E.faults notes.old; now = E.faults notes.new; written_before = E.written notes.old; written_now = E.written notes.new }) }
+{
     match tell(alloc, notes, fault, Some(graph)) {
         Fault::Memory => Ending::refused(alloc, Fault::Memory),
         fault => Ending::stopped(alloc, fault, platforms),
@@ -144,7 +161,7 @@ fn stop_run<E: Sink>(alloc: Global, graph: &Graph, fault: RunFault, notes: &mut 
 }
 
 /// The fault of a call, from that of a run, with the platforms that the run leaves.
-fn faults_of(alloc: Global, fault: RunFault) -> (Fault, Vec<Platform>)
+pub fn faults_of(alloc: Global, fault: RunFault) -> (Fault, Vec<Platform>)
     ensures { IsOfRun fault result.0 result.1.items }
 {
     match fault {

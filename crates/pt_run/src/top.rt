@@ -9,9 +9,11 @@ ghost use Rattle.pt_run.specs.Complete.{IsComplete, IsCompleteByAnyClock};
 ghost use Rattle.pt_run.specs.declared.fault.Fault.TheVariants.{Memory};
 ghost use Rattle.pt_run.specs.Exact.{IsExact};
 ghost use Rattle.pt_run.specs.Headline.{IsHeadline};
+ghost use Rattle.pt_run.specs.InBounds.{IsCompleteInBounds};
 ghost use Rattle.pt_run.specs.Statuses.{status_of};
 ghost use Rattle.pt_run.specs.Words.{order_of};
 ghost use Rattle.pt_run.specs.Making.{AsksOf, Ends, TellsOf};
+ghost use Rattle.pt_run.specs.Replaying.{IsReplayHeadline};
 ghost use Rattle.pt_run.specs.Telling.{Tells, TellsBy};
 ghost use Rattle.pt_run.specs.Texts.{Answers, AsksBy, AsksFor, EndsBy, EndsOver, left_at, left_of, left_over};
 
@@ -26,6 +28,7 @@ use crate::notes::{tell, tell_write};
 use crate::outcome::{Ending, Outcome};
 use crate::output::put_text;
 use crate::own_clocks::run_own;
+use crate::replay::replay;
 use crate::run::run_graph;
 use crate::slacks::slacks_answer;
 use crate::words::{Asked, Command, order_of};
@@ -38,15 +41,15 @@ use std::sync::Wait;
 use std::thread::Threads;
 
 /// Runs the command of these words, those after the program's name: `run GRAPH`, `check GRAPH`, `meaning GRAPH`,
-/// `make NUMBER`, `migrate GRAPH`, `slacks GRAPH` or `audit GRAPH LOG`.
+/// `make NUMBER`, `migrate GRAPH`, `slacks GRAPH`, `audit GRAPH LOG` or `replay GRAPH AIR`.
 ///
 /// Files are read from the source by name; `make` reads none. The text goes to `out`, line by line. After a fault, one line
 /// on `notes` says why; after a run with misses, one line for each. In a run by the machine's clock platform i reads clock i of
 /// the 16 that are handed in; no other call reads them. `blocks` has the functions that actors may name.
 ///
-/// This call may wait. No clause says which commands end: the parts of `check`, `meaning`, `make`, `migrate`, `slacks`, `audit` and a
-/// paced run that don't take `rt` do, and a run by a clock of its own, `--clock step:..` or `--clock machine`, may go on forever if its
-/// clock stops.
+/// This call may wait. No clause says which commands end: the parts of `check`, `meaning`, `make`, `migrate`, `slacks`, `audit`,
+/// `replay` and a paced run that don't take `rt` do, and a run by a clock of its own, `--clock step:..` or `--clock machine`, may go
+/// on forever if its clock stops.
 pub fn ptides<S: Source, K: Sink, E: Sink, C: Clock + Send, R: Threads + Wait + Sync>(
     rt: &R,
     alloc: Global,
@@ -60,11 +63,14 @@ pub fn ptides<S: Source, K: Sink, E: Sink, C: Clock + Send, R: Threads + Wait + 
     requires clocks { length clocks.items ≡ 16 }
     ensures status { result.status ≡ status_of result.fault result.misses }
     // The source is asked for the graph file and, if the graph is not refused, for the files of its sensors, in order, and then
-    // for the log of an audit.
+    // for the log of an audit, or the recording of a replay.
     ensures asks { AsksOf result.fault (order_of words.now) (S.tells source.old) blocks.now.listed.items
         (record { asked_before = S.asked source.old; asked_now = S.asked source.new; before = S.faults source.old; now = S.faults source.new }) }
     // The headline: what a run has written, what it leaves, by which readings, and why it stopped.
     ensures headline { IsHeadline result.fault (left_of result (order_of words.now) (tell C.told C.ahead clocks.items) (tell C.told C.ahead result.clocks.items)) (order_of words.now) (S.tells source.old) blocks.now.listed.items
+        (record { before = K.faults out.old; now = K.faults out.new; written_before = K.written out.old; written_now = K.written out.new }) }
+    // The same of a replay: what it has written, what it leaves, by which lags and transits, and why it stopped.
+    ensures replay_headline { IsReplayHeadline result.fault (left_of result (order_of words.now) (tell C.told C.ahead clocks.items) (tell C.told C.ahead result.clocks.items)) (order_of words.now) (S.tells source.old) blocks.now.listed.items
         (record { before = K.faults out.old; now = K.faults out.new; written_before = K.written out.old; written_now = K.written out.new }) }
     // Why the call ended as it did: one field for each answer.
     ensures causes { CauseTable result.status result.fault (left_of result (order_of words.now) (tell C.told C.ahead clocks.items) (tell C.told C.ahead result.clocks.items)) (order_of words.now) (S.tells source.old) blocks.now.listed.items
@@ -74,12 +80,16 @@ pub fn ptides<S: Source, K: Sink, E: Sink, C: Clock + Send, R: Threads + Wait + 
     // depends on them alone.
     ensures exact { IsExact result.fault (order_of words.now) (S.tells source.old) blocks.now.listed.items }
     // All of it, for every command: what was written and what is left, and the cause of each fault, by cases in `EndsBy`,
-    // `EndsMade`, `EndsMigrated` and `EndsAudit`.
+    // `EndsMade`, `EndsMigrated`, `EndsAudit` and `EndsReplay`.
     ensures ends { Ends result.fault (left_of result (order_of words.now) (tell C.told C.ahead clocks.items) (tell C.told C.ahead result.clocks.items)) (order_of words.now) (S.tells source.old) blocks.now.listed.items
         (record { asked_before = S.asked source.old; asked_now = S.asked source.new; before = S.faults source.old; now = S.faults source.new })
         (record { before = K.faults out.old; now = K.faults out.new; written_before = K.written out.old; written_now = K.written out.new }) }
     // A paced run of a program that can run ends as its meaning says: by cases in `StatusIsMeant`.
     ensures complete { IsComplete result.status (order_of words.now) (S.tells source.old) blocks.now.listed.items
+        (record { asked_before = S.asked source.old; asked_now = S.asked source.new; before = S.faults source.old; now = S.faults source.new })
+        (record { before = K.faults out.old; now = K.faults out.new; written_before = K.written out.old; written_now = K.written out.new }) }
+    // So ends a replay of such a program whose recording breaks no stated bound, by the same cases.
+    ensures complete_in_bounds { IsCompleteInBounds result.status (order_of words.now) (S.tells source.old) blocks.now.listed.items
         (record { asked_before = S.asked source.old; asked_now = S.asked source.new; before = S.faults source.old; now = S.faults source.new })
         (record { before = K.faults out.old; now = K.faults out.new; written_before = K.written out.old; written_now = K.written out.new }) }
     // By whatever clock, it finishes or its platforms show why not: by cases in `EndsAsShown`.
@@ -142,6 +152,16 @@ fn run_words<S: Source, K: Sink, E: Sink, C: Clock + Send, R: Threads + Wait + S
         }
         Ok(Some(Asked::Audit { graph, log })) => {
             return audit(alloc, graph, log, source, out, notes, blocks);
+        }
+        Ok(Some(Asked::Replay {
+            graph,
+            air,
+            workers,
+            log,
+        })) => {
+            return replay(
+                alloc, graph, air, workers, log, source, out, notes, blocks,
+            );
         }
         Ok(None) => Fault::Usage,
         Err(_) => Fault::Memory,

@@ -37,6 +37,14 @@ pub enum Asked<'a> {
     Migrate { graph: &'a str },
     /// An audit: whether the file `log` is what a run of the graph file with this name writes, with the log.
     Audit { graph: &'a str, log: &'a str },
+    /// A replay: a run of the graph file with this name, with the lags and transits that the file `air` says, with `workers` workers
+    /// (1 to 64), and with the log if `log` is true.
+    Replay {
+        graph: &'a str,
+        air: &'a str,
+        workers: u32,
+        log: bool,
+    },
 }
 
 /// What the words ask for; `None` if the command line is not valid.
@@ -78,6 +86,17 @@ fn asked_by<'a>(order: Order<'a>) -> Asked<'a>
         Order::Make { number, workers } => Asked::Make { number, workers },
         Order::Migrate { graph } => Asked::Migrate { graph },
         Order::Audit { graph, log } => Asked::Audit { graph, log },
+        Order::Replay {
+            graph,
+            air,
+            workers,
+            log,
+        } => Asked::Replay {
+            graph,
+            air,
+            workers,
+            log,
+        },
         Order::Slacks { graph } => Asked::Over {
             command: Command::Slacks,
             graph,

@@ -17,7 +17,7 @@ const RUNS: [&str; 8] = [
 ];
 
 /// Lines outside the grammar; two spaces enclose an empty word.
-const REFUSED: [&str; 58] = [
+const REFUSED: [&str; 67] = [
     "",
     "run",
     "Run g.json",
@@ -76,6 +76,15 @@ const REFUSED: [&str; 58] = [
     "audit g.json log.txt --log",
     "audit --workers 2 g.json log.txt",
     "audit g.json --clock=paced log.txt",
+    "replay",
+    "replay g.json",
+    "replay g.json ",
+    "replay  air.csv",
+    "replay g.json air.csv more",
+    "replay g.json air.csv --clock paced",
+    "replay g.json air.csv --log --log",
+    "replay g.json air.csv --workers 0",
+    "replay g.json --workers air.csv",
 ];
 
 /// Values that no clock has.
@@ -206,6 +215,30 @@ fn a_log_is_audited(rt: HostRuntime) -> Result<(), Fail> {
     assert!(rt; gives(alloc, "audit g.json log.txt", audit("g.json", "log.txt"))?);
     assert!(rt; gives(alloc, "audit -- g.json --log", audit("g.json", "--log"))?);
     assert!(rt; gives(alloc, "audit g.json g.json", audit("g.json", "g.json"))?);
+    Ok(())
+}
+
+#[test]
+fn a_replay_has_a_recording_and_the_options_of_a_paced_run(rt: HostRuntime) -> Result<(), Fail> {
+    let alloc = rt.alloc();
+    let replay = |air, workers, log| {
+        Some(Order::Replay {
+            graph: "g.json",
+            air,
+            workers,
+            log,
+        })
+    };
+    assert!(rt; gives(alloc, "replay g.json air.csv", replay("air.csv", 4, false))?);
+    assert!(rt; gives(alloc, "replay --log g.json air.csv", replay("air.csv", 4, true))?);
+    assert!(rt;
+        gives(
+            alloc,
+            "replay g.json --workers=2 air.csv --log",
+            replay("air.csv", 2, true)
+        )?
+    );
+    assert!(rt; gives(alloc, "replay -- g.json --log", replay("--log", 4, false))?);
     Ok(())
 }
 

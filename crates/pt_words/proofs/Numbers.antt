@@ -7,8 +7,8 @@ use Rattle.std.proofs.lemmas.Bool.{and_parts}
 use Rattle.std.proofs.lemmas.Bool.Decides.{nat_tests}
 use Rattle.pt_words.specs.declared.orders.ClockChoice.{ClockChoice}
 use Rattle.pt_words.specs.declared.orders.Command.{Command}
-use Rattle.pt_words.specs.declared.orders.Command.TheVariants.{Run, Check, Meaning, Make, Migrate, Slacks, Audit}
-use Rattle.pt_words.specs.Grammar.{run, check, meaning, make, migrate, slacks, audit, audit_of, clock_in, command_of, graph_in, is_bare, is_numeral, log_in, made_number_of, make_of, number_within, order_of, pair_in, order_with, request_of, request_over, run_of, workers_in}
+use Rattle.pt_words.specs.declared.orders.Command.TheVariants.{Run, Check, Meaning, Make, Migrate, Slacks, Audit, Replay}
+use Rattle.pt_words.specs.Grammar.{run, check, meaning, make, migrate, slacks, audit, audit_of, replay, replay_of, clock_in, command_of, graph_in, is_bare, is_numeral, log_in, made_number_of, make_of, number_within, order_of, pair_in, order_with, request_of, request_over, run_of, workers_in}
 use Rattle.pt_words.specs.Said.{Said, among, said}
 
 -- what comes of an option comes of a value that is there
@@ -85,6 +85,7 @@ over_by Slacks words word n k h = absurd (other (if_found (is_bare words) (Some 
     other : Some (slacks word) ≡ Some (make n k) → ⊥
     other e = cc
 over_by Audit words word n k h = absurd cc
+over_by Replay words word n k h = absurd cc
 
 audited_by : (words : Said) (n k : ℕ) → audit_of words ≡ Some (make n k) → ⊥
 audited_by words n k h =
@@ -93,6 +94,18 @@ audited_by words n k h =
   where
     other : (graph log : List ℕ) → audit graph log ≡ make n k → ⊥
     other graph log e = cc
+
+replayed_by : (words : Said) (n k : ℕ) → replay_of words ≡ Some (make n k) → ⊥
+replayed_by words n k h =
+    let request = λ (pair : List ℕ × List ℕ) (workers : ℕ) (log : Bool). replay pair.0 pair.1 workers log in
+    let whole = option_and_then (λ pair. option_and_then (λ workers. option_map (request pair workers) (log_in words.logs)) (workers_in words.workers)) (pair_in words.graphs) in
+    let pair = and_then_found (λ pair. option_and_then (λ workers. option_map (request pair workers) (log_in words.logs)) (workers_in words.workers)) (pair_in words.graphs) (make n k) (if_found (length words.clocks == 0) whole (make n k) h).1 in
+    let workers = and_then_found (λ workers. option_map (request pair.0 workers) (log_in words.logs)) (workers_in words.workers) (make n k) pair.1 in
+    let log = map_found (request pair.0 workers.0) (log_in words.logs) (make n k) workers.1 in
+    other pair.0.0 pair.0.1 workers.0 log.0 log.1
+  where
+    other : (graph air : List ℕ) (w : ℕ) (l : Bool) → replay graph air w l ≡ make n k → ⊥
+    other graph air w l e = cc
 
 one_word : (command : Command) (words : Said) (n k : ℕ) → option_and_then (request_over command words) (graph_in words.graphs) ≡ Some (make n k) → n ≤ 100
 one_word command words n k h =
@@ -107,6 +120,7 @@ requested_by Make words n k h = one_word Make words n k h
 requested_by Migrate words n k h = one_word Migrate words n k h
 requested_by Slacks words n k h = one_word Slacks words n k h
 requested_by Audit words n k h = absurd (audited_by words n k h)
+requested_by Replay words n k h = absurd (replayed_by words n k h)
 
 pub made_number : (words : List (String Global)) (n k : ℕ) → order_of words ≡ Some (make n k) → n ≤ 100
 made_number [] n k h = absurd cc

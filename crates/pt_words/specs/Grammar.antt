@@ -7,11 +7,12 @@ use Rattle.std.specs.declared.alloc.Global.{Global}
 use Rattle.pt_words.specs.declared.orders.ClockChoice.{ClockChoice}
 use Rattle.pt_words.specs.declared.orders.ClockChoice.TheVariants.{Machine, Paced, Step}
 use Rattle.pt_words.specs.declared.orders.Command.{Command}
-use Rattle.pt_words.specs.declared.orders.Command.TheVariants.{Run, Check, Meaning, Make, Migrate, Slacks, Audit}
+use Rattle.pt_words.specs.declared.orders.Command.TheVariants.{Run, Check, Meaning, Make, Migrate, Slacks, Audit, Replay}
 use Rattle.pt_words.specs.Said.{Said, among, said}
 
 -- what a command line asks for: a command on a graph file, where a run has its number of workers, its clock, and whether the
--- log is written too; an audit of a log of it; or a run of an input made from a number, with its number of workers
+-- log is written too; an audit of a log of it; a replay of it with a recording; or a run of an input made from a number, with its
+-- number of workers
 pub data Request : Type 0 where
   run : (graph : List ℕ) (workers : ℕ) (clock : ClockChoice) (log : Bool) → Request
   check : (graph : List ℕ) → Request
@@ -20,6 +21,7 @@ pub data Request : Type 0 where
   migrate : (graph : List ℕ) → Request
   slacks : (graph : List ℕ) → Request
   audit : (graph log : List ℕ) → Request
+  replay : (graph air : List ℕ) (workers : ℕ) (log : Bool) → Request
 
 -- the command with this name
 abbrev pub command_of : List ℕ → Option Command
@@ -30,7 +32,8 @@ command_of word =
     if bytes_eq word (codes "make") then Some Make else (
     if bytes_eq word (codes "migrate") then Some Migrate else (
     if bytes_eq word (codes "slacks") then Some Slacks else (
-    if bytes_eq word (codes "audit") then Some Audit else None))))))
+    if bytes_eq word (codes "audit") then Some Audit else (
+    if bytes_eq word (codes "replay") then Some Replay else None)))))))
 
 -- digits without a sign, and without a leading zero unless it is `0`
 abbrev pub is_numeral : List ℕ → Bool
@@ -74,7 +77,7 @@ graph_in [] = None
 graph_in (word ∷ []) = if length word == 0 then None else Some word
 graph_in (word ∷ next ∷ more) = None
 
--- exactly two positional words, neither of which is empty: the graph file and the log
+-- exactly two positional words, neither of which is empty: the graph file, and the log or the recording
 abbrev pub pair_in : List (List ℕ) → Option (List ℕ × List ℕ)
 pair_in (first ∷ second ∷ []) = if length first == 0 || length second == 0 then None else Some (first, second)
 pair_in _ = None
@@ -115,6 +118,11 @@ make_of words word =
 abbrev pub audit_of : Said → Option Request
 audit_of words = if is_bare words then option_map (λ pair. audit pair.0 pair.1) (pair_in words.graphs) else None
 
+-- a replay with a recording: the number of workers and the log are its options
+abbrev pub replay_of : Said → Option Request
+replay_of words =
+    if length words.clocks == 0 then option_and_then (λ pair. option_and_then (λ workers. option_map (λ log. replay pair.0 pair.1 workers log) (log_in words.logs)) (workers_in words.workers)) (pair_in words.graphs) else None
+
 -- the request of a command with its one positional word: only runs have options
 abbrev pub request_over : Command → Said → List ℕ → Option Request
 request_over Run words graph = run_of words graph
@@ -124,10 +132,12 @@ request_over Make words number = make_of words number
 request_over Migrate words graph = if is_bare words then Some (migrate graph) else None
 request_over Slacks words graph = if is_bare words then Some (slacks graph) else None
 request_over Audit words graph = None
+request_over Replay words graph = None
 
 -- the request of a command with the values of the words after it
 abbrev pub request_of : Command → Said → Option Request
 request_of Audit words = audit_of words
+request_of Replay words = replay_of words
 request_of command words = option_and_then (request_over command words) (graph_in words.graphs)
 
 -- the request of a command and the words after it

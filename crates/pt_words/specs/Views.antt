@@ -4,9 +4,9 @@ use Rattle.std.specs.Borrow.{Bor}
 use Rattle.clap.specs.Matches.{found_of, matched_of, raw_values}
 use Rattle.clap.specs.declared.parser.matches.ArgMatches.{ArgMatches}
 use Rattle.pt_words.specs.declared.orders.Order.{Order}
-use Rattle.pt_words.specs.declared.orders.Order.TheVariants.{Run, Check, Meaning, Make, Migrate, Slacks, Audit}
+use Rattle.pt_words.specs.declared.orders.Order.TheVariants.{Run, Check, Meaning, Make, Migrate, Slacks, Audit, Replay}
 use Rattle.pt_words.specs.declared.words.Values.{Values}
-use Rattle.pt_words.specs.Grammar.{Request, run, check, meaning, make, migrate, slacks, audit}
+use Rattle.pt_words.specs.Grammar.{Request, run, check, meaning, make, migrate, slacks, audit, replay}
 use Rattle.pt_words.specs.Said.{Said}
 
 -- the values of an argument; none if it is absent
@@ -30,3 +30,4 @@ asked (Make number workers) = make number workers
 asked (Migrate graph) = migrate graph.now
 asked (Slacks graph) = slacks graph.now
 asked (Audit graph log) = audit graph.now log.now
+asked (Replay graph air workers log) = replay graph.now air.now workers log

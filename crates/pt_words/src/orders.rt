@@ -10,6 +10,7 @@ pub(crate) enum Command {
     Migrate,
     Slacks,
     Audit,
+    Replay,
 }
 
 /// The clock that the platforms of a run read.
@@ -58,5 +59,13 @@ pub enum Order<'a> {
     Audit {
         graph: &'a str,
         log: &'a str,
+    },
+    /// Run it with the lags and transits that the file `air` says, with `workers` workers (1 to 64), and write the log too if `log`
+    /// is true.
+    Replay {
+        graph: &'a str,
+        air: &'a str,
+        workers: u32,
+        log: bool,
     },
 }

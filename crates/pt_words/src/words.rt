@@ -1,7 +1,7 @@
 //! The order that the words ask for.
 
 ghost use Rattle.std.specs.Prelude.{◌≡◌, ◌==◌, IfOk, codes, length, map, option_map, string_bytes};
-ghost use Rattle.pt_words.specs.Grammar.{clock_in, command_of, audit_of, graph_in, is_bare, log_in, make_of, order_of, order_with, pair_in, request_of, request_over, run_of, workers_in};
+ghost use Rattle.pt_words.specs.Grammar.{clock_in, command_of, audit_of, graph_in, is_bare, log_in, make_of, order_of, order_with, pair_in, replay_of, request_of, request_over, run_of, workers_in};
 ghost use Rattle.pt_words.specs.Views.{asked, texts_in, told, values_of};
 
 use crate::orders::{ClockChoice, Command, Order};
@@ -24,8 +24,9 @@ struct Values<'m, 'a> {
 /// The order that these words ask for, those after the program's name; `None` if the command line is not valid.
 ///
 /// The first word is the command. Options come before or after the one positional word, the graph file or a number, in any
-/// order, each at most once; `audit` has two positional words, the graph file and the log. A value is the next word, or follows `=` in the same word; `--log` takes none. A word
-/// `--` ends the options. Any other word that begins with `-` and is longer is refused, also as a value.
+/// order, each at most once; `audit` and `replay` have two positional words, the graph file and then the log or the recording. A
+/// value is the next word, or follows `=` in the same word; `--log` takes none. A word `--` ends the options. Any other word that
+/// begins with `-` and is longer is refused, also as a value.
 pub fn order_of<'a>(alloc: Global, words: &'a [String]) -> Result<Option<Order<'a>>, AllocError>
     ensures { IfOk result (λ order. option_map asked order ≡ order_of words.entry.now) }
 {
@@ -50,6 +51,7 @@ fn command_of(word: &str) -> Option<Command>
         "migrate" => Some(Command::Migrate),
         "slacks" => Some(Command::Slacks),
         "audit" => Some(Command::Audit),
+        "replay" => Some(Command::Replay),
         _ => None,
     }
 }
@@ -96,6 +98,7 @@ fn request_of<'m, 'a>(command: Command, values: Values<'m, 'a>) -> Option<Order<
 {
     match command {
         Command::Audit => audit_of(values),
+        Command::Replay => replay_of(values),
         _ => request_over(command, values, graph_in(values.graphs)?),
     }
 }
@@ -155,6 +158,24 @@ fn audit_of<'m, 'a>(values: Values<'m, 'a>) -> Option<Order<'a>>
     }
     let (graph, log) = pair_in(values.graphs)?;
     Some(Order::Audit { graph, log })
+}
+
+/// A replay with a recording, with the graph file and the recording.
+fn replay_of<'m, 'a>(values: Values<'m, 'a>) -> Option<Order<'a>>
+    ensures { option_map asked result ≡ replay_of (told values.entry) }
+{
+    if !is_absent(values.clocks) {
+        return None;
+    }
+    let (graph, air) = pair_in(values.graphs)?;
+    let workers = workers_in(values.workers)?;
+    let log = log_in(values.logs)?;
+    Some(Order::Replay {
+        graph,
+        air,
+        workers,
+        log,
+    })
 }
 
 /// Whether no option is given.

@@ -1,0 +1,46 @@
+-- A replay within the stated bounds and a paced run over the same files write the same tables.
+use Rattle.std.proofs.Common.{◌≡◌, ◌∙◌, ◌++◌, ℕ, Bool, List, None, Some, refl, subst}
+use Rattle.std.specs.Prelude.{◌↔◌}
+use Rattle.pt_io.specs.Causes.{Appends}
+use Rattle.pt_types.specs.declared.graph.Graph.{Graph}
+use Rattle.pt_types.specs.declared.firing.ActorFiring.{ActorFiring}
+use Rattle.pt_blocks.specs.declared.blocks.Named.{Named}
+use Rattle.pt_history.specs.declared.miss.Miss.{Miss}
+use Rattle.pt_semantics.specs.Lists.{IsIn}
+use Rattle.pt_semantics.specs.Tables.{tables_text}
+use Rattle.pt_schedule.specs.Schedule.{IsMissedByMeaning}
+use Rattle.pt_sensors.specs.Asked.{Contents, Reading}
+use Rattle.pt_words.specs.declared.orders.ClockChoice.TheVariants.{Paced}
+use Rattle.pt_run.specs.Causes.{Writing}
+use Rattle.pt_run.specs.Complete.{CanRun}
+use Rattle.pt_run.specs.declared.words.Command.TheVariants.{Run}
+use Rattle.pt_run.specs.InBounds.{ReplaysInBoundsAgreeWithRuns}
+use Rattle.pt_run.specs.Making.{Ends}
+use Rattle.pt_run.specs.Runs.{log_if}
+use Rattle.pt_run.specs.Words.{over}
+use Rattle.pt_run.specs.Written.{Leaves, clocking}
+use Rattle.pt_run.proofs.Complete.{firings_meant, missed_meant, this_graph}
+use Rattle.pt_run.proofs.CompleteInBounds.{missed_in_air, tables_in_air}
+
+-- what a paced run that finished wrote and missed
+module _ (tells : Contents) (blocks : List Named) (name : List ℕ) (g : Graph) (xs : List ActorFiring) (can : CanRun tells blocks name g xs) (workers : ℕ) (log : Bool) (left : Leaves) (r : Reading) (w : Writing) where
+  paced : Ends None left (Some (over (Run workers Paced log) name)) tells blocks r w →
+      Appends w.written_before w.written_now (tables_text g xs ++ log_if log g left.platforms) × ((m : Miss) → IsIn m left.misses ↔ IsMissedByMeaning g xs m.actor m.tag m.reading m.limit)
+  paced (text, (h, file, (free, run)), appends) =
+      let same : run.plan.graph ≡ g = run.graph ∙ this_graph tells blocks name g can.begins h file in
+      let firings : run.finished.firings ≡ xs = firings_meant tells blocks name g can.begins xs can.means (clocking workers Paced left) run.plan log left.platforms left.misses text refl same run.finished in (
+        subst (λ (z : Graph). Appends w.written_before w.written_now (tables_text z xs ++ log_if log z left.platforms)) same
+            (subst (λ zs. Appends w.written_before w.written_now (tables_text run.plan.graph zs ++ log_if log run.plan.graph left.platforms)) firings
+            (subst (Appends w.written_before w.written_now) run.finished.written appends)),
+        missed_meant tells blocks name g can.begins xs can.means (clocking workers Paced left) run.plan log left.platforms left.misses text refl same run.finished,
+      )
+
+pub in_bounds_agree : ReplaysInBoundsAgreeWithRuns
+in_bounds_agree tells blocks name air g xs workers others log logged left leaves r q w v can replayed ran =
+    let run = paced tells blocks name g xs can.runs others logged leaves q v ran in
+    let missed = missed_in_air tells blocks name air g xs can left log w replayed in
+    record {
+      replayed = tables_in_air tells blocks name air g xs can left log w replayed;
+      ran = run.0;
+      misses = λ m. ((λ mem. (run.1 m).1 ((missed m).0 mem)), (λ mem. (missed m).1 ((run.1 m).0 mem)));
+    }

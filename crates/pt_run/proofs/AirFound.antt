@@ -1,0 +1,65 @@
+-- What a replay answers over a known recording that has a fault.
+use Rattle.std.proofs.Common.{◌≡◌, ◌⊎◌, ℕ, List, Option, Some, None, Result, Ok, Err, IfSome, true, refl, sym, ap, subst, inl, inr}
+use Rattle.pt_types.specs.declared.graph.Graph.{Graph}
+use Rattle.pt_blocks.specs.declared.blocks.Named.{Named}
+use Rattle.pt_graph.specs.GraphOf.{graph_of}
+use Rattle.pt_sensors.specs.Asked.{Contents, Reading}
+use Rattle.pt_air.specs.declared.air.Air.{Air}
+use Rattle.pt_air.specs.declared.fault.AirFault.{AirFault}
+use Rattle.pt_air.specs.AirOf.{air_of}
+use Rattle.pt_run.specs.declared.fault.Fault.{Fault}
+use Rattle.pt_run.specs.declared.fault.Fault.TheVariants as fault
+use Rattle.pt_run.specs.Auditing.{is_before_log}
+use Rattle.pt_run.specs.Causes.{IsCause, Writing}
+use Rattle.pt_run.specs.Exact.{CanReadAir, WantsAir}
+use Rattle.pt_run.specs.Headline.{RunWith}
+use Rattle.pt_run.specs.Replaying.{EndsReplay, LeavesReplay, OnAir}
+use Rattle.pt_run.specs.Words.{Order, paced_run}
+use Rattle.pt_run.specs.Written.{Leaves}
+use Rattle.pt_run.proofs.Auditing.{not_before}
+use Rattle.pt_run.proofs.Begun.{only_unread}
+use Rattle.pt_run.proofs.Complete.{agrees, ok_err, this_graph}
+use Rattle.pt_run.proofs.OneCause.{same_err}
+
+-- a file that could not be read
+unread : (sensor : Option ℕ) → WantsAir (Some (fault.Read sensor))
+unread None = inl (inl (inr refl))
+unread (Some actor) = inl (inr (actor, refl))
+
+module _ (order : Option Order) (left : Leaves) (tells : Contents) (blocks : List Named) (r : Reading) (w : Writing) (g : Graph) (bytes : List ℕ) (f : AirFault) (can : CanReadAir order tells blocks g bytes) (is : air_of g bytes ≡ Err f) where
+  here : (h : Graph) → IfSome (tells can.name) (λ content. graph_of blocks content ≡ Ok h) → h ≡ g
+  here h file = this_graph tells blocks can.name g can.begins h file
+
+  -- what the recording says of the graph is that fault
+  says : (h : Graph) → h ≡ g → (d : Result Air AirFault) → IfSome (tells can.air) (λ content. air_of h content ≡ d) → Err f ≡ d
+  says h same d file =
+      agrees (air_of g) (tells can.air) bytes (Err f) d can.told (subst (λ told. IfSome told (λ content. air_of g content ≡ Err f)) (sym can.told) is)
+      (subst (λ (z : Graph). IfSome (tells can.air) (λ content. air_of z content ≡ d)) same file)
+
+  -- so no replay ran
+  never_ran : (o : Option Fault) → RunWith tells blocks can.name (OnAir tells can.air (LeavesReplay can.log o left w)) → ⊥
+  never_ran o k = ok_err k.over.went.recorded f (sym (says k.plan.graph (here k.plan.graph k.file) (Ok k.over.went.recorded) k.over.went.file))
+
+  refused : (e : Fault) → is_before_log e ≡ true → IsCause e left paced_run tells blocks can.name r w → WantsAir (Some e)
+  refused e before k = let (sensor, same, rose) = only_unread tells blocks can.name g can.begins left r w e before k in subst (λ z. WantsAir (Some z)) (sym same) (unread sensor)
+
+  pub finds_air : (o : Option Fault) → EndsReplay o left can.name can.air can.log tells blocks r w → (o ≡ Some (fault.Air f)) ⊎ WantsAir o
+  finds_air None k = absurd (never_ran None k)
+  finds_air (Some fault.Write) k = absurd (never_ran (Some fault.Write) k.1)
+  finds_air (Some (fault.Long (Some platform))) k = absurd (never_ran (Some (fault.Long (Some platform))) k)
+  finds_air (Some (fault.LateAir platform actor tag reading limit row)) k = absurd (never_ran (Some (fault.LateAir platform actor tag reading limit row)) k)
+  finds_air (Some (fault.Air e)) k = inl (ap (λ z. Some (fault.Air z)) (sym (same_err {X = Air} f e (says k.1.plan.graph (here k.1.plan.graph k.1.file) (Err e) k.1.over.went))))
+  finds_air (Some fault.ReadAir) k = inr (inr refl)
+  finds_air (Some fault.Memory) k = inr (inl (inl (inl refl)))
+  finds_air (Some (fault.Graph e)) k = inr (refused (fault.Graph e) k.0 k.2)
+  finds_air (Some (fault.Cycle actors)) k = inr (refused (fault.Cycle actors) k.0 k.2)
+  finds_air (Some (fault.Infeasible send offset slack)) k = inr (refused (fault.Infeasible send offset slack) k.0 k.2)
+  finds_air (Some (fault.Read sensor)) k = inr (unread sensor)
+  finds_air (Some (fault.Sensor actor e)) k = inr (refused (fault.Sensor actor e) k.0 k.2)
+  finds_air (Some (fault.LateRow actor row seen limit)) k = inr (refused (fault.LateRow actor row seen limit) k.0 k.2)
+  finds_air (Some fault.Usage) k = absurd (not_before k.0)
+  finds_air (Some (fault.Ring sends gain)) k = absurd (not_before k.0)
+  finds_air (Some (fault.LateMessage platform actor tag reading limit)) k = absurd (not_before k.0)
+  finds_air (Some (fault.Long None)) k = absurd (not_before k.0)
+  finds_air (Some fault.ReadLog) k = absurd (not_before k.0)
+  finds_air (Some (fault.Unlawful v)) k = absurd (not_before k.0)

@@ -1,0 +1,117 @@
+-- How `replay` ends, and which files it asks for.
+use Rattle.std.specs.Prelude.{◌≡◌, ◌≢◌, ◌⊎◌, ◌↔◌, ℕ, Bool, true, false, List, [], ◌∷◌, Option, Some, None, Ok, Err, IfSome, flat_map}
+use Rattle.pt_io.specs.Causes.{Appends, AppendsPart, Rose}
+use Rattle.pt_types.specs.declared.graph.Graph.{Graph}
+use Rattle.pt_types.specs.declared.rows.Row.{Row}
+use Rattle.pt_blocks.specs.declared.blocks.Named.{Named}
+use Rattle.pt_causality.specs.Ranked.{level_of}
+use Rattle.pt_offsets.specs.Plans.{Parts}
+use Rattle.pt_turn.specs.declared.fault.TurnFault.{TurnFault}
+use Rattle.pt_turn.specs.declared.fault.TurnFault.TheVariants as turn
+use Rattle.pt_monitors.specs.Platforms.{missed_by}
+use Rattle.pt_sensors.specs.Asked.{Contents, Reading}
+use Rattle.pt_air.specs.declared.air.Air.{Air}
+use Rattle.pt_air.specs.AirOf.{air_of}
+use Rattle.pt_air.specs.Bounds.{KeepsBounds}
+use Rattle.pt_aired.specs.HaveFlown.{HaveFlown}
+use Rattle.pt_run.specs.declared.fault.Fault.{Fault}
+use Rattle.pt_run.specs.declared.fault.Fault.TheVariants as fault
+use Rattle.pt_run.specs.Auditing.{AsksLog, AsksToLog, LogFails, PlanWith, is_before_log}
+use Rattle.pt_run.specs.Causes.{IsCause, Writing}
+use Rattle.pt_run.specs.Headline.{PutsMeaning, RunWith}
+use Rattle.pt_run.specs.Texts.{AsksFor, AsksInOrder, EndsOver}
+use Rattle.pt_run.specs.Words.{Order, paced_run, replay}
+use Rattle.pt_run.specs.Written.{HasNothing, Leaves}
+
+-- the file `air`, if its content is known, says these lags and transits of the plan's graph, and a fact holds of them
+pub record OnAir (tells : Contents) (air : List ℕ) (Fact : Parts → (ℕ → List Row) → Air → Type 0) (plan : Parts) (rows : ℕ → List Row) : Type 0 where
+  pub recorded : Air
+  pub file : IfSome (tells air) (λ bytes. air_of plan.graph bytes ≡ Ok recorded)
+  -- no row breaks a stated bound exactly if the recorded times keep to the bounds
+  pub bounds : (recorded.breach ≡ None) ↔ KeepsBounds plan.graph recorded
+  pub fact : Fact plan rows recorded
+
+-- the platform that stopped a replay, and its fault, by the fault of the call
+abbrev pub stop_of_replay : Option Fault → Option (ℕ × TurnFault)
+stop_of_replay (Some (fault.Long (Some platform))) = Some (platform, turn.Long)
+stop_of_replay (Some (fault.LateAir platform actor tag reading limit row)) = Some (platform, turn.Late actor tag reading limit)
+stop_of_replay _ = None
+
+-- whether a replay that ended so ran and leaves its platforms: it wrote all, or a write failed, or a platform stopped it
+abbrev pub has_replayed : Option Fault → Bool
+has_replayed None = true
+has_replayed (Some fault.Write) = true
+has_replayed (Some (fault.Long (Some platform))) = true
+has_replayed (Some (fault.LateAir platform actor tag reading limit row)) = true
+has_replayed _ = false
+
+-- a late message is reported with the first row of the recording that breaks a stated bound; so there is such a row
+abbrev pub NamesBreach : Option Fault → Air → Type 0
+NamesBreach (Some (fault.LateAir platform actor tag reading limit row)) recorded = recorded.breach ≡ Some row
+NamesBreach _ recorded = Unit {0}
+
+-- what a replay of this plan over these rows leaves and writes. Its platforms are those of the plan after a replayed run over these
+-- rows, in which messages take their recorded transits and clocks lag as recorded (`HaveFlown`): their histories are legal, they took
+-- only what was sent, and they are finished and took all of it unless one stopped the replay, as its history shows
+pub record LeavesReplay (log : Bool) (outcome : Option Fault) (left : Leaves) (w : Writing) (plan : Parts) (rows : ℕ → List Row) (recorded : Air) : Type 0 where
+  pub flown : HaveFlown plan (level_of plan.ranks) rows recorded left.platforms (stop_of_replay outcome)
+  -- all was written, and the misses are those of the recorded turns; or a write failed after a prefix
+  pub written : outcome ≡ None → PutsMeaning plan rows log left.platforms (Appends w.written_before w.written_now)
+  pub misses : outcome ≡ None → left.misses ≡ flat_map missed_by left.platforms
+  pub part : outcome ≡ Some fault.Write → PutsMeaning plan rows log left.platforms (AppendsPart w.written_before w.written_now)
+  -- if a platform stopped the replay, nothing is written; and unless all is written, no misses are given
+  pub unwritten : stop_of_replay outcome ≢ None → w.written_now ≡ w.written_before
+  pub no_misses : outcome ≢ None → left.misses ≡ []
+  pub breach : NamesBreach outcome recorded
+
+-- how a replay ends, for an admitted plan of its graph and rows of its sensors, none of which is late (`With`): the platforms ran,
+-- with the lags and transits that the file `air` says; or that file has a fault, or could not be read, and nothing is left. It ends
+-- with any other fault as a paced run ends with it (`Refused`), before that file is read, unless memory runs out
+abbrev pub EndsInAir : ((Parts → (ℕ → List Row) → Type 0) → Type 0) → (Fault → Type 0) → List (List ℕ) → Option Fault → Leaves → List ℕ → Bool → Contents → Reading → Writing → Type 0
+EndsInAir With Refused others None left air log tells r w = With (OnAir tells air (LeavesReplay log None left w))
+EndsInAir With Refused others (Some fault.Write) left air log tells r w = Rose w.before w.now × With (OnAir tells air (LeavesReplay log (Some fault.Write) left w))
+EndsInAir With Refused others (Some (fault.Long (Some platform))) left air log tells r w = With (OnAir tells air (LeavesReplay log (Some (fault.Long (Some platform))) left w))
+EndsInAir With Refused others (Some (fault.LateAir platform actor tag reading limit row)) left air log tells r w = With (OnAir tells air (LeavesReplay log (Some (fault.LateAir platform actor tag reading limit row)) left w))
+EndsInAir With Refused others (Some (fault.Air f)) left air log tells r w = HasNothing left × With (λ plan rows. IfSome (tells air) (λ bytes. air_of plan.graph bytes ≡ Err f)) × (w.written_now ≡ w.written_before)
+EndsInAir With Refused others (Some fault.ReadAir) left air log tells r w = HasNothing left × With (λ plan rows. LogFails plan.graph others air r) × (w.written_now ≡ w.written_before)
+EndsInAir With Refused others (Some fault.Memory) left air log tells r w = HasNothing left × (w.written_now ≡ w.written_before)
+EndsInAir With Refused others (Some f) left air log tells r w = (is_before_log f ≡ true) × HasNothing left × Refused f
+
+-- how a replay over the graph file with this name ends
+abbrev pub EndsReplay : Option Fault → Leaves → List ℕ → List ℕ → Bool → Contents → List Named → Reading → Writing → Type 0
+EndsReplay outcome left name air log tells blocks r w = EndsInAir (RunWith tells blocks name) (λ f. IsCause f left paced_run tells blocks name r w) (name ∷ []) outcome left air log tells r w
+
+-- the same over a graph that was read
+abbrev pub EndsReplayed : Option Fault → Leaves → List ℕ → Bool → Contents → Graph → Reading → Writing → Type 0
+EndsReplayed outcome left air log tells g r w = EndsInAir (PlanWith tells g) (λ f. EndsOver (Some f) left paced_run tells g r w) [] outcome left air log tells r w
+
+-- the graph file, the sensors' files and then the file `air` were asked for: if the replay ran, or that file was refused or could
+-- not be read. If memory ran out, it may be among them
+abbrev pub AsksReplay : Option Fault → List ℕ → List ℕ → Contents → List Named → Option (List (List ℕ)) → Option (List (List ℕ)) → Type 0
+AsksReplay None name air tells blocks before now = AsksToLog tells blocks name air before now
+AsksReplay (Some fault.Write) name air tells blocks before now = AsksToLog tells blocks name air before now
+AsksReplay (Some (fault.Long (Some platform))) name air tells blocks before now = AsksToLog tells blocks name air before now
+AsksReplay (Some (fault.LateAir platform actor tag reading limit row)) name air tells blocks before now = AsksToLog tells blocks name air before now
+AsksReplay (Some (fault.Air f)) name air tells blocks before now = AsksToLog tells blocks name air before now
+AsksReplay (Some fault.ReadAir) name air tells blocks before now = AsksToLog tells blocks name air before now
+AsksReplay (Some fault.Memory) name air tells blocks before now = AsksInOrder (Some fault.Memory) paced_run tells blocks name before now ⊎ AsksToLog tells blocks name air before now
+AsksReplay (Some f) name air tells blocks before now = AsksInOrder (Some f) paced_run tells blocks name before now
+
+-- the same over a graph that was read
+abbrev pub AsksReplayed : Option Fault → List ℕ → Graph → Option (List (List ℕ)) → Option (List (List ℕ)) → Type 0
+AsksReplayed None air g before now = AsksLog air g before now
+AsksReplayed (Some fault.Write) air g before now = AsksLog air g before now
+AsksReplayed (Some (fault.Long (Some platform))) air g before now = AsksLog air g before now
+AsksReplayed (Some (fault.LateAir platform actor tag reading limit row)) air g before now = AsksLog air g before now
+AsksReplayed (Some (fault.Air f)) air g before now = AsksLog air g before now
+AsksReplayed (Some fault.ReadAir) air g before now = AsksLog air g before now
+AsksReplayed (Some fault.Memory) air g before now = AsksFor paced_run (Some fault.Memory) g before now ⊎ AsksLog air g before now
+AsksReplayed (Some f) air g before now = AsksFor paced_run (Some f) g before now
+
+-- what holds of each replay that the words ask for: of what it leaves, if it ran; else it leaves nothing and nothing is written
+pub record ReplayHeadline (outcome : Option Fault) (left : Leaves) (log : Bool) (tells : Contents) (blocks : List Named) (name air : List ℕ) (w : Writing) : Type 0 where
+  pub run : has_replayed outcome ≡ true → RunWith tells blocks name (OnAir tells air (LeavesReplay log outcome left w))
+  pub nothing_else : has_replayed outcome ≡ false → HasNothing left × (w.written_now ≡ w.written_before)
+
+abbrev pub IsReplayHeadline : Option Fault → Leaves → Option Order → Contents → List Named → Writing → Type 0
+IsReplayHeadline outcome left order tells blocks w = (workers : ℕ) (log : Bool) (name air : List ℕ) → order ≡ Some (replay name air workers log) → ReplayHeadline outcome left log tells blocks name air w
