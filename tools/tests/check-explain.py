@@ -137,6 +137,17 @@ class Explain(Case):
             ("what,name,value\ntransit,w,40\ntransit,w,45\ntransit,w,50\n", "late r at 80.0, reading 126 past 125, air row 2", "3:11", "45",
              ["5 more than the delay of the link", "a delay of 50 takes all transits of `w`, 2 of 3 are past it now", "up to 125 it would have been in time"])]
 
+    def test_breaches(self) -> None:
+        """A row that is past a bound is shown also if no message is late."""
+        scenarios = EXAMPLES / "network" / "scenarios"
+        for name, wanted in [("slow_in_time", ("air.csv:7:12", "300 more than the delay of the link")), ("at_the_bounds", None)]:
+            with self.subTest(name=name):
+                done = companion("explain", "replay", "../../graph.json", "air.csv", folder=scenarios / name)
+                self.assertEqual((done.status, done.output.split("\n")[0]), (0, "no fault: `ptides replay ../../graph.json air.csv` answers 0"))
+                self.assertEqual("note: this row is past a bound, and no message was late\n" in done.output, wanted is not None)
+                for text in wanted or ():
+                    self.assertIn(text, done.output)
+
     def test_airs(self) -> None:
         """Of each line on an air file the place in it."""
         copied(REFUSED[0].parent / "late_message", self.folder)
