@@ -77,10 +77,11 @@ test_help() {
     attempt "$prefix/bin/ptides" --help
     expect 'help: status' 0 "$status"
     expect 'help: the companion' 1 "$(grep -c '^  show \.\.\. *shows what it is given$' "$work/output")"
-    for place in share/man/man1/ptides.1 share/doc/ptides/examples share/ptides/graph.schema.json share/ptides/air.csv-metadata.json; do
+    for place in share/man/man1/ptides.1 share/doc/ptides/examples share/ptides/graph.schema.json; do
         expect "help: where $place is" 1 "$(grep -c " $prefix/$place\$" "$work/output")"
         expect "$place is there" 0 "$([ -r "$prefix/$place" ]; echo $?)"
     done
+    expect 'the columns of air files are there' 0 "$([ -r "$prefix/share/ptides/air.csv-metadata.json" ]; echo $?)"
 }
 
 test_manual_page() {
