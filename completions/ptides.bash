@@ -26,6 +26,19 @@ _ptides_files() { # FOLDER WORD
     )
 }
 
+# Whether a word before the current one is the graph: no option, and no value of one.
+_ptides_has_graph() { # INDEX OF THE COMMAND
+    local index word before=''
+    for ((index = $1 + 1; index < COMP_CWORD; index++)); do
+        word=${COMP_WORDS[index]}
+        # In `--workers=4` the `=` is a word of its own.
+        [[ $word != = ]] || continue
+        [[ $word == -* || $before == --workers ]] || return 0
+        before=$word
+    done
+    return 1
+}
+
 _ptides() {
     local current=${COMP_WORDS[COMP_CWORD]} before=${COMP_WORDS[COMP_CWORD - 1]} first=1 folder=. options='' option command
     COMPREPLY=()
@@ -48,7 +61,7 @@ _ptides() {
     done
     command=${COMP_WORDS[first]}
     if ((COMP_CWORD == first)); then
-        mapfile -t COMPREPLY < <(compgen -W "run check meaning make migrate slacks audit help $(_ptides_companions "${COMP_WORDS[0]}")" -- "$current")
+        mapfile -t COMPREPLY < <(compgen -W "run check meaning make migrate slacks audit replay help $(_ptides_companions "${COMP_WORDS[0]}")" -- "$current")
         [[ $current != -* ]] || mapfile -t COMPREPLY < <(compgen -W '-C --help --version' -- "$current")
     elif [[ $before == -C && $command == -C ]]; then
         mapfile -t COMPREPLY < <(
@@ -67,6 +80,7 @@ _ptides() {
         case $command in
             run) options='--workers --clock --log' ;;
             make) options=--workers ;;
+            replay) options='--workers --log' ;;
             check | meaning | migrate | slacks | audit) ;;
             *) options=-h ;;
         esac
@@ -78,8 +92,8 @@ _ptides() {
         done
     elif [[ $command == make ]]; then
         mapfile -t COMPREPLY < <(compgen -W "$(seq 1 100)" -- "$current")
-    elif [[ $command == audit ]] && ((COMP_CWORD > first + 1)); then
-        # A log has any name.
+    elif [[ $command == audit || $command == replay ]] && _ptides_has_graph "$first"; then
+        # A log and an air file have any name.
         mapfile -t COMPREPLY < <(
             unset CDPATH
             cd -- "$folder" 2>/dev/null && compgen -f -- "$current"

@@ -9,13 +9,13 @@
 #   to               where standard output goes; where there is none it is compared
 #   expected.csv     the standard output; where there is none, nothing may be written
 #   expected.notes   the standard error; where there is none, nothing may be written
-#   expected.log     what `run --log` writes after the table
+#   expected.log     what `run --log`, or `replay` if that is the first word, writes after the table
 #   expected.check   what `check` writes
 #   expected.migrate   what `migrate` writes
 #   expected.slacks  what `slacks` writes
 #   rows.py, make.py   write the sensor files that are stored, or a file that is too large to be stored
 #
-# It also checks the commands and outputs in the READMEs, the schema, the manual page and the completion. What isn't
+# It also checks the commands and outputs in the READMEs and in docs/REPLAY.md, the schema, the manual page and the completion. What isn't
 # installed is skipped by name. The last line is `N passed, M failed, K skipped`.
 set -u
 here=$(realpath -- "$0") || exit 1
@@ -105,7 +105,8 @@ check_example() { # NAME FOLDER
         compare "$name: the meaning" "$folder/expected.csv" "$work/output"
     fi
     if [ -e "$folder/expected.log" ]; then
-        start run graph.json --log
+        [ "${words[0]}" = replay ] || words=(run graph.json)
+        start "${words[@]}" --log
         compare_status "$name with --log" "$wanted"
         cat "$folder/expected.csv" "$folder/expected.log" >"$work/whole"
         compare "$name: expected.log" "$work/whole" "$work/output"
@@ -193,7 +194,7 @@ count() { # COMMAND..
 
 check_documents() {
     if is_there python3; then
-        count python3 tools/check-transcripts.py "$program" README.md examples/*/README.md
+        count python3 tools/check-transcripts.py "$program" README.md docs/REPLAY.md examples/*/README.md
     else
         skip "the commands in the READMEs, since python3 isn't there"
     fi

@@ -1,9 +1,13 @@
 #!/usr/bin/env python3
 """Checks schemas/graph.schema.json on the examples: it takes each graph that `ptides` takes, refuses those refused ones whose fault it
-can see, and describes each member. Needs jsonschema. The last line is `N passed, M failed`.
+can see, and describes each member; and schemas/air.csv-metadata.json likewise on air files. Needs jsonschema. The last line is
+`N passed, M failed`.
 """
+import csv
+import glob
 import json
 import os
+import re
 import shutil
 import subprocess
 import sys
@@ -15,6 +19,8 @@ EXAMPLES = "examples"
 # The refusals that a schema sees. Of a range it doesn't see that `low` is above `high`.
 SEEN = {"member", "too", "range", "name", "block"}
 UNSEEN = {"graph_too_long", "range_of_a_row"}
+# The same of air files: of names only the graph knows which there are.
+AIR_SEEN = {"header", "form", "number"}
 
 
 def graph_of(folder):
@@ -77,10 +83,31 @@ def checks():
             yield f"the schema {'takes' if wanted else 'refuses'} refused/{name}", validator.is_valid(graph) == wanted
 
 
+def fits(field, column):
+    """Whether a field is one of a column."""
+    kind = column["datatype"]
+    is_formed = re.fullmatch(kind["format"], field) is not None
+    return is_formed and kind.get("minimum", 0) <= (int(field) if kind["base"] == "integer" else 0) <= kind.get("maximum", 0)
+
+
+def air_checks():
+    """The same of the columns of air files."""
+    with open("schemas/air.csv-metadata.json", encoding="utf-8") as file:
+        columns = json.load(file)["tableSchema"]["columns"]
+    for path in sorted(glob.glob(f"{EXAMPLES}/*/air.csv") + glob.glob(f"{EXAMPLES}/*/*/air.csv") + glob.glob(f"{EXAMPLES}/*/scenarios/*/air.csv")):
+        with open(path, encoding="utf-8", newline="") as file:
+            head, *rows = (record for record in csv.reader(file) if record)
+        found = head == [column["titles"] for column in columns] and all(
+            len(row) == len(columns) and all(fits(field, column) for field, column in zip(row, columns)) for row in rows)
+        name = path.split("/")[-2]
+        wanted = not (name.startswith("air_") and name[4:] in AIR_SEEN)
+        yield f"the columns of air files {'take' if wanted else 'refuse'} {path}", found == wanted
+
+
 def main():
     os.chdir(os.path.dirname(os.path.dirname(os.path.realpath(__file__))))
     passed = failed = 0
-    for what, holds in checks():
+    for what, holds in (*checks(), *air_checks()):
         if holds:
             passed += 1
         else:

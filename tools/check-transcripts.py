@@ -3,10 +3,10 @@
 
     check-transcripts.py PROGRAM DOCUMENT..
 
-In a block of text a line `$ COMMAND` that calls ptides is run by a shell in the document's folder, with PROGRAM instead of the path
-to ptides. The lines up to the next `$` or the end of the block are its output, standard error at the end; a line `...` means
-any lines. Words that only the launcher knows, as companions, go to the launcher, with PROGRAM as the program. The last line is
-`N passed, M failed`.
+In a block of text a line `$ COMMAND` that calls ptides is run by a shell in the document's folder, or in the one above it for a page of
+docs, with PROGRAM instead of the path to ptides. The lines up to the next `$` or the end of the block are its output, standard error
+at the end; a line `...` means any lines. Words that only the launcher knows, as companions, go to the launcher, with PROGRAM as the
+program. The last line is `N passed, M failed`.
 """
 import os
 import re
@@ -18,7 +18,7 @@ from typing import List, NamedTuple
 LAUNCHER = os.path.join(os.path.dirname(os.path.dirname(os.path.realpath(__file__))), "ptides")
 # A path to ptides, folders to go to first, and the next word.
 PTIDES = re.compile(r"(?<!\S)(?:\./|(?:\.\./)+)ptides(?P<folders>(?: -C \S+)*)(?= (?P<word>\S+))")
-COMMANDS = {"run", "check", "meaning", "make", "migrate", "slacks", "audit"}
+COMMANDS = {"run", "check", "meaning", "make", "migrate", "slacks", "audit", "replay"}
 
 
 class Transcript(NamedTuple):
@@ -76,8 +76,9 @@ def main() -> None:
     for document in documents:
         with open(document, encoding="utf-8") as file:
             text = file.read()
+        folder = os.path.dirname(document) if os.path.dirname(document) != "docs" else ""
         for command, wanted in transcripts(text):
-            lines = lines_of(placed(command, program), os.path.dirname(document) or ".")
+            lines = lines_of(placed(command, program), folder or ".")
             if agrees(wanted, lines):
                 passed += 1
             else:

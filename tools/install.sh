@@ -9,7 +9,7 @@
 #                                            `ptides --version` writes (version), and the list of all this (files)
 #   share/man/man1                           the manual page
 #   share/bash-completion/completions        the completion
-#   share/ptides                             the schema
+#   share/ptides                             the schemas
 #   share/doc/ptides                         the pages and the examples
 #
 # Nothing that was there before is written over or removed. A file that was changed since the install is left where it is.
@@ -126,6 +126,7 @@ stage() {
     put docs/ptides.1 share/man/man1/ptides.1
     put completions/ptides.bash share/bash-completion/completions/ptides
     put schemas/graph.schema.json share/ptides/graph.schema.json
+    put schemas/air.csv-metadata.json share/ptides/air.csv-metadata.json
     for page in README.md CHANGELOG.md LICENSE* docs/*; do
         [ "$page" = docs/ptides.1 ] || put "$page" "share/doc/ptides/$page"
     done

@@ -12,6 +12,9 @@ import sys
 import tempfile
 import time
 
+sys.path.insert(0, os.path.join(os.path.dirname(os.path.abspath(__file__)), "tests"))
+import airs  # noqa: E402
+
 MOST_SECONDS = 300
 WORKERS = [1, 2, 3, 4, 5, 7, 8, 16, 33, 64]
 LINES = {1: "usage: .*", 2: "graph: .*", 3: "sensor .*", 6: r"long \w+", 7: "read fault: .*", 8: "write fault", 9: "memory"}
@@ -48,6 +51,7 @@ class Program:
         self.actors = {actor["name"]: actor for actor in self.graph["actors"]}
         self.errors = {frozenset(entry[:2]): entry[2] for entry in self.graph.get("clock_errors", [])}
         self.bounds = {link["to"]: self.bound(link) for link in self.graph["links"]}
+        self.network = airs.Network(self.graph)
         self.late_row = self.first_late_row()
         margins = self.call("check", "graph.json")
         if margins.ending != (0, ""):
@@ -87,7 +91,9 @@ class Program:
         if result.output:
             raise Difference(f"output at status {result.status}")
         if result.status == 4 and self.late_row is None:
-            self.judge_late_message(result.notes, clock)
+            self.judge_late_message(result.notes)
+            if clock == "paced":
+                raise Difference(f"{result.notes.strip()} under the paced clock")
             return True
         if result.status not in (4, 6) or (result.status == 6 and not re.fullmatch(LINES[6] + "\n", result.notes)):
             raise Difference(f"status {result.status}, {result.notes.strip() or 'no notes'}")
@@ -159,15 +165,40 @@ class Program:
             if self.meaning.status == 0 and self.actors[found[1]]["kind"] == "actuator" and found.groups()[:3] not in events:
                 raise Difference(f"no event of the meaning: {line}")
 
-    def judge_late_message(self, notes, clock):
-        found = re.fullmatch(r"late (\w+) at (\d+)\.(\d+), reading (\d+) past (\d+)\n", notes)
+    def judge_replay(self, result, breach, run):
+        """Raises a difference if a replay isn't right, by the first row that is past a bound and a paced run. Gives whether a message was late.
+
+        Both are with a log or both without one.
+        """
+        if breach is None or self.late_row is not None:
+            if result.ending != run.ending:
+                raise Difference(f"status {result.status}, {result.notes.strip() or 'no notes'}; by run {run.status}, {run.notes.strip() or 'no notes'}")
+            (tables, log), (wanted, other) = result.tables_and_log(), run.tables_and_log()
+            if tables != wanted or self.claims_of(log) != self.claims_of(other):
+                raise Difference("the tables are not those of run" if tables != wanted else "the claims are not those of run")
+        if result.status == 4 and self.late_row is None:
+            if result.output:
+                raise Difference("output at status 4")
+            self.judge_late_message(result.notes, f", air row {breach}")
+            return True
+        return self.judge(result, "replay")
+
+    def claims_of(self, log):
+        """Each claim of a log with the reading at which it was made; none if there is no log."""
+        found, reading = collections.Counter(), ""
+        for line in (log or "").splitlines():
+            word, *rest = line.split(",")
+            reading = rest[2] if word == "turn" else reading
+            found.update([(reading, *rest[1:])] if word == "claim" else [])
+        return found
+
+    def judge_late_message(self, notes, end=""):
+        found = re.fullmatch(rf"late (\w+) at (\d+)\.(\d+), reading (\d+) past (\d+){end}\n", notes)
         if not found or found[1] not in self.bounds:
             raise Difference(f"status 4, {notes.strip() or 'no notes'}")
         reading, limit = int(found[4]), int(found[5])
         if limit != int(found[2]) + self.bounds[found[1]] or reading <= limit:
             raise Difference(f"the numbers of {notes.strip()}")
-        if clock == "paced":
-            raise Difference(f"{notes.strip()} under the paced clock")
 
 
 def usage_of(program):
@@ -202,8 +233,8 @@ class Soak:
     def __init__(self, program, folder):
         self.program, self.folder = program, folder
         self.clocks = clocks_of(program)
-        self.audits = " | audit GRAPH LOG" in usage_of(program)
-        self.graphs = self.runs = self.late_messages = self.audited = self.differences = 0
+        self.audits, self.replays = (f" | {command} GRAPH " in usage_of(program) for command in ("audit", "replay"))
+        self.graphs = self.runs = self.late_messages = self.audited = self.replayed = self.breaches = self.differences = 0
         self.statuses = collections.Counter()
 
     def report(self, seed, place, words, what):
@@ -233,6 +264,36 @@ class Soak:
                 self.one(program, words, clock, log, endings)
             except Difference as what:
                 self.report(seed, place, words, what)
+        if self.replays:
+            self.replay(program, seed, end)
+
+    def replay(self, program, seed, end):
+        """Replays a graph over random networks, within the bounds and past them."""
+        pick, words = random.Random(seed), ["run", "graph.json", "--log"]
+        try:
+            run = program.call(*words)
+            for number in range(4):
+                if time.monotonic() > end:
+                    return
+                rows = (airs.past if number % 2 else airs.within)(pick, program.network)
+                with open(os.path.join(program.folder, "air.csv"), "wb") as file:
+                    file.write(airs.spelled(rows, pick))
+                words = ["replay", "graph.json", "air.csv", "--log"]
+                self.one_replay(program, words, program.network.breach(rows), run, pick)
+        except Difference as what:
+            self.report(seed, program.folder, words, what)
+
+    def one_replay(self, program, words, breach, run, pick):
+        result = program.call(*words, "--workers", "1")
+        other = program.call(*words, "--workers", str(pick.choice(WORKERS[1:])))
+        if (other.ending, other.output) != (result.ending, result.output):
+            raise Difference("another text or status than with another number of workers")
+        self.replayed += 1
+        self.breaches += breach is not None
+        self.late_messages += program.judge_replay(result, breach, run)
+        if self.audits and result.status in (0, 5):
+            program.judge_by_audit(result, random.Random(self.replayed))
+            self.audited += 1
 
     def one(self, program, words, clock, log, endings):
         result = program.call(*words)
@@ -251,6 +312,7 @@ class Soak:
     def summary(self):
         statuses = ", ".join(f"{count} with {status}" for status, count in sorted(self.statuses.items()))
         print(f"{self.graphs} graphs, {self.runs} runs under {' and '.join(self.clocks)}: {statuses or 'none ended'}; "
+              f"{self.replayed} replays, {self.breaches} of them past a bound; "
               f"{self.late_messages} late messages, {self.audited} logs are lawful, {self.differences} differences")
 
 
@@ -277,4 +339,5 @@ def main():
     sys.exit(1 if soak.differences else 0)
 
 
-main()
+if __name__ == "__main__":
+    main()

@@ -10,6 +10,9 @@
 #   5        each line of what was missed is past its limit, which is the tag's time and the slack
 #   4        each late row is the first one of its graph; each late message is past its limit, the tag's time and the receiver's bound
 #   audit    if the program has this command: what a run with --log wrote at 0 and 5 is lawful, and isn't with one line less
+#   replay   if the program has this command: over random networks within the bounds, status, notes, tables and the readings of all claims
+#            are those of the paced run; past them, a late message is named with the first row past a bound; and for every number of
+#            workers all is the same
 #   paced    no message is late, and status and notes are the same for every number of workers; with --log, the output too
 #   step     the same, but a message can be late
 # Every other status, a run of more than 5 minutes and a text on standard error that isn't of its status are differences.
@@ -33,7 +36,7 @@ else
     done
 fi
 # In the background, so that a signal is answered at once.
-python3 tools/soak.py "$1" "$program" "$work" "${SEED:-1}" &
+python3 -B tools/soak.py "$1" "$program" "$work" "${SEED:-1}" &
 running=$!
 trap '[ -z "$running" ] || { kill "$running"; wait "$running"; } 2>/dev/null; remove_work' EXIT
 wait "$running"

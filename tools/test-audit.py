@@ -1,6 +1,4 @@
 """Called by test-audit.sh, whose head says what it does: test-audit.py PROGRAM FOLDER TIMES SEED."""
-import glob
-import importlib.util
 import json
 import os
 import random
@@ -8,13 +6,11 @@ import re
 import signal
 import subprocess
 import sys
-import tempfile
 
 sys.path.insert(0, os.path.join(os.path.dirname(os.path.abspath(__file__)), "tests"))
 from logs import MOST_BYTES, Broken, Log, Reader, Spoiler  # noqa: E402
 from slow_logs import test_slow  # noqa: E402
-
-MOST_SECONDS = 300
+import testers  # noqa: E402
 
 
 class Graph:
@@ -33,33 +29,12 @@ class Graph:
                         if offset != "-" and self.kinds[name] != "lanes"}
 
 
-class Tester:
-    """Calls the program, and counts what is as it should be."""
+class Tester(testers.Tester):
+    """Has logs judged."""
 
     def __init__(self, program, work):
-        self.program, self.work = program, work
+        super().__init__(program, work, "log")
         self.log = os.path.join(work, "log")
-        self.passed = self.failed = self.skipped = 0
-
-    def call(self, folder, *words):
-        """The output, the notes and the status of a command."""
-        done = subprocess.run([self.program, *words], cwd=folder, stdin=subprocess.DEVNULL, capture_output=True, timeout=MOST_SECONDS)
-        return done.stdout, done.stderr.decode("utf-8", "replace"), done.returncode
-
-    def fail(self, what, data=None):
-        self.failed += 1
-        if data is not None:
-            kept = tempfile.NamedTemporaryFile(prefix="ptides-audit-", suffix=".log", delete=False)
-            with kept:
-                kept.write(data)
-            what += f" (the log is {kept.name})"
-        print(f"failed: {what}", flush=True)
-
-    def expect(self, what, wanted, found, data=None):
-        if wanted == found:
-            self.passed += 1
-        else:
-            self.fail(f"{what}: wanted {wanted!r}, found {found!r}", data)
 
     def audit(self, folder, data):
         with open(self.log, "wb") as file:
@@ -150,14 +125,6 @@ class Case:
         return f"no link: {name}"
 
 
-def graphs(tester, make, seed, count):
-    """The folders of random graphs, one after the other."""
-    for number in range(seed, seed + count):
-        place = os.path.join(tester.work, f"graph-{number}")
-        make(number, place)
-        yield place
-
-
 def runs(pick, until):
     """Clocks and workers."""
     yield "paced", pick.choice([1, 4])
@@ -172,13 +139,11 @@ def until_of(folder):
         return json.load(file)["until"]
 
 
-def test_lawful(tester, make, seed, times):
+def test_lawful(tester, seed, times):
     """Logs of examples and random graphs. Returns those of which others can be made by a change, by their folder."""
     pick, found, count = random.Random(seed), [], tester.passed
-    here = os.path.dirname(os.path.dirname(os.path.abspath(__file__)))
-    examples = sorted(glob.glob(f"{here}/examples/*/graph.json") + glob.glob(f"{here}/examples/idioms/*/graph.json"))
-    folders = [os.path.dirname(name) for name in examples if not glob.glob(f"{os.path.dirname(name)}/make.py")]
-    for folder in [*folders, *graphs(tester, make, seed, 60 * times)]:
+    folders = testers.examples()
+    for folder in [*folders, *testers.graphs(tester, seed, 60 * times)]:
         until = until_of(folder)
         for clock, workers in runs(pick, until):
             # A run by the machine's clock takes as long as its horizon.
@@ -311,19 +276,10 @@ def test_words(tester):
     print(f"{tester.passed - before} command lines", flush=True)
 
 
-def generator():
-    """The function `make` of make-random-graph.py."""
-    file = os.path.join(os.path.dirname(os.path.abspath(__file__)), "make-random-graph.py")
-    specification = importlib.util.spec_from_file_location("make_random_graph", file)
-    module = importlib.util.module_from_spec(specification)
-    specification.loader.exec_module(module)
-    return module.make
-
-
 def main():
     signal.signal(signal.SIGTERM, lambda *_: sys.exit(143))
     tester, times, seed = Tester(sys.argv[1], sys.argv[2]), int(sys.argv[3]), int(sys.argv[4])
-    logs = test_lawful(tester, generator(), seed, times)
+    logs = test_lawful(tester, seed, times)
     test_changed(tester, logs, seed, 2000 * times)
     test_cut(tester, logs, seed)
     test_ends(tester, logs, seed)

@@ -13,7 +13,7 @@ program=$top/ptides
 passed=0
 failed=0
 make_work
-usage='usage: ptides run GRAPH [--workers N] [--clock paced|step:START:STEP|machine] [--log] | check GRAPH | meaning GRAPH | make NUMBER [--workers N] | migrate GRAPH | audit GRAPH LOG | slacks GRAPH'
+usage='usage: ptides run GRAPH [--workers N] [--clock paced|step:START:STEP|machine] [--log] | check GRAPH | meaning GRAPH | make NUMBER [--workers N] | migrate GRAPH | audit GRAPH LOG | slacks GRAPH | replay GRAPH AIR [--workers N] [--log]'
 
 # Graphs, one in a folder each. All have one row: of time 50, seen at 55, with the value 7.
 mkdir "$work"/{basic,two,far}

@@ -81,6 +81,7 @@ test_help() {
         expect "help: where $place is" 1 "$(grep -c " $prefix/$place\$" "$work/output")"
         expect "$place is there" 0 "$([ -r "$prefix/$place" ]; echo $?)"
     done
+    expect 'the columns of air files are there' 0 "$([ -r "$prefix/share/ptides/air.csv-metadata.json" ]; echo $?)"
 }
 
 test_manual_page() {

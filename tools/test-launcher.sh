@@ -260,7 +260,7 @@ for word in --help -h help; do
     start_alone "$word"
     expect "$word: status" 0 "$status"
     expect "$word: notes" '' "$(cat "$place/notes")"
-    expect "$word: commands" 'run check meaning make migrate slacks audit' \
+    expect "$word: commands" 'run check meaning make migrate slacks audit replay' \
         "$(sed -n 's/^  \([a-z]*\) [A-Z].*/\1/p' "$place/output" | tr '\n' ' ' | sed 's/ $//')"
     for clock in paced step:START:STEP machine; do
         grep -q -e "\b$clock\b" "$place/output"

@@ -182,7 +182,8 @@ try_example() { # FOLDER
     if [ -e "$folder/expected.log" ]; then
         cat "$folder/expected.csv" "$folder/expected.log" >"$work/whole"
         want "$status" "$work/whole" "$folder/expected.notes"
-        try "$name with --log" run graph.json --log
+        [ "${words[0]}" = replay ] || words=(run graph.json)
+        try "$name with --log" "${words[@]}" --log
         echo lawful >"$work/lawful"
         cp -- "$work/whole" "$copy/whole.log"
         want 0 "$work/lawful" /dev/null

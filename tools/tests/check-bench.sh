@@ -196,7 +196,7 @@ check_refusals() {
     cp -r four/1 empty/one && echo x >empty/one/status
     refuses "no status" "ptides bench: empty/one/status: \`x\` is no status" "$bench" empty
     printf 'wave\ngraph.json\n' >empty/one/words
-    refuses "a companion" "ptides bench: empty/one/words: \`wave\` is no command of ptides: the first word has to be one of run, check, meaning, make, migrate, slacks, audit" \
+    refuses "a companion" "ptides bench: empty/one/words: \`wave\` is no command of ptides: the first word has to be one of run, check, meaning, make, migrate, slacks, audit, replay" \
         "$bench" empty
     [ ! -e /dev/full ] || equal "a full disk" "ptides bench: cannot write standard output: No space left on device" "$("$bench" four/1 2>&1 >/dev/full)"
 }

@@ -92,7 +92,9 @@ class Explain(Case):
                  ("make 101", 13, "101", "a number from 1 to 100"), ("run --log", 18, "", "the path of a graph is missing"),
                  ("run graph.json --workers", 33, "", "1 to 64"), ("run graph.json --log=1", 23, "--log=1", "takes no value"),
                  ("audit", 14, "", "the path of a graph is missing"), ("audit graph.json", 25, "", "the path of a log is missing"),
-                 ("audit graph.json a b", 27, "b", "a word too many"), ("audit --log graph.json a", 14, "--log", "no option `--log`")]
+                 ("audit graph.json a b", 27, "b", "a word too many"), ("audit --log graph.json a", 14, "--log", "no option `--log`"),
+                 ("replay graph.json", 26, "", "the path of an air file is missing"), ("replay graph.json a b", 28, "b", "a word too many"),
+                 ("replay graph.json a --clock paced", 28, "--clock", "no option `--clock`"), ("replay graph.json a --workers 0", 38, "0", "1 to 64")]
         for line, column, underlined, words in cases:
             with self.subTest(line=line):
                 done = companion("explain", *line.split(), folder=GOOD)
@@ -118,6 +120,45 @@ class Explain(Case):
         done = companion("explain", "graph.json", folder=folder)
         self.assertEqual((done.status, first_place(done.output)), (7, ("graph.json:5:68", '"sped.csv"')))
         self.assertIn("did you mean `speed.csv`?", done.output)
+
+    # Of lines on the air file of `refused/late_message`: another text of it, the line, the place, what is underlined, and words.
+    AIRS = [("time,seen,value\n", "air: header", "1:1", "time,seen,value", ["this is a sensor file"]), ("", "air: header", "1:1", "", ["the file is empty"]),
+            ("lag,q,5\n", "air: header", "1:1", "lag,q,5", ["the header is missing"]), ("What,Name,Value\n", "air: header", "1:1", "What,Name,Value", ["small letters"]),
+            ("name,what,value\n", "air: header", "1:1", "name,what,value", ["into this order"]), ("what;name;value\n", "air: header", "1:1", "what;name;value", ["commas"]),
+            ("what,name,value\nlag,q\n", "air: form at row 1", "2:1", "lag,q", ["row 1 has 2 fields"]),
+            ("what,name,value\ntransfer,w,4\n", "air: form at row 1", "2:1", "transfer", ["neither `lag` nor `transit`; did you mean `transit`?"]),
+            ("what,name,value\nlag,qq,4\n", "air: unknown at row 1", "2:5", "qq", ["did you mean `q`?", "one of `p`, `q`"]),
+            ("what,name,value\ntransit,q,4\n", "air: unknown at row 1", "2:9", "q", ["a platform has a `lag`"]),
+            ("what,name,value\nlag,w,4\n", "air: unknown at row 1", "2:5", "w", ["this is a `send`, and not a platform"]),
+            ("what,name,value\nlag,q,4.5\n", "air: number at row 1", "2:7", "4.5", ["no point", "whole microseconds"]),
+            ("what,name,value\n\nlag,q,4\nlag,q,-5\n", "air: number at row 2", "4:7", "-5", ["furthest ahead"]),
+            ("what,name,value\nlag,p,0\nlag,q,6\n", "late r at 80.0, reading 1046 past 125, air row 1", "2:7", "0", ["6 from the lag of `q`, 6", "a clock error of 6 takes these two"]),
+            ('"what",name,value\n"lag",q,6\n', "late r at 80.0, reading 1046 past 125, air row 1", "2:9", "6", ["6 from the lag of `p`, 0", "at most 5 apart"]),
+            ("what,name,value\ntransit,w,40\ntransit,w,45\ntransit,w,50\n", "late r at 80.0, reading 126 past 125, air row 2", "3:11", "45",
+             ["5 more than the delay of the link", "a delay of 50 takes all transits of `w`, 2 of 3 are past it now", "up to 125 it would have been in time"])]
+
+    def test_breaches(self) -> None:
+        """A row that is past a bound is shown also if no message is late."""
+        scenarios = EXAMPLES / "network" / "scenarios"
+        for name, wanted in [("slow_in_time", ("air.csv:7:12", "300 more than the delay of the link")), ("at_the_bounds", None)]:
+            with self.subTest(name=name):
+                done = companion("explain", "replay", "../../graph.json", "air.csv", folder=scenarios / name)
+                self.assertEqual((done.status, done.output.split("\n")[0]), (0, "no fault: `ptides replay ../../graph.json air.csv` answers 0"))
+                self.assertEqual("note: this row is past a bound, and no message was late\n" in done.output, wanted is not None)
+                for text in wanted or ():
+                    self.assertIn(text, done.output)
+
+    def test_airs(self) -> None:
+        """Of each line on an air file the place in it."""
+        copied(REFUSED[0].parent / "late_message", self.folder)
+        for text, line, place, underlined, words in self.AIRS:
+            with self.subTest(line=line, text=text):
+                (self.folder / "air.csv").write_text(text)
+                done = companion("explain", "--line", line, "replay", "--workers", "2", "graph.json", "air.csv", folder=self.folder)
+                self.assertEqual((done.status, done.output.split("\n")[0]), (0, f"error: {line}"))
+                self.assertEqual(first_place(done.output), (f"air.csv:{place}", underlined))
+                for word in words:
+                    self.assertIn(word, done.output)
 
     def test_bytes(self) -> None:
         """Texts that aren't UTF-8, a byte order mark, an empty file, and lines of 100,000 letters with wide ones."""

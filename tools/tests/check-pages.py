@@ -29,7 +29,7 @@ def start(command: str, given: str = "") -> Done:
     folder = TOP
     if words[0] == "-C":
         folder, words = TOP / words[1], words[2:]
-    run = ptides if words[0] in ("run", "check", "meaning", "make", "migrate", "slacks", "audit") else companion
+    run = ptides if words[0] in ("run", "check", "meaning", "make", "migrate", "slacks", "audit", "replay") else companion
     done = run(*words, folder=folder, given=given or None)
     return start(rest, done.output) if rest else done
 

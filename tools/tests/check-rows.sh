@@ -167,6 +167,70 @@ for actor in json.load(open(sys.argv[1]))["actors"]:
     same "governor: the whole of speed.csv from the VCD" "$top/examples/governor/speed.csv" found
 }
 
+# The logs of examples/network, and the air file that they give.
+check_the_network() {
+    local network=$top/examples/network words=(air plant.log panel.log --sender 0C8=up)
+    mkdir network && cp -- "$network"/*.py "$network/speed.csv" network && (cd network && python3 ./record.py)
+    same "network: plant.log is what record.py writes" "$network/plant.log" network/plant.log
+    same "network: panel.log" "$network/panel.log" network/panel.log
+    (cd network && "$rows" "${words[@]}" --received-lag panel=35 -o air.csv 2>report)
+    same "network: air.csv" "$network/air.csv" network/air.csv
+    equal "network: the report" "389 35" "$(sed -n 's/^this recording needs a delay of \([0-9]*\) for the link of up$/\1/p; s/^and a clock error of \([0-9]*\) .*/\1/p' network/report |
+        tr '\n' ' ' | sed 's/ $//')"
+    # Whichever clock true time is counted from, transits are the same.
+    (cd network && "$rows" "${words[@]}" --received-lag panel=1035 --sent-lag plant=1000 2>/dev/null) | sed 's/^lag.*/lag/' | uniq >found
+    sed 's/^lag.*/lag/' "$network/air.csv" >wanted
+    same "network: other lags" wanted found
+}
+
+# air_is WHAT ROWS SENT RECEIVED WORD..: two logs give these rows, parted by spaces.
+air_is() {
+    printf '%b' "$3" >sent.log
+    printf '%b' "$4" >received.log
+    equal "$1" "what,name,value${2:+ $2}" "$("$rows" air sent.log received.log "${@:5}" 2>notes | tr '\n' ' ' | sed 's/ $//')"
+}
+
+refuses_air() { # WHAT LINE SENT RECEIVED WORD..
+    printf '%b' "$3" >sent.log
+    printf '%b' "$4" >received.log
+    refuses "air: $1" "ptides rows: $2" "$rows" air sent.log received.log "${@:5}"
+}
+
+check_air() {
+    local sent='(5.000100) can0 1A0#01\n(5.000200) can0 1A1#AA\n(5.000300) can0 1A0#02\n(5.000350) can0 1A0#R\n'
+    local received='(5.000140) can1 1A0#01\n(5.000260) can1 1A1#AA\n(5.000299) can1 7FF#\n(5.000301) can1 1A0#02\n'
+    air_is "air: one sender" "transit,up,40 transit,up,1" "$sent" "$received" --sender 1A0=up
+    air_is "air: two senders, in the order of sending" "transit,up,40 transit,b,60 transit,up,1" "$sent" "$received" --sender 1A1=b --sender 0x1a0=up
+    air_is "air: a lag behind" "lag,q,7 transit,up,47 transit,up,8" "$sent" "$received" --sender 1A0=up --received-lag q=7
+    air_is "air: two lags" "lag,p,9 lag,q,8 transit,up,39 transit,up,0" "$sent" "$received" --sender 1A0=up --received-lag q=8 --sent-lag p=9
+    air_is "air: a lag of 0" "lag,q,0 transit,up,40 transit,up,1" "$sent" "$received" --sender 1A0=up --received-lag q=0
+    air_is "air: nanoseconds, a begun microsecond counts" "transit,up,2" '(1.000000001) can0 1A0#\n' '(1.000001002) can0 1A0#\n' --sender 1A0=up
+    air_is "air: other data" "transit,up,40 transit,up,1" "$sent" "${received/1A0#01/1A0#11}" --sender 1A0=up --other-data
+    air_is "air: one bus" "transit,up,90" '(5.000100) can0 1A0#01\n(5.000300) can1 1A0#02\n' '(5.000140) can1 1A0#02\n(5.000190) can0 1A0#01\n' --sender 1A0=up --bus can0
+    refuses_air "no sender" 'the following arguments are required: --sender' "$sent" "$received"
+    refuses_air "no identifier" 'argument --sender: `up=1A0` is not ID=SENDER, as 0C8=up' "$sent" "$received" --sender up=1A0
+    refuses_air "no name" 'argument --sender: `1A0=a b` is not ID=SENDER, as 0C8=up' "$sent" "$received" --sender '1A0=a b'
+    refuses_air "a sender twice" '--sender names up twice' "$sent" "$received" --sender 1A0=up --sender 1A1=up
+    refuses_air "an identifier twice" '--sender names 1A0 twice' "$sent" "$received" --sender 1A0=up --sender 0x1a0=b
+    refuses_air "no lag" 'argument --sent-lag: `p=-5` is not PLATFORM=MICROSECONDS, as panel=35' "$sent" "$received" --sender 1A0=up --sent-lag p=-5
+    refuses_air "one platform twice" '--sent-lag and --received-lag both name p' "$sent" "$received" --sender 1A0=up --sent-lag p=0 --received-lag p=1
+    refuses_air "before it was sent" 'received.log:4: frame 2 of 1A0 was received 1 us before it was sent (sent.log:3): state the lags of the two clocks with --sent-lag and --received-lag' \
+        "$sent" "$received" --sender 1A0=up --sent-lag p=2
+    refuses_air "other data" 'received.log:1: frame 1 of 1A0 has the data 02, and 01 was sent (sent.log:1): is a frame missing in one of the logs?' \
+        "$sent" '(5.000140) can1 1A0#02\n' --sender 1A0=up
+    refuses_air "a frame that was lost" 'sent.log:3: frame 2 of 1A0 is in this log alone: cut both logs so that they have the same frames' \
+        "$sent" '(5.000140) can1 1A0#01\n' --sender 1A0=up
+    refuses_air "a frame that wasn't sent" 'received.log:2: frame 2 of 1A0 is in this log alone: cut both logs so that they have the same frames' \
+        '(5.000100) can1 1A0#01\n' '(5.000140) can1 1A0#01\n(5.000150) can1 1A0#01\n' --sender 1A0=up
+    refuses_air "no frame" 'received.log: no frame of 1A1; the identifiers in it are 1A0' "$sent" '(5.000140) can1 1A0#01\n' --sender 1A1=up
+    refuses_air "another line" 'received.log:1: not a line of a candump log (candump -l or candump -L)' "$sent" 'can0 1A0 [1] 01\n' --sender 1A0=up
+    refuses_air "too long" 'received.log:1: frame 1 of 1A0 took 1000000000000001 us: too long' '(0.000000) can0 1A0#\n' '(1000000000.000001) can0 1A0#\n' --sender 1A0=up
+    refuses_air "no row" 'there is no row 3: the rows are 1 to 2' "$sent" "$received" --sender 1A0=up --row 3
+    refuses "air: no file" 'ptides rows: cannot read none.log: No such file or directory' "$rows" air none.log received.log --sender 1A0=up
+    python3 -c 'for n in range(100001): print(f"({n // 1000000 + 1}.{n % 1000000:06}) can0 123#00")' >sent.log
+    refuses "air: too many rows" 'ptides rows: sent.log: 100001 rows, and an air file has at most 100000; cut the logs' "$rows" air sent.log sent.log --sender 123=up
+}
+
 check_refusals() {
     local log=(candump bad.log --id 123 --bytes 0:1)
     refuses "no rule" 'ptides rows: no rule for `time`: give --period and --phase, or --latency (ptides rows -h)' "$rows" "${log[@]}"
@@ -242,6 +306,8 @@ check_csv
 check_vcd
 check_iverilog
 check_there_and_back
+check_the_network
+check_air
 check_refusals
 check_the_frame
 if "$rows" -h | grep -q '^example:'; then pass; else fail "-h has no example"; fi
