@@ -14,6 +14,7 @@ use std::collections::VecDeque;
 const MOVED: usize = 256;
 
 /// The place of the first of these events.
+#[inline(always)]
 pub(crate) fn place_at_front(events: &VecDeque<Sent>) -> Option<Place>
     ensures { MatchOption result (events.now.items ≡ []) (λ place. (sent : Sent) × (rest : List Sent) × (events.now.items ≡ sent ∷ rest) × (place ≡ sent.place)) }
 {
@@ -24,6 +25,7 @@ pub(crate) fn place_at_front(events: &VecDeque<Sent>) -> Option<Place>
 }
 
 /// Whether the first of these events is of this tag and actor.
+#[inline(always)]
 pub(crate) fn begins_with(events: &VecDeque<Sent>, tag: Tag, actor: u32) -> bool
     ensures { result ≡ begins_with tag actor events.now.items }
 {
@@ -34,6 +36,7 @@ pub(crate) fn begins_with(events: &VecDeque<Sent>, tag: Tag, actor: u32) -> bool
 }
 
 /// Whether all of these events, which are in order, are before a place.
+#[inline(always)]
 pub(crate) fn ends_before(events: &VecDeque<Sent>, place: Place) -> bool
     ensures { IsTrue result → IsRising place_cmp events.now.items → AreBefore place_cmp place events.now.items }
 {
@@ -64,6 +67,7 @@ pub(crate) fn ends_at(events: &VecDeque<Sent>, place: Place) -> bool
 }
 
 /// Whether a place is between the events of two parts of a line.
+#[inline(always)]
 fn fits(before: &VecDeque<Sent>, after: &VecDeque<Sent>, place: Place) -> bool
     ensures { IsTrue result → IsRising place_cmp (before.now.items ++ after.now.items) → AreBefore place_cmp place before.now.items × AreAfter place_cmp place after.now.items }
 {

@@ -57,6 +57,7 @@ impl Line {
     }
 
     /// The place of the first event.
+    #[inline(always)]
     pub fn first(&self) -> Option<Place>
         ensures { MatchOption result ((q : Place) → in_line place_cmp self.now q ≡ None) (λ place. IsLeast (in_line place_cmp self.now) place) }
     {
@@ -64,6 +65,7 @@ impl Line {
     }
 
     /// The place of the first event.
+    #[inline(always)]
     fn head(&self) -> Option<Place>
         ensures first { MatchOption result (self.now ≡ []) (λ place. (sent : Sent) × (rest : List Sent) × (self.now ≡ sent ∷ rest) × (place ≡ sent.place)) }
         ensures rising { IsRising place_cmp self.now }
@@ -98,6 +100,7 @@ impl Line {
     }
 
     /// Whether the first event is of this tag and actor.
+    #[inline(always)]
     fn is_first_of(&self, tag: Tag, actor: u32) -> bool
         ensures is { result ≡ begins_with tag actor self.now }
         ensures rising { IsRising place_cmp self.now }

@@ -38,6 +38,7 @@ impl Pending {
     }
 
     /// The place of the first event.
+    #[inline(always)]
     pub fn first(&self) -> Option<Place>
         ensures first { IfSome result (λ next. (rank : ℕ → ℕ) (actors steps : ℕ) → IsSound rank actors steps (held self.now) → IsFirst rank (waits_in rank (held self.now)) next.actor next.tag) }
         ensures present { IfSome result (λ next. (rank : ℕ → ℕ) (actors steps : ℕ) → IsSound rank actors steps (held self.now) → any_present (waiting (waits_in rank (held self.now)) next.actor next.tag) ≡ true) }
