@@ -1,5 +1,5 @@
 -- How a replay over a graph ends, by how it ends over its plan.
-use Rattle.std.proofs.Common.{◌≡◌, ◌≢◌, ◌∙◌, ◌↔◌, ℕ, ◌+◌, Bool, true, false, cond, List, [], ◌∷◌, ◌++◌, Option, Some, None, Result, Ok, Err, IfErr, IfOk, IfSome, length, take, refl, sym, ap, subst, inl, inr, ⊎_elim, arith}
+use Rattle.std.proofs.Common.{◌≡◌, ◌≢◌, ◌↔◌, ℕ, ◌+◌, Bool, true, false, cond, List, [], Option, Some, None, Result, Ok, Err, IfErr, IfOk, IfSome, length, take, refl, sym, ap, subst, inl, inr, ⊎_elim, arith}
 use Rattle.std.specs.Prelude.{nat_lt, string_bytes}
 use Rattle.std.proofs.lemmas.Bool.Decides.{nat_tests}
 use Rattle.std.proofs.lemmas.List.{length-take, take_all}
@@ -50,7 +50,7 @@ use Rattle.pt_run.specs.Flown.{CauseOfNoAir, EndsWith, HasFlown, HasReplayed, Is
 use Rattle.pt_run.specs.Headline.{PutsMeaning}
 use Rattle.pt_run.specs.Replaying.{AsksReplayed, EndsReplayed, LeavesReplay, OnAir}
 use Rattle.pt_run.specs.Runs.{IsOutput, IsStop, IsTold, RunOver}
-use Rattle.pt_run.specs.Texts.{AsksFor, IsUnplanned, LeftAll, WroteRun, left_by, of_run}
+use Rattle.pt_run.specs.Texts.{IsUnplanned, LeftAll, WroteRun, left_by, of_run}
 use Rattle.pt_run.specs.Words.{paced_run}
 use Rattle.pt_run.specs.Written.{nothing}
 use Rattle.pt_run.proofs.Asks.{asks_nothing, memory_asks}

@@ -73,9 +73,7 @@ pub fn replay<S: Source, K: Sink, E: Sink>(
         (record { before = E.faults notes.old; now = E.faults notes.new; written_before = E.written notes.old; written_now = E.written notes.new }) }
 {
     match graph_at(alloc, source, name, blocks) {
-        Ok(graph) => replay_graph(
-            alloc, graph, air, workers, log, source, out, notes, blocks,
-        ),
+        Ok(graph) => replay_graph(alloc, graph, air, workers, log, source, out, notes, blocks),
         Err(fault) => {
             let fault = tell(alloc, notes, fault, None);
             Ending::refused(alloc, fault)

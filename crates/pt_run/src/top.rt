@@ -153,15 +153,17 @@ fn run_words<S: Source, K: Sink, E: Sink, C: Clock + Send, R: Threads + Wait + S
         Ok(Some(Asked::Audit { graph, log })) => {
             return audit(alloc, graph, log, source, out, notes, blocks);
         }
-        Ok(Some(Asked::Replay {
-            graph,
-            air,
-            workers,
-            log,
-        })) => {
-            return replay(
-                alloc, graph, air, workers, log, source, out, notes, blocks,
-            );
+        Ok(
+            Some(
+                Asked::Replay {
+                    graph,
+                    air,
+                    workers,
+                    log,
+                },
+            ),
+        ) => {
+            return replay(alloc, graph, air, workers, log, source, out, notes, blocks);
         }
         Ok(None) => Fault::Usage,
         Err(_) => Fault::Memory,

@@ -30,13 +30,24 @@ pub enum Command {
 #[derive(Clone, Copy, Debug, PartialEq, Eq)]
 pub enum Asked<'a> {
     /// A command on the graph file with this name.
-    Over { command: Command, graph: &'a str },
+    Over {
+        command: Command,
+        graph: &'a str,
+    },
     /// A run of the input made from `number` (1 to 100), with `workers` workers (1 to 64).
-    Make { number: u32, workers: u32 },
+    Make {
+        number: u32,
+        workers: u32,
+    },
     /// The graph file with this name as a file of version 2.
-    Migrate { graph: &'a str },
+    Migrate {
+        graph: &'a str,
+    },
     /// An audit: whether the file `log` is what a run of the graph file with this name writes, with the log.
-    Audit { graph: &'a str, log: &'a str },
+    Audit {
+        graph: &'a str,
+        log: &'a str,
+    },
     /// A replay: a run of the graph file with this name, with the lags and transits that the file `air` says, with `workers` workers
     /// (1 to 64), and with the log if `log` is true.
     Replay {
