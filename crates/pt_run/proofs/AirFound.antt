@@ -9,7 +9,7 @@ use Rattle.pt_air.specs.declared.fault.AirFault.{AirFault}
 use Rattle.pt_air.specs.AirOf.{air_of}
 use Rattle.pt_run.specs.declared.fault.Fault.{Fault}
 use Rattle.pt_run.specs.declared.fault.Fault.TheVariants as fault
-use Rattle.pt_run.specs.Auditing.{is_before_log}
+use Rattle.pt_run.specs.Auditing.{is_before_last}
 use Rattle.pt_run.specs.Causes.{IsCause, Writing}
 use Rattle.pt_run.specs.Exact.{CanReadAir, WantsAir}
 use Rattle.pt_run.specs.Headline.{RunWith}
@@ -40,7 +40,7 @@ module _ (order : Option Order) (left : Leaves) (tells : Contents) (blocks : Lis
   never_ran : (o : Option Fault) → RunWith tells blocks can.name (OnAir tells can.air (LeavesReplay can.log o left w)) → ⊥
   never_ran o k = ok_err k.over.went.recorded f (sym (says k.plan.graph (here k.plan.graph k.file) (Ok k.over.went.recorded) k.over.went.file))
 
-  refused : (e : Fault) → is_before_log e ≡ true → IsCause e left paced_run tells blocks can.name r w → WantsAir (Some e)
+  refused : (e : Fault) → is_before_last e ≡ true → IsCause e left paced_run tells blocks can.name r w → WantsAir (Some e)
   refused e before k = let (sensor, same, rose) = only_unread tells blocks can.name g can.begins left r w e before k in subst (λ z. WantsAir (Some z)) (sym same) (unread sensor)
 
   pub finds_air : (o : Option Fault) → EndsReplay o left can.name can.air can.log tells blocks r w → (o ≡ Some (fault.Air f)) ⊎ WantsAir o

@@ -22,7 +22,7 @@ use Rattle.pt_sensors.proofs.Asking.{append_none, asks_more, read_after}
 use Rattle.pt_run.specs.declared.fault.Fault.{Fault}
 use Rattle.pt_run.specs.declared.fault.Fault.TheVariants as fault
 use Rattle.pt_run.specs.declared.outcome.Ending.{Ending}
-use Rattle.pt_run.specs.Auditing.{Accepts, AnswersAudit, AsksAudit, AsksJudged, AsksLog, AsksToLog, CauseOfRefusal, EndsAudit, EndsJudged, IsUnlawful, LogFails, OnLog, PlanWith, lawful_line}
+use Rattle.pt_run.specs.Auditing.{Accepts, AnswersAudit, AsksAudit, AsksJudged, AsksLast, AsksToLast, CauseOfRefusal, EndsAudit, EndsJudged, IsUnlawful, LastFails, OnLog, PlanWith, lawful_line}
 use Rattle.pt_run.specs.Causes.{CauseOfGraph, Writing}
 use Rattle.pt_run.specs.Faults.{fault_of_plan, fault_of_rows}
 use Rattle.pt_run.specs.Headline.{RunWith}
@@ -59,14 +59,14 @@ module _ (name log : List ℕ) (left : Leaves) (tells : Contents) (blocks : List
   pub ends_audit : start ≤ before → (o : Option Fault) → EndsJudged o left log tells g inner w → EndsAudit o left name log tells blocks outer w
   ends_audit grew o h = by_outcome o h
     where
-      log_fails : (p : Graph) → LogFails p [] log inner → LogFails p (name ∷ []) log outer
+      log_fails : (p : Graph) → LastFails p [] log inner → LastFails p (name ∷ []) log outer
       log_fails p (n, failed) = (n, read_after (name ∷ []) (files_before p n) log first asked now start before last asks grew failed)
 
       by_outcome : (o : Option Fault) → EndsJudged o left log tells g inner w → EndsAudit o left name log tells blocks outer w
       by_outcome None k = (k.0, same_over (OnLog tells log Accepts) k.1, k.2)
       by_outcome (Some fault.Write) k = (k.0, same_over (OnLog tells log Accepts) k.1, k.2, k.3)
       by_outcome (Some (fault.Unlawful v)) k = (k.0, same_over (OnLog tells log (λ p rows bytes. IsUnlawful p rows bytes v)) k.1, k.2)
-      by_outcome (Some fault.ReadLog) k = (k.0, over_file (λ p rows. LogFails p.graph [] log inner) (λ p rows. LogFails p.graph (name ∷ []) log outer) (λ p rows failed. log_fails p.graph failed) k.1, k.2)
+      by_outcome (Some fault.ReadLog) k = (k.0, over_file (λ p rows. LastFails p.graph [] log inner) (λ p rows. LastFails p.graph (name ∷ []) log outer) (λ p rows failed. log_fails p.graph failed) k.1, k.2)
       by_outcome (Some fault.Memory) k = k
       by_outcome (Some (fault.Graph f)) k = (k.0, k.1, ends_file paced_run (Some (fault.Graph f)) left tells tells blocks name g first asked now start before last w refl read asks grew k.2)
       by_outcome (Some (fault.Cycle actors)) k = (k.0, k.1, ends_file paced_run (Some (fault.Cycle actors)) left tells tells blocks name g first asked now start before last w refl read asks grew k.2)
@@ -82,7 +82,7 @@ module _ (name log : List ℕ) (left : Leaves) (tells : Contents) (blocks : List
       by_outcome (Some (fault.LateMessage platform actor tag reading limit)) k = absurd (not_before k.0)
       by_outcome (Some (fault.Long platform)) k = absurd (not_before k.0)
 
-  asks_to_log : AsksLog log g asked now → AsksToLog tells blocks name log first now
+  asks_to_log : AsksLast log g asked now → AsksToLast tells blocks name log first now
   asks_to_log (n, k) = (g, read, (n, asks_more first asked now (name ∷ []) (files_before g n ++ log ∷ []) asks k))
 
   pub asks_audit : (o : Option Fault) → EndsJudged o left log tells g inner w → AsksJudged o log g asked now → AsksAudit o name log tells blocks first now
@@ -93,7 +93,7 @@ module _ (name log : List ℕ) (left : Leaves) (tells : Contents) (blocks : List
   asks_audit (Some fault.Memory) k h =
       ⊎_elim
       (λ (files : AsksFor paced_run (Some fault.Memory) g asked now). inl (inr (inr (g, read, (files.0, asks_more first asked now (name ∷ []) (files_for paced_run (Some fault.Memory) g files.0) asks files.1)))))
-      (λ (all : AsksLog log g asked now). inr (asks_to_log all))
+      (λ (all : AsksLast log g asked now). inr (asks_to_log all))
       h
   asks_audit (Some (fault.Graph f)) k h = asked_in_order paced_run (Some (fault.Graph f)) left tells tells blocks name g inner w first asked now read k.2 asks h
   asks_audit (Some (fault.Cycle actors)) k h = asked_in_order paced_run (Some (fault.Cycle actors)) left tells tells blocks name g inner w first asked now read k.2 asks h
@@ -204,7 +204,7 @@ module _ (log : List ℕ) (tells : Contents) (g : Graph) (r : Reading) (w : Writ
 
     refused : (f : Fault) → w.written_now ≡ w.written_before → CauseOfRefusal f log tells p r → EndsJudged (Some f) nothing log tells g r w
     refused (fault.Unlawful v) still k = ((refl, refl), over_plan (OnLog tells log (λ q rows bytes. IsUnlawful q rows bytes v)) k, still)
-    refused fault.ReadLog still k = ((refl, refl), over_plan (λ q rows. LogFails q.graph [] log r) k, still)
+    refused fault.ReadLog still k = ((refl, refl), over_plan (λ q rows. LastFails q.graph [] log r) k, still)
     refused (fault.Read (Some actor)) still k = (refl, (refl, refl), ((free, (feasible, subst (λ (z : Graph). SensorUnread Refused tells z actor [] r) same k, (refl, refl))), still))
     refused (fault.Sensor actor f) still k = (refl, (refl, refl), ((free, (feasible, subst (λ (z : Graph). SensorFails Refused tells z actor f) same k, (refl, refl))), still))
     refused (fault.LateRow actor row seen limit) still k = (refl, (refl, refl), ((free, (feasible, subst (λ (z : Graph). SensorLate tells z actor row seen limit) same k, (refl, refl))), still))
@@ -268,7 +268,7 @@ rows_asked log g (rows.Read sensor) before now h = h
 rows_asked log g (rows.Sensor actor f) before now h = h
 rows_asked log g (rows.Late actor row seen limit) before now h = h
 
-pub log_asked : (log : List ℕ) (g : Graph) (first asked now : Option (List (List ℕ))) → AsksFiles g first asked → Asks asked now (log ∷ []) → AsksLog log g first now
+pub log_asked : (log : List ℕ) (g : Graph) (first asked now : Option (List (List ℕ))) → AsksFiles g first asked → Asks asked now (log ∷ []) → AsksLast log g first now
 log_asked log g first asked now (n, files) one = (n, asks_more first asked now (files_before g n) (log ∷ []) files one)
 
 -- the log could not be read after the files of the sensors
@@ -309,7 +309,7 @@ rows_cause log tells p g f r same cause = by_fault f (subst (λ (z : Graph). Cau
 pub judged_asks : {X : Type 0} (judged : Result X Fault) (o : Ending) (w : Writing) (log : List ℕ) (g h : Graph) (before now : Option (List (List ℕ))) → h ≡ g → AnswersAudit judged o w → AsksJudged (fault_in judged) log h before now → AsksJudged o.fault log g before now
 judged_asks {X} judged o w log g h before now same answers asks = by_judged judged answers (subst (λ (z : Graph). AsksJudged (fault_in judged) log z before now) same asks)
   where
-    by_put : (e : Option Fault) → PutBy e lawful_line w → AsksLog log g before now → AsksJudged e log g before now
+    by_put : (e : Option Fault) → PutBy e lawful_line w → AsksLast log g before now → AsksJudged e log g before now
     by_put None put k = k
     by_put (Some f) put k = subst (λ e. AsksJudged (Some e) log g before now) (sym put.0) k
 

@@ -10,7 +10,7 @@ use Rattle.pt_sensors.specs.Asked.{Contents, Reading}
 use Rattle.pt_sensors.specs.Recorded.{SensorFails, SensorLate}
 use Rattle.pt_run.specs.declared.fault.Fault.{Fault}
 use Rattle.pt_run.specs.declared.fault.Fault.TheVariants as fault
-use Rattle.pt_run.specs.Auditing.{is_before_log}
+use Rattle.pt_run.specs.Auditing.{is_before_last}
 use Rattle.pt_run.specs.Causes.{IsCause, Writing}
 use Rattle.pt_run.specs.Complete.{CanBegin}
 use Rattle.pt_run.specs.Words.{paced_run}
@@ -19,7 +19,7 @@ use Rattle.pt_run.proofs.Auditing.{not_before}
 use Rattle.pt_run.proofs.Complete.{no_fault, sensor_fails, sensor_late, this_graph, too_late}
 
 module _ (tells : Contents) (blocks : List Named) (name : List ℕ) (g : Graph) (can : CanBegin tells blocks name g) (left : Leaves) (r : Reading) (w : Writing) where
-  pub only_unread : (f : Fault) → is_before_log f ≡ true → IsCause f left paced_run tells blocks name r w → (sensor : Option ℕ) × (f ≡ fault.Read sensor) × Rose r.before r.now
+  pub only_unread : (f : Fault) → is_before_last f ≡ true → IsCause f left paced_run tells blocks name r w → (sensor : Option ℕ) × (f ≡ fault.Read sensor) × Rose r.before r.now
   only_unread (fault.Graph f) before k = absurd (no_fault tells blocks name g can f k.0)
   only_unread (fault.Cycle actors) before ((h, file, cause), same) =
       let cycle : IsFreeCycle g actors = subst (λ (z : Graph). IsFreeCycle z actors) (this_graph tells blocks name g can h file) cause.0 in

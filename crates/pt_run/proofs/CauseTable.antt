@@ -36,7 +36,7 @@ use Rattle.pt_run.specs.Causes.{CauseOfText, IsCause, MeansLong, RunStops, Writi
 use Rattle.pt_run.specs.CauseTable.{AsksFeasible, CauseTable, IsAccepted, IsNotPaced, IsRunCommand, OfRows, OnPlatform, OverAir, OverFile, OverGraph, OverLog}
 use Rattle.pt_run.specs.Making.{Ends}
 use Rattle.pt_run.specs.Statuses.{status_of, status_of_fault}
-use Rattle.pt_run.specs.Auditing.{Accepts, IsUnlawful, LogFails, OnLog}
+use Rattle.pt_run.specs.Auditing.{Accepts, IsUnlawful, LastFails, OnLog}
 use Rattle.pt_run.specs.Headline.{RunWith}
 use Rattle.pt_run.specs.Replaying.{LeavesReplay, OnAir}
 use Rattle.pt_run.specs.Words.{Order, over, make, migrate, audit, replay, paced_run}
@@ -249,7 +249,7 @@ module _ (left : Leaves) (tells : Contents) (blocks : List Named) (r : Reading) 
   long_meaning (Some (replay name air workers log)) k = absurd (not_before k.0)
 
   -- the log could not be read, and no other order asks for one
-  log_unread : (order : Option Order) → Ends (Some fault.ReadLog) left order tells blocks r w → OverLog order (λ name log. RunWith tells blocks name (λ plan rows. LogFails plan.graph (name ∷ []) log r))
+  log_unread : (order : Option Order) → Ends (Some fault.ReadLog) left order tells blocks r w → OverLog order (λ name log. RunWith tells blocks name (λ plan rows. LastFails plan.graph (name ∷ []) log r))
   log_unread None k = absurd (let e = k.0 in cc)
   log_unread (Some (over command name)) (k, same) = of command k.0 k.2.1
     where
@@ -281,7 +281,7 @@ module _ (left : Leaves) (tells : Contents) (blocks : List Named) (r : Reading) 
   lawful order name log is k = let h = subst (λ o. Ends None left o tells blocks r w) is k in h.1
 
   -- the recording could not be read, and no other order asks for one
-  air_unread : (order : Option Order) → Ends (Some fault.ReadAir) left order tells blocks r w → OverAir order (λ name air. RunWith tells blocks name (λ plan rows. LogFails plan.graph (name ∷ []) air r))
+  air_unread : (order : Option Order) → Ends (Some fault.ReadAir) left order tells blocks r w → OverAir order (λ name air. RunWith tells blocks name (λ plan rows. LastFails plan.graph (name ∷ []) air r))
   air_unread None k = absurd (let e = k.0 in cc)
   air_unread (Some (over command name)) (k, same) = of command k.0 k.2.1
     where

@@ -24,7 +24,7 @@ use Rattle.pt_air.specs.AirOf.{air_of}
 use Rattle.pt_run.specs.declared.fault.Fault.{Fault}
 use Rattle.pt_run.specs.declared.fault.Fault.TheVariants as fault
 use Rattle.pt_run.specs.Causes.{IsCause, Writing}
-use Rattle.pt_run.specs.Auditing.{is_before_log}
+use Rattle.pt_run.specs.Auditing.{is_before_last}
 use Rattle.pt_run.specs.Complete.{CanBegin, FitsClaims, StatusIsMeant}
 use Rattle.pt_run.specs.Headline.{RunWith}
 use Rattle.pt_run.specs.InBounds.{CanReplay, DoAsPaced, IsCompleteInBounds}
@@ -102,7 +102,7 @@ module _ (tells : Contents) (blocks : List Named) (name air : List ℕ) (g : Gra
           let within : platform < length g.platforms = subst (λ (z : Graph). platform < length z.platforms) (same o k) (subst (λ n. platform < n) (went o k).flown.all.count (slice_get_within left.platforms platform view.0 view.1)) in
           by_platform status g xs platform is within over
 
-      unread : (f : Fault) → is_before_log f ≡ true → IsCause f left paced_run tells blocks name r w → StatusIsMeant status g xs
+      unread : (f : Fault) → is_before_last f ≡ true → IsCause f left paced_run tells blocks name r w → StatusIsMeant status g xs
       unread f before k = let (sensor, is, rose) = only_unread tells blocks name g begins left r w f before k in absurd (reads rose)
 
       by_outcome : (o : Option Fault) → status ≡ status_of o left.misses → EndsReplay o left name air log tells blocks r w → StatusIsMeant status g xs

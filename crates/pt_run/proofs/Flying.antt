@@ -43,7 +43,7 @@ use Rattle.pt_run.specs.declared.outcome.Ending.{Ending}
 use Rattle.pt_run.specs.declared.plan_run.RunFault.{RunFault}
 use Rattle.pt_run.specs.declared.plan_run.RunFault.TheVariants as stop
 use Rattle.pt_run.specs.declared.replay.Stopped.{Stopped}
-use Rattle.pt_run.specs.Auditing.{AsksLog, LogFails, PlanWith}
+use Rattle.pt_run.specs.Auditing.{AsksLast, LastFails, PlanWith}
 use Rattle.pt_run.specs.Causes.{Writing}
 use Rattle.pt_run.specs.Faults.{fault_of_air, fault_of_plan, fault_of_rows}
 use Rattle.pt_run.specs.Flown.{CauseOfNoAir, EndsWith, HasFlown, HasReplayed, IsOfReplay, IsRecorded, NamesRow, StopsInAir, StopsReplay, stop_in}
@@ -105,7 +105,7 @@ rows_asked air g (rows.Read sensor) before now h = h
 rows_asked air g (rows.Sensor actor f) before now h = h
 rows_asked air g (rows.Late actor row seen limit) before now h = h
 
-pub air_asked : (air : List ℕ) (g : Graph) (f : AirFault) (before now : Option (List (List ℕ))) → AsksLog air g before now → AsksReplayed (Some (fault_of_air f)) air g before now
+pub air_asked : (air : List ℕ) (g : Graph) (f : AirFault) (before now : Option (List (List ℕ))) → AsksLast air g before now → AsksReplayed (Some (fault_of_air f)) air g before now
 air_asked air g airs.Memory before now h = inr h
 air_asked air g airs.TooLong before now h = h
 air_asked air g airs.Header before now h = h
@@ -186,7 +186,7 @@ module _ (air : List ℕ) (tells : Contents) (p : Parts) (entries : List SensorR
       (over_air air tells p entries recorded (λ q rows recorded. HaveFlown q (level_of q.ranks) rows recorded left.items (Some (platform, turn.Late actor tag reading limit)) × (recorded.breach ≡ Some row)) is (k, breach)))
   flown_stops stop.Memory r k of = subst (λ z. StopsReplay z ps air tells p r) (sym of.0) (of.1, tt)
 
-  pub flown_asked : (f : RunFault) (before now : Option (List (List ℕ))) → StopsInAir f p (rows_of_run p.graph (rows_for entries)) recorded → IsOfReplay f recorded.breach e ps → AsksLog air p.graph before now → AsksReplayed (Some e) air p.graph before now
+  pub flown_asked : (f : RunFault) (before now : Option (List (List ℕ))) → StopsInAir f p (rows_of_run p.graph (rows_for entries)) recorded → IsOfReplay f recorded.breach e ps → AsksLast air p.graph before now → AsksReplayed (Some e) air p.graph before now
   flown_asked (stop.Rows f) before now k of h = absurd k
   flown_asked (stop.Long platform left) before now k of h = subst (λ z. AsksReplayed (Some z) air p.graph before now) (sym of.0) h
   flown_asked (stop.Late platform actor tag reading limit left) before now k (row, breach, is_late, left_are) h = subst (λ z. AsksReplayed (Some z) air p.graph before now) (sym is_late) h
@@ -274,7 +274,7 @@ module _ (air : List ℕ) (log : Bool) (tells : Contents) (g : Graph) (r : Readi
             breach = late.1;
           }) k
       halted (fault.Air f) ps k = ((refl, k.0), over_plan (λ q rows. IfSome (tells air) (λ bytes. air_of q.graph bytes ≡ Err f)) k.1, still)
-      halted fault.ReadAir ps k = ((refl, k.0), over_plan (λ q rows. LogFails q.graph [] air r) k.1, still)
+      halted fault.ReadAir ps k = ((refl, k.0), over_plan (λ q rows. LastFails q.graph [] air r) k.1, still)
       halted (fault.Read (Some actor)) ps k = (refl, (refl, k.0), ((free, (feasible, subst (λ (z : Graph). SensorUnread Refused tells z actor [] r) same k.1, (refl, k.0))), still))
       halted (fault.Sensor actor f) ps k = (refl, (refl, k.0), ((free, (feasible, subst (λ (z : Graph). SensorFails Refused tells z actor f) same k.1, (refl, k.0))), still))
       halted (fault.LateRow actor row seen limit) ps k = (refl, (refl, k.0), ((free, (feasible, subst (λ (z : Graph). SensorLate tells z actor row seen limit) same k.1, (refl, k.0))), still))

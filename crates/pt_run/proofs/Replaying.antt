@@ -13,7 +13,7 @@ use Rattle.pt_air.specs.AirOf.{air_of}
 use Rattle.pt_run.specs.declared.fault.Fault.{Fault}
 use Rattle.pt_run.specs.declared.fault.Fault.TheVariants as fault
 use Rattle.pt_run.specs.declared.outcome.Ending.{Ending}
-use Rattle.pt_run.specs.Auditing.{AsksLog, AsksToLog, LogFails, PlanWith}
+use Rattle.pt_run.specs.Auditing.{AsksLast, AsksToLast, LastFails, PlanWith}
 use Rattle.pt_run.specs.Causes.{CauseOfGraph, Writing}
 use Rattle.pt_run.specs.Headline.{RunWith}
 use Rattle.pt_run.specs.Replaying.{AsksReplay, AsksReplayed, EndsReplay, EndsReplayed, LeavesReplay, OnAir}
@@ -47,7 +47,7 @@ module _ (name air : List ℕ) (log : Bool) (left : Leaves) (tells : Contents) (
   pub ends_replay : start ≤ before → (o : Option Fault) → EndsReplayed o left air log tells g inner w → EndsReplay o left name air log tells blocks outer w
   ends_replay grew o h = by_outcome o h
     where
-      air_fails : (p : Graph) → LogFails p [] air inner → LogFails p (name ∷ []) air outer
+      air_fails : (p : Graph) → LastFails p [] air inner → LastFails p (name ∷ []) air outer
       air_fails p (n, failed) = (n, read_after (name ∷ []) (files_before p n) air first asked now start before last asks grew failed)
 
       refused : (f : Fault) → EndsOver (Some f) left paced_run tells g inner w → EndsBy (Some f) left (Some (paced_run, name)) tells blocks outer w
@@ -59,7 +59,7 @@ module _ (name air : List ℕ) (log : Bool) (left : Leaves) (tells : Contents) (
       by_outcome (Some (fault.Long (Some platform))) k = same_over (OnAir tells air (LeavesReplay log (Some (fault.Long (Some platform))) left w)) k
       by_outcome (Some (fault.LateAir platform actor tag reading limit row)) k = same_over (OnAir tells air (LeavesReplay log (Some (fault.LateAir platform actor tag reading limit row)) left w)) k
       by_outcome (Some (fault.Air f)) k = (k.0, same_over (λ p rows. IfSome (tells air) (λ bytes. air_of p.graph bytes ≡ Err f)) k.1, k.2)
-      by_outcome (Some fault.ReadAir) k = (k.0, over_file (λ p rows. LogFails p.graph [] air inner) (λ p rows. LogFails p.graph (name ∷ []) air outer) (λ p rows failed. air_fails p.graph failed) k.1, k.2)
+      by_outcome (Some fault.ReadAir) k = (k.0, over_file (λ p rows. LastFails p.graph [] air inner) (λ p rows. LastFails p.graph (name ∷ []) air outer) (λ p rows failed. air_fails p.graph failed) k.1, k.2)
       by_outcome (Some fault.Memory) k = k
       by_outcome (Some (fault.Graph f)) k = (k.0, k.1, refused (fault.Graph f) k.2)
       by_outcome (Some (fault.Cycle actors)) k = (k.0, k.1, refused (fault.Cycle actors) k.2)
@@ -74,7 +74,7 @@ module _ (name air : List ℕ) (log : Bool) (left : Leaves) (tells : Contents) (
       by_outcome (Some fault.ReadLog) k = absurd (not_before k.0)
       by_outcome (Some (fault.Unlawful v)) k = absurd (not_before k.0)
 
-  asks_to_air : AsksLog air g asked now → AsksToLog tells blocks name air first now
+  asks_to_air : AsksLast air g asked now → AsksToLast tells blocks name air first now
   asks_to_air (n, k) = (g, read, (n, asks_more first asked now (name ∷ []) (files_before g n ++ air ∷ []) asks k))
 
   in_order : (f : Fault) → EndsOver (Some f) left paced_run tells g inner w → AsksFor paced_run (Some f) g asked now → AsksInOrder (Some f) paced_run tells blocks name first now
@@ -90,7 +90,7 @@ module _ (name air : List ℕ) (log : Bool) (left : Leaves) (tells : Contents) (
   asks_replay (Some fault.Memory) k h =
       ⊎_elim
       (λ (files : AsksFor paced_run (Some fault.Memory) g asked now). inl (inr (inr (g, read, (files.0, asks_more first asked now (name ∷ []) (files_for paced_run (Some fault.Memory) g files.0) asks files.1)))))
-      (λ (all : AsksLog air g asked now). inr (asks_to_air all))
+      (λ (all : AsksLast air g asked now). inr (asks_to_air all))
       h
   asks_replay (Some (fault.Graph f)) k h = in_order (fault.Graph f) k.2 h
   asks_replay (Some (fault.Cycle actors)) k h = in_order (fault.Cycle actors) k.2 h

@@ -53,19 +53,19 @@ IsJudged plan rows bytes v = IsUnlawful plan rows bytes v
 abbrev pub OnLog : Contents → List ℕ → (Parts → (ℕ → List Row) → List ℕ → Type 0) → Parts → (ℕ → List Row) → Type 0
 OnLog tells log Fact plan rows = IfSome (tells log) (Fact plan rows)
 
--- the log could not be read: it was asked for after the files in `others` and files of sensors
-abbrev pub LogFails : Graph → List (List ℕ) → List ℕ → Reading → Type 0
-LogFails g others log r = (n : ℕ) × ReadFails (others ++ files_before g n) log r
+-- the last file, a log or a recording, could not be read: it was asked for after the files in `others` and files of sensors
+abbrev pub LastFails : Graph → List (List ℕ) → List ℕ → Reading → Type 0
+LastFails g others log r = (n : ℕ) × ReadFails (others ++ files_before g n) log r
 
--- a fault that comes before the log is read
-abbrev pub is_before_log : Fault → Bool
-is_before_log (fault.Graph f) = true
-is_before_log (fault.Cycle actors) = true
-is_before_log (fault.Infeasible send offset slack) = true
-is_before_log (fault.Read sensor) = true
-is_before_log (fault.Sensor actor f) = true
-is_before_log (fault.LateRow actor row seen limit) = true
-is_before_log _ = false
+-- a fault that comes before the last file is read
+abbrev pub is_before_last : Fault → Bool
+is_before_last (fault.Graph f) = true
+is_before_last (fault.Cycle actors) = true
+is_before_last (fault.Infeasible send offset slack) = true
+is_before_last (fault.Read sensor) = true
+is_before_last (fault.Sensor actor f) = true
+is_before_last (fault.LateRow actor row seen limit) = true
+is_before_last _ = false
 
 -- how the command ends: with the line `lawful` for a lawful log, of which a prefix is there if a write fails; with the verdict on
 -- any other log; or with no log. The graph file then defines an admitted graph, and its sensors' files have rows, none of which is
@@ -77,22 +77,22 @@ EndsAudit (Some fault.Write) left name log tells blocks r w =
 EndsAudit (Some (fault.Unlawful v)) left name log tells blocks r w =
     HasNothing left × RunWith tells blocks name (OnLog tells log (λ plan rows bytes. IsUnlawful plan rows bytes v)) × (w.written_now ≡ w.written_before)
 EndsAudit (Some fault.ReadLog) left name log tells blocks r w =
-    HasNothing left × RunWith tells blocks name (λ plan rows. LogFails plan.graph (name ∷ []) log r) × (w.written_now ≡ w.written_before)
+    HasNothing left × RunWith tells blocks name (λ plan rows. LastFails plan.graph (name ∷ []) log r) × (w.written_now ≡ w.written_before)
 EndsAudit (Some fault.Memory) left name log tells blocks r w = HasNothing left × (w.written_now ≡ w.written_before)
-EndsAudit (Some f) left name log tells blocks r w = (is_before_log f ≡ true) × HasNothing left × IsCause f left paced_run tells blocks name r w
+EndsAudit (Some f) left name log tells blocks r w = (is_before_last f ≡ true) × HasNothing left × IsCause f left paced_run tells blocks name r w
 
--- the graph file, files of sensors and then the log were asked for
-abbrev pub AsksToLog : Contents → List Named → List ℕ → List ℕ → Option (List (List ℕ)) → Option (List (List ℕ)) → Type 0
-AsksToLog tells blocks name log before now = GraphWith tells blocks name (λ g. (n : ℕ) × Asks before now (name ∷ files_before g n ++ log ∷ []))
+-- the graph file, files of sensors and then the last file were asked for
+abbrev pub AsksToLast : Contents → List Named → List ℕ → List ℕ → Option (List (List ℕ)) → Option (List (List ℕ)) → Type 0
+AsksToLast tells blocks name log before now = GraphWith tells blocks name (λ g. (n : ℕ) × Asks before now (name ∷ files_before g n ++ log ∷ []))
 
 -- the files that an audit asks for: those of a run and, if none of them is refused, the log after them. If memory ran out, the
 -- log may be among them
 abbrev pub AsksAudit : Option Fault → List ℕ → List ℕ → Contents → List Named → Option (List (List ℕ)) → Option (List (List ℕ)) → Type 0
-AsksAudit None name log tells blocks before now = AsksToLog tells blocks name log before now
-AsksAudit (Some fault.Write) name log tells blocks before now = AsksToLog tells blocks name log before now
-AsksAudit (Some (fault.Unlawful v)) name log tells blocks before now = AsksToLog tells blocks name log before now
-AsksAudit (Some fault.ReadLog) name log tells blocks before now = AsksToLog tells blocks name log before now
-AsksAudit (Some fault.Memory) name log tells blocks before now = AsksInOrder (Some fault.Memory) paced_run tells blocks name before now ⊎ AsksToLog tells blocks name log before now
+AsksAudit None name log tells blocks before now = AsksToLast tells blocks name log before now
+AsksAudit (Some fault.Write) name log tells blocks before now = AsksToLast tells blocks name log before now
+AsksAudit (Some (fault.Unlawful v)) name log tells blocks before now = AsksToLast tells blocks name log before now
+AsksAudit (Some fault.ReadLog) name log tells blocks before now = AsksToLast tells blocks name log before now
+AsksAudit (Some fault.Memory) name log tells blocks before now = AsksInOrder (Some fault.Memory) paced_run tells blocks name before now ⊎ AsksToLast tells blocks name log before now
 AsksAudit (Some f) name log tells blocks before now = AsksInOrder (Some f) paced_run tells blocks name before now
 
 -- The same over a graph that was read.
@@ -107,26 +107,26 @@ abbrev pub EndsJudged : Option Fault → Leaves → List ℕ → Contents → Gr
 EndsJudged None left log tells g r w = HasNothing left × PlanWith tells g (OnLog tells log Accepts) × Appends w.written_before w.written_now lawful_line
 EndsJudged (Some fault.Write) left log tells g r w = HasNothing left × PlanWith tells g (OnLog tells log Accepts) × Rose w.before w.now × AppendsPart w.written_before w.written_now lawful_line
 EndsJudged (Some (fault.Unlawful v)) left log tells g r w = HasNothing left × PlanWith tells g (OnLog tells log (λ plan rows bytes. IsUnlawful plan rows bytes v)) × (w.written_now ≡ w.written_before)
-EndsJudged (Some fault.ReadLog) left log tells g r w = HasNothing left × PlanWith tells g (λ plan rows. LogFails plan.graph [] log r) × (w.written_now ≡ w.written_before)
+EndsJudged (Some fault.ReadLog) left log tells g r w = HasNothing left × PlanWith tells g (λ plan rows. LastFails plan.graph [] log r) × (w.written_now ≡ w.written_before)
 EndsJudged (Some fault.Memory) left log tells g r w = HasNothing left × (w.written_now ≡ w.written_before)
-EndsJudged (Some f) left log tells g r w = (is_before_log f ≡ true) × HasNothing left × EndsOver (Some f) left paced_run tells g r w
+EndsJudged (Some f) left log tells g r w = (is_before_last f ≡ true) × HasNothing left × EndsOver (Some f) left paced_run tells g r w
 
--- files of sensors and then the log were asked for
-abbrev pub AsksLog : List ℕ → Graph → Option (List (List ℕ)) → Option (List (List ℕ)) → Type 0
-AsksLog log g before now = (n : ℕ) × Asks before now (files_before g n ++ log ∷ [])
+-- files of sensors and then the last file were asked for
+abbrev pub AsksLast : List ℕ → Graph → Option (List (List ℕ)) → Option (List (List ℕ)) → Type 0
+AsksLast log g before now = (n : ℕ) × Asks before now (files_before g n ++ log ∷ [])
 
 abbrev pub AsksJudged : Option Fault → List ℕ → Graph → Option (List (List ℕ)) → Option (List (List ℕ)) → Type 0
-AsksJudged None log g before now = AsksLog log g before now
-AsksJudged (Some fault.Write) log g before now = AsksLog log g before now
-AsksJudged (Some (fault.Unlawful v)) log g before now = AsksLog log g before now
-AsksJudged (Some fault.ReadLog) log g before now = AsksLog log g before now
-AsksJudged (Some fault.Memory) log g before now = AsksFor paced_run (Some fault.Memory) g before now ⊎ AsksLog log g before now
+AsksJudged None log g before now = AsksLast log g before now
+AsksJudged (Some fault.Write) log g before now = AsksLast log g before now
+AsksJudged (Some (fault.Unlawful v)) log g before now = AsksLast log g before now
+AsksJudged (Some fault.ReadLog) log g before now = AsksLast log g before now
+AsksJudged (Some fault.Memory) log g before now = AsksFor paced_run (Some fault.Memory) g before now ⊎ AsksLast log g before now
 AsksJudged (Some f) log g before now = AsksFor paced_run (Some f) g before now
 
 -- why a log of this plan is refused, or was not read
 abbrev pub CauseOfRefusal : Fault → List ℕ → Contents → Parts → Reading → Type 0
 CauseOfRefusal (fault.Unlawful v) log tells plan r = RunOver tells plan (OnLog tells log (λ plan rows bytes. IsUnlawful plan rows bytes v) plan)
-CauseOfRefusal fault.ReadLog log tells plan r = RunOver tells plan (λ rows. LogFails plan.graph [] log r)
+CauseOfRefusal fault.ReadLog log tells plan r = RunOver tells plan (λ rows. LastFails plan.graph [] log r)
 CauseOfRefusal (fault.Read (Some actor)) log tells plan r = SensorUnread Refused tells plan.graph actor [] r
 CauseOfRefusal (fault.Sensor actor f) log tells plan r = SensorFails Refused tells plan.graph actor f
 CauseOfRefusal (fault.LateRow actor row seen limit) log tells plan r = SensorLate tells plan.graph actor row seen limit

@@ -27,7 +27,7 @@ use Rattle.pt_run.specs.declared.fault.Fault.TheVariants as fault
 use Rattle.pt_run.specs.declared.words.Command.{Command}
 use Rattle.pt_run.specs.declared.words.Command.TheVariants.{Run, Check, Meaning, Slacks}
 use Rattle.pt_run.specs.Causes.{MeansLong, Writing}
-use Rattle.pt_run.specs.Auditing.{Accepts, IsUnlawful, LogFails, OnLog}
+use Rattle.pt_run.specs.Auditing.{Accepts, IsUnlawful, LastFails, OnLog}
 use Rattle.pt_air.specs.declared.fault.AirFault.{AirFault}
 use Rattle.pt_air.specs.AirOf.{air_of}
 use Rattle.pt_run.specs.Headline.{RunWith}
@@ -120,12 +120,12 @@ pub record CauseTable (status : ℕ) (outcome : Option Fault) (left : Leaves) (o
   pub long_meaning : outcome ≡ Some (fault.Long None) → OverGraph order tells blocks (λ command name g. (command ≡ Meaning) × NoFreeCycle g × MeansLong tells g)
   -- the log could not be read; or it is refused by that verdict and no other, and is no lawful log. If the audit of a log writes
   -- all, the log is lawful, and no verdict refuses it
-  pub log_unread : outcome ≡ Some fault.ReadLog → OverLog order (λ name log. RunWith tells blocks name (λ plan rows. LogFails plan.graph (name ∷ []) log r))
+  pub log_unread : outcome ≡ Some fault.ReadLog → OverLog order (λ name log. RunWith tells blocks name (λ plan rows. LastFails plan.graph (name ∷ []) log r))
   pub unlawful : (v : Verdict) → outcome ≡ Some (fault.Unlawful v) → OverLog order (λ name log. RunWith tells blocks name (OnLog tells log (λ plan rows bytes. IsUnlawful plan rows bytes v)))
   pub lawful : (name log : List ℕ) → order ≡ Some (audit name log) → outcome ≡ None → RunWith tells blocks name (OnLog tells log Accepts)
   -- the recording could not be read, or its text has that fault; or the recorded turns of that platform end with that late message,
   -- and that row of the recording is the first that breaks a stated bound
-  pub air_unread : outcome ≡ Some fault.ReadAir → OverAir order (λ name air. RunWith tells blocks name (λ plan rows. LogFails plan.graph (name ∷ []) air r))
+  pub air_unread : outcome ≡ Some fault.ReadAir → OverAir order (λ name air. RunWith tells blocks name (λ plan rows. LastFails plan.graph (name ∷ []) air r))
   pub air : (f : AirFault) → outcome ≡ Some (fault.Air f) → OverAir order (λ name air. RunWith tells blocks name (λ plan rows. IfSome (tells air) (λ bytes. air_of plan.graph bytes ≡ Err f)))
   pub late_air : (platform actor : ℕ) (tag : Tag) (reading limit row : ℕ) → outcome ≡ Some (fault.LateAir platform actor tag reading limit row) →
       OverAir order (λ name air. RunWith tells blocks name (OnAir tells air (λ plan rows recorded. (recorded.breach ≡ Some row) × OnPlatform left plan.graph platform (λ v. ShowsLate plan.graph v.turns actor tag reading limit))))

@@ -23,7 +23,7 @@ use Rattle.pt_run.specs.declared.outcome.Ending.{Ending}
 use Rattle.pt_run.specs.declared.plan_run.RunFault.{RunFault}
 use Rattle.pt_run.specs.declared.plan_run.RunFault.TheVariants as stop
 use Rattle.pt_run.specs.declared.replay.Stopped.{Stopped}
-use Rattle.pt_run.specs.Auditing.{LogFails}
+use Rattle.pt_run.specs.Auditing.{LastFails}
 use Rattle.pt_run.specs.Causes.{Writing}
 use Rattle.pt_run.specs.Replaying.{OnAir}
 use Rattle.pt_run.specs.Runs.{IsTold, RunOver}
@@ -43,7 +43,7 @@ pub record IsRecorded (tells : Contents) (air : List ℕ) (plan : Parts) (entrie
 -- why they are not available
 abbrev pub CauseOfNoAir : Fault → List ℕ → Contents → Parts → Reading → Type 0
 CauseOfNoAir (fault.Air f) air tells plan r = RunOver tells plan (λ rows. IfSome (tells air) (λ bytes. air_of plan.graph bytes ≡ Err f))
-CauseOfNoAir fault.ReadAir air tells plan r = RunOver tells plan (λ rows. LogFails plan.graph [] air r)
+CauseOfNoAir fault.ReadAir air tells plan r = RunOver tells plan (λ rows. LastFails plan.graph [] air r)
 CauseOfNoAir (fault.Read (Some actor)) air tells plan r = SensorUnread Refused tells plan.graph actor [] r
 CauseOfNoAir (fault.Sensor actor f) air tells plan r = SensorFails Refused tells plan.graph actor f
 CauseOfNoAir (fault.LateRow actor row seen limit) air tells plan r = SensorLate tells plan.graph actor row seen limit

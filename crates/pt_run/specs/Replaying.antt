@@ -16,14 +16,15 @@ use Rattle.pt_air.specs.Bounds.{KeepsBounds}
 use Rattle.pt_aired.specs.HaveFlown.{HaveFlown}
 use Rattle.pt_run.specs.declared.fault.Fault.{Fault}
 use Rattle.pt_run.specs.declared.fault.Fault.TheVariants as fault
-use Rattle.pt_run.specs.Auditing.{AsksLog, AsksToLog, LogFails, PlanWith, is_before_log}
+use Rattle.pt_run.specs.Auditing.{AsksLast, AsksToLast, LastFails, PlanWith, is_before_last}
 use Rattle.pt_run.specs.Causes.{IsCause, Writing}
 use Rattle.pt_run.specs.Headline.{PutsMeaning, RunWith}
 use Rattle.pt_run.specs.Texts.{AsksFor, AsksInOrder, EndsOver}
 use Rattle.pt_run.specs.Words.{Order, paced_run, replay}
 use Rattle.pt_run.specs.Written.{HasNothing, Leaves}
 
--- the file `air`, if its content is known, says these lags and transits of the plan's graph, and a fact holds of them
+-- the file `air`, if its content is known, says these lags and transits of the plan's graph, and a fact holds of the plan, of the
+-- rows and of them
 pub record OnAir (tells : Contents) (air : List ℕ) (Fact : Parts → (ℕ → List Row) → Air → Type 0) (plan : Parts) (rows : ℕ → List Row) : Type 0 where
   pub recorded : Air
   pub file : IfSome (tells air) (λ bytes. air_of plan.graph bytes ≡ Ok recorded)
@@ -73,9 +74,9 @@ EndsInAir With Refused others (Some fault.Write) left air log tells r w = Rose w
 EndsInAir With Refused others (Some (fault.Long (Some platform))) left air log tells r w = With (OnAir tells air (LeavesReplay log (Some (fault.Long (Some platform))) left w))
 EndsInAir With Refused others (Some (fault.LateAir platform actor tag reading limit row)) left air log tells r w = With (OnAir tells air (LeavesReplay log (Some (fault.LateAir platform actor tag reading limit row)) left w))
 EndsInAir With Refused others (Some (fault.Air f)) left air log tells r w = HasNothing left × With (λ plan rows. IfSome (tells air) (λ bytes. air_of plan.graph bytes ≡ Err f)) × (w.written_now ≡ w.written_before)
-EndsInAir With Refused others (Some fault.ReadAir) left air log tells r w = HasNothing left × With (λ plan rows. LogFails plan.graph others air r) × (w.written_now ≡ w.written_before)
+EndsInAir With Refused others (Some fault.ReadAir) left air log tells r w = HasNothing left × With (λ plan rows. LastFails plan.graph others air r) × (w.written_now ≡ w.written_before)
 EndsInAir With Refused others (Some fault.Memory) left air log tells r w = HasNothing left × (w.written_now ≡ w.written_before)
-EndsInAir With Refused others (Some f) left air log tells r w = (is_before_log f ≡ true) × HasNothing left × Refused f
+EndsInAir With Refused others (Some f) left air log tells r w = (is_before_last f ≡ true) × HasNothing left × Refused f
 
 -- how a replay over the graph file with this name ends
 abbrev pub EndsReplay : Option Fault → Leaves → List ℕ → List ℕ → Bool → Contents → List Named → Reading → Writing → Type 0
@@ -88,24 +89,24 @@ EndsReplayed outcome left air log tells g r w = EndsInAir (PlanWith tells g) (λ
 -- the graph file, the sensors' files and then the file `air` were asked for: if the replay ran, or that file was refused or could
 -- not be read. If memory ran out, it may be among them
 abbrev pub AsksReplay : Option Fault → List ℕ → List ℕ → Contents → List Named → Option (List (List ℕ)) → Option (List (List ℕ)) → Type 0
-AsksReplay None name air tells blocks before now = AsksToLog tells blocks name air before now
-AsksReplay (Some fault.Write) name air tells blocks before now = AsksToLog tells blocks name air before now
-AsksReplay (Some (fault.Long (Some platform))) name air tells blocks before now = AsksToLog tells blocks name air before now
-AsksReplay (Some (fault.LateAir platform actor tag reading limit row)) name air tells blocks before now = AsksToLog tells blocks name air before now
-AsksReplay (Some (fault.Air f)) name air tells blocks before now = AsksToLog tells blocks name air before now
-AsksReplay (Some fault.ReadAir) name air tells blocks before now = AsksToLog tells blocks name air before now
-AsksReplay (Some fault.Memory) name air tells blocks before now = AsksInOrder (Some fault.Memory) paced_run tells blocks name before now ⊎ AsksToLog tells blocks name air before now
+AsksReplay None name air tells blocks before now = AsksToLast tells blocks name air before now
+AsksReplay (Some fault.Write) name air tells blocks before now = AsksToLast tells blocks name air before now
+AsksReplay (Some (fault.Long (Some platform))) name air tells blocks before now = AsksToLast tells blocks name air before now
+AsksReplay (Some (fault.LateAir platform actor tag reading limit row)) name air tells blocks before now = AsksToLast tells blocks name air before now
+AsksReplay (Some (fault.Air f)) name air tells blocks before now = AsksToLast tells blocks name air before now
+AsksReplay (Some fault.ReadAir) name air tells blocks before now = AsksToLast tells blocks name air before now
+AsksReplay (Some fault.Memory) name air tells blocks before now = AsksInOrder (Some fault.Memory) paced_run tells blocks name before now ⊎ AsksToLast tells blocks name air before now
 AsksReplay (Some f) name air tells blocks before now = AsksInOrder (Some f) paced_run tells blocks name before now
 
 -- the same over a graph that was read
 abbrev pub AsksReplayed : Option Fault → List ℕ → Graph → Option (List (List ℕ)) → Option (List (List ℕ)) → Type 0
-AsksReplayed None air g before now = AsksLog air g before now
-AsksReplayed (Some fault.Write) air g before now = AsksLog air g before now
-AsksReplayed (Some (fault.Long (Some platform))) air g before now = AsksLog air g before now
-AsksReplayed (Some (fault.LateAir platform actor tag reading limit row)) air g before now = AsksLog air g before now
-AsksReplayed (Some (fault.Air f)) air g before now = AsksLog air g before now
-AsksReplayed (Some fault.ReadAir) air g before now = AsksLog air g before now
-AsksReplayed (Some fault.Memory) air g before now = AsksFor paced_run (Some fault.Memory) g before now ⊎ AsksLog air g before now
+AsksReplayed None air g before now = AsksLast air g before now
+AsksReplayed (Some fault.Write) air g before now = AsksLast air g before now
+AsksReplayed (Some (fault.Long (Some platform))) air g before now = AsksLast air g before now
+AsksReplayed (Some (fault.LateAir platform actor tag reading limit row)) air g before now = AsksLast air g before now
+AsksReplayed (Some (fault.Air f)) air g before now = AsksLast air g before now
+AsksReplayed (Some fault.ReadAir) air g before now = AsksLast air g before now
+AsksReplayed (Some fault.Memory) air g before now = AsksFor paced_run (Some fault.Memory) g before now ⊎ AsksLast air g before now
 AsksReplayed (Some f) air g before now = AsksFor paced_run (Some f) g before now
 
 -- what holds of each replay that the words ask for: of what it leaves, if it ran; else it leaves nothing and nothing is written

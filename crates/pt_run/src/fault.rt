@@ -47,7 +47,7 @@ pub enum Fault {
         limit: u64,
     },
     /// A message for this receiver at this tag was late on this platform: its last reading was `reading`, past `limit`, the
-    /// tag's time plus the link's bound. Its recorded turns end with it. Never in a paced run.
+    /// tag's time plus the receiver's bound. Its recorded turns end with it. Never in a paced run.
     LateMessage {
         platform: u32,
         actor: u32,
@@ -56,7 +56,7 @@ pub enum Fault {
         limit: u64,
     },
     /// In a replay a message for this receiver at this tag was late on this platform: its last reading was `reading`, past
-    /// `limit`, the tag's time plus the link's bound. Its recorded turns end with it. Row `row`, from 1, of the recording is the
+    /// `limit`, the tag's time plus the receiver's bound. Its recorded turns end with it. Row `row`, from 1, of the recording is the
     /// first that breaks a stated bound.
     LateAir {
         platform: u32,

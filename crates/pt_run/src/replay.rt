@@ -35,7 +35,7 @@ use std::sync::Arc;
 
 /// The rows of a plan's sensors, and the recording of its network.
 #[derive(Drop)]
-struct Recorded {
+struct Inputs {
     entries: Vec<SensorRows>,
     air: Air,
 }
@@ -48,10 +48,11 @@ struct Stopped {
 }
 
 /// Runs the graph in the file with this name over the files of its sensors, with the lags of clocks and the transits of messages
-/// that the file `air` says, and writes what a run writes.
+/// that the file `air` says, in microseconds, and writes the tables of its actuators and, if `log` is true, its log.
 ///
 /// No clock is read. Before the file `air`, the graph file and the sensors' files are read and refused as in a paced run, late rows
-/// included. The number of workers, 1 to 64, has no effect.
+/// included. Then the fault is `ReadAir` or `Air` for that file, `LateAir` for a message that was late, `Long` for a platform that
+/// needed too many claims, `Write` or `Memory`. Nothing depends on the number of workers, 1 to 64.
 pub fn replay<S: Source, K: Sink, E: Sink>(
     alloc: Global,
     name: &str,
@@ -127,14 +128,14 @@ fn replay_of<S: Source>(
         (record { asked_before = S.asked source.old; asked_now = S.asked source.new; before = S.faults source.old; now = S.faults source.new })) }
     ensures asks { AsksReplayed (stop_in result) air.now (arc_value plan.now).graph (S.asked source.old) (S.asked source.new) }
 {
-    let Recorded { entries, air } = match recording(alloc, plan, air, source) {
+    let Inputs { entries, air } = match read_inputs(alloc, plan, air, source) {
         Ok(recorded) => recorded,
         Err(fault) => {
             let platforms = Vec::new(alloc);
             return Err(Stopped { fault, platforms });
         }
     };
-    match fly(alloc, plan, entries, &air, workers, log, blocks) {
+    match run_over_air(alloc, plan, entries, &air, workers, log, blocks) {
         Ok(ran) => Ok(ran),
         Err(fault) => Err(stopped_by(alloc, fault, air.breach)),
     }
@@ -146,7 +147,7 @@ fn recording<S: Source>(
     plan: &Arc<Plan>,
     air: &str,
     source: &mut S,
-) -> Result<Recorded, Fault>
+) -> Result<Inputs, Fault>
     ensures recorded { IfOk result (λ found. IsRecorded (S.tells source.old) air.now (arc_value plan.now) found.entries.items found.air) }
     ensures fault { IfErr result (λ f. CauseOfNoAir f air.now (S.tells source.old) (arc_value plan.now)
         (record { asked_before = S.asked source.old; asked_now = S.asked source.new; before = S.faults source.old; now = S.faults source.new })) }
@@ -162,13 +163,13 @@ fn recording<S: Source>(
         Err(FetchFault::Memory) => return Err(Fault::Memory),
     };
     match read_air(alloc, bytes.as_slice(), plan.graph()) {
-        Ok(air) => Ok(Recorded { entries, air }),
+        Ok(air) => Ok(Inputs { entries, air }),
         Err(fault) => Err(fault_of_air(fault)),
     }
 }
 
 /// Runs a plan over these rows with these lags and transits, and returns its outputs.
-fn fly(
+fn run_over_air(
     alloc: Global,
     plan: &Arc<Plan>,
     entries: Vec<SensorRows>,

@@ -123,7 +123,7 @@ abbrev pub replay_of : Said → Option Request
 replay_of words =
     if length words.clocks == 0 then option_and_then (λ pair. option_and_then (λ workers. option_map (λ log. replay pair.0 pair.1 workers log) (log_in words.logs)) (workers_in words.workers)) (pair_in words.graphs) else None
 
--- the request of a command with its one positional word: only runs have options
+-- the request of a command with its one positional word: of these only `run` and `make` have options
 abbrev pub request_over : Command → Said → List ℕ → Option Request
 request_over Run words graph = run_of words graph
 request_over Check words graph = if is_bare words then Some (check graph) else None

@@ -15,7 +15,7 @@ use Rattle.pt_air.specs.Bounds.{KeepsBounds}
 use Rattle.pt_run.specs.Flown.{CauseOfNoAir}
 use Rattle.pt_run.proofs.Auditing.{log_asked, unread_log, with_rows}
 use Rattle.pt_run.proofs.Flying.{air_cause, air_of-fetched}
-use Rattle.pt_run.proofs.replay.recording.Goals as goal
+use Rattle.pt_run.proofs.replay.read_inputs.Goals as goal
 
 pub returns-in-Err-Failed-clause-fault : goal.returns-in-Err-Failed-clause-fault
 returns-in-Err-Failed-clause-fault g c =
