@@ -3,6 +3,7 @@ pub mod Closing
 pub mod Ended
 pub mod Ending
 pub mod Falling
+pub mod OneReplay
 pub mod Quiet
 pub mod Replays
 pub mod Sound

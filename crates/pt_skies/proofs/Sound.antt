@@ -6,7 +6,7 @@ use Rattle.pt_types.specs.declared.graph.Graph.{Graph}
 use Rattle.pt_types.specs.declared.graph.Link.{Link}
 use Rattle.pt_types.specs.declared.rows.Row.{Row}
 use Rattle.pt_types.specs.Lookups.{platform_of}
-use Rattle.pt_semantics.specs.Closing.{Sends, on_link}
+use Rattle.pt_semantics.specs.Closing.{on_link}
 use Rattle.pt_semantics.specs.Entering.{after_rows}
 use Rattle.pt_semantics.specs.History.{Legal}
 use Rattle.pt_semantics.specs.Kept.{IsSingle}

@@ -2,6 +2,7 @@
 
 ghost use Rattle.pt_skies.specs.Between.{FlightsKeep, ReplaysAreLegal};
 ghost use Rattle.pt_skies.specs.Ending.{QuietEndsReplay, ReplaysBegin, ReplaysEnd};
+ghost use Rattle.pt_skies.specs.OneReplay.{ReplaysAreOne};
 ghost use Rattle.pt_skies.specs.Times.{ArrivalsNeverFall, HappensLater, TimeNeverFalls};
 
 /// Between any two flights of a replayed run the turns so far are legal, and what was sent on a link was taken or is on its
@@ -29,6 +30,12 @@ pub fn quiet_rounds_end_replays()
 /// that only posts and one that is quiet.
 pub fn replays_end()
     ensures { ReplaysEnd }
+{}
+
+/// What a replayed run does is a function of the graph, its rows and the recording: two whole replayed runs have the same states,
+/// turns and messages, and the same faults, even if a message was late.
+pub fn replays_agree()
+    ensures { ReplaysAreOne }
 {}
 
 /// After a quiet round of a replayed run all that can still happen is later, so the next round is later.

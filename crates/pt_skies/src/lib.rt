@@ -8,5 +8,5 @@ mod laws;
 
 pub use laws::{
     arrivals_never_fall, flights_keep, quiet_rounds_end_replays, quiet_rounds_leave_what_is_later,
-    replayed_histories_are_legal, replays_begin, replays_end, true_time_never_falls,
+    replayed_histories_are_legal, replays_agree, replays_begin, replays_end, true_time_never_falls,
 };
