@@ -16,7 +16,7 @@ use Rattle.pt_skies.specs.Sky.{AllFinished, CanHappen, Sky, sky_at_start}
 abbrev pub ReplaysBegin : Type 0
 ReplaysBegin = (g : Graph) (air : Air) (rows : ℕ → List Row) → IsWired g → 0 < length g.platforms → (time : ℕ) × CanHappen g air (sky_at_start g rows) time
 
--- a replay has no more rounds than a paced run
+-- a replay keeps to the bound on the number of rounds that a paced run keeps to
 abbrev pub ReplaysEnd : Type 0
 ReplaysEnd = (g : Graph) (level : ℕ → ℕ) (air : Air) (rows : ℕ → List Row) (rounds : List (List Made)) (now : ℕ) (x : Sky) →
     IsWired g → AreLevels g level → FitRows g rows → IsReplay g level air rows rounds now x → length rounds ≤ most_rounds g rows
