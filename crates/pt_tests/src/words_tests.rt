@@ -230,7 +230,13 @@ fn a_replay_has_a_recording_and_the_options_of_a_paced_run(rt: HostRuntime) -> R
         })
     };
     assert!(rt; gives(alloc, "replay g.json air.csv", replay("air.csv", 4, false))?);
-    assert!(rt; gives(alloc, "replay --log g.json air.csv", replay("air.csv", 4, true))?);
+    assert!(rt;
+        gives(
+            alloc,
+            "replay --log g.json air.csv",
+            replay("air.csv", 4, true)
+        )?
+    );
     assert!(rt;
         gives(
             alloc,
