@@ -142,7 +142,7 @@ fn replay_of<S: Source>(
 }
 
 /// Reads the rows of a plan's sensors and then the file `air`.
-fn recording<S: Source>(
+fn read_inputs<S: Source>(
     alloc: Global,
     plan: &Arc<Plan>,
     air: &str,
