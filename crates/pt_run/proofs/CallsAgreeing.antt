@@ -37,7 +37,7 @@ use Rattle.pt_run.proofs.RunsAgreeing.{runs_agree, texts_agree}
 use Rattle.pt_run.proofs.StepsAgreeing.{step_runs}
 
 -- a file that is told
-of_bytes : (told : Option (List ℕ)) (bytes : List ℕ) (Fact : List ℕ → Type 0) → told ≡ Some bytes → IfSome told Fact → Fact bytes
+pub of_bytes : (told : Option (List ℕ)) (bytes : List ℕ) (Fact : List ℕ → Type 0) → told ≡ Some bytes → IfSome told Fact → Fact bytes
 of_bytes None bytes Fact e h = absurd (none_some bytes e)
 of_bytes (Some b) bytes Fact e h = subst Fact (same_some b bytes e) h
 

@@ -37,3 +37,4 @@ pub mod OwnClocks
 pub mod OneStop
 pub mod StepsAgreeing
 pub mod CallsAgreeing
+pub mod ReplaysAgreeing

@@ -81,7 +81,7 @@ stop_alike (m ∷ []) (Some f) None h k = absurd (false≢true (sym k ∙ h.1))
 stop_alike (m ∷ []) (Some f) (Some e) h k = (sym h.0 ∙ k.0, sym h.2 ∙ k.2)
 stop_alike (m ∷ n ∷ ms) fault stop h k = stop_alike (n ∷ ms) fault stop h k
 
-turns_of : (platforms : List PlatformView) (i : ℕ) (v : PlatformView) → slice_get platforms i ≡ Some v → histories_of platforms i ≡ v.turns
+pub turns_of : (platforms : List PlatformView) (i : ℕ) (v : PlatformView) → slice_get platforms i ≡ Some v → histories_of platforms i ≡ v.turns
 turns_of platforms i v at = ap (λ (o : Option PlatformView). unwrap_or (option_map (λ (v : PlatformView). v.turns) o) []) at
 
 -- they have the same fault, if their histories are the same

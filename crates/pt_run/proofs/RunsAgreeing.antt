@@ -85,7 +85,7 @@ runs_agree tells c d plan other platforms others fault stop one two same told h 
     (agree.0, same_stop plan other (of_run plan.graph h.rows) (of_run other.graph k.rows) platforms others fault stop (h.went.paced one) (k.went.paced two) agree.1)
 
 -- the histories one by one are the list of them
-same_list : (ps os : List PlatformView) → length ps ≡ length os → ((i : ℕ) → histories_of ps i ≡ histories_of os i) → histories ps ≡ histories os
+pub same_list : (ps os : List PlatformView) → length ps ≡ length os → ((i : ℕ) → histories_of ps i ≡ histories_of os i) → histories ps ≡ histories os
 same_list [] [] e h = refl
 same_list [] (w ∷ os) e h = absurd (omega (arith, e))
 same_list (v ∷ ps) [] e h = absurd (omega (arith, e))
@@ -96,11 +96,11 @@ same_list (v ∷ ps) (w ∷ os) e h =
     λ i. first i ∷ rest i
 
 -- what platforms of one graph missed is told by their histories
-by_histories : (g : Graph) (ps : List PlatformView) → ((i : ℕ) (v : PlatformView) → slice_get ps i ≡ Some v → v.plan.graph ≡ g) → flat_map missed_by ps ≡ flat_map (missed_of g) (histories ps)
+pub by_histories : (g : Graph) (ps : List PlatformView) → ((i : ℕ) (v : PlatformView) → slice_get ps i ≡ Some v → v.plan.graph ≡ g) → flat_map missed_by ps ≡ flat_map (missed_of g) (histories ps)
 by_histories g [] are = refl
 by_histories g (v ∷ ps) are = ap₂ (λ a b. a ++ b) (ap (λ z. missed_of z v.turns) (are 0 v refl)) (by_histories g ps (λ i w at. are (suc i) w at))
 
-same_log : (log : Bool) (g : Graph) (ps os : List PlatformView) → histories ps ≡ histories os → log_if log g ps ≡ log_if log g os
+pub same_log : (log : Bool) (g : Graph) (ps os : List PlatformView) → histories ps ≡ histories os → log_if log g ps ≡ log_if log g os
 same_log true g ps os same = ap (log_text g) same
 same_log false g ps os same = refl
 

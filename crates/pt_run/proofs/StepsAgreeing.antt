@@ -34,7 +34,7 @@ use Rattle.pt_run.proofs.RunsAgreeing.{same_rows, texts_agree}
 by_steps : (c : Clocking) (start step : ℕ) (plan : Parts) (rows : ℕ → List Row) (platforms : List PlatformView) (fault : Option (ℕ × TurnFault)) → c.choice ≡ Step start step → ReadBy c plan rows platforms fault → ReadBySteps start step plan rows platforms fault
 by_steps c start step plan rows platforms fault e read = subst (λ choice. ReadAs choice c plan rows platforms fault) e read
 
-none_past : (platforms : List PlatformView) (i : ℕ) → length platforms ≤ i → histories_of platforms i ≡ []
+pub none_past : (platforms : List PlatformView) (i : ℕ) → length platforms ≤ i → histories_of platforms i ≡ []
 none_past platforms i le = ap (λ (o : Option PlatformView). unwrap_or (option_map (λ (v : PlatformView). v.turns) o) []) (slice_get_past platforms i le)
 
 both : (a b c d : List ℕ) → a ≡ c → b ≡ d → AreOfOneClock c d → AreOfOneClock a b

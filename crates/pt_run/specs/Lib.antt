@@ -22,6 +22,7 @@ pub mod CauseTable
 pub mod Exact
 pub mod RunsAgreeing
 pub mod CallsAgreeing
+pub mod ReplaysAgreeing
 pub mod Runs
 pub mod Readings
 pub mod Went

@@ -11,6 +11,7 @@ ghost use Rattle.pt_run.specs.LawfulRuns.{
   ReplaysWriteLawfulLogs,
   RunsWriteLawfulLogs,
 };
+ghost use Rattle.pt_run.specs.ReplaysAgreeing.{ReplayCallsAgree, ReplaysAgree};
 ghost use Rattle.pt_run.specs.SlackRuns.{SlackRoundsMissNothing, SlackRunsMissNothing};
 
 /// What a paced run must write and what it leaves is a function of the graph file and the files of its sensors.
@@ -39,6 +40,14 @@ pub fn written_logs_are_lawful()
     ensures finished { FinishedRunsAreLawful }
     ensures written { RunsWriteLawfulLogs }
     ensures replayed { ReplaysWriteLawfulLogs }
+{}
+
+/// What a replay does is a function of the graph file, the files of its sensors and the recording, late messages included: two
+/// calls of `replay` that ran over the same files leave the same histories, whatever the number of workers. Both finish or are
+/// stopped by the same platform; and if both end without a fault, they miss the same entries and write the same tables.
+pub fn replays_agree()
+    ensures replays { ReplaysAgree }
+    ensures calls { ReplayCallsAgree }
 {}
 
 /// A replay whose recording breaks no stated bound does what the paced run does: no message is late, each claim is made at its

@@ -1,4 +1,4 @@
-use Rattle.std.proofs.Common.{◌≡◌, ℕ, List, refl, take, sym, subst, ◌∙◌}
+use Rattle.std.proofs.Common.{ℕ, List, refl, take, sym, subst, ◌∙◌}
 use Rattle.std.proofs.lemmas.Bool.{false≢true}
 use Rattle.std.specs.Arc.{arc_value}
 use Rattle.pt_offsets.specs.Plans.{Parts}
