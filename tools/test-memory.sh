@@ -133,7 +133,7 @@ try_memory() { # WHAT WORD..
 }
 
 try_files() { # WHAT WORD..
-    local way read_fault='7 none other: read fault: (graph|sensor [A-Za-z0-9_]+|log)' most stride
+    local way read_fault='7 none other: read fault: (graph|sensor [A-Za-z0-9_]+|log|air)' most stride
     most=$(most_for "$1")
     stride=$(((counts[2] + most - 1) / most))
     for way in EACCES EMFILE ENOMEM; do
