@@ -27,6 +27,7 @@ impl Reader<'_> {
         self.at += 1;
         let start = self.at;
         while self.bytes[self.at] != b'"' {
+            assert!(self.bytes[self.at] != b'\\', "a text with an escape");
             self.at += 1;
         }
         self.at += 1;
@@ -79,6 +80,11 @@ impl Json {
     pub fn get(&self, name: &str) -> &Json {
         let Json::Members(members) = self else { panic!("no object with {name}") };
         &members[name]
+    }
+
+    pub fn names(&self) -> impl Iterator<Item = &str> {
+        let Json::Members(members) = self else { panic!("no object") };
+        members.keys().map(String::as_str)
     }
 
     pub fn list(&self) -> &[Json] {

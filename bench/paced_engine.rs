@@ -1,6 +1,6 @@
 //! What `ptides run` computes, as a plain program: platforms that go on in rounds at one common reading, with turns, claims, links
-//! and kept turns. It reads graphs of version 1 without faults whose senders can send in time and whose rows come in time, keeps
-//! to one thread, and proves nothing.
+//! and kept turns. It reads graphs of version 1 without faults, keeps to one thread, and proves nothing. Graphs of version 2 and fields
+//! in quotes are refused by name; senders that can't send in time, late rows and runs that are too long with the line of `ptides`.
 //!
 //!     paced_engine GRAPH [--records] [--log]
 //!
@@ -10,25 +10,21 @@
 //! Each input has a queue of its events, which come in the order of their tags, and each actor its least tag. A claim neither
 //! frees nor blocks another, so all safe actors of a turn are found at once: by comparing pairs where few actors have work, and
 //! else by one pass over the wires.
+mod history;
 mod json;
 mod plan;
 mod program;
 
+use history::{Claim, History, Message, Result, Task};
 use plan::{Plan, NEVER};
-use program::{Inputs, Kind, Program, Row, Tables, Tag};
+use program::{Actor, Inputs, Kind, Outcome, Program, Refusal, Row, Tables, Tag};
 use std::collections::VecDeque;
-use std::fmt::Write;
+use std::process::ExitCode;
 
 /// How many units a turn claims, and how many messages a link holds.
 const MOST: usize = 64;
 /// How many units a platform claims.
 const LIMIT: usize = 200_000;
-
-#[derive(Clone, Copy)]
-enum Message {
-    Event(Tag, i64),
-    End,
-}
 
 /// What waits for an actor, its least tag, and the tag of its open claim; and whether its platform lists it as active.
 struct Inbox {
@@ -64,12 +60,6 @@ impl Inbox {
     }
 }
 
-#[derive(Clone, Copy)]
-struct Claim {
-    actor: usize,
-    tag: Tag,
-}
-
 /// A fired claim, by its number. No actor of version 1 gives more than two outputs at once.
 #[derive(Clone, Copy)]
 struct Done {
@@ -77,79 +67,6 @@ struct Done {
     state: i64,
     outputs: [(usize, i64); 2],
     count: usize,
-}
-
-/// What a history keeps of a claim and of a result where all is kept.
-#[allow(dead_code)]
-struct Task {
-    number: u64,
-    claim: Claim,
-    inputs: [Option<i64>; 8],
-    state: i64,
-}
-
-#[allow(dead_code)]
-struct Result {
-    task: Task,
-    state: i64,
-    outputs: [Option<i64>; 8],
-}
-
-/// How much of each list of a history stands before the end of a turn.
-#[derive(Clone, Copy, Default, PartialEq)]
-struct Ends {
-    posts: usize,
-    rows: usize,
-    takes: usize,
-    claims: usize,
-    sent: usize,
-}
-
-struct Turn {
-    first: u64,
-    last: u64,
-    count: u64,
-    quiet: bool,
-    ends: Ends,
-}
-
-#[derive(Default)]
-struct History {
-    turns: Vec<Turn>,
-    posts: Vec<usize>,
-    rows: Vec<(usize, Row)>,
-    takes: Vec<(usize, Message)>,
-    claims: Vec<Claim>,
-    sent: Vec<(usize, Message)>,
-    tasks: Vec<Task>,
-    results: Vec<Result>,
-}
-
-impl History {
-    fn ends(&self) -> Ends {
-        Ends {
-            posts: self.posts.len(),
-            rows: self.rows.len(),
-            takes: self.takes.len(),
-            claims: self.claims.len(),
-            sent: self.sent.len(),
-        }
-    }
-
-    /// Keeps a turn. The one before it joins a run of quiet turns where both are quiet.
-    fn keep(&mut self, reading: u64, before: Ends) {
-        let ends = self.ends();
-        let turn = Turn { first: reading, last: reading, count: 1, quiet: ends == before, ends };
-        if let [.., run, last] = &mut self.turns[..] {
-            if run.quiet && last.quiet {
-                run.last = last.last;
-                run.count += last.count;
-                *last = turn;
-                return;
-            }
-        }
-        self.turns.push(turn);
-    }
 }
 
 struct Platform {
@@ -178,8 +95,21 @@ struct Engine<'a> {
     safe: Vec<(Tag, usize)>,
 }
 
+/// The rows of an actor, if each is seen within the bound.
+fn rows_in_time(program: &Program, actor: usize) -> Outcome<VecDeque<Row>> {
+    let rows = program.rows(actor)?;
+    let Actor { name, kind, .. } = &program.actors[actor];
+    if let Kind::Sensor { bound, .. } = kind {
+        if let Some((row, number)) = rows.iter().zip(1..).find(|(row, _)| row.seen > row.time + bound) {
+            let line = format!("late {name} row {number}, seen {} past {}", row.seen, row.time + bound);
+            return Err(Refusal { status: 4, line });
+        }
+    }
+    Ok(rows.into())
+}
+
 impl<'a> Engine<'a> {
-    fn new(plan: &'a Plan<'a>, records: bool) -> Engine<'a> {
+    fn new(plan: &'a Plan<'a>, records: bool) -> Outcome<Engine<'a>> {
         let program = plan.program;
         let inbox = |inputs| Inbox { queues: vec![VecDeque::new(); inputs], least: NEVER, open: NEVER, listed: false };
         let platform = || Platform {
@@ -196,7 +126,7 @@ impl<'a> Engine<'a> {
             platforms: (0..program.platforms.len()).map(|_| platform()).collect(),
             inboxes: program.actors.iter().map(|actor| inbox(actor.inputs)).collect(),
             states: program.start_states(),
-            rows: (0..program.actors.len()).map(|actor| program.rows(actor).into()).collect(),
+            rows: (0..program.actors.len()).map(|actor| rows_in_time(program, actor)).collect::<Outcome<_>>()?,
             outboxes: vec![VecDeque::new(); program.links.len()],
             links: vec![VecDeque::new(); program.links.len()],
             tables: Tables::new(program),
@@ -209,7 +139,7 @@ impl<'a> Engine<'a> {
                 engine.insert(actor, 0, Tag::at(start), 0);
             }
         }
-        engine
+        Ok(engine)
     }
 
     fn insert(&mut self, actor: usize, input: usize, tag: Tag, value: i64) {
@@ -235,18 +165,18 @@ impl<'a> Engine<'a> {
         at.closed && at.ends_taken == parts.incoming.len() && parts.outgoing.iter().all(sent)
     }
 
-    fn run(&mut self) {
+    fn run(&mut self) -> Outcome<()> {
         let all = 0..self.platforms.len();
         let mut reading = all.clone().map(|platform| self.next_reading(platform)).min().unwrap();
         loop {
             let mut moved = false;
             for platform in all.clone() {
                 if !self.is_finished(platform) {
-                    moved |= self.turn(platform, reading);
+                    moved |= self.turn(platform, reading)?;
                 }
             }
             if all.clone().all(|platform| self.is_finished(platform)) {
-                return;
+                return Ok(());
             }
             if !moved {
                 let open = all.clone().filter(|platform| !self.platforms[*platform].closed);
@@ -256,20 +186,20 @@ impl<'a> Engine<'a> {
     }
 
     /// Makes a turn, fires what it claims, and says whether anything happened.
-    fn turn(&mut self, platform: usize, reading: u64) -> bool {
+    fn turn(&mut self, platform: usize, reading: u64) -> Outcome<bool> {
         let before = self.platforms[platform].history.ends();
         let was_closed = self.platforms[platform].closed;
         if self.may_move(platform, reading) {
             self.post(platform, reading);
             self.enter(platform, reading);
             self.take(platform);
-            self.claim(platform, reading);
+            self.claim(platform, reading)?;
             self.close(platform, reading);
             self.send(platform, reading);
         }
         let at = &mut self.platforms[platform];
         at.history.keep(reading, before);
-        at.closed != was_closed || at.history.ends() != before
+        Ok(at.closed != was_closed || at.history.ends() != before)
     }
 
     /// Whether something can happen: a result or a message is there, or the next reading has come.
@@ -384,24 +314,28 @@ impl<'a> Engine<'a> {
         self.safe = safe;
     }
 
-    fn claim(&mut self, platform: usize, reading: u64) {
+    fn claim(&mut self, platform: usize, reading: u64) -> Outcome<()> {
         if self.platforms[platform].active.is_empty() {
-            return;
+            return Ok(());
         }
         self.find_safe(platform, reading);
-        for index in 0..self.safe.len().min(MOST) {
+        let left = LIMIT - self.platforms[platform].history.claims.len();
+        if left == 0 && !self.safe.is_empty() {
+            return Err(Refusal { status: 6, line: format!("long {}", self.plan.program.platforms[platform]) });
+        }
+        for index in 0..self.safe.len().min(MOST).min(left) {
             let actor = self.safe[index].1;
             let (tag, inputs) = self.inboxes[actor].take();
             self.inboxes[actor].open = tag;
             self.fire(platform, Claim { actor, tag }, inputs);
         }
+        Ok(())
     }
 
     fn fire(&mut self, platform: usize, claim: Claim, inputs: Inputs) {
         let kind = &self.plan.program.actors[claim.actor].kind;
         let history = &mut self.platforms[platform].history;
         let number = history.claims.len();
-        assert!(number < LIMIT, "long");
         let before = self.states[claim.actor];
         let mut done = Done { number, state: before, outputs: [(0, 0); 2], count: 0 };
         kind.fire(&mut done.state, &inputs, |output, value| {
@@ -453,56 +387,26 @@ impl<'a> Engine<'a> {
     fn log(&self) -> String {
         let mut text = String::from("log\n");
         for (name, platform) in self.plan.program.platforms.iter().zip(&self.platforms) {
-            self.push_log(&mut text, name, &platform.history).unwrap();
+            platform.history.push_log(&mut text, self.plan.program, name).unwrap();
         }
         text
     }
-
-    fn push_log(&self, text: &mut String, platform: &str, history: &History) -> std::fmt::Result {
-        let name = |actor: usize| &self.plan.program.actors[actor].name;
-        let mut from = Ends::default();
-        for Turn { first, last, count, ends, .. } in &history.turns {
-            writeln!(text, "turn,{platform},{first},{last},{count}")?;
-            for number in &history.posts[from.posts..ends.posts] {
-                writeln!(text, "post,{number}")?;
-            }
-            for (sensor, row) in &history.rows[from.rows..ends.rows] {
-                writeln!(text, "row,{},{},{},{}", name(*sensor), row.time, row.seen, row.value)?;
-            }
-            for (receiver, message) in &history.takes[from.takes..ends.takes] {
-                push_message(text, "take", name(*receiver), message)?;
-            }
-            for (number, claim) in (from.claims..ends.claims).zip(&history.claims[from.claims..]) {
-                writeln!(text, "claim,{number},{},{},{}", name(claim.actor), claim.tag.time, claim.tag.step)?;
-            }
-            for (sender, message) in &history.sent[from.sent..ends.sent] {
-                push_message(text, "sent", name(*sender), message)?;
-            }
-            from = *ends;
-        }
-        Ok(())
-    }
 }
 
-fn push_message(text: &mut String, what: &str, actor: &str, message: &Message) -> std::fmt::Result {
-    match message {
-        Message::Event(tag, value) => writeln!(text, "{what},{actor},{},{},{value}", tag.time, tag.step),
-        Message::End => writeln!(text, "{what},{actor},end"),
-    }
-}
-
-fn main() {
+fn run() -> Outcome<u8> {
     let words: Vec<String> = std::env::args().skip(1).collect();
     let has = |option: &str| words.iter().any(|word| word == option);
-    let program = Program::read(words.iter().find(|word| !word.starts_with('-')).expect("paced_engine GRAPH"));
-    let plan = Plan::new(&program);
-    let mut engine = Engine::new(&plan, has("--records"));
-    engine.run();
+    let program = Program::read(words.iter().find(|word| !word.starts_with('-')).expect("paced_engine GRAPH"))?;
+    let plan = Plan::new(&program)?;
+    let mut engine = Engine::new(&plan, has("--records"))?;
+    engine.run()?;
     print!("{}", engine.tables.text(&program));
     if has("--log") {
         print!("{}", engine.log());
     }
-    if engine.missed > 0 {
-        std::process::exit(5);
-    }
+    Ok(if engine.missed > 0 { 5 } else { 0 })
+}
+
+fn main() -> ExitCode {
+    program::ended(run())
 }

@@ -1,5 +1,5 @@
 //! What a plain paced engine knows of a graph before it runs: bounds, offsets, least delays and the parts of each platform.
-use crate::program::{Kind, Program, Tag};
+use crate::program::{Kind, Outcome, Program, Refusal, Tag};
 
 /// A tag after all others.
 pub const NEVER: Tag = Tag { time: u64::MAX, step: u64::MAX };
@@ -93,7 +93,7 @@ fn bounds(program: &Program) -> Vec<Option<u64>> {
 }
 
 impl Plan<'_> {
-    pub fn new(program: &Program) -> Plan<'_> {
+    pub fn new(program: &Program) -> Outcome<Plan<'_>> {
         let actors = &program.actors;
         let mut targets: Vec<Vec<Vec<(usize, usize)>>> = actors.iter().map(|actor| vec![Vec::new(); actor.outputs]).collect();
         let mut feeds = vec![Vec::new(); actors.len()];
@@ -114,7 +114,7 @@ impl Plan<'_> {
         let (order, has_cycles) = in_order(&feeds, &targets);
         let parts = |platform| Parts::new(program, &order, &bounds, platform);
         let outputs = |actor: usize| (0..actors[actor].outputs).map(|output| program.delay(actor, output)).collect();
-        Plan {
+        let plan = Plan {
             offsets: least.iter().map(offset).collect(),
             delays: (0..actors.len()).map(outputs).collect(),
             platforms: (0..program.platforms.len()).map(parts).collect(),
@@ -124,7 +124,22 @@ impl Plan<'_> {
             least,
             link_of,
             has_cycles,
+        };
+        plan.can_send()?;
+        Ok(plan)
+    }
+
+    /// Refuses the first sender that can't send in time.
+    fn can_send(&self) -> Outcome<()> {
+        for (actor, offset) in self.program.actors.iter().zip(&self.offsets) {
+            if let (Kind::Send { slack }, Some(offset)) = (&actor.kind, offset) {
+                if *offset >= *slack as i64 {
+                    let line = format!("graph: infeasible {}, offset {offset}, slack {slack}", actor.name);
+                    return Err(Refusal { status: 2, line });
+                }
+            }
         }
+        Ok(())
     }
 
     /// The reading at which an actor may fire at a tag.

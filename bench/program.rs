@@ -2,6 +2,29 @@
 use crate::json::Json;
 use std::collections::HashMap;
 
+/// Why a plain program doesn't run a graph, as one line, and the status with which it then ends: those of `ptides` where it refuses
+/// the same, and 1 for what only the plain program doesn't take.
+pub struct Refusal {
+    pub status: u8,
+    pub line: String,
+}
+
+pub type Outcome<T> = Result<T, Refusal>;
+
+/// Gives the status of a program, and writes the line of a refusal.
+pub fn ended(result: Outcome<u8>) -> std::process::ExitCode {
+    result
+        .unwrap_or_else(|refusal| {
+            eprintln!("{}", refusal.line);
+            refusal.status
+        })
+        .into()
+}
+
+fn not_taken<T>(what: impl std::fmt::Display) -> Outcome<T> {
+    Err(Refusal { status: 1, line: format!("not taken: {what}") })
+}
+
 /// A time in microseconds and a step.
 #[derive(Clone, Copy, PartialEq, Eq, PartialOrd, Ord)]
 pub struct Tag {
@@ -128,15 +151,15 @@ fn scaled(a: i64, num: i64, den: i64) -> i64 {
     }
 }
 
-fn block(name: &str) -> fn(i64, i64) -> i64 {
-    match name {
+fn block(name: &str) -> Outcome<fn(i64, i64) -> i64> {
+    Ok(match name {
         "least" => |a, b| a.min(b),
         "greatest" => |a, b| a.max(b),
         "clip100" => |a, _| a.clamp(-100, 100),
         "dead5" => |a, b| if a.abs_diff(b) <= 5 { 0 } else { a.saturating_sub(b) },
         "mean" => |a, b| nearest((i128::from(a) + i128::from(b)) / 2),
-        _ => panic!("no block {name}"),
-    }
+        _ => return not_taken(format_args!("block {name}")),
+    })
 }
 
 impl Kind {
@@ -208,20 +231,26 @@ impl Kind {
     }
 }
 
-fn machine_row(row: &Json) -> MachineRow {
+/// Refuses an object that has other members than these, so that none is read past.
+fn has_only(value: &Json, known: &[&str]) -> Outcome<()> {
+    value.names().find(|name| !known.contains(name)).map_or(Ok(()), |name| not_taken(format_args!("member {name}")))
+}
+
+fn machine_row(row: &Json) -> Outcome<MachineRow> {
+    has_only(row, &["state", "low", "high", "next", "emit"])?;
     let emit = match row.get("emit") {
         Json::List(emit) => Some((emit[0].number() as usize, emit[1].number())),
         _ => None,
     };
     let number = |member| row.get(member).number();
-    MachineRow { state: number("state"), low: number("low"), high: number("high"), next: number("next"), emit }
+    Ok(MachineRow { state: number("state"), low: number("low"), high: number("high"), next: number("next"), emit })
 }
 
 /// The kind of an actor with its numbers of inputs and outputs.
-fn kind(actor: &Json) -> (Kind, usize, usize) {
+fn kind(actor: &Json) -> Outcome<(Kind, usize, usize)> {
     let number = |member| actor.get(member).number();
     let time = |member| actor.get(member).time();
-    match actor.get("kind").text() {
+    Ok(match actor.get("kind").text() {
         "sensor" => (Kind::Sensor { file: actor.get("file").text().to_owned(), bound: time("bound") }, 1, 1),
         "receive" => (Kind::Receive, 1, 1),
         "send" => (Kind::Send { slack: time("slack") }, 1, 1),
@@ -237,18 +266,39 @@ fn kind(actor: &Json) -> (Kind, usize, usize) {
         "sum" => (Kind::Sum, 1, 1),
         "latch" => (Kind::Latch, 2, 1),
         "machine" => {
-            let rows = actor.get("rows").list().iter().map(machine_row).collect();
+            let rows = actor.get("rows").list().iter().map(machine_row).collect::<Outcome<_>>()?;
             (Kind::Machine { start: number("start"), rows }, 1, number("outputs") as usize)
         }
         "every" => (Kind::Every { start: time("start"), period: time("period") }, 1, 2),
-        "block" => (Kind::Block(block(actor.get("block").text())), 2, 1),
-        other => panic!("no kind {other}"),
-    }
+        "block" => (Kind::Block(block(actor.get("block").text())?), 2, 1),
+        other => return not_taken(format_args!("kind {other}")),
+    })
+}
+
+/// A whole number of decimal digits. Fields in quotes, which few files have, are none.
+fn number(field: &[u8]) -> Option<i64> {
+    let (digits, sign) = field.strip_prefix(b"-").map_or((field, 1), |digits| (digits, -1));
+    let with_digit = |number: i64, digit: &u8| match digit {
+        b'0'..=b'9' => number.checked_mul(10)?.checked_add(sign * i64::from(digit - b'0')),
+        _ => None,
+    };
+    digits.iter().try_fold(0, with_digit).filter(|_| !digits.is_empty())
+}
+
+fn row(line: &[u8]) -> Option<Row> {
+    let mut fields = line.split(|byte| *byte == b',').map(number);
+    let mut next = || fields.next().flatten();
+    let row = Row { time: next()?.try_into().ok()?, seen: next()?.try_into().ok()?, value: next()? };
+    fields.next().is_none().then_some(row)
 }
 
 impl Program {
-    pub fn read(path: &str) -> Program {
+    pub fn read(path: &str) -> Outcome<Program> {
         let graph = Json::read(path);
+        if graph.get("ptides").number() != 1 {
+            return not_taken(format_args!("version {}", graph.get("ptides").number()));
+        }
+        has_only(&graph, &["ptides", "until", "clock_error", "platforms", "actors", "wires", "links"])?;
         let names = |list: &[Json]| -> HashMap<String, usize> {
             list.iter().enumerate().map(|(number, name)| (name.text().to_owned(), number)).collect()
         };
@@ -258,7 +308,7 @@ impl Program {
         let mut wires = Vec::new();
         for actor in graph.get("actors").list() {
             let name = actor.get("name").text().to_owned();
-            let (kind, inputs, outputs) = kind(actor);
+            let (kind, inputs, outputs) = kind(actor)?;
             let number = actors.len();
             if matches!(kind, Kind::Every { .. }) {
                 wires.push(Edge { from: number, output: 1, to: number, input: 0 });
@@ -276,14 +326,14 @@ impl Program {
             let edge = Edge { from: number(link.get("from")), output: 0, to: number(link.get("to")), input: 0 };
             Link { edge, delay: link.get("delay").time() }
         });
-        Program {
+        Ok(Program {
             until: graph.get("until").time(),
             clock_error: graph.get("clock_error").time(),
             platforms: graph.get("platforms").list().iter().map(|name| name.text().to_owned()).collect(),
             links: links.collect(),
             actors,
             wires,
-        }
+        })
     }
 
     /// What an output adds to a tag.
@@ -332,23 +382,21 @@ impl Program {
         ranks
     }
 
-    /// The rows of an actor up to the horizon; of one that is no sensor, none.
-    pub fn rows(&self, actor: usize) -> Vec<Row> {
-        let Kind::Sensor { file, .. } = &self.actors[actor].kind else { return Vec::new() };
+    /// The rows of an actor up to the horizon; of one that is no sensor, none. Records end at a line feed, at a carriage return, or at
+    /// both, and blank ones don't count.
+    pub fn rows(&self, actor: usize) -> Outcome<Vec<Row>> {
+        let Kind::Sensor { file, .. } = &self.actors[actor].kind else { return Ok(Vec::new()) };
         let text = std::fs::read(file).unwrap();
-        let number = |field: &[u8]| {
-            let (digits, sign) = field.strip_prefix(b"-").map_or((field, 1), |digits| (digits, -1));
-            sign * digits.iter().fold(0, |number, digit| number * 10 + i64::from(digit - b'0'))
-        };
+        let lines = text.split(|byte| matches!(byte, b'\n' | b'\r')).filter(|line| !line.is_empty());
         let mut rows = Vec::new();
-        for line in text.split(|byte| *byte == b'\n').skip(1).filter(|line| !line.is_empty()) {
-            let mut fields = line.split(|byte| *byte == b',').map(number);
-            let (Some(time), Some(seen), Some(value)) = (fields.next(), fields.next(), fields.next()) else { panic!() };
-            if time as u64 <= self.until {
-                rows.push(Row { time: time as u64, seen: seen as u64, value });
+        for (line, number) in lines.skip(1).zip(1..) {
+            match row(line) {
+                Some(row) if row.time <= self.until => rows.push(row),
+                Some(_) => {}
+                None => return not_taken(format_args!("row {number} of sensor {}", self.actors[actor].name)),
             }
         }
-        rows
+        Ok(rows)
     }
 }
 

@@ -247,8 +247,10 @@ def write(graph, folder):
             file.writelines(",".join(map(str, row)) + end for row in rows)
 
 
-def make(seed, folder):
+def make(seed, folder, version=None):
+    """Writes the graph of a seed. If it is asked for version 1 the graph is of that version, unless it has too many actors for it."""
     graph = Graph(random.Random(seed))
+    graph.version = version or graph.version
     build(graph)
     set_slacks(graph)
     if graph.pick.random() < 1 / 16:

@@ -121,6 +121,46 @@ class Explain(Case):
         self.assertEqual((done.status, first_place(done.output)), (7, ("graph.json:5:68", '"sped.csv"')))
         self.assertIn("did you mean `speed.csv`?", done.output)
 
+    def test_late_messages(self) -> None:
+        """Of a message that is late by a clock: what its bound is made of, and clocks and delays that are enough, which is tried."""
+        folder = copied(EXAMPLES / "clocks", self.folder)
+        for clock, line, helps in [("step:0:196", "late down at 1500.0, reading 1960 past 1950", ["`--clock step:0:98`", "a delay of 410 for this link takes this message"]),
+                                   ("step:0:1000", "late down at 1500.0, reading 5000 past 1950", ["`--clock step:0:125`", "a delay of 3450 "]),
+                                   ("step:1000000:1", "late down at 1500.0, reading 1000003 past 1950", ["`--clock step:0:1`", "a delay of 998453 "])]:
+            with self.subTest(clock=clock):
+                done = companion("explain", "graph.json", "--clock", clock, folder=folder)
+                self.assertEqual((done.status, done.output.split("\n")[0], first_place(done.output)), (4, f"error: {line}", ("graph.json:8:11", '"down"')))
+                for text in [*helps, "`panel` had read ", "the bound of `down` is 450", " --> graph.json:7:57\n", " --> graph.json:16:44\n", " --> graph.json:1:40\n"]:
+                    self.assertIn(text, done.output)
+                self.try_helps(folder, done.output, clock, line)
+        # A margin of 0 and a bound of 0 leave no time for a visit.
+        text = (folder / "graph.json").read_text().replace('"clock_error":50', '"clock_error":0').replace('"delay":400', '"delay":0').replace('"d":500', '"d":201')
+        done = companion("explain", "run", "/dev/stdin", "--clock", "step:0:100", folder=folder, given=text)
+        self.assertIn("the bound of `down` is 0", done.output)
+        self.assertIn("no STEP from this one down to 1 was found", done.output)
+
+    def try_helps(self, folder: Path, output: str, clock: str, line: str) -> None:
+        """With the clock that is named no message is late, and with the delay this one isn't."""
+        better, status = re.search(r"with `--clock (\S+)` no message is late: `run` then answers (\d)", output).groups()
+        self.assertEqual(ptides("run", "graph.json", "--clock", better, folder=folder).status, int(status))
+        text = (folder / "graph.json").read_text().replace('"delay":400', '"delay":' + re.search(r"a delay of (\d+) for", output)[1])
+        self.assertNotEqual(ptides("run", "/dev/stdin", "--clock", clock, folder=folder, given=text).notes.split()[:4], line.split()[:4])
+
+    def test_lines_of_late_messages(self) -> None:
+        """The same for the line of an earlier run, by the machine's clock or one that isn't named; a line of another graph isn't explained."""
+        folder, line = EXAMPLES / "clocks", "late down at 1500.0, reading 1960 past 1950"
+        for words, text in [(["run", "graph.json", "--clock=machine"], "is it busy, or do firings take long?"), (["graph.json"], "platforms look too seldom"),
+                            (["run", "--clock", "step:7:1960", "graph.json"], "with `--clock step:7:")]:
+            with self.subTest(words=words):
+                done = companion("explain", "--line", line, *words, folder=folder)
+                self.assertEqual((done.status, first_place(done.output)), (0, ("graph.json:8:11", '"down"')))
+                self.assertIn(text, done.output)
+        for other in (line.replace("1950", "1951"), line.replace("down", "up"), line.replace("1960", "1950"), "graph: infeasible nobody, offset 1, slack 0"):
+            with self.subTest(line=other):
+                done = companion("explain", "--line", other, "graph.json", folder=folder)
+                self.assertEqual((done.status, done.notes), (0, ""))
+                self.assertIn("the files don't have this fault now", done.output)
+
     # Of lines on the air file of `refused/late_message`: another text of it, the line, the place, what is underlined, and words.
     AIRS = [("time,seen,value\n", "air: header", "1:1", "time,seen,value", ["this is a sensor file"]), ("", "air: header", "1:1", "", ["the file is empty"]),
             ("lag,q,5\n", "air: header", "1:1", "lag,q,5", ["the header is missing"]), ("What,Name,Value\n", "air: header", "1:1", "What,Name,Value", ["small letters"]),
