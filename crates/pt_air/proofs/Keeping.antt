@@ -18,9 +18,9 @@ use Rattle.pt_semantics.specs.Lists.{Each}
 use Rattle.pt_air.specs.declared.row.AirRow.{AirRow}
 use Rattle.pt_air.specs.declared.row.Subject.{Subject}
 use Rattle.pt_air.specs.declared.row.Subject.TheVariants as subject
-use Rattle.pt_air.specs.AirOf.{air_with, lag_in, lags_of, time_of, transits_on}
-use Rattle.pt_air.specs.Bounds.{KeepsBounds, apart_on, breach_of, breaks, breaks_error, error_on, has_end, time_breaks}
-use Rattle.pt_air.specs.Rows.{is_lag_of, is_link, is_platform, is_transit_on}
+use Rattle.pt_air.specs.AirOf.{air_with, lag_in, lags_of, time_of, row_transits}
+use Rattle.pt_air.specs.Bounds.{KeepsBounds, apart_on, breach_of, breaks, breaks_error, error_on, is_link_of, time_breaks}
+use Rattle.pt_air.specs.Rows.{is_lag_of, is_link, is_subject, is_transit_on}
 
 none_from : {X : Type 0} (p : X → Bool) (k : ℕ) (xs : List X) → position_from p k xs ≡ None → Each (λ x. p x ≡ false) xs
 none_from p k [] h = tt
@@ -49,7 +49,7 @@ link_is : (l : ℕ) (s : Subject) → is_link l s ≡ true → s ≡ subject.Lin
 link_is l (subject.Platform p) h = absurd cc
 link_is l (subject.Link k) h = ap subject.Link (grind (arith, nat_tests))
 
-platform_is : (p : ℕ) (s : Subject) → is_platform p s ≡ true → s ≡ subject.Platform p
+platform_is : (p : ℕ) (s : Subject) → is_subject p s ≡ true → s ≡ subject.Platform p
 platform_is p (subject.Platform q) h = ap subject.Platform (grind (arith, nat_tests))
 platform_is p (subject.Link l) h = absurd cc
 
@@ -65,12 +65,12 @@ within g lags l link time s at is h =
     ltb-false link.delay time found
 
 transits_within : (g : Graph) (lags : List ℕ) (l : ℕ) (link : Link) (rows : List AirRow) → slice_get g.links l ≡ Some link
-    → Each (λ r. breaks g lags r ≡ false) rows → All (λ t. t ≤ link.delay) (transits_on rows l)
+    → Each (λ r. breaks g lags r ≡ false) rows → All (λ t. t ≤ link.delay) (row_transits rows l)
 transits_within g lags l link [] at h = All-nil (λ t. t ≤ link.delay)
 transits_within g lags l link (r ∷ rows) at h = by_test (is_transit_on l r) refl (transits_within g lags l link rows at h.1)
   where
-    by_test : (b : Bool) → is_transit_on l r ≡ b → All (λ t. t ≤ link.delay) (transits_on rows l) → All (λ t. t ≤ link.delay) (map time_of (cond b (r ∷ filter (is_transit_on l) rows) (filter (is_transit_on l) rows)))
-    by_test true is rest = All-cons (λ t. t ≤ link.delay) r.time (transits_on rows l) (within g lags l link r.time r.subject at (link_is l r.subject is) h.0) rest
+    by_test : (b : Bool) → is_transit_on l r ≡ b → All (λ t. t ≤ link.delay) (row_transits rows l) → All (λ t. t ≤ link.delay) (map time_of (cond b (r ∷ filter (is_transit_on l) rows) (filter (is_transit_on l) rows)))
+    by_test true is rest = All-cons (λ t. t ≤ link.delay) r.time (row_transits rows l) (within g lags l link r.time r.subject at (link_is l r.subject is) h.0) rest
     by_test false is rest = rest
 
 -- a lag that is not 0 is in a row
@@ -100,7 +100,7 @@ lag_breaks : (g : Graph) (lags : List ℕ) (p time : ℕ) (s : Subject) → s �
 lag_breaks g lags p time s is h = sym (ap (time_breaks g lags time) is) ∙ h
 
 -- a link whose clocks are too far apart has a row that breaks its bound, if a lag of its platforms isn't 0
-caught : (g : Graph) (lags : List ℕ) (p l : ℕ) (link : Link) → slice_get g.links l ≡ Some link → has_end g p link ≡ true
+caught : (g : Graph) (lags : List ℕ) (p l : ℕ) (link : Link) → slice_get g.links l ≡ Some link → is_link_of g p link ≡ true
     → nat_lt (error_on g link) (apart_on g lags link) ≡ true → HasLag (λ r. breaks g lags r ≡ false) p → ⊥
 caught g lags p l link at end far lag =
     let quiet = lag_breaks g lags p lag.row.time lag.row.subject lag.of lag.good in
@@ -108,14 +108,14 @@ caught g lags p l link at end far lag =
     let loud = any_passes_from_place (breaks_error g lags p) g.links l link at both in
     cc
 
-from_end : (g : Graph) (link : Link) → has_end g (platform_of g link.from) link ≡ true
+from_end : (g : Graph) (link : Link) → is_link_of g (platform_of g link.from) link ≡ true
 from_end g link = ap (λ b. b || platform_of g link.to == platform_of g link.from) (eq-eqb (platform_of g link.from) (platform_of g link.from) refl)
 
 or_true : (b : Bool) → (b || true) ≡ true
 or_true true = refl
 or_true false = refl
 
-to_end : (g : Graph) (link : Link) → has_end g (platform_of g link.to) link ≡ true
+to_end : (g : Graph) (link : Link) → is_link_of g (platform_of g link.to) link ≡ true
 to_end g link = ap (λ b. (platform_of g link.from == platform_of g link.to) || b) (eq-eqb (platform_of g link.to) (platform_of g link.to) refl) ∙ or_true (platform_of g link.from == platform_of g link.to)
 
 above : (a b : ℕ) → nat_lt a b ≡ true → 0 < b
@@ -135,7 +135,7 @@ lag_within g rows l link at h = by_test (nat_lt (error_on g link) (apart_on g la
     lags : List ℕ
     lags = lags_of g rows
 
-    with_lag : (p : ℕ) → has_end g p link ≡ true → nat_lt (error_on g link) (apart_on g lags link) ≡ true → 0 < get_or lags p 0 → ⊥
+    with_lag : (p : ℕ) → is_link_of g p link ≡ true → nat_lt (error_on g link) (apart_on g lags link) ≡ true → 0 < get_or lags p 0 → ⊥
     with_lag p end far more = caught g lags p l link at end far (lag_row (λ r. breaks g lags r ≡ false) p rows (lag_there rows (length g.platforms) p more) h)
 
     by_more : nat_lt (error_on g link) (apart_on g lags link) ≡ true → (0 < get_or lags (platform_of g link.from) 0) ⊎ (0 < get_or lags (platform_of g link.to) 0) → apart_on g lags link ≤ error_on g link
@@ -147,8 +147,8 @@ lag_within g rows l link at h = by_test (nat_lt (error_on g link) (apart_on g la
     by_test false is = ltb-false (error_on g link) (apart_on g lags link) is
 
 transits_at : (g : Graph) (rows : List AirRow) (l : ℕ) (link : Link) → slice_get g.links l ≡ Some link
-    → slice_index_or (map (transits_on rows) (range_with_len 0 (length g.links))) l [] ≡ transits_on rows l
-transits_at g rows l link at = get_or-map-range_with_len (transits_on rows) 0 (length g.links) l l [] (slice_get_within g.links l link at) (omega arith)
+    → slice_index_or (map (row_transits rows) (range_with_len 0 (length g.links))) l [] ≡ row_transits rows l
+transits_at g rows l link at = get_or-map-range_with_len (row_transits rows) 0 (length g.links) l l [] (slice_get_within g.links l link at) (omega arith)
 
 keeps : (g : Graph) (rows : List AirRow) → breach_of g (lags_of g rows) rows ≡ None → KeepsBounds g (air_with g rows)
 keeps g rows h =
@@ -174,29 +174,29 @@ abbrev LagsKept : Graph → List ℕ → Type 0
 LagsKept g lags = (l : ℕ) (link : Link) → slice_get g.links l ≡ Some link → apart_on g lags link ≤ error_on g link
 
 abbrev TransitsKept : Graph → List AirRow → Type 0
-TransitsKept g rows = (l : ℕ) (link : Link) → slice_get g.links l ≡ Some link → All (λ t. t ≤ link.delay) (transits_on rows l)
+TransitsKept g rows = (l : ℕ) (link : Link) → slice_get g.links l ≡ Some link → All (λ t. t ≤ link.delay) (row_transits rows l)
 
 time_keeps : (g : Graph) (lags : List ℕ) (time : ℕ) (s : Subject) → LagsKept g lags
     → ((l : ℕ) (link : Link) → slice_get g.links l ≡ Some link → s ≡ subject.Link l → time ≤ link.delay) → time_breaks g lags time s ≡ false
 time_keeps g lags time (subject.Platform p) kept below =
     any_none (breaks_error g lags p) g.links
-    (λ i link at. ap (λ b. has_end g p link && b) (not_above (error_on g link) (apart_on g lags link) (kept i link at)) ∙ and_false (has_end g p link))
+    (λ i link at. ap (λ b. is_link_of g p link && b) (not_above (error_on g link) (apart_on g lags link) (kept i link at)) ∙ and_false (is_link_of g p link))
 time_keeps g lags time (subject.Link l) kept below = by_link (slice_get g.links l) (λ link at. below l link at refl)
   where
     by_link : (o : Option Link) → ((link : Link) → o ≡ Some link → time ≤ link.delay) → unwrap_or (option_map (λ (link : Link). nat_lt link.delay time) o) false ≡ false
     by_link None h = refl
     by_link (Some link) h = not_above link.delay time (h link refl)
 
-first_kept : (d l : ℕ) (r : AirRow) (rows : List AirRow) → r.subject ≡ subject.Link l → All (λ t. t ≤ d) (transits_on (r ∷ rows) l) → r.time ≤ d
+first_kept : (d l : ℕ) (r : AirRow) (rows : List AirRow) → r.subject ≡ subject.Link l → All (λ t. t ≤ d) (row_transits (r ∷ rows) l) → r.time ≤ d
 first_kept d l r rows is h =
     let yes : is_transit_on l r ≡ true = ap (is_link l) is ∙ link_itself l in
-    All-head (λ t. t ≤ d) r.time (transits_on rows l) (subst (λ b. All (λ t. t ≤ d) (map time_of (cond b (r ∷ filter (is_transit_on l) rows) (filter (is_transit_on l) rows)))) yes h)
+    All-head (λ t. t ≤ d) r.time (row_transits rows l) (subst (λ b. All (λ t. t ≤ d) (map time_of (cond b (r ∷ filter (is_transit_on l) rows) (filter (is_transit_on l) rows)))) yes h)
 
-rest_kept : (d l : ℕ) (r : AirRow) (rows : List AirRow) → All (λ t. t ≤ d) (transits_on (r ∷ rows) l) → All (λ t. t ≤ d) (transits_on rows l)
+rest_kept : (d l : ℕ) (r : AirRow) (rows : List AirRow) → All (λ t. t ≤ d) (row_transits (r ∷ rows) l) → All (λ t. t ≤ d) (row_transits rows l)
 rest_kept d l r rows h = by_test (is_transit_on l r) h
   where
-    by_test : (b : Bool) → All (λ t. t ≤ d) (map time_of (cond b (r ∷ filter (is_transit_on l) rows) (filter (is_transit_on l) rows))) → All (λ t. t ≤ d) (transits_on rows l)
-    by_test true all = All-tail (λ t. t ≤ d) r.time (transits_on rows l) all
+    by_test : (b : Bool) → All (λ t. t ≤ d) (map time_of (cond b (r ∷ filter (is_transit_on l) rows) (filter (is_transit_on l) rows))) → All (λ t. t ≤ d) (row_transits rows l)
+    by_test true all = All-tail (λ t. t ≤ d) r.time (row_transits rows l) all
     by_test false all = all
 
 rows_keep : (g : Graph) (lags : List ℕ) (rows : List AirRow) → LagsKept g lags → TransitsKept g rows → Each (λ r. breaks g lags r ≡ false) rows

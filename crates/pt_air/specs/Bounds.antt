@@ -20,12 +20,12 @@ abbrev pub apart_on : Graph → List ℕ → Link → ℕ
 apart_on g lags link = abs_diff (slice_index lags (platform_of g link.from)) (slice_index lags (platform_of g link.to))
 
 -- the link leads to or from platform p
-abbrev pub has_end : Graph → ℕ → Link → Bool
-has_end g p link = platform_of g link.from == p || platform_of g link.to == p
+abbrev pub is_link_of : Graph → ℕ → Link → Bool
+is_link_of g p link = platform_of g link.from == p || platform_of g link.to == p
 
 -- the lag of platform p breaks the clock error of a link
 abbrev pub breaks_error : Graph → List ℕ → ℕ → Link → Bool
-breaks_error g lags p link = has_end g p link && nat_lt (error_on g link) (apart_on g lags link)
+breaks_error g lags p link = is_link_of g p link && nat_lt (error_on g link) (apart_on g lags link)
 
 -- a time, of this subject, breaks a stated bound
 abbrev pub time_breaks : Graph → List ℕ → ℕ → Subject → Bool

@@ -5,16 +5,16 @@ use Rattle.pt_air.specs.declared.fault.AirFault.{AirFault}
 use Rattle.pt_air.specs.declared.fault.AirFault.TheVariants as fault
 
 -- the text of a fault
-abbrev pub fault_text : AirFault → List ℕ
-fault_text fault.Memory = codes "memory"
-fault_text fault.TooLong = codes "too long"
-fault_text fault.Header = codes "header"
-fault_text (fault.Form n) = codes "form at row " ++ decimal n
-fault_text (fault.Unknown n) = codes "unknown at row " ++ decimal n
-fault_text (fault.Number n) = codes "number at row " ++ decimal n
-fault_text (fault.Repeated n) = codes "repeated at row " ++ decimal n
-fault_text fault.TooManyRows = codes "too many rows"
+abbrev pub air_fault_text : AirFault → List ℕ
+air_fault_text fault.Memory = codes "memory"
+air_fault_text fault.TooLong = codes "too long"
+air_fault_text fault.Header = codes "header"
+air_fault_text (fault.Form n) = codes "form at row " ++ decimal n
+air_fault_text (fault.Unknown n) = codes "unknown at row " ++ decimal n
+air_fault_text (fault.Number n) = codes "number at row " ++ decimal n
+air_fault_text (fault.Repeated n) = codes "repeated at row " ++ decimal n
+air_fault_text fault.TooManyRows = codes "too many rows"
 
 -- the line for a fault
-abbrev pub fault_line : AirFault → List ℕ
-fault_line e = codes "air: " ++ fault_text e ++ 10 ∷ []
+abbrev pub air_fault_line : AirFault → List ℕ
+air_fault_line e = codes "air: " ++ air_fault_text e ++ 10 ∷ []

@@ -20,16 +20,16 @@ abbrev pub ◌>>=◌ : {A B : Type 0} → Result A AirFault → (A → Result B 
 (Err e) >>= f = Err e
 
 -- a value, or else the fault
-abbrev pub or_fault : {A : Type 0} → AirFault → Option A → Result A AirFault
-or_fault e None = Err e
-or_fault e (Some x) = Ok x
+abbrev pub or_air_fault : {A : Type 0} → AirFault → Option A → Result A AirFault
+or_air_fault e None = Err e
+or_air_fault e (Some x) = Ok x
 
 -- the titles of the three columns
-abbrev pub are_titles : Cells → Bool
-are_titles c = bytes_eq c.0 (codes "what") && bytes_eq c.1 (codes "name") && bytes_eq c.2 (codes "value")
+abbrev pub are_air_titles : Cells → Bool
+are_air_titles c = bytes_eq c.0 (codes "what") && bytes_eq c.1 (codes "name") && bytes_eq c.2 (codes "value")
 
-abbrev pub is_header : List (List ℕ) → Bool
-is_header fields = unwrap_or (option_map are_titles (cells fields)) false
+abbrev pub is_air_header : List (List ℕ) → Bool
+is_air_header fields = unwrap_or (option_map are_air_titles (cells fields)) false
 
 abbrev pub is_lag : Cells → Bool
 is_lag c = bytes_eq c.0 (codes "lag")
@@ -58,9 +58,9 @@ abbrev pub subject_of : Graph → Cells → Option Subject
 subject_of g c = if is_lag c then option_map subject.Platform (platform_named g c.1) else option_map subject.Link (link_named g c.1)
 
 -- the subject is platform p
-abbrev pub is_platform : ℕ → Subject → Bool
-is_platform p (subject.Platform q) = q == p
-is_platform p (subject.Link l) = false
+abbrev pub is_subject : ℕ → Subject → Bool
+is_subject p (subject.Platform q) = q == p
+is_subject p (subject.Link l) = false
 
 -- the subject is link l
 abbrev pub is_link : ℕ → Subject → Bool
@@ -69,7 +69,7 @@ is_link l (subject.Link k) = k == l
 
 -- the row is the lag of platform p
 abbrev pub is_lag_of : ℕ → AirRow → Bool
-is_lag_of p row = is_platform p row.subject
+is_lag_of p row = is_subject p row.subject
 
 -- the row is a transit on link l
 abbrev pub is_transit_on : ℕ → AirRow → Bool
@@ -81,9 +81,9 @@ is_repeated before (subject.Platform p) = list_any (is_lag_of p) before
 is_repeated before (subject.Link l) = false
 
 -- row number n, or its first fault; the rows before it are known
-unfoldable pub row_of : Graph → ℕ → List AirRow → List (List ℕ) → Result AirRow AirFault
-row_of g n before fields = do
-  three ← or_fault (fault.Form n) (option_and_then formed (cells fields))
-  subject ← or_fault (fault.Unknown n) (subject_of g three)
-  time ← or_fault (fault.Number n) (limited 1000000000000000 three.2)
+unfoldable pub air_row_of : Graph → ℕ → List AirRow → List (List ℕ) → Result AirRow AirFault
+air_row_of g n before fields = do
+  three ← or_air_fault (fault.Form n) (option_and_then formed (cells fields))
+  subject ← or_air_fault (fault.Unknown n) (subject_of g three)
+  time ← or_air_fault (fault.Number n) (limited 1000000000000000 three.2)
   if is_repeated before subject then Err (fault.Repeated n) else Ok (record { subject = subject; time = time })

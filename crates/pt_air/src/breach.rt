@@ -3,7 +3,7 @@
 ghost use Rattle.std.specs.Prelude.{◌≡◌, ◌<◌, ◌≤◌, false, length, nat_lt, option_map, position, slice_get, slice_index, unwrap_or};
 ghost use Rattle.std.specs.List.{list_any};
 ghost use Rattle.pt_types.specs.declared.graph.Link.{Link};
-ghost use Rattle.pt_air.specs.Bounds.{apart_on, breach_of, breaks, breaks_error, error_on, has_end};
+ghost use Rattle.pt_air.specs.Bounds.{apart_on, breach_of, breaks, breaks_error, error_on, is_link_of};
 
 use crate::row::{AirRow, Subject};
 use pt_types::{Graph, Link};
@@ -50,7 +50,7 @@ fn breaks_error(graph: &Graph, lags: &[u64], platform: usize, link: &Link) -> bo
 }
 
 fn has_end(graph: &Graph, platform: usize, link: &Link) -> bool
-    ensures { result ≡ has_end graph.now platform link.now }
+    ensures { result ≡ is_link_of graph.now platform link.now }
 {
     graph.platform_of(link.from) as usize == platform
         || graph.platform_of(link.to) as usize == platform

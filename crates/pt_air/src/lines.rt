@@ -1,7 +1,7 @@
 //! The lines that report faults of air files.
 
 ghost use Rattle.std.specs.Prelude.{◌≡◌, ◌++◌, string_bytes, OnOk};
-ghost use Rattle.pt_air.specs.Lines.{fault_line, fault_text};
+ghost use Rattle.pt_air.specs.Lines.{air_fault_line, air_fault_text};
 
 use crate::fault::AirFault;
 use std::alloc::AllocError;
@@ -10,9 +10,9 @@ use std::fmt;
 
 impl fmt::Display for AirFault {
     ghost use Rattle.std.specs.Prelude.{Some};
-    ghost use Rattle.pt_air.specs.Lines.{fault_text};
+    ghost use Rattle.pt_air.specs.Lines.{air_fault_text};
 
-    ghost output = { λ e. Some (fault_text e) };
+    ghost output = { λ e. Some (air_fault_text e) };
 
     fn fmt<W: fmt::Write>(&self, f: &mut fmt::Formatter<W>) -> fmt::Result {
         match *self {
@@ -32,7 +32,7 @@ impl Error for AirFault {}
 
 /// Appends the line for a fault of an air file.
 pub fn fault_line(text: &mut String, fault: &AirFault) -> Result<(), AllocError>
-    ensures { OnOk result (string_bytes text.new ≡ string_bytes text.old ++ fault_line fault.now) }
+    ensures { OnOk result (string_bytes text.new ≡ string_bytes text.old ++ air_fault_line fault.now) }
 {
     write!(text, "air: {fault}\n")
 }

@@ -4,8 +4,8 @@ ghost use Rattle.std.specs.Prelude.{◌≡◌, ◌≤◌, ◌↔◌, [], None, S
 ghost use Rattle.std.specs.List.{All};
 ghost use Rattle.csv.specs.Reading.{reader_state};
 ghost use Rattle.csv.specs.Records.{fields_of};
-ghost use Rattle.pt_sensors.specs.Rows.{IsPlain, left_of};
-ghost use Rattle.pt_air.specs.AirOf.{Gives, air_of, air_with, rows_from, rows_of};
+ghost use Rattle.pt_sensors.specs.Rows.{IsPlain, bytes_left};
+ghost use Rattle.pt_air.specs.AirOf.{GivesAir, air_of, air_with, air_rows_from, air_rows_of};
 ghost use Rattle.pt_air.specs.Bounds.{KeepsBounds};
 
 use crate::air::Air;
@@ -31,7 +31,7 @@ const MOST_ROWS: u32 = 100_000;
 /// Faults are looked for in the order in which `AirFault` lists them: first those of the file and its header,
 /// then row by row. (The format is this project's own choice.)
 pub fn read_air(alloc: Global, bytes: &[u8], graph: &Graph) -> Result<Air, AirFault>
-    ensures air { Gives (air_of graph.now bytes.now) result }
+    ensures air { GivesAir (air_of graph.now bytes.now) result }
     ensures lengths { IfOk result (λ air. (length air.lags ≡ length graph.now.platforms) × (length air.transits ≡ length graph.now.links)) }
     ensures numbers { IfOk result (λ air. All (λ n. n ≤ 1000000000000000) air.lags × All (All (λ n. n ≤ 1000000000000000)) air.transits) }
     ensures bounds { IfOk result (λ air. (air.breach ≡ None) ↔ KeepsBounds graph.now air) }
@@ -59,9 +59,9 @@ fn air_with(alloc: Global, graph: &Graph, rows: &[AirRow]) -> Result<Air, AllocE
 }
 
 /// The rows of an air file, or its first fault, from the records that csv reads.
-#[tactic(auto, unfolding(crate::specs::AirOf::rows_of))]
+#[tactic(auto, unfolding(crate::specs::AirOf::air_rows_of))]
 fn rows_of(alloc: Global, bytes: &[u8], graph: &Graph) -> Result<List<AirRow>, AirFault>
-    ensures { Gives (rows_of graph.now bytes.now) result }
+    ensures { GivesAir (air_rows_of graph.now bytes.now) result }
 {
     if bytes.len() > MOST_BYTES {
         return Err(AirFault::TooLong);
@@ -91,7 +91,7 @@ fn rows(
     line: &mut ByteRecord,
 ) -> Result<List<AirRow>, AirFault>
     requires { IsPlain (λ r. Some r.now) reader.old }
-    ensures { Gives (rows_from graph.now 100000 [] (reader_state reader.old) (left_of (λ r. Some r.now) reader.old)) result }
+    ensures { GivesAir (air_rows_from graph.now 100000 [] (reader_state reader.old) (bytes_left (λ r. Some r.now) reader.old)) result }
 {
     let mut rows = Vec::new(alloc);
     for number in 1..MOST_ROWS + 1 {

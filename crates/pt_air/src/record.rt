@@ -5,7 +5,7 @@ ghost use Rattle.std.specs.List.{list_any};
 ghost use Rattle.csv.specs.Records.{fields_of};
 ghost use Rattle.pt_types.specs.Lawful.{IsLawful};
 ghost use Rattle.pt_sensors.specs.Rows.{cells};
-ghost use Rattle.pt_air.specs.Rows.{are_titles, formed, is_header, is_lag, is_lag_of, is_repeated, is_sender_named, is_transit, link_named, platform_named, row_of, subject_of};
+ghost use Rattle.pt_air.specs.Rows.{are_air_titles, formed, is_air_header, is_lag, is_lag_of, is_repeated, is_sender_named, is_transit, link_named, platform_named, air_row_of, subject_of};
 
 use crate::fault::AirFault;
 use crate::row::{AirRow, Subject};
@@ -21,7 +21,7 @@ type Cells<'a> = (&'a [u8], &'a [u8], &'a [u8]);
 
 /// Whether a record is the header.
 pub fn is_header(line: &ByteRecord) -> bool
-    ensures { result ≡ is_header (fields_of line.now) }
+    ensures { result ≡ is_air_header (fields_of line.now) }
 {
     match cells(line) {
         Some(cells) => are_titles(cells),
@@ -30,20 +30,20 @@ pub fn is_header(line: &ByteRecord) -> bool
 }
 
 fn are_titles(cells: Cells) -> bool
-    ensures { result ≡ are_titles (cells.entry.0.now, cells.entry.1.now, cells.entry.2.now) }
+    ensures { result ≡ are_air_titles (cells.entry.0.now, cells.entry.1.now, cells.entry.2.now) }
 {
     cells.0 == b"what".as_slice() && cells.1 == b"name".as_slice() && cells.2 == b"value".as_slice()
 }
 
 /// The row of a record, or its first fault.
-#[tactic(auto, unfolding(crate::specs::Rows::row_of))]
+#[tactic(auto, unfolding(crate::specs::Rows::air_row_of))]
 pub fn row(
     graph: &Graph,
     number: u32,
     before: &[AirRow],
     line: &ByteRecord,
 ) -> Result<AirRow, AirFault>
-    ensures { result ≡ row_of graph.now number before.now (fields_of line.now) }
+    ensures { result ≡ air_row_of graph.now number before.now (fields_of line.now) }
 {
     let Some(three) = three(line) else {
         return Err(AirFault::Form(number));

@@ -2,7 +2,7 @@
 
 ghost use Rattle.std.specs.Prelude.{◌≡◌, IfOk, length, map};
 ghost use Rattle.std.specs.List.{range_with_len};
-ghost use Rattle.pt_air.specs.AirOf.{lag_in, lags_of, transits_on};
+ghost use Rattle.pt_air.specs.AirOf.{lag_in, lags_of, row_transits};
 
 use crate::row::AirRow;
 use pt_tags::List;
@@ -35,7 +35,7 @@ pub fn transits_of(
     graph: &Graph,
     rows: &[AirRow],
 ) -> Result<Vec<List<u64>>, AllocError>
-    ensures { IfOk result (λ all. all.items ≡ map (transits_on rows.now) (range_with_len 0 (length graph.now.links))) }
+    ensures { IfOk result (λ all. all.items ≡ map (row_transits rows.now) (range_with_len 0 (length graph.now.links))) }
 {
     let mut all = Vec::new(alloc);
     for link in 0..graph.links.as_slice().len() {
@@ -47,7 +47,7 @@ pub fn transits_of(
 
 /// The transits on a link, in file order.
 fn transits_on(alloc: Global, rows: &[AirRow], link: usize) -> Result<Vec<u64>, AllocError>
-    ensures { IfOk result (λ transits. transits.items ≡ transits_on rows.now link) }
+    ensures { IfOk result (λ transits. transits.items ≡ row_transits rows.now link) }
 {
     rows.iter()
         .filter(|row| row.is_transit_on(link))

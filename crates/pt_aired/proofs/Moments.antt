@@ -14,7 +14,7 @@ use Rattle.pt_air.specs.declared.air.Air.{Air}
 use Rattle.pt_airways.specs.declared.in_air.InAir.{InAir}
 use Rattle.pt_airways.specs.Arrivals.{AirwayView}
 use Rattle.pt_turn.specs.Platforms.{PlatformView}
-use Rattle.pt_flights.specs.Moments.{IsArrival, IsLeast, IsMoment, IsReading, OfOne}
+use Rattle.pt_flights.specs.Moments.{IsArrival, IsLeastNumber, IsMoment, IsReading, OfOne}
 use Rattle.pt_flights.specs.Skies.{true_time}
 use Rattle.pt_skies.specs.Sky.{AllFinished, CanHappen, IsNextTime, Sky}
 use Rattle.pt_together.specs.Asked.{AreAllFinished, HaveNoFault}
@@ -89,5 +89,5 @@ module _ (plan : Parts) (rows : ℕ → List Row) (air : Air) (x : Sky) (platfor
         h
 
     -- the least such time
-    pub next_is : (time : ℕ) → IsLeast (IsMoment air platforms airways) (Some time) → IsNextTime plan.graph air x time
+    pub next_is : (time : ℕ) → IsLeastNumber (IsMoment air platforms airways) (Some time) → IsNextTime plan.graph air x time
     next_is time least = (happens time least.0, λ other h. least.1 other (moment other h))

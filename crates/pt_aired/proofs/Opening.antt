@@ -11,16 +11,16 @@ use Rattle.pt_semantics.proofs.LawfulEdges.{wired}
 use Rattle.pt_semantics.proofs.Lookups.{none_some, same_some}
 use Rattle.pt_offsets.specs.Plans.{Parts}
 use Rattle.pt_air.specs.declared.air.Air.{Air}
-use Rattle.pt_airways.specs.Arrivals.{AirwayView, nothing}
+use Rattle.pt_airways.specs.Arrivals.{AirwayView, empty_airway}
 use Rattle.pt_turn.specs.Platforms.{PlatformView}
-use Rattle.pt_flights.specs.Moments.{IsLeast, IsMoment}
+use Rattle.pt_flights.specs.Moments.{IsLeastNumber, IsMoment}
 use Rattle.pt_skies.specs.Sky.{sky_at_start}
 use Rattle.pt_skies.proofs.Ended.{replays_begin}
 use Rattle.pt_together.specs.Shown.{AreShown}
 use Rattle.pt_together.proofs.First.{AreOpened, shown_first}
 use Rattle.pt_together.proofs.Listed.{member}
 use Rattle.pt_aired.specs.InFlight.{AreInFlight}
-use Rattle.pt_aired.specs.Passing.{AreEmpty, Stands}
+use Rattle.pt_aired.specs.Passing.{PipesAreEmpty, IsBeforeFlights}
 use Rattle.pt_aired.proofs.Moments.{moment, next_is}
 
 one_of : {X : Type 0} (n i : ℕ) (x y : X) → slice_get (replicate n x) i ≡ Some y → y ≡ x
@@ -34,14 +34,14 @@ all_empty (suc n) = (refl, all_empty n)
 
 -- with an empty pipe and an empty airway for each link
 module _ (plan : Parts) (rows : ℕ → List Row) (air : Air) (platforms : List PlatformView) (airways : List AirwayView) (pipes : List (List Message)) (results : List (List Done)) (new : AreOpened plan rows platforms pipes results)
-    (links : ℕ) (no_message : pipes ≡ replicate links []) (no_air : airways ≡ replicate links nothing) (transits : (i : ℕ) (v : PlatformView) → slice_get platforms i ≡ Some v → length air.transits ≡ length v.plan.graph.links) where
+    (links : ℕ) (no_message : pipes ≡ replicate links []) (no_air : airways ≡ replicate links empty_airway) (transits : (i : ℕ) (v : PlatformView) → slice_get platforms i ≡ Some v → length air.transits ≡ length v.plan.graph.links) where
   links_are : links ≡ length plan.graph.links
   links_are = sym (length-replicate links []) ∙ ap length (sym no_message ∙ new.no_message) ∙ length-replicate (length plan.graph.links) []
 
   is_wired : IsWired plan.graph
   is_wired = wired plan.graph new.admitted.lawful
 
-  pub empty : AreEmpty plan.graph pipes
+  pub empty : PipesAreEmpty plan.graph pipes
   empty = (ap length no_message ∙ length-replicate links [] ∙ links_are, subst (Each (λ (pipe : List Message). pipe ≡ [])) (sym no_message) (all_empty links))
 
   shown : AreShown plan rows (together_at_start plan.graph rows) platforms pipes results
@@ -52,8 +52,8 @@ module _ (plan : Parts) (rows : ℕ → List Row) (air : Air) (platforms : List 
     all = shown.all;
     states = shown.states;
     kept_turns = shown.kept_turns;
-    links = ap length no_air ∙ length-replicate links nothing ∙ links_are;
-    ways = λ l link v a at there none at_a. sym (one_of links l nothing a (subst (λ (z : List AirwayView). slice_get z l ≡ Some a) no_air at_a));
+    links = ap length no_air ∙ length-replicate links empty_airway ∙ links_are;
+    ways = λ l link v a at there none at_a. sym (one_of links l empty_airway a (subst (λ (z : List AirwayView). slice_get z l ≡ Some a) no_air at_a));
     pending = record { count = shown.count; each = shown.pending };
   }
 
@@ -62,7 +62,7 @@ module _ (plan : Parts) (rows : ℕ → List Row) (air : Air) (platforms : List 
       let begins = replays_begin plan.graph air rows is_wired (subst (λ n. 0 < n) new.ready.all.count new.some) in
       never begins.0 (moment plan rows air (sky_at_start plan.graph rows) platforms airways results in_flight is_wired new.ready.fresh.faults begins.0 begins.1)
 
-  pub stands_first : (begins : ℕ) → IsLeast (IsMoment air platforms airways) (Some begins) → Stands plan rows air 0 begins platforms airways results
+  pub stands_first : (begins : ℕ) → IsLeastNumber (IsMoment air platforms airways) (Some begins) → IsBeforeFlights plan rows air 0 begins platforms airways results
   stands_first begins least = record {
     admitted = new.admitted;
     fit = new.ready.fit;
@@ -84,10 +84,10 @@ module _ (plan : Parts) (rows : ℕ → List Row) (air : Air) (platforms : List 
     pub some_lent : ((time : ℕ) → IsMoment air sliced flying time → ⊥) → ⊥
     some_lent never = some_moment (λ time h. never time (subst (λ (vs : List PlatformView). IsMoment air vs flying time) (sym same) (subst (λ (ways : List AirwayView). IsMoment air platforms ways time) (sym same_air) h)))
 
-    pub stands_lent : (begins : ℕ) (lent_results : List (List Done)) → IsLeast (IsMoment air sliced flying) (Some begins) → lent ≡ platforms → lent_airways ≡ airways → lent_results ≡ results → Stands plan rows air 0 begins lent lent_airways lent_results
+    pub stands_lent : (begins : ℕ) (lent_results : List (List Done)) → IsLeastNumber (IsMoment air sliced flying) (Some begins) → lent ≡ platforms → lent_airways ≡ airways → lent_results ≡ results → IsBeforeFlights plan rows air 0 begins lent lent_airways lent_results
     stands_lent begins lent_results least e e2 e3 =
-        subst (λ (vs : List PlatformView). Stands plan rows air 0 begins vs lent_airways lent_results) (sym e)
-        (subst (λ (ways : List AirwayView). Stands plan rows air 0 begins platforms ways lent_results) (sym e2)
-        (subst (λ (rs : List (List Done)). Stands plan rows air 0 begins platforms airways rs) (sym e3)
+        subst (λ (vs : List PlatformView). IsBeforeFlights plan rows air 0 begins vs lent_airways lent_results) (sym e)
+        (subst (λ (ways : List AirwayView). IsBeforeFlights plan rows air 0 begins platforms ways lent_results) (sym e2)
+        (subst (λ (rs : List (List Done)). IsBeforeFlights plan rows air 0 begins platforms airways rs) (sym e3)
         (stands_first begins
-        (subst (λ (vs : List PlatformView). IsLeast (IsMoment air vs airways) (Some begins)) same (subst (λ (ways : List AirwayView). IsLeast (IsMoment air sliced ways) (Some begins)) same_air least)))))
+        (subst (λ (vs : List PlatformView). IsLeastNumber (IsMoment air vs airways) (Some begins)) same (subst (λ (ways : List AirwayView). IsLeastNumber (IsMoment air sliced ways) (Some begins)) same_air least)))))

@@ -35,7 +35,7 @@ use Rattle.pt_together.proofs.Changed.{set_here}
 use Rattle.pt_together.proofs.Passing.{IsNoisy, closed_still, is_new, is_old, no_fault_before, noisy_by, noisy_now, noisy_still}
 use Rattle.pt_together.proofs.Showing.{orderly_front}
 use Rattle.pt_together.proofs.Views.{from_view, to_view}
-use Rattle.pt_aired.specs.Passing.{HasAnswered, HasFlown, HavePassed, Stands}
+use Rattle.pt_aired.specs.Passing.{HasAnswered, HasFlown, HavePassedInAir, IsBeforeFlights}
 use Rattle.pt_aired.proofs.Showing.{ShowsFlight, flight_shows, may_come}
 use Rattle.pt_aired.proofs.Moments.{are_there, platforms_in}
 use Rattle.pt_aired.proofs.Steps.{flown_below, fly_one, pass_by}
@@ -45,8 +45,8 @@ fault_is : (fault : Option TurnFault) → (fault ≡ None) ⊎ (is_fault fault �
 fault_is None = inl refl
 fault_is (Some fault) = inr refl
 
-module _ (plan : Parts) (rows : ℕ → List Row) (air : Air) (count now : ℕ) (olds : List PlatformView) (old_airways : List AirwayView) (old_results : List (List Done)) (s : Stands plan rows air count now olds old_airways old_results) where
-  pub none_passed : HavePassed plan rows air now s.sky 0 olds old_airways old_results true
+module _ (plan : Parts) (rows : ℕ → List Row) (air : Air) (count now : ℕ) (olds : List PlatformView) (old_airways : List AirwayView) (old_results : List (List Done)) (s : IsBeforeFlights plan rows air count now olds old_airways old_results) where
+  pub none_passed : HavePassedInAir plan rows air now s.sky 0 olds old_airways old_results true
   none_passed = record {
     made = [];
     sky = s.sky;
@@ -60,7 +60,7 @@ module _ (plan : Parts) (rows : ℕ → List Row) (air : Air) (count now : ℕ) 
     answered = λ j v at m mem home. absurd mem;
   }
 
-  module _ (n : ℕ) (platforms : List PlatformView) (airways : List AirwayView) (results : List (List Done)) (quiet : Bool) (h : HavePassed plan rows air now s.sky n platforms airways results quiet) where
+  module _ (n : ℕ) (platforms : List PlatformView) (airways : List AirwayView) (results : List (List Done)) (quiet : Bool) (h : HavePassedInAir plan rows air now s.sky n platforms airways results quiet) where
     -- in the round so far all is as the laws on flights say
     pub between : n ≤ length platforms → AreBetween plan.graph (level_of plan.ranks) air rows now h.made h.sky
     between le =
@@ -113,7 +113,7 @@ module _ (plan : Parts) (rows : ℕ → List Row) (air : Air) (count now : ℕ) 
       pub comes : MayCome v.plan.graph (level_at v) v.number (state_at v) (arriving v.plan.graph v.number 0 (map_from (come_on v.plan.graph v.number now) 0 airways))
       comes = may_come plan rows now h.sky platforms airways results s.admitted s.fit h.shown n v there not_faulty so_far
 
-      pub one_by : IsFinished v.plan.graph v.number (state_at v) → HavePassed plan rows air now s.sky (suc n) platforms airways results quiet
+      pub one_by : IsFinished v.plan.graph v.number (state_at v) → HavePassedInAir plan rows air now s.sky (suc n) platforms airways results quiet
       one_by done = record {
         made = h.made;
         sky = h.sky;
@@ -226,7 +226,7 @@ module _ (plan : Parts) (rows : ℕ → List Row) (air : Air) (count now : ℕ) 
             new)
             (IsIn-append m h.made (shows.made ∷ []) mem)
 
-        pub one_flown : HavePassed plan rows air now s.sky (suc n) (set platforms n w) after_airways (set results n next) after
+        pub one_flown : HavePassedInAir plan rows air now s.sky (suc n) (set platforms n w) after_airways (set results n next) after
         one_flown = record {
           made = h.made ++ shows.made ∷ [];
           sky = shows.sky;

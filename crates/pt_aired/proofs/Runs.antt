@@ -22,7 +22,7 @@ use Rattle.pt_turn.specs.declared.fault.TurnFault.{TurnFault}
 use Rattle.pt_turn.specs.All.{histories_of}
 use Rattle.pt_turn.specs.Platforms.{PlatformView, state_at}
 use Rattle.pt_turn.specs.Running.{Shows}
-use Rattle.pt_flights.specs.Moments.{IsLeast, IsMoment}
+use Rattle.pt_flights.specs.Moments.{IsLeastNumber, IsMoment}
 use Rattle.pt_skies.specs.Flights.{FlightRound, FollowsAt, IsQuiet, IsWholeReplay}
 use Rattle.pt_skies.specs.Sky.{AllFinished, sky_at_start}
 use Rattle.pt_skies.proofs.Ended.{quiet_ends_replay}
@@ -30,9 +30,9 @@ use Rattle.pt_skies.proofs.Replays.{replays_are_legal}
 use Rattle.pt_together.specs.Asked.{AreAllFinished, EndsAt, HaveNoFault}
 use Rattle.pt_together.specs.Shown.{AreThere, is_fault}
 use Rattle.pt_together.proofs.Views.{finished_here, history}
-use Rattle.pt_aired.specs.Asked.{IsFirstFault}
+use Rattle.pt_aired.specs.Asked.{IsFirstShownFault}
 use Rattle.pt_aired.specs.HaveFlown.{HaveFlown}
-use Rattle.pt_aired.specs.Passing.{HasAnswered, HavePassed, Stands}
+use Rattle.pt_aired.specs.Passing.{HasAnswered, HavePassedInAir, IsBeforeFlights}
 use Rattle.pt_aired.proofs.Moments.{all_done, are_there, each_done, moment, next_is, platforms_in}
 use Rattle.pt_aired.proofs.Steps.{one_round}
 
@@ -41,8 +41,8 @@ none_is : (fault : Option TurnFault) → is_fault fault ≡ false → fault ≡ 
 none_is None e = refl
 none_is (Some fault) e = absurd (false≢true (sym e))
 
-module _ (plan : Parts) (rows : ℕ → List Row) (air : Air) (count now : ℕ) (olds : List PlatformView) (old_airways : List AirwayView) (old_results : List (List Done)) (s : Stands plan rows air count now olds old_airways old_results)
-    (platforms : List PlatformView) (airways : List AirwayView) (results : List (List Done)) (quiet : Bool) (h : HavePassed plan rows air now s.sky (length olds) platforms airways results quiet) where
+module _ (plan : Parts) (rows : ℕ → List Row) (air : Air) (count now : ℕ) (olds : List PlatformView) (old_airways : List AirwayView) (old_results : List (List Done)) (s : IsBeforeFlights plan rows air count now olds old_airways old_results)
+    (platforms : List PlatformView) (airways : List AirwayView) (results : List (List Done)) (quiet : Bool) (h : HavePassedInAir plan rows air now s.sky (length olds) platforms airways results quiet) where
   is_wired : IsWired plan.graph
   is_wired = wired plan.graph s.admitted.lawful
 
@@ -106,7 +106,7 @@ module _ (plan : Parts) (rows : ℕ → List Row) (air : Air) (count now : ℕ) 
       (λ i v at. (none i v at, finished_here plan rows (platforms_in h.sky) platforms there done i v at))
       (λ e. all)
 
-  pub ended_fault : (fault : ℕ × TurnFault) → IsFirstFault platforms fault → HaveFlown plan (level_of plan.ranks) rows air platforms (Some fault)
+  pub ended_fault : (fault : ℕ × TurnFault) → IsFirstShownFault platforms fault → HaveFlown plan (level_of plan.ranks) rows air platforms (Some fault)
   ended_fault fault first =
       let place_is : first.place ≡ fault.0 = sym (h.shown.all.numbers first.place first.view first.at) ∙ sym first.number in
       ended
@@ -133,7 +133,7 @@ module _ (plan : Parts) (rows : ℕ → List Row) (air : Air) (count now : ℕ) 
       (λ (one : (j : ℕ) × (j < length olds) × ((h.sky.at j).closed ≡ (s.sky.at j).closed → ⊥)). one.2 (calm.closed one.0))
       (h.no_quiet_round noisy)
 
-  pub stands_next : (next : ℕ) → HaveNoFault platforms → (AreAllFinished platforms → ⊥) → (quiet ≡ true → IsLeast (IsMoment air platforms airways) (Some next)) → (quiet ≡ false → next ≡ now) → Stands plan rows air (count + 1) next platforms airways results
+  pub stands_next : (next : ℕ) → HaveNoFault platforms → (AreAllFinished platforms → ⊥) → (quiet ≡ true → IsLeastNumber (IsMoment air platforms airways) (Some next)) → (quiet ≡ false → next ≡ now) → IsBeforeFlights plan rows air (count + 1) next platforms airways results
   stands_next next none going rises stays = record {
     admitted = s.admitted;
     fit = s.fit;

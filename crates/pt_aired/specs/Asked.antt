@@ -5,7 +5,7 @@ use Rattle.pt_turn.specs.Platforms.{PlatformView, state_at}
 use Rattle.pt_turn.specs.Running.{Shows}
 
 -- the first platform with a fault has this number and this fault, and its turns show the fault
-pub record IsFirstFault (platforms : List PlatformView) (fault : ℕ × TurnFault) : Type 0 where
+pub record IsFirstShownFault (platforms : List PlatformView) (fault : ℕ × TurnFault) : Type 0 where
   pub place : ℕ
   pub view : PlatformView
   pub at : slice_get platforms place ≡ Some view

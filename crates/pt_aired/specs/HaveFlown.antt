@@ -18,7 +18,7 @@ use Rattle.pt_together.specs.Asked.{EndsAt}
 
 -- the platforms are as a whole replayed run leaves them: their recorded turns and states are those of its rounds, and a platform
 -- has a fault exactly if one of its turns in the last round had
-pub record IsAfter (plan : Parts) (rows : ℕ → List Row) (level : ℕ → ℕ) (air : Air) (platforms : List PlatformView) : Type 0 where
+pub record IsAfterReplay (plan : Parts) (rows : ℕ → List Row) (level : ℕ → ℕ) (air : Air) (platforms : List PlatformView) : Type 0 where
   pub sky : Sky
   pub run : IsWholeReplay plan.graph level air rows sky
   pub kept_turns : (i : ℕ) (v : PlatformView) → slice_get platforms i ≡ Some v → v.turns ≡ kept (sky.did i)
@@ -30,7 +30,7 @@ pub record HaveFlown (plan : Parts) (level : ℕ → ℕ) (rows : ℕ → List R
   pub admitted : IsAdmitted plan
   pub fit : FitRows plan.graph rows
   pub all : AreAll plan rows platforms
-  pub after : IsAfter plan rows level air platforms
+  pub after : IsAfterReplay plan rows level air platforms
   -- without a fault all platforms are finished; otherwise this is the first with a fault, and its turns show the fault
   pub ends : EndsAt plan.graph platforms fault
   pub legal : (i : ℕ) (v : PlatformView) → slice_get platforms i ≡ Some v → IsLegal plan.graph level i rows v.turns (state_at v)

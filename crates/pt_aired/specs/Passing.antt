@@ -22,8 +22,8 @@ use Rattle.pt_together.specs.Shown.{is_fault}
 use Rattle.pt_aired.specs.InFlight.{AreInFlight}
 
 -- there is an empty pipe for each link
-abbrev pub AreEmpty : Graph → List (List Message) → Type 0
-AreEmpty g pipes = (length pipes ≡ length g.links) × Each (λ pipe. pipe ≡ []) pipes
+abbrev pub PipesAreEmpty : Graph → List (List Message) → Type 0
+PipesAreEmpty g pipes = (length pipes ≡ length g.links) × Each (λ pipe. pipe ≡ []) pipes
 
 -- a platform made a flight, and `still` says whether it did nothing and did not close
 pub record HasFlown (air : Air) (now : ℕ) (dones results : List Done) (old new : PlatformView) (before after : List AirwayView) (still : Bool) : Type 0 where
@@ -31,7 +31,7 @@ pub record HasFlown (air : Air) (now : ℕ) (dones results : List Done) (old new
   pub still_is : (still ≡ true) ↔ ((is_quiet flown.visited.turn ≡ true) × (new.closed ≡ old.closed))
 
 -- the platforms, airways and results are as in a replayed run before a round at a true time, after `count` rounds
-pub record Stands (plan : Parts) (rows : ℕ → List Row) (air : Air) (count now : ℕ) (platforms : List PlatformView) (airways : List AirwayView) (results : List (List Done)) : Type 0 where
+pub record IsBeforeFlights (plan : Parts) (rows : ℕ → List Row) (air : Air) (count now : ℕ) (platforms : List PlatformView) (airways : List AirwayView) (results : List (List Done)) : Type 0 where
   pub admitted : IsAdmitted plan
   pub fit : FitRows plan.graph rows
   pub transits : length air.transits ≡ length plan.graph.links
@@ -47,7 +47,7 @@ abbrev pub HasAnswered : List Made → ℕ → Type 0
 HasAnswered made i = (turn : Made) × IsIn turn made × (turn.platform ≡ i) × (turn.fault ≡ true)
 
 -- the first n platforms are done in a round that began at `before`
-pub record HavePassed (plan : Parts) (rows : ℕ → List Row) (air : Air) (now : ℕ) (before : Sky) (n : ℕ) (platforms : List PlatformView) (airways : List AirwayView) (results : List (List Done)) (quiet : Bool) : Type 0 where
+pub record HavePassedInAir (plan : Parts) (rows : ℕ → List Row) (air : Air) (now : ℕ) (before : Sky) (n : ℕ) (platforms : List PlatformView) (airways : List AirwayView) (results : List (List Done)) (quiet : Bool) : Type 0 where
   pub made : List Made
   pub sky : Sky
   pub round : FlightRound plan.graph (level_of plan.ranks) air now n 0 before made sky

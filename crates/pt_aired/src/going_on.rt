@@ -4,10 +4,10 @@ ghost use Rattle.std.specs.Prelude.{◌≡◌, IfOk, ℕ, List, Some};
 ghost use Rattle.pt_types.specs.declared.rows.Row.{Row};
 ghost use Rattle.pt_causality.specs.Ranked.{level_of};
 ghost use Rattle.pt_offsets.specs.Plans.{Parts};
-ghost use Rattle.pt_flights.specs.Moments.{IsLeast, IsMoment};
-ghost use Rattle.pt_together.specs.Asked.{lists_of};
+ghost use Rattle.pt_flights.specs.Moments.{IsLeastNumber, IsMoment};
+ghost use Rattle.pt_together.specs.Asked.{result_lists};
 ghost use Rattle.pt_aired.specs.HaveFlown.{HaveFlown};
-ghost use Rattle.pt_aired.specs.Passing.{AreEmpty, Stands};
+ghost use Rattle.pt_aired.specs.Passing.{PipesAreEmpty, IsBeforeFlights};
 
 use crate::asking::first_fault;
 use crate::passing::pass;
@@ -38,8 +38,8 @@ pub fn go_on(
     air: &Air,
     begins: u64,
 ) -> Result<Option<(u32, TurnFault)>, Memory>
-    requires begun { (plan : Parts) × (rows : ℕ → List Row) × Stands plan rows air.now 0 begins platforms.old airways.old (lists_of results.old) × AreEmpty plan.graph pipes.old }
-    ensures flown { IfOk result (λ fault. (plan : Parts) (rows : ℕ → List Row) → Stands plan rows air.now 0 begins platforms.old airways.old (lists_of results.old) →
+    requires begun { (plan : Parts) × (rows : ℕ → List Row) × IsBeforeFlights plan rows air.now 0 begins platforms.old airways.old (result_lists results.old) × PipesAreEmpty plan.graph pipes.old }
+    ensures flown { IfOk result (λ fault. (plan : Parts) (rows : ℕ → List Row) → IsBeforeFlights plan rows air.now 0 begins platforms.old airways.old (result_lists results.old) →
         HaveFlown plan (level_of plan.ranks) rows air.now platforms.new fault) }
 {
     let mut now = begins;
@@ -61,7 +61,7 @@ pub fn go_on(
 /// The least true time, in microseconds, at which something can happen; there is one.
 pub fn time_after(platforms: &[Platform], airways: &[Airway], air: &Air) -> Result<u64, Memory>
     requires some { ((time : ℕ) → IsMoment air.now platforms.now airways.now time → ⊥) → ⊥ }
-    ensures { IfOk result (λ time. IsLeast (IsMoment air.now platforms.now airways.now) (Some time)) }
+    ensures { IfOk result (λ time. IsLeastNumber (IsMoment air.now platforms.now airways.now) (Some time)) }
 {
     match next_time(platforms, airways, air)? {
         None => unreachable!(),

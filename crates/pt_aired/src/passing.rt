@@ -9,8 +9,8 @@ ghost use Rattle.pt_turn.specs.Platforms.{level_at, state_at};
 ghost use Rattle.pt_turn.specs.Turned.{MayCome};
 ghost use Rattle.pt_visits.specs.Pipes.{arriving};
 ghost use Rattle.pt_flights.specs.Skies.{come_on, map_from};
-ghost use Rattle.pt_together.specs.Asked.{lists_of};
-ghost use Rattle.pt_aired.specs.Passing.{AreEmpty, HasFlown, HavePassed, Stands};
+ghost use Rattle.pt_together.specs.Asked.{result_lists};
+ghost use Rattle.pt_aired.specs.Passing.{PipesAreEmpty, HasFlown, HavePassedInAir, IsBeforeFlights};
 
 use pt_actors::Done;
 use pt_air::Air;
@@ -62,9 +62,9 @@ pub fn pass(
     air: &Air,
     now: u64,
 ) -> Result<bool, Memory>
-    requires begun { (plan : Parts) × (rows : ℕ → List Row) × (count : ℕ) × Stands plan rows air.now count now platforms.old airways.old (lists_of results.old) × AreEmpty plan.graph pipes.old }
-    ensures passed { IfOk result (λ quiet. (plan : Parts) (rows : ℕ → List Row) (count : ℕ) (s : Stands plan rows air.now count now platforms.old airways.old (lists_of results.old)) →
-        HavePassed plan rows air.now now s.sky (length platforms.old) platforms.new airways.new (lists_of results.new) quiet) }
+    requires begun { (plan : Parts) × (rows : ℕ → List Row) × (count : ℕ) × IsBeforeFlights plan rows air.now count now platforms.old airways.old (result_lists results.old) × PipesAreEmpty plan.graph pipes.old }
+    ensures passed { IfOk result (λ quiet. (plan : Parts) (rows : ℕ → List Row) (count : ℕ) (s : IsBeforeFlights plan rows air.now count now platforms.old airways.old (result_lists results.old)) →
+        HavePassedInAir plan rows air.now now s.sky (length platforms.old) platforms.new airways.new (result_lists results.new) quiet) }
     ensures pipes { OnOk result (pipes.new ≡ pipes.old) }
 {
     let mut quiet = true;

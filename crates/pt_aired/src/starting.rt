@@ -1,7 +1,7 @@
 //! An engine's airways at the start of a run.
 
 ghost use Rattle.std.specs.Prelude.{◌≡◌, IfOk, replicate};
-ghost use Rattle.pt_airways.specs.Arrivals.{nothing};
+ghost use Rattle.pt_airways.specs.Arrivals.{empty_airway};
 
 use pt_airways::Airway;
 use pt_tags::Memory;
@@ -9,7 +9,7 @@ use std::alloc::Global;
 
 /// `count` airways on which nothing was put.
 pub fn airways(alloc: Global, count: usize) -> Result<Vec<Airway>, Memory>
-    ensures { IfOk result (λ airways. airways.items ≡ replicate count nothing) }
+    ensures { IfOk result (λ airways. airways.items ≡ replicate count empty_airway) }
 {
     let mut airways = Vec::new(alloc);
     for _ in 0..count {

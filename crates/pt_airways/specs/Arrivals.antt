@@ -11,8 +11,8 @@ pub record AirwayView : Type 0 where
   pub events : ℕ
 
 -- an airway on which nothing was put
-abbrev pub nothing : AirwayView
-nothing = record { on_way = []; latest = 0; events = 0 }
+abbrev pub empty_airway : AirwayView
+empty_airway = record { on_way = []; latest = 0; events = 0 }
 
 -- how long a message takes: an event its recorded transit, and the delay of the link if none is recorded; the last message takes the delay
 abbrev pub transit_of : List ℕ → ℕ → ℕ → Message → ℕ
@@ -29,8 +29,8 @@ abbrev pub arrival_of : ℕ → List ℕ → ℕ → Message → AirwayView → 
 arrival_of now transits delay message a = max (now + transit_of transits delay a.events message) a.latest
 
 -- the airway with a message that is put on it at `now`
-abbrev pub put_on : ℕ → List ℕ → ℕ → Message → AirwayView → AirwayView
-put_on now transits delay message a =
+abbrev pub airway_with : ℕ → List ℕ → ℕ → Message → AirwayView → AirwayView
+airway_with now transits delay message a =
     let arrives = arrival_of now transits delay message a in
     record { on_way = a.on_way ++ record { arrives = arrives; message = message } ∷ []; latest = arrives; events = events_with a.events message }
 

@@ -3,7 +3,7 @@
 ghost use Rattle.std.specs.Prelude.{◌≡◌, ◌<◌, IfNone, IfSome, OnErr, OnOk, option_map, slice_get};
 ghost use Rattle.pt_semantics.specs.Lists.{Each};
 ghost use Rattle.pt_airways.specs.declared.in_air.InAir.{InAir as OnWay};
-ghost use Rattle.pt_airways.specs.Arrivals.{NeverFall, events_with, first_arrived, left_after, nothing, put_on, transit_of};
+ghost use Rattle.pt_airways.specs.Arrivals.{NeverFall, events_with, first_arrived, left_after, empty_airway, airway_with, transit_of};
 
 use crate::in_air::InAir;
 use pt_tags::{Memory, Message};
@@ -33,7 +33,7 @@ impl Model for Airway {
 impl Airway {
     /// An airway on which nothing was put.
     pub fn new(alloc: Global) -> Airway
-        ensures { result ≡ nothing }
+        ensures { result ≡ empty_airway }
     {
         Airway {
             on_way: VecDeque::new(alloc),
@@ -52,7 +52,7 @@ impl Airway {
         delay: u64,
         message: Message,
     ) -> Result<(), Memory>
-        ensures put { OnOk result (self.new ≡ put_on now transits.now delay message self.old) }
+        ensures put { OnOk result (self.new ≡ airway_with now transits.now delay message self.old) }
         ensures unchanged { OnErr result (self.new ≡ self.old) }
     {
         let transit = transit_of(transits, delay, self.events, message);

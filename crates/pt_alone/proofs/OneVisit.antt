@@ -44,7 +44,7 @@ use Rattle.pt_together.proofs.Showing.{all_on_time, visit_shows}
 use Rattle.pt_together.proofs.Views.{all_finished, below, each_finished, finished_here, history}
 use Rattle.pt_together.specs.Asked.{AreAllFinished, EndsAt}
 use Rattle.pt_alone.specs.HasGone.{HasGone, LastVisitEnds}
-use Rattle.pt_alone.specs.Between.{AreRead, IsLastOf, BeforeVisit, AfterVisit}
+use Rattle.pt_alone.specs.Between.{WereReadBetween, IsLastOf, BeforeVisit, AfterVisit}
 use Rattle.pt_alone.proofs.Counting.{last_more, raised_is, raised_small, with_here, with_there}
 
 -- between two visits in fixed order all is as between two visits of any engine
@@ -119,7 +119,7 @@ module _ (plan : Parts) (rows : ℕ → List Row) (most j : ℕ) (began now : Li
   in_list : j < length platforms
   in_list = slice_get_within platforms j v there
 
-  clocks_after : AreRead began (set now j new) (set platforms j w) (with_reading s.readings j r)
+  clocks_after : WereReadBetween began (set now j new) (set platforms j w) (with_reading s.readings j r)
   clocks_after = record {
     count = length-set now j new ∙ s.clocks.count ∙ sym (length-set platforms j w);
     ahead = λ i b n at_b at_n. (one_clock i b n at_b at_n).0;

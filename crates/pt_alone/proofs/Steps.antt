@@ -20,7 +20,7 @@ use Rattle.pt_turn.specs.Turned.{MayCome}
 use Rattle.pt_visits.specs.Pipes.{arriving}
 use Rattle.pt_visits.specs.Visited.{IsVisited}
 use Rattle.pt_together.proofs.Showing.{may_come}
-use Rattle.pt_together.specs.Asked.{AreAllFinished, lists_of}
+use Rattle.pt_together.specs.Asked.{AreAllFinished, result_lists}
 use Rattle.pt_alone.specs.Asked.{HasNone, HasOne}
 use Rattle.pt_alone.specs.HasGone.{HasGone}
 use Rattle.pt_alone.specs.Between.{BeforeVisit, AfterVisit}
@@ -33,7 +33,7 @@ view_of_clock told ahead c = record { told = told c; ahead = ahead c }
 
 -- there is a platform of that number, a clock for it and results for it
 module _ {C : Type 0} (told : C → Option (List ℕ)) (ahead : C → Option (ℕ → ℕ)) (plan : Parts) (rows : ℕ → List Row) (most j : ℕ) (began : List ClockView) (clocks : List C) (platforms : List PlatformView) (pipes : List (List Message)) (results : List (Vec Done))
-    (s : BeforeVisit plan rows most j began (tell told ahead clocks) platforms pipes (lists_of results)) where
+    (s : BeforeVisit plan rows most j began (tell told ahead clocks) platforms pipes (result_lists results)) where
   pub within_all : (j < length platforms) × (j < length clocks) × (j < length results)
   within_all =
       let a : length platforms ≡ length plan.graph.platforms = s.shown.all.count in
@@ -43,23 +43,23 @@ module _ {C : Type 0} (told : C → Option (List ℕ)) (ahead : C → Option (�
       (omega (arith, a, n), omega (arith, a, n, b), omega (arith, a, n, c))
 
 module _ {C : Type 0} (told : C → Option (List ℕ)) (ahead : C → Option (ℕ → ℕ)) (plan : Parts) (rows : ℕ → List Row) (most j : ℕ) (began : List ClockView) (clocks : List C) (platforms : List PlatformView) (pipes : List (List Message)) (results : List (Vec Done))
-    (s : BeforeVisit plan rows most j began (tell told ahead clocks) platforms pipes (lists_of results)) (v : PlatformView) (there : slice_get platforms j ≡ Some v) where
+    (s : BeforeVisit plan rows most j began (tell told ahead clocks) platforms pipes (result_lists results)) (v : PlatformView) (there : slice_get platforms j ≡ Some v) where
   pub has_links : length pipes ≡ length v.plan.graph.links
   has_links = s.shown.links ∙ ap (λ (p : Parts). length p.graph.links) (sym (s.shown.all.plans j v there))
 
   pub has_come : MayCome v.plan.graph (level_at v) v.number (state_at v) (arriving v.plan.graph v.number 0 pipes)
-  has_come = may_come plan rows s.together platforms pipes (lists_of results) s.admitted s.fit s.shown j v there (so_far plan rows s.together s.admitted s.fit s.sound j s.next)
+  has_come = may_come plan rows s.together platforms pipes (result_lists results) s.admitted s.fit s.shown j v there (so_far plan rows s.together s.admitted s.fit s.sound j s.next)
 
   module _ (dones : Vec Done) (pending : slice_get results j ≡ Some dones) where
     pub are_done : AreDone v.plan.graph dones.items
     are_done = subst (λ (p : Parts). AreDone p.graph dones.items) (sym (s.shown.all.plans j v there)) (s.shown.pending j v dones.items there (list_at results j dones pending)).done
 
     pub visit_done : (w : PlatformView) (next : Vec Done) (piped : List (List Message)) (r : ℕ) (old new : C) → r < 2 ^ 64 → IsVisited most r dones.items next.items v w pipes piped → slice_get clocks j ≡ Some old → TellsOneMore (told old) r (told new) → ahead new ≡ ahead old → IsAsAhead (ahead old) (told old) r →
-        AfterVisit plan rows most j began (tell told ahead (set clocks j new)) (set platforms j w) piped (lists_of (set results j next))
+        AfterVisit plan rows most j began (tell told ahead (set clocks j new)) (set platforms j w) piped (result_lists (set results j next))
     visit_done w next piped r old new small visited clock one same fixed =
-        subst (λ (cs : List ClockView). AfterVisit plan rows most j began cs (set platforms j w) piped (lists_of (set results j next))) (sym (map-set (view_of_clock told ahead) clocks j new))
+        subst (λ (cs : List ClockView). AfterVisit plan rows most j began cs (set platforms j w) piped (result_lists (set results j next))) (sym (map-set (view_of_clock told ahead) clocks j new))
         (subst (λ (rs : List (List Done)). AfterVisit plan rows most j began (set (tell told ahead clocks) j (view_of_clock told ahead new)) (set platforms j w) piped rs) (sym (map-set (λ (d : Vec Done). d.items) results j next))
-        (after_visit plan rows most j began (tell told ahead clocks) platforms pipes (lists_of results) s v w there dones.items next.items (list_at results j dones pending) piped r small visited
+        (after_visit plan rows most j began (tell told ahead clocks) platforms pipes (result_lists results) s v w there dones.items next.items (list_at results j dones pending) piped r small visited
         (view_of_clock told ahead old) (view_of_clock told ahead new) (slice_get-map (view_of_clock told ahead) clocks j ∙ ap (option_map (view_of_clock told ahead)) clock) one same fixed))
 
 -- the number after one is that of the platform after it

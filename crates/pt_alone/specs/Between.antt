@@ -11,7 +11,7 @@ use Rattle.pt_causality.specs.Ranked.{level_of}
 use Rattle.pt_offsets.specs.Plans.{IsAdmitted, Parts}
 use Rattle.pt_turn.specs.Platforms.{PlatformView}
 use Rattle.pt_turn.specs.Turned.{is_late}
-use Rattle.pt_fixed_order.specs.Going.{AreTaken, Goes, with_reading}
+use Rattle.pt_fixed_order.specs.Going.{IsAllTaken, IsGoing, with_reading}
 use Rattle.pt_fixed_order.specs.Sound.{Sound}
 use Rattle.pt_together.specs.Shown.{AreShown, AreThere, is_fault}
 
@@ -21,7 +21,7 @@ IsLastOf readings None = readings ≡ []
 IsLastOf readings (Some p) = (p ≡ greatest_of 0 readings) × (p < 2 ^ 64)
 
 -- these are the readings that the clocks handed out and the platforms were visited at
-pub record AreRead (began now : List ClockView) (platforms : List PlatformView) (readings : ℕ → List ℕ) : Type 0 where
+pub record WereReadBetween (began now : List ClockView) (platforms : List PlatformView) (readings : ℕ → List ℕ) : Type 0 where
   pub count : length now ≡ length platforms
   pub ahead : (i : ℕ) (b n : ClockView) → slice_get began i ≡ Some b → slice_get now i ≡ Some n → n.ahead ≡ b.ahead
   pub handed : (i : ℕ) (b n : ClockView) → slice_get began i ≡ Some b → slice_get now i ≡ Some n → HandedOut b.told n.told (readings i) × AreAsAhead b.ahead b.told n.told (readings i)
@@ -36,11 +36,11 @@ pub record BeforeVisit (plan : Parts) (rows : ℕ → List Row) (most j : ℕ) (
   pub together : Together
   pub readings : ℕ → List ℕ
   pub next : j < length plan.graph.platforms
-  pub goes : Goes plan.graph (level_of plan.ranks) rows most readings j together
-  pub free : AreTaken plan.graph j together
+  pub goes : IsGoing plan.graph (level_of plan.ranks) rows most readings j together
+  pub free : IsAllTaken plan.graph j together
   pub sound : Sound plan.graph (level_of plan.ranks) rows together
   pub shown : AreShown plan rows together platforms pipes results
-  pub clocks : AreRead began now platforms readings
+  pub clocks : WereReadBetween began now platforms readings
   pub no_fault : (i : ℕ) (v : PlatformView) → slice_get platforms i ≡ Some v → v.fault ≡ None
 
 -- all is as after the visit of platform j. If a message was late, nothing is said of pipes and results
@@ -50,8 +50,8 @@ pub record AfterVisit (plan : Parts) (rows : ℕ → List Row) (most j : ℕ) (b
   pub before : Together
   pub readings : ℕ → List ℕ
   pub next : j < length plan.graph.platforms
-  pub goes : Goes plan.graph (level_of plan.ranks) rows most readings j before
-  pub free : AreTaken plan.graph j before
+  pub goes : IsGoing plan.graph (level_of plan.ranks) rows most readings j before
+  pub free : IsAllTaken plan.graph j before
   pub sound : Sound plan.graph (level_of plan.ranks) rows before
   pub reading : ℕ
   pub made : Made
@@ -61,6 +61,6 @@ pub record AfterVisit (plan : Parts) (rows : ℕ → List Row) (most j : ℕ) (b
   pub there : AreThere plan rows together platforms
   pub shown : made.late ≡ false → AreShown plan rows together platforms pipes results
   pub none_past : (i : ℕ) → length plan.graph.platforms ≤ i → readings i ≡ []
-  pub clocks : AreRead began now platforms (with_reading readings j reading)
+  pub clocks : WereReadBetween began now platforms (with_reading readings j reading)
   pub fault : (v : PlatformView) → slice_get platforms j ≡ Some v → (made.fault ≡ is_fault v.fault) × (made.late ≡ is_late v.fault)
   pub others : (i : ℕ) (v : PlatformView) → i ≢ j → slice_get platforms i ≡ Some v → v.fault ≡ None

@@ -5,7 +5,7 @@ ghost use Rattle.pt_io.specs.Told.{ClockView, tell};
 ghost use Rattle.pt_types.specs.declared.rows.Row.{Row};
 ghost use Rattle.pt_offsets.specs.Plans.{Parts};
 ghost use Rattle.pt_alone.specs.HasGone.{HasGone};
-ghost use Rattle.pt_together.specs.Asked.{lists_of};
+ghost use Rattle.pt_together.specs.Asked.{result_lists};
 ghost use Rattle.pt_alone.specs.Between.{BeforeVisit};
 
 use crate::asking::{after, fault_of, give_way};
@@ -33,8 +33,8 @@ pub fn go_on<C: Clock, R: Wait>(
     most: usize,
 ) -> Result<Option<(u32, TurnFault)>, Memory>
     requires most { (1 ≤ most) × (most ≤ 64) }
-    requires begun { (plan : Parts) × (rows : ℕ → List Row) × (began : List ClockView) × BeforeVisit plan rows most 0 began (tell C.told C.ahead clocks.old) platforms.old pipes.old (lists_of results.old) }
-    ensures gone { IfOk result (λ fault. (plan : Parts) (rows : ℕ → List Row) (began : List ClockView) → BeforeVisit plan rows most 0 began (tell C.told C.ahead clocks.old) platforms.old pipes.old (lists_of results.old) →
+    requires begun { (plan : Parts) × (rows : ℕ → List Row) × (began : List ClockView) × BeforeVisit plan rows most 0 began (tell C.told C.ahead clocks.old) platforms.old pipes.old (result_lists results.old) }
+    ensures gone { IfOk result (λ fault. (plan : Parts) (rows : ℕ → List Row) (began : List ClockView) → BeforeVisit plan rows most 0 began (tell C.told C.ahead clocks.old) platforms.old pipes.old (result_lists results.old) →
         HasGone plan rows most began (tell C.told C.ahead clocks.new) platforms.new fault) }
 {
     let mut number = 0;

@@ -4,7 +4,7 @@ ghost use Rattle.std.specs.Prelude.{◌≡◌, ◌<◌, ◌≤◌, ℕ, List, On
 ghost use Rattle.pt_io.specs.Told.{ClockView, tell};
 ghost use Rattle.pt_types.specs.declared.rows.Row.{Row};
 ghost use Rattle.pt_offsets.specs.Plans.{Parts};
-ghost use Rattle.pt_together.specs.Asked.{lists_of};
+ghost use Rattle.pt_together.specs.Asked.{result_lists};
 ghost use Rattle.pt_alone.specs.Between.{BeforeVisit, AfterVisit};
 
 use pt_actors::Done;
@@ -28,9 +28,9 @@ pub fn visit_at<C: Clock>(
 ) -> Result<(), Memory>
     requires most { (1 ≤ most) × (most ≤ 64) }
     requires within { (number < length platforms.old) × (number < length clocks.old) × (number < length results.old) }
-    requires begun { (plan : Parts) × (rows : ℕ → List Row) × (began : List ClockView) × BeforeVisit plan rows most number began (tell C.told C.ahead clocks.old) platforms.old pipes.old (lists_of results.old) }
-    ensures visited { OnOk result ((plan : Parts) (rows : ℕ → List Row) (began : List ClockView) → BeforeVisit plan rows most number began (tell C.told C.ahead clocks.old) platforms.old pipes.old (lists_of results.old) →
-        AfterVisit plan rows most number began (tell C.told C.ahead clocks.new) platforms.new pipes.new (lists_of results.new)) }
+    requires begun { (plan : Parts) × (rows : ℕ → List Row) × (began : List ClockView) × BeforeVisit plan rows most number began (tell C.told C.ahead clocks.old) platforms.old pipes.old (result_lists results.old) }
+    ensures visited { OnOk result ((plan : Parts) (rows : ℕ → List Row) (began : List ClockView) → BeforeVisit plan rows most number began (tell C.told C.ahead clocks.old) platforms.old pipes.old (result_lists results.old) →
+        AfterVisit plan rows most number began (tell C.told C.ahead clocks.new) platforms.new pipes.new (result_lists results.new)) }
 {
     let reading = clocks[number].read();
     visit(

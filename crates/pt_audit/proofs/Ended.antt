@@ -10,9 +10,9 @@ use Rattle.pt_causality.specs.Ranked.{level_of}
 use Rattle.pt_offsets.specs.Plans.{Parts}
 use Rattle.pt_turn.specs.Platforms.{PlatformView}
 use Rattle.pt_confluence.specs.Gathered.{HaveFinished}
-use Rattle.pt_hints.specs.Lines.{Block, blocks_from, lines_of}
+use Rattle.pt_hints.specs.Lines.{Block, blocks_from, text_lines}
 use Rattle.pt_hints.specs.Places.{IsLogAt}
-use Rattle.pt_audit.specs.Finishing.{IsJudged}
+use Rattle.pt_audit.specs.Finishing.{IsFinalVerdict}
 use Rattle.pt_audit.specs.LawfulLogs.{most_bytes}
 use Rattle.pt_audit.specs.Replaying.{HaveReplayed}
 use Rattle.pt_audit.specs.Verdicts.{HasLog, IsVerdict, IsVerdictOn, StopsAt}
@@ -35,7 +35,7 @@ module _ (plan : Parts) (rows : ℕ → List Row) (blocks : List Block) (order :
   Stopped stop = MatchOption stop (HaveReplayed plan rows blocks order last platforms) (λ line. StopsAt plan.graph (level_of plan.ranks) rows line blocks)
 
   abbrev pub After : Verdict → Option ℕ → Type 0
-  After v stop = MatchOption stop (IsJudged plan.graph platforms v) (λ line. v ≡ Turn line)
+  After v stop = MatchOption stop (IsFinalVerdict plan.graph platforms v) (λ line. v ≡ Turn line)
 
   pub verdict_is : (stop : Option ℕ) (v : Verdict) → Stopped stop → After v stop → IsVerdictOn plan rows blocks v
   verdict_is None v h k = judged plan rows blocks order last platforms h v k
@@ -49,21 +49,21 @@ module _ (plan : Parts) (rows : ℕ → List Row) (blocks : List Block) (order :
       other line e = cc
 
 -- the verdict on a log is that on its file
-pub verdict_on_file : (plan : Parts) (rows : ℕ → List Row) (bytes : List ℕ) (place line : ℕ) (v : Verdict) → length bytes ≤ most_bytes → IsLogAt bytes place line → IsVerdictOn plan rows (blocks_from (line + 1) (lines_of (drop (place + 4) bytes))) v → IsVerdict plan rows bytes v
+pub verdict_on_file : (plan : Parts) (rows : ℕ → List Row) (bytes : List ℕ) (place line : ℕ) (v : Verdict) → length bytes ≤ most_bytes → IsLogAt bytes place line → IsVerdictOn plan rows (blocks_from (line + 1) (text_lines (drop (place + 4) bytes))) v → IsVerdict plan rows bytes v
 verdict_on_file plan rows bytes place line v short at h = by v h
   where
-    has : (w : Verdict) → IsVerdictOn plan rows (blocks_from (line + 1) (lines_of (drop (place + 4) bytes))) w → HasLog bytes (λ blocks. IsVerdictOn plan rows blocks w)
+    has : (w : Verdict) → IsVerdictOn plan rows (blocks_from (line + 1) (text_lines (drop (place + 4) bytes))) w → HasLog bytes (λ blocks. IsVerdictOn plan rows blocks w)
     has w k = record {
       short = short;
-      head = lines_of (take place bytes);
-      rest = lines_of (drop (place + 4) bytes);
+      head = text_lines (take place bytes);
+      rest = text_lines (drop (place + 4) bytes);
       lines = at.lines;
       fact =
-          let next : line + 1 ≡ length (lines_of (take place bytes)) + 2 = omega (arith, at.number) in
-          subst (λ n. IsVerdictOn plan rows (blocks_from n (lines_of (drop (place + 4) bytes))) w) next k;
+          let next : line + 1 ≡ length (text_lines (take place bytes)) + 2 = omega (arith, at.number) in
+          subst (λ n. IsVerdictOn plan rows (blocks_from n (text_lines (drop (place + 4) bytes))) w) next k;
     }
 
-    by : (w : Verdict) → IsVerdictOn plan rows (blocks_from (line + 1) (lines_of (drop (place + 4) bytes))) w → IsVerdict plan rows bytes w
+    by : (w : Verdict) → IsVerdictOn plan rows (blocks_from (line + 1) (text_lines (drop (place + 4) bytes))) w → IsVerdict plan rows bytes w
     by TooLong k = absurd k
     by NoLog k = absurd k
     by Table k = absurd k

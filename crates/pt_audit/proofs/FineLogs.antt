@@ -18,7 +18,7 @@ use Rattle.pt_causality.specs.Ranked.{level_of}
 use Rattle.pt_offsets.specs.Plans.{IsAdmitted, Parts}
 use Rattle.pt_tables.specs.Log.{lines_from}
 use Rattle.pt_hints.specs.Hints.{IsTellable}
-use Rattle.pt_hints.specs.Lines.{Block, at_log, blocks_from, lines_of}
+use Rattle.pt_hints.specs.Lines.{Block, at_log, blocks_from, text_lines}
 use Rattle.pt_hints.proofs.BlockTexts.{concat_lines}
 use Rattle.pt_hints.proofs.Cut.{log_blocks, log_cut, text_of}
 use Rattle.pt_hints.specs.Numbered.{numbered}
@@ -134,8 +134,8 @@ module _ (plan : Parts) (rows : ℕ → List Row) (bytes : List ℕ) (admitted :
   history : (i : ℕ) → turns_of i told ≡ history_in log.histories i
   history i = let here : i ≡ 0 + i = omega arith in ap (λ n. turns_of n told) here ∙ history_told 0 i log.histories
 
-  lines : at_log (lines_of bytes) ≡ Some (lines_of (tables_text plan.graph log.firings), lines_of (lines_from plan.graph 0 log.histories))
-  lines = ap (λ (text : List ℕ). at_log (lines_of text)) log.text ∙ log_cut plan.graph log.firings log.histories admitted.lawful
+  lines : at_log (text_lines bytes) ≡ Some (text_lines (tables_text plan.graph log.firings), text_lines (lines_from plan.graph 0 log.histories))
+  lines = ap (λ (text : List ℕ). at_log (text_lines text)) log.text ∙ log_cut plan.graph log.firings log.histories admitted.lawful
 
   held : Each (λ (x : ℕ × Turn). IsTellable plan.graph x.0 x.1) (numbered 0 log.histories)
   held = all_held plan.graph 0 log.histories (λ i lt. let here : i ≡ 0 + i = omega arith in subst (λ n. Each (IsTellable plan.graph n) (history_in log.histories i)) here (log.held i (subst (λ n. i < n) log.all lt)))
@@ -143,14 +143,14 @@ module _ (plan : Parts) (rows : ℕ → List Row) (bytes : List ℕ) (admitted :
   pub fine : IsVerdict plan rows bytes Fine
   fine = record {
     short = log.short;
-    head = lines_of (tables_text plan.graph log.firings);
-    rest = lines_of (lines_from plan.graph 0 log.histories);
+    head = text_lines (tables_text plan.graph log.firings);
+    rest = text_lines (lines_from plan.graph 0 log.histories);
     lines = lines;
     fact = record {
       told = told;
       ends = log.ends;
-      are_told = are_told plan.graph (blocks_from (length (lines_of (tables_text plan.graph log.firings)) + 2) (lines_of (lines_from plan.graph 0 log.histories))) (numbered 0 log.histories)
-          (log_blocks plan.graph (length (lines_of (tables_text plan.graph log.firings)) + 2) log.histories admitted.lawful) held;
+      are_told = are_told plan.graph (blocks_from (length (text_lines (tables_text plan.graph log.firings)) + 2) (text_lines (lines_from plan.graph 0 log.histories))) (numbered 0 log.histories)
+          (log_blocks plan.graph (length (text_lines (tables_text plan.graph log.firings)) + 2) log.histories admitted.lawful) held;
       lawful = record {
         in_order = in_order 0 log.histories;
         legal = λ i lt. subst (λ (turns : List Turn). IsLegal plan.graph (level_of plan.ranks) i rows turns (log.ends i)) (sym (history i)) (log.legal i lt);
@@ -164,8 +164,8 @@ module _ (plan : Parts) (rows : ℕ → List Row) (bytes : List ℕ) (admitted :
 
   pub head : IsHead plan rows bytes
   head = record {
-    head = lines_of (tables_text plan.graph log.firings);
-    rest = lines_of (lines_from plan.graph 0 log.histories);
+    head = text_lines (tables_text plan.graph log.firings);
+    rest = text_lines (lines_from plan.graph 0 log.histories);
     lines = lines;
     tables = record { firings = log.firings; meaning = log.meaning; written = concat_lines (tables_text plan.graph log.firings) };
   }

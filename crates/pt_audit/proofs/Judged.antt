@@ -16,10 +16,10 @@ use Rattle.pt_turn.specs.All.{histories_of}
 use Rattle.pt_turn.specs.Platforms.{PlatformView, state_at}
 use Rattle.pt_confluence.specs.Gathered.{HaveFinished}
 use Rattle.pt_hints.specs.Lines.{Block}
-use Rattle.pt_audit.specs.Finishing.{AreAtEnd, IsAtEnd, IsJudged}
-use Rattle.pt_audit.specs.Replaying.{HasMade, HaveReplayed}
-use Rattle.pt_audit.specs.Told.{AreLawful, Tells, turns_of}
-use Rattle.pt_audit.specs.Verdicts.{AreFinished, IsLinked, IsVerdictOn}
+use Rattle.pt_audit.specs.Finishing.{AreAtEnd, IsAtEnd, IsFinalVerdict}
+use Rattle.pt_audit.specs.Replaying.{HasMadeTold, HaveReplayed}
+use Rattle.pt_audit.specs.Told.{AreLawful, BlocksAreLawful, turns_of}
+use Rattle.pt_audit.specs.Verdicts.{AllAreFinished, IsLinked, IsVerdictOn}
 use Rattle.pt_audit.specs.declared.order.Order.{Order}
 use Rattle.pt_audit.specs.declared.verdict.Verdict.{Verdict}
 use Rattle.pt_audit.specs.declared.verdict.Verdict.TheVariants.{TooLong, NoLog, Turn, Unfinished, Unlinked, Table, Fine}
@@ -48,13 +48,13 @@ module _ (plan : Parts) (rows : ℕ → List Row) (blocks : List Block) (order :
   legal : (i : ℕ) → i < length plan.graph.platforms → IsLegal plan.graph (level_of plan.ranks) i rows (turns_of i r.told) (ends i)
   legal i lt =
       let (v, at) = view i lt in
-      let made : HasMade plan.graph (level_of plan.ranks) i rows v (turns_of i r.told) = r.made i v at in
+      let made : HasMadeTold plan.graph (level_of plan.ranks) i rows v (turns_of i r.told) = r.made i v at in
       subst (λ (s : State). IsLegal plan.graph (level_of plan.ranks) i rows (turns_of i r.told) s) (sym (ends_at i v at)) (record { leads = made.leads; counted = made.counted; joined = made.joined })
 
   pub lawful : AreLawful plan.graph (level_of plan.ranks) rows r.told ends
   lawful = record { in_order = r.in_order; legal = legal }
 
-  pub tells : Tells plan.graph (level_of plan.ranks) rows blocks
+  pub tells : BlocksAreLawful plan.graph (level_of plan.ranks) rows blocks
   tells = (r.told, ends, r.are_told, lawful)
 
   -- finished platforms
@@ -70,7 +70,7 @@ module _ (plan : Parts) (rows : ℕ → List Row) (blocks : List Block) (order :
   finished_at : (i : ℕ) (v : PlatformView) → slice_get platforms i ≡ Some v → IsAtEnd v → IsFinished plan.graph i (ends i)
   finished_at i v at h = subst (IsFinished plan.graph i) (sym (ends_at i v at)) (at_end i v at h)
 
-  finished : AreAtEnd platforms → AreFinished plan.graph ends
+  finished : AreAtEnd platforms → AllAreFinished plan.graph ends
   finished all i lt = let (v, at) = view i lt in finished_at i v at (all i v at)
 
   -- linked platforms
@@ -95,7 +95,7 @@ module _ (plan : Parts) (rows : ℕ → List Row) (blocks : List Block) (order :
   told_linked l h link at =
       sent_same (platform_of plan.graph link.from) l (homes link.from) ∙ h link at ∙ sym (taken_same (platform_of plan.graph link.to) l (homes link.to))
 
-  pub judged : (v : Verdict) → IsJudged plan.graph platforms v → IsVerdictOn plan rows blocks v
+  pub judged : (v : Verdict) → IsFinalVerdict plan.graph platforms v → IsVerdictOn plan rows blocks v
   judged TooLong h = absurd h
   judged NoLog h = absurd h
   judged Table h = absurd h
@@ -135,7 +135,7 @@ module _ (plan : Parts) (rows : ℕ → List Row) (blocks : List Block) (order :
     fact = (finished h.0, λ l. linked_told l (h.1 l));
   }
 
-  pub all_finished : FitRows plan.graph rows → (v : Verdict) → IsJudged plan.graph platforms v → v ≡ Fine → HaveFinished plan rows platforms
+  pub all_finished : FitRows plan.graph rows → (v : Verdict) → IsFinalVerdict plan.graph platforms v → v ≡ Fine → HaveFinished plan rows platforms
   all_finished fit v h e =
-      let fine : AreAtEnd platforms × AreLinked plan.graph (histories_of platforms) = subst (IsJudged plan.graph platforms) e h in
+      let fine : AreAtEnd platforms × AreLinked plan.graph (histories_of platforms) = subst (IsFinalVerdict plan.graph platforms) e h in
       record { all = r.all; fit = fit; finished = λ i w at. at_end i w at (fine.0 i w at); linked = fine.1 }

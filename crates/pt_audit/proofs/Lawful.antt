@@ -18,12 +18,12 @@ use Rattle.pt_causality.specs.Ranked.{level_of}
 use Rattle.pt_offsets.specs.Plans.{IsAdmitted, Parts}
 use Rattle.pt_tables.specs.Log.{lines_from, log_head, log_text}
 use Rattle.pt_hints.specs.Hints.{IsTellable}
-use Rattle.pt_hints.specs.Lines.{Block, blocks_from, lines_of}
+use Rattle.pt_hints.specs.Lines.{Block, blocks_from, text_lines}
 use Rattle.pt_hints.proofs.BlockTexts.{concat_lines, joined, joined_lines}
 use Rattle.pt_audit.specs.LawfulLogs.{IsLawfulLog, history_in}
 use Rattle.pt_audit.specs.Theorems.{FineLogsAreLawful}
 use Rattle.pt_audit.specs.Told.{AreTold, ToldTurn, turns_of}
-use Rattle.pt_audit.specs.Verdicts.{IsHead, IsVerdict, TellsAll, AreFinished}
+use Rattle.pt_audit.specs.Verdicts.{IsHead, IsVerdict, AllBlocksSay, AllAreFinished}
 use Rattle.pt_audit.specs.declared.verdict.Verdict.TheVariants.{Fine}
 use Rattle.pt_audit.proofs.ByPlatform.{count_from, histories_from, history_from, lines_told, text_by_platform}
 use Rattle.pt_audit.proofs.Texts.{log_parts}
@@ -62,7 +62,7 @@ module _ (plan : Parts) (rows : ℕ → List Row) (bytes : List ℕ) (admitted :
   abbrev blocks : List Block
   blocks = blocks_from (length fine.head + 2) fine.rest
 
-  tells : TellsAll plan.graph (level_of plan.ranks) rows blocks (λ histories ends. AreFinished plan.graph ends × AreLinked plan.graph histories)
+  tells : AllBlocksSay plan.graph (level_of plan.ranks) rows blocks (λ histories ends. AllAreFinished plan.graph ends × AreLinked plan.graph histories)
   tells = fine.fact
 
   abbrev count : ℕ
@@ -89,7 +89,7 @@ module _ (plan : Parts) (rows : ℕ → List Row) (bytes : List ℕ) (admitted :
 
   text_is : bytes ≡ tables_text plan.graph head.tables.firings ++ log_text plan.graph histories
   text_is =
-      sym (concat_lines bytes) ∙ log_parts (lines_of bytes) fine.head fine.rest fine.lines
+      sym (concat_lines bytes) ∙ log_parts (text_lines bytes) fine.head fine.rest fine.lines
       ∙ append_assoc (concat fine.head) log_head (concat fine.rest)
       ∙ ap₂ (λ (some more : List ℕ). some ++ (log_head ++ more)) head_is rest_is
 

@@ -7,7 +7,7 @@ use Rattle.pt_offsets.specs.Plans.{Parts}
 use Rattle.pt_turn.specs.Platforms.{PlatformView}
 use Rattle.pt_hints.specs.Lines.{Block}
 use Rattle.pt_audit.specs.Replaying.{HaveReplayed}
-use Rattle.pt_audit.specs.Told.{Tells}
+use Rattle.pt_audit.specs.Told.{BlocksAreLawful}
 use Rattle.pt_audit.specs.Verdicts.{StopsAt}
 use Rattle.pt_audit.specs.declared.order.Order.{Order}
 use Rattle.pt_audit.proofs.Judged.{tells}
@@ -34,7 +34,7 @@ further plan rows all rest now b order new last newer platforms views r e h = re
 }
 
 pub stops : (plan : Parts) (rows : ℕ → List Row) (all rest now : List Block) (b : Block) (order : Order) (last : List (Option Message)) (platforms : List PlatformView) → (r : ReplayedTo plan rows all rest order last platforms) → rest ≡ b ∷ now
-    → (Tells plan.graph (level_of plan.ranks) rows (r.before ++ b ∷ []) → ⊥) → StopsAt plan.graph (level_of plan.ranks) rows b.line all
+    → (BlocksAreLawful plan.graph (level_of plan.ranks) rows (r.before ++ b ∷ []) → ⊥) → StopsAt plan.graph (level_of plan.ranks) rows b.line all
 stops plan rows all rest now b order last platforms r e never = record {
   before = r.before;
   bad = b;

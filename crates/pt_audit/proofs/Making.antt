@@ -17,13 +17,13 @@ use Rattle.pt_causality.specs.Ranked.{level_of}
 use Rattle.pt_offsets.specs.Plans.{Parts}
 use Rattle.pt_turn.specs.Platforms.{PlatformView, level_at, messages_of, state_at}
 use Rattle.pt_turn.specs.Running.{GoesOn}
-use Rattle.pt_turn.specs.Turned.{Ends, is_late}
+use Rattle.pt_turn.specs.Turned.{FaultsIfLast, is_late}
 use Rattle.pt_turn.specs.declared.fault.TurnFault.{TurnFault}
 use Rattle.pt_turn.proofs.Coming.{on_append}
 use Rattle.pt_turn.proofs.Turns.{goes_on_push, legal_push, messages_more}
 use Rattle.pt_hints.specs.declared.hints.Hints.{Hints}
 use Rattle.pt_retell.specs.Retold.{HasRetold, at_last}
-use Rattle.pt_audit.specs.Replaying.{HasMade}
+use Rattle.pt_audit.specs.Replaying.{HasMadeTold}
 use Rattle.pt_audit.proofs.OneState.{turn_same, turn_state}
 use Rattle.pt_audit.proofs.ToldTurns.{each_push}
 
@@ -54,7 +54,7 @@ all_push l f turns turn = flat_map-append (λ (t : Turn). on_link l (f t)) turns
 
 pub record Step (g : Graph) (level : ℕ → ℕ) (i : ℕ) (s : State) (turn : Turn) (fault : Option TurnFault) (new : State) : Type 0 where
   pub is : IsTurn g level i s turn (is_late fault) new
-  pub last : Ends fault (IsLast g s turn.last (is_late fault) is.ready)
+  pub last : FaultsIfLast fault (IsLast g s turn.last (is_late fault) is.ready)
 
 pub step_of : (plan : Parts) (i : ℕ) (hints : Hints) (old new : PlatformView) → old.plan ≡ plan → old.number ≡ i → (h : HasRetold hints old new) → Step plan.graph (level_of plan.ranks) i (state_at old) h.turn new.fault (state_at new)
 step_of plan i hints old new plan_is number_is h =
@@ -74,7 +74,7 @@ last_over g level i s mid new end (x ∷ turns) turn next late h is last (slow, 
     last_over g level i h.0 mid new end turns turn next late h.3 is last (subst (λ (z : State). Legal g level i z (turns ++ turn ∷ next ∷ []) end) (sym (turn_state g level i s x false slow h.0 mid2 h.1 is2).1) rest)
 
 -- one more turn
-module _ (g : Graph) (level : ℕ → ℕ) (i : ℕ) (rows : ℕ → List Row) (old new : PlatformView) (turns : List Turn) (turn : Turn) (h : HasMade g level i rows old turns) (faultless : old.fault ≡ None)
+module _ (g : Graph) (level : ℕ → ℕ) (i : ℕ) (rows : ℕ → List Row) (old new : PlatformView) (turns : List Turn) (turn : Turn) (h : HasMadeTold g level i rows old turns) (faultless : old.fault ≡ None)
     (step : Step g level i (state_at old) turn new.fault (state_at new)) (kept : new.turns ≡ kept_with old.turns (at_last turn)) (counted : IsCounted turn) (joined : AreJoined (turns ++ turn ∷ [])) where
   goes : GoesOn g level i (opened g i rows) turns (state_at old)
   goes = h.goes_on faultless
@@ -92,7 +92,7 @@ module _ (g : Graph) (level : ℕ → ℕ) (i : ℕ) (rows : ℕ → List Row) (
       last_over g level i (opened g i rows) (state_at old) (state_at new) end turns turn next (is_late (Some fault)) goes s.is s.last
       (subst (λ (ts : List Turn). Legal g level i (opened g i rows) ts end) (append_assoc turns (turn ∷ []) (next ∷ [])) legal)
 
-  pub made_more : HasMade g level i rows new (turns ++ turn ∷ [])
+  pub made_more : HasMadeTold g level i rows new (turns ++ turn ∷ [])
   made_more = record {
     goes_on = on_by new.fault step;
     leads = legal_push g level i (opened g i rows) (state_at old) (state_at new) turns turn (is_late new.fault) goes step.is;

@@ -16,7 +16,7 @@ use Rattle.pt_turn.specs.declared.fault.TurnFault.{TurnFault}
 use Rattle.pt_hints.specs.Lines.{Block}
 use Rattle.pt_retell.specs.Following.{CanFollow}
 use Rattle.pt_audit.specs.Told.{AreLawful, AreTold, ToldTurn, turns_of}
-use Rattle.pt_audit.specs.Replaying.{HasMade, HaveReplayed, entered, fresh_order, is_joined, with_turns}
+use Rattle.pt_audit.specs.Replaying.{HasMadeTold, HaveReplayed, entered, fresh_order, is_joined, with_turns}
 use Rattle.pt_audit.specs.declared.order.Order.{Order}
 use Rattle.pt_audit.proofs.JoinedTurns.{MayJoin, may_join}
 use Rattle.pt_audit.proofs.Judged.{ends as ends_of, lawful as are_lawful}
@@ -75,7 +75,7 @@ module _ (plan : Parts) (rows : ℕ → List Row) (blocks : List Block) (order :
         (subst (λ (s : State). IsTurn plan.graph (level_of plan.ranks) x.turn.platform s x.turn.turn parted.late (ends x.turn.platform)) same parted.is);
   }
     where
-      made : HasMade plan.graph (level_of plan.ranks) x.turn.platform rows v (turns_of x.turn.platform r.told)
+      made : HasMadeTold plan.graph (level_of plan.ranks) x.turn.platform rows v (turns_of x.turn.platform r.told)
       made = r.made x.turn.platform v at
 
       same : parted.mid ≡ state_at v

@@ -10,11 +10,11 @@ use Rattle.pt_semantics.specs.Platform.{State, opened}
 use Rattle.pt_semantics.specs.Turn.{Turn as Recorded}
 use Rattle.pt_causality.specs.Ranked.{level_of}
 use Rattle.pt_offsets.specs.Plans.{IsAdmitted, Parts}
-use Rattle.pt_hints.specs.Lines.{Block, at_log, blocks_from, lines_of}
-use Rattle.pt_audit.specs.Told.{AreLawful, Tells, ToldTurn, turns_of}
+use Rattle.pt_hints.specs.Lines.{Block, at_log, blocks_from, text_lines}
+use Rattle.pt_audit.specs.Told.{AreLawful, BlocksAreLawful, ToldTurn, turns_of}
 use Rattle.pt_audit.specs.LawfulLogs.{most_bytes}
 use Rattle.pt_audit.specs.Theorems.{VerdictsAreOne}
-use Rattle.pt_audit.specs.Verdicts.{AreFinished, HasLog, IsFirstUnfinished, IsFirstUnlinked, IsLinked, IsVerdict, IsVerdictOn, StopsAt, TellsAll}
+use Rattle.pt_audit.specs.Verdicts.{AllAreFinished, HasLog, IsFirstUnfinished, IsFirstUnlinked, IsLinked, IsVerdict, IsVerdictOn, StopsAt, AllBlocksSay}
 use Rattle.pt_audit.specs.declared.verdict.Verdict.{Verdict}
 use Rattle.pt_audit.specs.declared.verdict.Verdict.TheVariants.{TooLong, NoLog, Turn, Unfinished, Unlinked, Table, Fine}
 use Rattle.pt_audit.proofs.OneState.{legal_state}
@@ -23,16 +23,16 @@ use Rattle.pt_audit.proofs.ToldTurns.{before_ends, lawful_before, told_last}
 
 -- Blocks that tell turns, without the last ones.
 
-tells_before : (g : Graph) (level : ℕ → ℕ) (rows : ℕ → List Row) (blocks : List Block) (b : Block) → Tells g level rows (blocks ++ b ∷ []) → Tells g level rows blocks
+tells_before : (g : Graph) (level : ℕ → ℕ) (rows : ℕ → List Row) (blocks : List Block) (b : Block) → BlocksAreLawful g level rows (blocks ++ b ∷ []) → BlocksAreLawful g level rows blocks
 tells_before g level rows blocks b (told, ends, are, lawful) =
     let x = told_last g blocks b told are in
     let whole : AreLawful g level rows (x.front ++ x.turn ∷ []) ends = subst (λ (ts : List ToldTurn). AreLawful g level rows ts ends) x.is lawful in
     (x.front, before_ends g level rows x.front x.turn ends x.tellable.platform whole, x.before, lawful_before g level rows x.front x.turn ends x.tellable.platform whole)
 
-pub tells_front : (g : Graph) (level : ℕ → ℕ) (rows : ℕ → List Row) (front : List Block) (b : Block) (more : List Block) → Tells g level rows (front ++ b ∷ more) → Tells g level rows (front ++ b ∷ [])
+pub tells_front : (g : Graph) (level : ℕ → ℕ) (rows : ℕ → List Row) (front : List Block) (b : Block) (more : List Block) → BlocksAreLawful g level rows (front ++ b ∷ more) → BlocksAreLawful g level rows (front ++ b ∷ [])
 tells_front g level rows front b [] h = h
 tells_front g level rows front b (c ∷ more) h =
-    let on : Tells g level rows ((front ++ b ∷ []) ++ c ∷ []) = tells_front g level rows (front ++ b ∷ []) c more (subst (Tells g level rows) (sym (append_assoc front (b ∷ []) (c ∷ more))) h) in
+    let on : BlocksAreLawful g level rows ((front ++ b ∷ []) ++ c ∷ []) = tells_front g level rows (front ++ b ∷ []) c more (subst (BlocksAreLawful g level rows) (sym (append_assoc front (b ∷ []) (c ∷ more))) h) in
     tells_before g level rows (front ++ b ∷ []) c on
 
 -- Two places in one list.
@@ -65,13 +65,13 @@ module _ (g : Graph) (level : ℕ → ℕ) (rows : ℕ → List Row) (blocks : L
       (λ (same : (s.before ≡ t.before) × (s.bad ≡ t.bad)). s.at ∙ ap (λ (b : Block). b.line) same.1 ∙ sym t.at)
       (λ (other : ((rest : List Block) × (t.before ≡ s.before ++ s.bad ∷ rest)) ⊎ ((rest : List Block) × (s.before ≡ t.before ++ t.bad ∷ rest))).
       ⊎_elim
-      (λ (one : (rest : List Block) × (t.before ≡ s.before ++ s.bad ∷ rest)). absurd (s.never (tells_front g level rows s.before s.bad one.0 (subst (Tells g level rows) one.1 t.tells))))
-      (λ (two : (rest : List Block) × (s.before ≡ t.before ++ t.bad ∷ rest)). absurd (t.never (tells_front g level rows t.before t.bad two.0 (subst (Tells g level rows) two.1 s.tells))))
+      (λ (one : (rest : List Block) × (t.before ≡ s.before ++ s.bad ∷ rest)). absurd (s.never (tells_front g level rows s.before s.bad one.0 (subst (BlocksAreLawful g level rows) one.1 t.tells))))
+      (λ (two : (rest : List Block) × (s.before ≡ t.before ++ t.bad ∷ rest)). absurd (t.never (tells_front g level rows t.before t.bad two.0 (subst (BlocksAreLawful g level rows) two.1 s.tells))))
       other)
       (places s.before t.before s.bad t.bad s.after t.after (sym s.is ∙ t.is))
 
-  pub stops_or_tells : (l : ℕ) → StopsAt g level rows l blocks → Tells g level rows blocks → ⊥
-  stops_or_tells l s h = s.never (tells_front g level rows s.before s.bad s.after (subst (Tells g level rows) s.is h))
+  pub stops_or_tells : (l : ℕ) → StopsAt g level rows l blocks → BlocksAreLawful g level rows blocks → ⊥
+  stops_or_tells l s h = s.never (tells_front g level rows s.before s.bad s.after (subst (BlocksAreLawful g level rows) s.is h))
 
 -- The first of some numbers.
 
@@ -84,9 +84,9 @@ first_one P i j ni below_i nj below_j =
 
 module _ (plan : Parts) (rows : ℕ → List Row) (blocks : List Block) (admitted : IsAdmitted plan) where
   abbrev Told : ((ℕ → List Recorded) → (ℕ → State) → Type 0) → Type 0
-  Told Fact = TellsAll plan.graph (level_of plan.ranks) rows blocks Fact
+  Told Fact = AllBlocksSay plan.graph (level_of plan.ranks) rows blocks Fact
 
-  tells_of : (Fact : (ℕ → List Recorded) → (ℕ → State) → Type 0) → Told Fact → Tells plan.graph (level_of plan.ranks) rows blocks
+  tells_of : (Fact : (ℕ → List Recorded) → (ℕ → State) → Type 0) → Told Fact → BlocksAreLawful plan.graph (level_of plan.ranks) rows blocks
   tells_of Fact t = (t.told, t.ends, t.are_told, t.lawful)
 
   module _ (Some_fact Other_fact : (ℕ → List Recorded) → (ℕ → State) → Type 0) (t : Told Some_fact) (u : Told Other_fact) where
@@ -109,10 +109,10 @@ module _ (plan : Parts) (rows : ℕ → List Row) (blocks : List Block) (admitte
   Open i histories ends = IsFirstUnfinished plan.graph i ends
 
   abbrev Apart : ℕ → (ℕ → List Recorded) → (ℕ → State) → Type 0
-  Apart l histories ends = AreFinished plan.graph ends × IsFirstUnlinked plan.graph l histories
+  Apart l histories ends = AllAreFinished plan.graph ends × IsFirstUnlinked plan.graph l histories
 
   abbrev Done : (ℕ → List Recorded) → (ℕ → State) → Type 0
-  Done histories ends = AreFinished plan.graph ends × AreLinked plan.graph histories
+  Done histories ends = AllAreFinished plan.graph ends × AreLinked plan.graph histories
 
   open_once : (i j : ℕ) → Told (Open i) → Told (Open j) → i ≡ j
   open_once i j t u =
@@ -123,7 +123,7 @@ module _ (plan : Parts) (rows : ℕ → List Row) (blocks : List Block) (admitte
       (λ (le : j ≤ i). ⊎_elim (λ (gt : j < i). absurd (b.unfinished (same_finished (Open j) (Open i) u t j b.platform (a.first j gt)))) (λ (ge : i ≤ j). omega (arith, le, ge)) (cases_lt j i))
       (cases_lt i j)
 
-  open_or : (i : ℕ) (Fact : (ℕ → List Recorded) → (ℕ → State) → Type 0) → Told (Open i) → (u : Told Fact) → AreFinished plan.graph u.ends → ⊥
+  open_or : (i : ℕ) (Fact : (ℕ → List Recorded) → (ℕ → State) → Type 0) → Told (Open i) → (u : Told Fact) → AllAreFinished plan.graph u.ends → ⊥
   open_or i Fact t u all = let a = t.fact in a.unfinished (same_finished (Open i) Fact t u i a.platform (all i a.platform))
 
   apart_once : (l m : ℕ) → Told (Apart l) → Told (Apart m) → l ≡ m
@@ -175,7 +175,7 @@ too_long_only plan rows bytes long Table h = absurd (omega (arith, long, h.short
 too_long_only plan rows bytes long Fine h = absurd (omega (arith, long, h.short))
 
 -- nor has a file without a line `log`
-no_log_only : (plan : Parts) (rows : ℕ → List Row) (bytes : List ℕ) → length bytes ≤ most_bytes → at_log (lines_of bytes) ≡ None → (w : Verdict) → IsVerdict plan rows bytes w → w ≡ NoLog
+no_log_only : (plan : Parts) (rows : ℕ → List Row) (bytes : List ℕ) → length bytes ≤ most_bytes → at_log (text_lines bytes) ≡ None → (w : Verdict) → IsVerdict plan rows bytes w → w ≡ NoLog
 no_log_only plan rows bytes short none TooLong h = absurd (omega (arith, short, h))
 no_log_only plan rows bytes short none NoLog h = refl
 no_log_only plan rows bytes short none (Turn l) h = absurd (none_some (h.head, h.rest) (sym none ∙ h.lines))

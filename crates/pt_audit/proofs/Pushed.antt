@@ -16,7 +16,7 @@ use Rattle.pt_hints.specs.Lines.{Block}
 use Rattle.pt_hints.specs.declared.hints.Hints.{Hints}
 use Rattle.pt_retell.specs.Lasts.{AreLast, KeepOthers}
 use Rattle.pt_audit.specs.Told.{ToldTurn, turns_of}
-use Rattle.pt_audit.specs.Replaying.{HasMade, HaveReplayed, fresh_order, is_joined, quiet_count, with_turn, with_turns}
+use Rattle.pt_audit.specs.Replaying.{HasMadeTold, HaveReplayed, fresh_order, is_joined, quiet_count, with_turn, with_turns}
 use Rattle.pt_audit.specs.Retelling.{HasTold}
 use Rattle.pt_audit.specs.declared.order.Order.{Order}
 use Rattle.pt_audit.proofs.Changed.{set_cases}
@@ -55,7 +55,7 @@ module _ (plan : Parts) (rows : ℕ → List Row) (blocks : List Block) (order e
   text : b.text ≡ turn_lines plan.graph p turn
   text = subst (λ (z : Parts). b.text ≡ turn_lines z.graph p turn) plan_is (subst (λ n. b.text ≡ turn_lines old.plan.graph n turn) number_is told.text_of)
 
-  more_made : HasMade plan.graph (level_of plan.ranks) p rows new (turns_of p r.told ++ turn ∷ [])
+  more_made : HasMadeTold plan.graph (level_of plan.ranks) p rows new (turns_of p r.told ++ turn ∷ [])
   more_made =
       let h = r.made p old at in
       made_more plan.graph (level_of plan.ranks) p rows old new (turns_of p r.told) turn h told.made.no_fault (step_of plan p hints old new plan_is number_is told.made) told.made.kept told.counted
@@ -129,10 +129,10 @@ module _ (plan : Parts) (rows : ℕ → List Row) (blocks : List Block) (order e
     made = λ j v there.
         ⊎_elim
         (λ (here : (j ≡ p) × (v ≡ new)).
-        subst (λ (z : PlatformView). HasMade plan.graph (level_of plan.ranks) j rows z (turns_of j (r.told ++ t ∷ []))) (sym here.1)
-        (subst (λ n. HasMade plan.graph (level_of plan.ranks) n rows new (turns_of n (r.told ++ t ∷ []))) (sym here.0)
-        (subst (λ (ts : List Turn). HasMade plan.graph (level_of plan.ranks) p rows new ts) (sym (turns_here p r.told t refl)) more_made)))
+        subst (λ (z : PlatformView). HasMadeTold plan.graph (level_of plan.ranks) j rows z (turns_of j (r.told ++ t ∷ []))) (sym here.1)
+        (subst (λ n. HasMadeTold plan.graph (level_of plan.ranks) n rows new (turns_of n (r.told ++ t ∷ []))) (sym here.0)
+        (subst (λ (ts : List Turn). HasMadeTold plan.graph (level_of plan.ranks) p rows new ts) (sym (turns_here p r.told t refl)) more_made)))
         (λ (other : (j ≢ p) × (slice_get platforms j ≡ Some v)).
-        subst (λ (ts : List Turn). HasMade plan.graph (level_of plan.ranks) j rows v ts) (sym (turns_there j r.told t (λ e. other.0 (sym e)))) (r.made j v other.1))
+        subst (λ (ts : List Turn). HasMadeTold plan.graph (level_of plan.ranks) j rows v ts) (sym (turns_there j r.told t (λ e. other.0 (sym e)))) (r.made j v other.1))
         (set_cases platforms p j new old v at there);
   }

@@ -12,7 +12,7 @@ use Rattle.pt_tables.specs.Log.{turn_lines}
 use Rattle.pt_hints.specs.Hints.{AreHints, IsTellable}
 use Rattle.pt_hints.specs.Lines.{Block}
 use Rattle.pt_hints.specs.declared.hints.Hints.{Hints}
-use Rattle.pt_audit.specs.Told.{Tells}
+use Rattle.pt_audit.specs.Told.{BlocksAreLawful}
 use Rattle.pt_audit.specs.Replaying.{HaveReplayed, entered}
 use Rattle.pt_audit.specs.Retelling.{NoneTold}
 use Rattle.pt_audit.specs.declared.order.Order.{Order}
@@ -24,19 +24,19 @@ ReadsBack g text given hints = (p : ℕ) (t : Turn) → IsTellable g p t → tex
 
 module _ (plan : Parts) (rows : ℕ → List Row) (blocks : List Block) (order : Order) (last : List (Option Message)) (platforms : List PlatformView) (r : HaveReplayed plan rows blocks order last platforms) (b : Block) (given : Bool) (hints : Hints) (back : ReadsBack plan.graph b.text given hints) where
   -- the text is of no turn's form
-  pub unread : given ≡ false → Tells plan.graph (level_of plan.ranks) rows (blocks ++ b ∷ []) → ⊥
+  pub unread : given ≡ false → BlocksAreLawful plan.graph (level_of plan.ranks) rows (blocks ++ b ∷ []) → ⊥
   unread e (others, ends, are, lawful) =
       let n = next plan rows blocks order last platforms r b others ends are lawful in
       false≢true (sym e ∙ (back n.turn.platform n.turn.turn n.tellable n.text).0)
 
   -- its platform or one of its links is not of the graph
-  pub untellable : ((p : ℕ) (turn : Turn) → AreHints p turn hints → IsTellable plan.graph p turn → ⊥) → Tells plan.graph (level_of plan.ranks) rows (blocks ++ b ∷ []) → ⊥
+  pub untellable : ((p : ℕ) (turn : Turn) → AreHints p turn hints → IsTellable plan.graph p turn → ⊥) → BlocksAreLawful plan.graph (level_of plan.ranks) rows (blocks ++ b ∷ []) → ⊥
   untellable never (others, ends, are, lawful) =
       let n = next plan rows blocks order last platforms r b others ends are lawful in
       never n.turn.platform n.turn.turn (back n.turn.platform n.turn.turn n.tellable n.text).1 n.tellable
 
   -- its platform is before the last one, or it would stand after two quiet turns
-  pub out_of_order : entered hints.platform order ≡ None → Tells plan.graph (level_of plan.ranks) rows (blocks ++ b ∷ []) → ⊥
+  pub out_of_order : entered hints.platform order ≡ None → BlocksAreLawful plan.graph (level_of plan.ranks) rows (blocks ++ b ∷ []) → ⊥
   out_of_order e (others, ends, are, lawful) =
       let n = next plan rows blocks order last platforms r b others ends are lawful in
       let here : hints.platform ≡ n.turn.platform = (back n.turn.platform n.turn.turn n.tellable n.text).1.platform in
@@ -44,7 +44,7 @@ module _ (plan : Parts) (rows : ℕ → List Row) (blocks : List Block) (order :
       (after plan rows blocks order last platforms r b others ends are lawful) (joins plan rows blocks order last platforms r b others ends are lawful)
 
   -- its platform can't make it
-  pub unmade : (old : PlatformView) → slice_get platforms hints.platform ≡ Some old → NoneTold b.text hints old → Tells plan.graph (level_of plan.ranks) rows (blocks ++ b ∷ []) → ⊥
+  pub unmade : (old : PlatformView) → slice_get platforms hints.platform ≡ Some old → NoneTold b.text hints old → BlocksAreLawful plan.graph (level_of plan.ranks) rows (blocks ++ b ∷ []) → ⊥
   unmade old at none (others, ends, are, lawful) =
       let n = next plan rows blocks order last platforms r b others ends are lawful in
       let theirs = (back n.turn.platform n.turn.turn n.tellable n.text).1 in

@@ -30,8 +30,8 @@ pub record IsFirstOpen (platforms : List PlatformView) (number : ℕ) : Type 0 w
   pub first : AreAtEndBefore platforms place
 
 -- the verdict on these platforms
-abbrev pub IsJudged : Graph → List PlatformView → Verdict → Type 0
-IsJudged g platforms (Unfinished number) = IsFirstOpen platforms number
-IsJudged g platforms (Unlinked l) = AreAtEnd platforms × IsFirstUnlinked g l (histories_of platforms)
-IsJudged g platforms Fine = AreAtEnd platforms × AreLinked g (histories_of platforms)
-IsJudged g platforms _ = ⊥
+abbrev pub IsFinalVerdict : Graph → List PlatformView → Verdict → Type 0
+IsFinalVerdict g platforms (Unfinished number) = IsFirstOpen platforms number
+IsFinalVerdict g platforms (Unlinked l) = AreAtEnd platforms × IsFirstUnlinked g l (histories_of platforms)
+IsFinalVerdict g platforms Fine = AreAtEnd platforms × AreLinked g (histories_of platforms)
+IsFinalVerdict g platforms _ = ⊥

@@ -48,7 +48,7 @@ entered i order =
     else (if nat_lt order.platform i then Some (fresh_order i) else (if is_joined order.before order.last then Some order else None))
 
 -- a platform has made these told turns. If it has a fault, none may follow
-pub record HasMade (g : Graph) (level : ℕ → ℕ) (i : ℕ) (rows : ℕ → List Row) (v : PlatformView) (turns : List Turn) : Type 0 where
+pub record HasMadeTold (g : Graph) (level : ℕ → ℕ) (i : ℕ) (rows : ℕ → List Row) (v : PlatformView) (turns : List Turn) : Type 0 where
   pub goes_on : v.fault ≡ None → GoesOn g level i (opened g i rows) turns (state_at v)
   pub leads : Legal g level i (opened g i rows) turns (state_at v)
   pub over : (v.fault ≡ None → ⊥) → (turn : Turn) (new : State) → Legal g level i (opened g i rows) (turns ++ turn ∷ []) new → ⊥
@@ -70,4 +70,4 @@ pub record HaveReplayed (plan : Parts) (rows : ℕ → List Row) (blocks : List 
   pub two : order ≡ with_turns (turns_of order.platform told) (fresh_order order.platform)
   -- `last` has, by link, the last message taken
   pub lasts : (i : ℕ) (v : PlatformView) → slice_get platforms i ≡ Some v → AreLast plan.graph i (state_at v).taken last
-  pub made : (i : ℕ) (v : PlatformView) → slice_get platforms i ≡ Some v → HasMade plan.graph (level_of plan.ranks) i rows v (turns_of i told)
+  pub made : (i : ℕ) (v : PlatformView) → slice_get platforms i ≡ Some v → HasMadeTold plan.graph (level_of plan.ranks) i rows v (turns_of i told)

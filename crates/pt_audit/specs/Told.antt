@@ -38,5 +38,5 @@ pub record AreLawful (g : Graph) (level : ℕ → ℕ) (rows : ℕ → List Row)
   pub legal : (i : ℕ) → i < length g.platforms → IsLegal g level i rows (turns_of i told) (ends i)
 
 -- the blocks tell turns that are lawful
-abbrev pub Tells : Graph → (ℕ → ℕ) → (ℕ → List Row) → List Block → Type 0
-Tells g level rows blocks = (told : List ToldTurn) × (ends : ℕ → State) × AreTold g blocks told × AreLawful g level rows told ends
+abbrev pub BlocksAreLawful : Graph → (ℕ → ℕ) → (ℕ → List Row) → List Block → Type 0
+BlocksAreLawful g level rows blocks = (told : List ToldTurn) × (ends : ℕ → State) × AreTold g blocks told × AreLawful g level rows told ends

@@ -11,10 +11,10 @@ use Rattle.pt_semantics.specs.Turn.{Turn as Recorded}
 use Rattle.pt_causality.specs.Ranked.{level_of}
 use Rattle.pt_offsets.specs.Plans.{Parts}
 use Rattle.pt_confluence.specs.Gathered.{AreTables}
-use Rattle.pt_hints.specs.Lines.{Block, at_log, blocks_from, lines_of}
+use Rattle.pt_hints.specs.Lines.{Block, at_log, blocks_from, text_lines}
 use Rattle.pt_hints.specs.Places.{IsLogAt}
 use Rattle.pt_audit.specs.LawfulLogs.{most_bytes}
-use Rattle.pt_audit.specs.Told.{AreLawful, AreTold, Tells, ToldTurn, turns_of}
+use Rattle.pt_audit.specs.Told.{AreLawful, AreTold, BlocksAreLawful, ToldTurn, turns_of}
 use Rattle.pt_audit.specs.declared.verdict.Verdict.{Verdict}
 use Rattle.pt_audit.specs.declared.verdict.Verdict.TheVariants.{TooLong, NoLog, Turn, Unfinished, Unlinked, Fine}
 
@@ -23,7 +23,7 @@ pub record HasLog (bytes : List ℕ) (Fact : List Block → Type 0) : Type 0 whe
   pub short : length bytes ≤ most_bytes
   pub head : List (List ℕ)
   pub rest : List (List ℕ)
-  pub lines : at_log (lines_of bytes) ≡ Some (head, rest)
+  pub lines : at_log (text_lines bytes) ≡ Some (head, rest)
   pub fact : Fact (blocks_from (length head + 2) rest)
 
 -- a block that begins at this line is the first one that tells no turn that may follow those before
@@ -33,11 +33,11 @@ pub record StopsAt (g : Graph) (level : ℕ → ℕ) (rows : ℕ → List Row) (
   pub after : List Block
   pub is : blocks ≡ before ++ bad ∷ after
   pub at : line ≡ bad.line
-  pub tells : Tells g level rows before
-  pub never : Tells g level rows (before ++ bad ∷ []) → ⊥
+  pub tells : BlocksAreLawful g level rows before
+  pub never : BlocksAreLawful g level rows (before ++ bad ∷ []) → ⊥
 
 -- all blocks tell lawful turns, and a fact holds of their histories and of the states after them
-pub record TellsAll (g : Graph) (level : ℕ → ℕ) (rows : ℕ → List Row) (blocks : List Block) (Fact : (ℕ → List Recorded) → (ℕ → State) → Type 0) : Type 0 where
+pub record AllBlocksSay (g : Graph) (level : ℕ → ℕ) (rows : ℕ → List Row) (blocks : List Block) (Fact : (ℕ → List Recorded) → (ℕ → State) → Type 0) : Type 0 where
   pub told : List ToldTurn
   pub ends : ℕ → State
   pub are_told : AreTold g blocks told
@@ -51,8 +51,8 @@ pub record IsFirstUnfinished (g : Graph) (i : ℕ) (ends : ℕ → State) : Type
   pub first : (j : ℕ) → j < i → IsFinished g j (ends j)
 
 -- all platforms are finished
-abbrev pub AreFinished : Graph → (ℕ → State) → Type 0
-AreFinished g ends = (i : ℕ) → i < length g.platforms → IsFinished g i (ends i)
+abbrev pub AllAreFinished : Graph → (ℕ → State) → Type 0
+AllAreFinished g ends = (i : ℕ) → i < length g.platforms → IsFinished g i (ends i)
 
 -- the receiver of link l took all that its sender sent
 abbrev pub IsLinked : Graph → (ℕ → List Recorded) → ℕ → Type 0
@@ -68,22 +68,22 @@ pub record IsFirstUnlinked (g : Graph) (l : ℕ) (histories : ℕ → List Recor
 -- the verdict on the blocks of a log
 abbrev pub IsVerdictOn : Parts → (ℕ → List Row) → List Block → Verdict → Type 0
 IsVerdictOn plan rows blocks (Turn line) = StopsAt plan.graph (level_of plan.ranks) rows line blocks
-IsVerdictOn plan rows blocks (Unfinished i) = TellsAll plan.graph (level_of plan.ranks) rows blocks (λ histories ends. IsFirstUnfinished plan.graph i ends)
-IsVerdictOn plan rows blocks (Unlinked l) = TellsAll plan.graph (level_of plan.ranks) rows blocks (λ histories ends. AreFinished plan.graph ends × IsFirstUnlinked plan.graph l histories)
-IsVerdictOn plan rows blocks Fine = TellsAll plan.graph (level_of plan.ranks) rows blocks (λ histories ends. AreFinished plan.graph ends × AreLinked plan.graph histories)
+IsVerdictOn plan rows blocks (Unfinished i) = AllBlocksSay plan.graph (level_of plan.ranks) rows blocks (λ histories ends. IsFirstUnfinished plan.graph i ends)
+IsVerdictOn plan rows blocks (Unlinked l) = AllBlocksSay plan.graph (level_of plan.ranks) rows blocks (λ histories ends. AllAreFinished plan.graph ends × IsFirstUnlinked plan.graph l histories)
+IsVerdictOn plan rows blocks Fine = AllBlocksSay plan.graph (level_of plan.ranks) rows blocks (λ histories ends. AllAreFinished plan.graph ends × AreLinked plan.graph histories)
 IsVerdictOn plan rows blocks _ = ⊥
 
 -- the verdict on a file, with this plan and these rows. The head isn't judged here, so `Table` is no verdict of its own
 abbrev pub IsVerdict : Parts → (ℕ → List Row) → List ℕ → Verdict → Type 0
 IsVerdict plan rows bytes TooLong = most_bytes < length bytes
-IsVerdict plan rows bytes NoLog = (length bytes ≤ most_bytes) × (at_log (lines_of bytes) ≡ None)
+IsVerdict plan rows bytes NoLog = (length bytes ≤ most_bytes) × (at_log (text_lines bytes) ≡ None)
 IsVerdict plan rows bytes v = HasLog bytes (λ blocks. IsVerdictOn plan rows blocks v)
 
 -- the lines before the first line `log` are the tables of the meaning
 pub record IsHead (plan : Parts) (rows : ℕ → List Row) (bytes : List ℕ) : Type 0 where
   pub head : List (List ℕ)
   pub rest : List (List ℕ)
-  pub lines : at_log (lines_of bytes) ≡ Some (head, rest)
+  pub lines : at_log (text_lines bytes) ≡ Some (head, rest)
   pub tables : AreTables plan rows (concat head)
 
 -- where the first line `log` is; 0 if there is none, or if the file is too long

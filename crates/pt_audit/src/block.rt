@@ -6,7 +6,7 @@ ghost use Rattle.pt_causality.specs.Ranked.{level_of};
 ghost use Rattle.pt_offsets.specs.Plans.{IsAdmitted};
 ghost use Rattle.pt_hints.specs.Lines.{Block};
 ghost use Rattle.pt_audit.specs.Replaying.{HaveReplayed};
-ghost use Rattle.pt_audit.specs.Told.{Tells};
+ghost use Rattle.pt_audit.specs.Told.{BlocksAreLawful};
 
 use crate::order::Order;
 use crate::telling::are_tellable;
@@ -29,7 +29,7 @@ pub(crate) fn replay_block(
 ) -> Result<bool, Memory>
     requires begun { (rows : ℕ → List Row) × (before : List Block) × HaveReplayed plan.now rows before order.old last.old platforms.old }
     ensures told { (rows : ℕ → List Row) (before : List Block) (line : ℕ) → HaveReplayed plan.now rows before order.old last.old platforms.old → IfOk result (λ told. told ≡ true → HaveReplayed plan.now rows (before ++ record { line = line; text = block.now } ∷ []) order.new last.new platforms.new) }
-    ensures none { (rows : ℕ → List Row) (before : List Block) (line : ℕ) → HaveReplayed plan.now rows before order.old last.old platforms.old → IfOk result (λ told. told ≡ false → Tells plan.now.graph (level_of plan.now.ranks) rows (before ++ record { line = line; text = block.now } ∷ []) → ⊥) }
+    ensures none { (rows : ℕ → List Row) (before : List Block) (line : ℕ) → HaveReplayed plan.now rows before order.old last.old platforms.old → IfOk result (λ told. told ≡ false → BlocksAreLawful plan.now.graph (level_of plan.now.ranks) rows (before ++ record { line = line; text = block.now } ∷ []) → ⊥) }
 {
     let graph = plan.graph();
     if !read_hints(graph, block, &mut tools.hints)? {

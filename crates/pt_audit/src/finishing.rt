@@ -3,7 +3,7 @@
 ghost use Rattle.std.specs.Prelude.{◌≡◌, ◌<◌, ℕ, IfOk, MatchOption, Some, length, slice_get};
 ghost use Rattle.pt_types.specs.Lawful.{IsLawful};
 ghost use Rattle.pt_turn.specs.Platforms.{PlatformView};
-ghost use Rattle.pt_audit.specs.Finishing.{AreAtEnd, IsAtEnd, IsFirstOpen, IsJudged};
+ghost use Rattle.pt_audit.specs.Finishing.{AreAtEnd, IsAtEnd, IsFirstOpen, IsFinalVerdict};
 
 use crate::linking::first_unlinked;
 use crate::verdict::Verdict;
@@ -21,7 +21,7 @@ pub(crate) fn verdict_after(
 ) -> Result<Verdict, Memory>
     requires lawful { IsLawful graph.now }
     requires all { length platforms.now ≡ length graph.now.platforms }
-    ensures { IfOk result (λ verdict. MatchOption stop (IsJudged graph.now platforms.now verdict) (λ line. verdict ≡ Verdict.Turn line)) }
+    ensures { IfOk result (λ verdict. MatchOption stop (IsFinalVerdict graph.now platforms.now verdict) (λ line. verdict ≡ Verdict.Turn line)) }
 {
     match stop {
         Some(line) => Ok(Verdict::Turn { line }),
@@ -33,7 +33,7 @@ pub(crate) fn verdict_after(
 fn verdict_of(alloc: Global, graph: &Graph, platforms: &[Platform]) -> Result<Verdict, Memory>
     requires lawful { IsLawful graph.now }
     requires all { length platforms.now ≡ length graph.now.platforms }
-    ensures { IfOk result (IsJudged graph.now platforms.now) }
+    ensures { IfOk result (IsFinalVerdict graph.now platforms.now) }
 {
     if let Some(platform) = first_unfinished(platforms) {
         return Ok(Verdict::Unfinished { platform });

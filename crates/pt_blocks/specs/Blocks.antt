@@ -31,8 +31,8 @@ AreBlocks blocks = (length blocks ≤ 64) × (list_all (λ (b : Named). law_in_r
 
 -- what adding a block with this name gives: Repeated exactly if a
 -- block has the name, Full exactly if there are 64 and none has it
-abbrev pub Refuses : List Named → List ℕ → Result ⊤ BlockFault → Type 0
-Refuses blocks name (Ok done) = (has_block blocks name ≡ false) × (length blocks < 64)
-Refuses blocks name (Err fault.Memory) = (has_block blocks name ≡ false) × (length blocks < 64)
-Refuses blocks name (Err fault.Repeated) = has_block blocks name ≡ true
-Refuses blocks name (Err fault.Full) = (has_block blocks name ≡ false) × (length blocks ≡ 64)
+abbrev pub RefusesBlock : List Named → List ℕ → Result ⊤ BlockFault → Type 0
+RefusesBlock blocks name (Ok done) = (has_block blocks name ≡ false) × (length blocks < 64)
+RefusesBlock blocks name (Err fault.Memory) = (has_block blocks name ≡ false) × (length blocks < 64)
+RefusesBlock blocks name (Err fault.Repeated) = has_block blocks name ≡ true
+RefusesBlock blocks name (Err fault.Full) = (has_block blocks name ≡ false) × (length blocks ≡ 64)

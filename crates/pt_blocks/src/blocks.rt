@@ -38,7 +38,7 @@ pub struct Blocks {
 
 impl Blocks {
     ghost use Rattle.std.specs.Prelude.{◌≡◌, ◌++◌, ◌∷◌, [], ◌<◌, length, OnOk, OnErr, MatchBool, option_map};
-    ghost use Rattle.pt_blocks.specs.Blocks.{find_block, has_block, law_at, name_at, AreBlocks, Refuses, named};
+    ghost use Rattle.pt_blocks.specs.Blocks.{find_block, has_block, law_at, name_at, AreBlocks, RefusesBlock, named};
 
     /// No blocks.
     pub fn new(alloc: Global) -> Blocks
@@ -114,7 +114,7 @@ impl Blocks {
     pub fn add(&mut self, block: Block) -> Result<(), BlockFault>
         ensures added { OnOk result (self.new.listed.items ≡ self.old.listed.items ++ named block.name block.function.law ∷ []) }
         ensures unchanged { OnErr result (self.new.listed.items ≡ self.old.listed.items) }
-        ensures fault { Refuses self.old.listed.items block.name result }
+        ensures fault { RefusesBlock self.old.listed.items block.name result }
     {
         if self.has(block.name.as_str()) {
             return Err(BlockFault::Repeated);

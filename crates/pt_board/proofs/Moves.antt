@@ -16,8 +16,8 @@ use Rattle.pt_board.specs.declared.rule.View.{View}
 use Rattle.pt_board.specs.declared.table.Item.{Item}
 use Rattle.pt_board.specs.declared.table.Item.TheVariants.{Nothing, Placed, Finished}
 use Rattle.pt_types.specs.declared.firing.Task.{Task}
-use Rattle.pt_board.specs.Rule.{IsDone, no_task, no_part, part, with_part, keeper_first, hand_first, Content, Fits, Slot, BoardRule}
-use Rattle.pt_board.specs.Plays.{looking, holding, outing, claiming, losing, took_free, put_ready, looked, tried, put_done, looked_done, put_free, gave_back, took_again}
+use Rattle.pt_board.specs.Rule.{IsResult, empty_task, no_part, part, with_part, keeper_first, hand_first, Content, SeatFits, Slot, BoardRule}
+use Rattle.pt_board.specs.Plays.{looking, holding, outing, with_claim, losing, took_free, put_ready, with_load, tried, put_done, looked_done, put_free, gave_back, took_again}
 use Rattle.pt_board.specs.Seats.{SameElse}
 use Rattle.pt_board.proofs.Touch.{touch, part_here, part_else}
 
@@ -38,7 +38,7 @@ module _ (g : Graph) where
   Mine number task phase owner busy id p = (m : ℕ) (u : Task) → p.mine ≡ Some (m, u) → (id ≡ owner) × (phase ≡ 2) × (m ≡ number) × (u ≡ task) × (p.holds ≡ busy)
 
   -- a seat that doesn't keep
-  alone : (keeper number : ℕ) (task : Task) (phase owner : ℕ) (busy : Bool) (id : ℕ) (b : Bool) (p : Part) → (b ≡ true → ⊥) → Mine number task phase owner busy id p → Fits keeper number task phase owner busy id b p
+  alone : (keeper number : ℕ) (task : Task) (phase owner : ℕ) (busy : Bool) (id : ℕ) (b : Bool) (p : Part) → (b ≡ true → ⊥) → Mine number task phase owner busy id p → SeatFits keeper number task phase owner busy id b p
   alone keeper number task phase owner busy id b p off mine = record {
     only = λ q. absurd (off q);
     free = λ q. absurd (off q);
@@ -124,7 +124,7 @@ module _ (g : Graph) where
         mine = λ x u e. let f = F.mine x u (sym m ∙ e) in (f.0, f.1, f.2, f.3, h ∙ f.4);
       }) (λ i u ne e. S.fits i u e)
 
-  pub looks : (sl id : ℕ) (v : View) (c : Carried) (k : ℕ) → k < 32 → Allows (BoardRule g) sl id (v, c) k (λ n. n) (looked (step sl k 0 0 none) (v, c))
+  pub looks : (sl id : ℕ) (v : View) (c : Carried) (k : ℕ) → k < 32 → Allows (BoardRule g) sl id (v, c) k (λ n. n) (with_load (step sl k 0 0 none) (v, c))
   looks sl id v c k low s K _ at _ =
       let p = looking (part k v) (slice_index s.words k) in (with_part v k p, keeps, tt, looks_at s K id v k p at low refl refl refl, refl)
 
@@ -133,7 +133,7 @@ module _ (g : Graph) where
   phase_of word number phase n f e s t h = (omega arith, omega arith)
 
   -- a hand puts the result into the slot that it holds
-  pub puts_done : (sl id : ℕ) (v : View) (r : Carried) (k number : ℕ) (done : Done) → k < 32 → v.is_keeper ≡ false → (part k v).mine ≡ Some (number, done.task) → (part k v).holds ≡ true → (h : Graph) → v.graph ≡ Some h → IsDone h done
+  pub puts_done : (sl id : ℕ) (v : View) (r : Carried) (k number : ℕ) (done : Done) → k < 32 → v.is_keeper ≡ false → (part k v).mine ≡ Some (number, done.task) → (part k v).holds ≡ true → (h : Graph) → v.graph ≡ Some h → IsResult h done
       → Allows (BoardRule g) sl id (v, (k, Finished done) ∷ r) k (λ _. number * 4 + 3) (λ _. put_done (step sl k (number * 4 + 3) 0 none) (v, (k, Finished done) ∷ r))
   puts_done sl id v r k number done low kp mine holds h graph is s K hl at _ =
       let S = K.slots k low in
@@ -142,11 +142,11 @@ module _ (g : Graph) where
       let M = F.mine number done.task mine in
       let homes = set s.homes k (some (Finished done)) in
       let low' : k < length s.homes = subst (λ (m : ℕ). k < m) (sym K.homes) low in
-      let q' = claiming p None false in (
+      let q' = with_claim p None false in (
         with_part v k q',
         gives,
         tt,
-        touch g s K id v k (number * 4 + 3) homes q' number done.task 3 0 false at low (length-set s.homes k (some (Finished done)) ∙ K.homes) (λ j ne. set_else s.homes k j (some (Finished done)) ne) refl (omega arith) (λ e. refl) (λ e. (Finished done, set_here s.homes k (some (Finished done)) low', (λ x. absurd (omega arith)), (λ x. (done, refl, refl, subst (λ (z : Graph). IsDone z done) (K.graphs id v h at graph) is))))
+        touch g s K id v k (number * 4 + 3) homes q' number done.task 3 0 false at low (length-set s.homes k (some (Finished done)) ∙ K.homes) (λ j ne. set_else s.homes k j (some (Finished done)) ne) refl (omega arith) (λ e. refl) (λ e. (Finished done, set_here s.homes k (some (Finished done)) low', (λ x. absurd (omega arith)), (λ x. (done, refl, refl, subst (λ (z : Graph). IsResult z done) (K.graphs id v h at graph) is))))
             (alone K.keeper number done.task 3 0 false id v.is_keeper q' (λ q. absurd (true≢false (sym q ∙ kp))) (λ m u e. absurd (some_none (m, u) e)))
             (λ i u ne e. let G = S.fits i u e in record {
               only = G.only;
@@ -161,7 +161,7 @@ module _ (g : Graph) where
 
   -- what the others know of a slot that a hand holds stays
   others_of : (s : State Item View) (K : BoardRule g s) (id k : ℕ) (low : k < 32) (busy : Bool) → let S = K.slots k low in (id ≡ S.owner) → S.phase ≡ 2
-      → (i : ℕ) (u : View) → i ≢ id → get_elem? s.views i ≡ some u → Fits K.keeper S.number S.task S.phase S.owner busy i u.is_keeper (part k u)
+      → (i : ℕ) (u : View) → i ≢ id → get_elem? s.views i ≡ some u → SeatFits K.keeper S.number S.task S.phase S.owner busy i u.is_keeper (part k u)
   others_of s K id k low busy own ph i u ne e = let S = K.slots k low in let G = S.fits i u e in record {
     only = G.only;
     free = G.free;
@@ -252,7 +252,7 @@ module _ (g : Graph) where
   -- the claim of a task: the exchange is won, or another word is found
   tries_as : (id : ℕ) (v : View) (c : Carried) (k number : ℕ) (s : State Item View) → BoardRule g s → get_elem? s.views id ≡ some v → k < 32 → v.is_keeper ≡ false → (b : Bool) → (slice_index s.words k == number * 4 + 1) ≡ b
       → (w : View) × (a : Act Item) × Valid s.homes c a × BoardRule g (stepped s k (either b (number * 4 + 2) (slice_index s.words k)) id c w a)
-      × MatchBool b ((t : Task) × Is (w, carried_after c a) (with_part v k (claiming (part k v) (Some ((number * 4 + 1) / 4, t)) true), (k, Placed t) ∷ c) × ((part k v).mine ≡ None))
+      × MatchBool b ((t : Task) × Is (w, carried_after c a) (with_part v k (with_claim (part k v) (Some ((number * 4 + 1) / 4, t)) true), (k, Placed t) ∷ c) × ((part k v).mine ≡ None))
       (Is (w, carried_after c a) (with_part v k (losing (part k v) (slice_index s.words k)), c))
   tries_as id v c k number s K at low kp false is =
       let p = losing (part k v) (slice_index s.words k) in (with_part v k p, keeps, tt, looks_at s K id v k p at low refl refl refl, refl)
@@ -267,7 +267,7 @@ module _ (g : Graph) where
       let y : C.0 ≡ Placed S.task = C.2 f.0 in
       let valid : get_elem? s.homes k ≡ some (some (Placed S.task)) = C.1 ∙ ap (λ (z : Item). some (some z)) y in
       let quarter : (number * 4 + 1) / 4 ≡ S.number = omega (arith, f.1) in
-      let q' = claiming (part k v) (Some ((number * 4 + 1) / 4, S.task)) true in (
+      let q' = with_claim (part k v) (Some ((number * 4 + 1) / 4, S.task)) true in (
         with_part v k q',
         takes k (Placed S.task),
         valid,
@@ -293,7 +293,7 @@ module _ (g : Graph) where
   done_as : (id : ℕ) (v : View) (c : Carried) (k number : ℕ) (task : Task) (s : State Item View) → BoardRule g s → get_elem? s.views id ≡ some v → k < 32 → v.is_keeper ≡ true → (part k v).out ≡ Some (number, task) → (part k v).holds ≡ false
       → (b : Bool) → (slice_index s.words k % 4 == 3) ≡ b
       → (w : View) × (a : Act Item) × Valid s.homes c a × BoardRule g (stepped s k (slice_index s.words k) id c w a)
-      × MatchBool b ((n : ℕ) × (d : Done) × ((part k v).out ≡ Some (n, d.task)) × ((h : Graph) → v.graph ≡ Some h → IsDone h d) × Is (w, carried_after c a) (with_part v k (holding (looking (part k v) (slice_index s.words k)) true), (k, Finished d) ∷ c))
+      × MatchBool b ((n : ℕ) × (d : Done) × ((part k v).out ≡ Some (n, d.task)) × ((h : Graph) → v.graph ≡ Some h → IsResult h d) × Is (w, carried_after c a) (with_part v k (holding (looking (part k v) (slice_index s.words k)) true), (k, Finished d) ∷ c))
       (Is (w, carried_after c a) (with_part v k (looking (part k v) (slice_index s.words k)), c))
   done_as id v c k number task s K at low kp out holds false is =
       let p = looking (part k v) (slice_index s.words k) in (with_part v k p, keeps, tt, looks_at s K id v k p at low refl refl refl, refl)
@@ -323,7 +323,7 @@ module _ (g : Graph) where
               mine = λ m u x. let h = (F.mine m u x).1 in absurd (omega arith);
             })
             (λ i u ne x. let G = S.fits i u x in alone K.keeper S.number S.task S.phase S.owner true i u.is_keeper (part k u) (λ q. ne (G.only q ∙ sym (F.only kp))) (λ m z r. let h = (G.mine m z r).1 in absurd (omega arith))),
-        (number, D.0, out ∙ ap (λ (t : Task). Some (number, t)) (sym named), (λ h o. subst (λ (z : Graph). IsDone z D.0) (sym (K.graphs id v h at o)) D.3), refl),
+        (number, D.0, out ∙ ap (λ (t : Task). Some (number, t)) (sym named), (λ h o. subst (λ (z : Graph). IsResult z D.0) (sym (K.graphs id v h at o)) D.3), refl),
       )
 
   pub looks_done : (sl id : ℕ) (v : View) (c : Carried) (k number : ℕ) (task : Task) → k < 32 → v.is_keeper ≡ true → (part k v).out ≡ Some (number, task) → (part k v).holds ≡ false
@@ -338,7 +338,7 @@ module _ (g : Graph) where
   hand_part : (o : Option Graph) (k : ℕ) → part k (hand_first o) ≡ no_part
   hand_part o k = same_default 32 k no_part
 
-  hand_fits : (o : Option Graph) (keeper number : ℕ) (task : Task) (phase owner : ℕ) (busy : Bool) (id k : ℕ) → Fits keeper number task phase owner busy id false (part k (hand_first o))
+  hand_fits : (o : Option Graph) (keeper number : ℕ) (task : Task) (phase owner : ℕ) (busy : Bool) (id k : ℕ) → SeatFits keeper number task phase owner busy id false (part k (hand_first o))
   hand_fits o keeper number task phase owner busy id k =
       alone keeper number task phase owner busy id false (part k (hand_first o)) (λ q. true≢false (sym q)) (λ m u e. absurd (some_none (m, u) (sym (ap (λ (p : Part). p.mine) (hand_part o k)) ∙ e)))
 
@@ -361,7 +361,7 @@ module _ (g : Graph) where
       ready = S.ready;
       content = S.content;
       fits = λ i u e. ⊎_elim (λ (x : get_elem? s.views i ≡ some u). S.fits i u x)
-          (λ (x : hand_first o ≡ u). subst (λ (y : View). Fits K.keeper S.number S.task S.phase S.owner S.busy i y.is_keeper (part k y)) x (hand_fits o K.keeper S.number S.task S.phase S.owner S.busy i k)) (pick i u e);
+          (λ (x : hand_first o ≡ u). subst (λ (y : View). SeatFits K.keeper S.number S.task S.phase S.owner S.busy i y.is_keeper (part k y)) x (hand_fits o K.keeper S.number S.task S.phase S.owner S.busy i k)) (pick i u e);
     };
   }
 
@@ -403,7 +403,7 @@ module _ (g : Graph) where
     graphs = λ i u h e o. sym (same_graph g h (ap (λ (y : View). y.graph) (only_one i u e).1 ∙ o));
     slots = λ k low. record {
       number = 0;
-      task = no_task;
+      task = empty_task;
       phase = 0;
       owner = 0;
       busy = false;
@@ -411,7 +411,7 @@ module _ (g : Graph) where
       small = omega arith;
       ready = λ e. refl;
       content = λ e. (Nothing, home_there 32 k low, (λ x. absurd (omega arith)), (λ x. absurd (omega arith)));
-      fits = λ i u e. let h = only_one i u e in subst (λ (y : ℕ × View). Fits 0 0 no_task 0 0 false y.0 y.1.is_keeper (part k y.1)) (λ t. (sym h.0 t, h.1 t)) (record {
+      fits = λ i u e. let h = only_one i u e in subst (λ (y : ℕ × View). SeatFits 0 0 empty_task 0 0 false y.0 y.1.is_keeper (part k y.1)) (λ t. (sym h.0 t, h.1 t)) (record {
         only = λ q. refl;
         free = λ q z. ap (λ (p : Part). p.out) (first_part k);
         out = λ q z. absurd (z refl);

@@ -12,7 +12,7 @@ use Rattle.pt_board.specs.declared.rule.Part.{Part}
 use Rattle.pt_board.specs.declared.rule.View.{View}
 use Rattle.pt_board.specs.declared.table.Item.{Item}
 use Rattle.pt_types.specs.declared.firing.Task.{Task}
-use Rattle.pt_board.specs.Rule.{no_part, part, with_part, Content, Fits, Slot, BoardRule}
+use Rattle.pt_board.specs.Rule.{no_part, part, with_part, Content, SeatFits, Slot, BoardRule}
 
 abbrev pub Home : Type 0
 Home = mathlib.Core.Option.Option Item
@@ -27,8 +27,8 @@ module _ (g : Graph) where
   pub touch : (s : State Item View) (K : BoardRule g s) (id : ℕ) (v : View) (k n : ℕ) (homes : List Home) (p : Part) (number : ℕ) (task : Task) (phase owner : ℕ) (busy : Bool)
       → get_elem? s.views id ≡ some v → k < 32 → length homes ≡ 32 → ((j : ℕ) → j ≢ k → get_elem? homes j ≡ get_elem? s.homes j)
       → n ≡ number * 4 + phase → phase < 4 → (phase ≡ 1 → busy ≡ false) → Content g phase task busy (get_elem? homes k)
-      → Fits K.keeper number task phase owner busy id v.is_keeper p
-      → ((i : ℕ) (u : View) → i ≢ id → get_elem? s.views i ≡ some u → Fits K.keeper number task phase owner busy i u.is_keeper (part k u))
+      → SeatFits K.keeper number task phase owner busy id v.is_keeper p
+      → ((i : ℕ) (u : View) → i ≢ id → get_elem? s.views i ≡ some u → SeatFits K.keeper number task phase owner busy i u.is_keeper (part k u))
       → BoardRule g (record { words = set s.words k n; homes = homes; views = set s.views id (with_part v k p) })
   touch s K id v k n homes p number task phase owner busy at low len same word small ready content mine others =
       let w = with_part v k p in
@@ -54,8 +54,8 @@ module _ (g : Graph) where
               content = content;
               fits = λ i u e. ⊎_elim
                   (λ (x : (i ≡ id) × (w ≡ u)).
-                  subst (λ (y : ℕ × View). Fits K.keeper number task phase owner busy y.0 y.1.is_keeper (part k y.1)) (λ t. (sym x.0 t, x.1 t))
-                  (subst (λ (y : Part). Fits K.keeper number task phase owner busy id v.is_keeper y) (sym (part_here v k p (subst (λ (m : ℕ). k < m) (sym wide) low))) mine))
+                  subst (λ (y : ℕ × View). SeatFits K.keeper number task phase owner busy y.0 y.1.is_keeper (part k y.1)) (λ t. (sym x.0 t, x.1 t))
+                  (subst (λ (y : Part). SeatFits K.keeper number task phase owner busy id v.is_keeper y) (sym (part_here v k p (subst (λ (m : ℕ). k < m) (sym wide) low))) mine))
                   (λ (x : (i ≢ id) × (get_elem? s.views i ≡ some u)). others i u x.0 x.1) (at_set s.views id i w u e);
             }))
             (λ (ne : j ≡ k → ⊥). let S = K.slots j jlow in record {
@@ -70,8 +70,8 @@ module _ (g : Graph) where
               content = subst (λ (h : mathlib.Core.Option.Option Home). Content g S.phase S.task S.busy h) (sym (same j ne)) S.content;
               fits = λ i u e. ⊎_elim
                   (λ (x : (i ≡ id) × (w ≡ u)).
-                  subst (λ (y : ℕ × View). Fits K.keeper S.number S.task S.phase S.owner S.busy y.0 y.1.is_keeper (part j y.1)) (λ t. (sym x.0 t, x.1 t))
-                  (subst (λ (y : Part). Fits K.keeper S.number S.task S.phase S.owner S.busy id v.is_keeper y) (sym (part_else v k j p ne)) (S.fits id v at)))
+                  subst (λ (y : ℕ × View). SeatFits K.keeper S.number S.task S.phase S.owner S.busy y.0 y.1.is_keeper (part j y.1)) (λ t. (sym x.0 t, x.1 t))
+                  (subst (λ (y : Part). SeatFits K.keeper S.number S.task S.phase S.owner S.busy id v.is_keeper y) (sym (part_else v k j p ne)) (S.fits id v at)))
                   (λ (x : (i ≢ id) × (get_elem? s.views i ≡ some u)). S.fits i u x.1) (at_set s.views id i w u e);
             })
             (cases_eq j k);

@@ -42,7 +42,7 @@ abbrev pub SameClaims : ℕ → View → View → Type 0
 SameClaims k v w = (j : ℕ) → j ≢ k → claimed_at j w ≡ claimed_at j v
 
 -- the hand holds one ticket more, in a slot in which it held none
-pub record HasClaimed (old new : HandView) (ticket : TicketView) : Type 0 where
+pub record HoldsOneMore (old new : HandView) (ticket : TicketView) : Type 0 where
   pub low : ticket.slot < 32
   pub before : claimed_at ticket.slot old.knows ≡ None
   pub holds : HoldsTicket new ticket

@@ -7,7 +7,7 @@ use Rattle.pt_types.specs.declared.graph.Graph.{Graph}
 use Rattle.pt_board.specs.declared.rule.View.{View}
 use Rattle.pt_board.specs.declared.table.Item.{Item}
 use Rattle.pt_types.specs.declared.firing.Task.{Task}
-use Rattle.pt_board.specs.Rule.{IsDone, part}
+use Rattle.pt_board.specs.Rule.{IsResult, part}
 use Rattle.pt_board.specs.Seats.{IsKeeperView}
 
 -- a board: which table it is, and the graph that its tasks are of
@@ -64,7 +64,7 @@ pub record HasCollected (old new : KeeperView) (result : Done) : Type 0 where
   pub number : ℕ
   pub was : out_at slot old.knows ≡ Some (number, result.task)
   pub free : out_at slot new.knows ≡ None
-  pub done : (g : Graph) → old.knows.graph ≡ Some g → IsDone g result
+  pub done : (g : Graph) → old.knows.graph ≡ Some g → IsResult g result
   pub others : SameOut slot old.knows new.knows
   pub graph : new.knows.graph ≡ old.knows.graph
   pub table : new.table ≡ old.table
@@ -92,7 +92,7 @@ pub record CollectedFrom (slot : ℕ) (old new : KeeperView) (result : Done) : T
   pub number : ℕ
   pub was : out_at slot old.knows ≡ Some (number, result.task)
   pub free : out_at slot new.knows ≡ None
-  pub done : (g : Graph) → old.knows.graph ≡ Some g → IsDone g result
+  pub done : (g : Graph) → old.knows.graph ≡ Some g → IsResult g result
   pub others : SameOut slot old.knows new.knows
   pub graph : new.knows.graph ≡ old.knows.graph
   pub table : new.table ≡ old.table

@@ -16,7 +16,7 @@ use Rattle.pt_board.specs.declared.rule.View.{View}
 use Rattle.pt_board.specs.declared.table.Item.{Item}
 use Rattle.pt_board.specs.declared.table.Item.TheVariants.{Nothing, Placed, Finished}
 use Rattle.pt_types.specs.declared.firing.Task.{Task}
-use Rattle.pt_board.specs.Rule.{IsDone, part, with_part}
+use Rattle.pt_board.specs.Rule.{IsResult, part, with_part}
 
 abbrev pub Seated : Type 0
 Seated = Me Item View
@@ -30,8 +30,8 @@ holding p b = record { out = p.out; mine = p.mine; holds = b; loads = p.loads; l
 abbrev pub outing : Part → Option (ℕ × Task) → Part
 outing p o = record { out = o; mine = p.mine; holds = false; loads = p.loads; lost = p.lost; last = p.last }
 
-abbrev pub claiming : Part → Option (ℕ × Task) → Bool → Part
-claiming p o b = record { out = p.out; mine = o; holds = b; loads = p.loads; lost = p.lost; last = p.last }
+abbrev pub with_claim : Part → Option (ℕ × Task) → Bool → Part
+with_claim p o b = record { out = p.out; mine = o; holds = b; loads = p.loads; lost = p.lost; last = p.last }
 
 abbrev pub losing : Part → ℕ → Part
 losing p n = record { out = p.out; mine = p.mine; holds = p.holds; loads = p.loads; lost = p.lost + 1; last = n }
@@ -45,23 +45,23 @@ abbrev pub put_ready : Step Item → Seated → Seated → Type 0
 put_ready s m w = (t : Task) × (n : ℕ) × (s.first ≡ n * 4 + 1) × (m.1 ≡ (s.word, Placed t) ∷ rest m.1) × (w ≡ (with_part m.0 s.word (outing (part s.word m.0) (Some (n, t))), rest m.1))
 
 -- a load
-abbrev pub looked : Step Item → Seated → ℕ → Seated → Type 0
-looked s m n w = w ≡ (with_part m.0 s.word (looking (part s.word m.0) n), m.1)
+abbrev pub with_load : Step Item → Seated → ℕ → Seated → Type 0
+with_load s m n w = w ≡ (with_part m.0 s.word (looking (part s.word m.0) n), m.1)
 
 -- the exchange was won, and the hand has the slot, which it didn't have before, with its number and task; or another word was found
 abbrev pub tried : Step Item → Seated → ℕ → Seated → Type 0
 tried s m found w =
-    MatchBool (found == s.first) ((t : Task) × (w ≡ (with_part m.0 s.word (claiming (part s.word m.0) (Some (s.first / 4, t)) true), (s.word, Placed t) ∷ m.1)) × ((part s.word m.0).mine ≡ None))
+    MatchBool (found == s.first) ((t : Task) × (w ≡ (with_part m.0 s.word (with_claim (part s.word m.0) (Some (s.first / 4, t)) true), (s.word, Placed t) ∷ m.1)) × ((part s.word m.0).mine ≡ None))
     (w ≡ (with_part m.0 s.word (losing (part s.word m.0) found), m.1))
 
 -- the hand puts the content, its result, back and no longer has the slot
 abbrev pub put_done : Step Item → Seated → Seated → Type 0
-put_done s m w = w ≡ (with_part m.0 s.word (claiming (part s.word m.0) None false), rest m.1)
+put_done s m w = w ≡ (with_part m.0 s.word (with_claim (part s.word m.0) None false), rest m.1)
 
 -- a result was there, of the task that is out under its number, and the keeper takes it out; or none was
 abbrev pub looked_done : Step Item → Seated → ℕ → Seated → Type 0
 looked_done s m found w =
-    MatchBool (found % 4 == 3) ((n : ℕ) × (d : Done) × ((part s.word m.0).out ≡ Some (n, d.task)) × ((g : Graph) → m.0.graph ≡ Some g → IsDone g d) × (w ≡ (with_part m.0 s.word (holding (looking (part s.word m.0) found) true), (s.word, Finished d) ∷ m.1)))
+    MatchBool (found % 4 == 3) ((n : ℕ) × (d : Done) × ((part s.word m.0).out ≡ Some (n, d.task)) × ((g : Graph) → m.0.graph ≡ Some g → IsResult g d) × (w ≡ (with_part m.0 s.word (holding (looking (part s.word m.0) found) true), (s.word, Finished d) ∷ m.1)))
     (w ≡ (with_part m.0 s.word (looking (part s.word m.0) found), m.1))
 
 -- the slot is no longer out

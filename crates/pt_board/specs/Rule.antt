@@ -17,15 +17,15 @@ use Rattle.pt_board.specs.declared.table.Item.{Item}
 use Rattle.pt_board.specs.declared.table.Item.TheVariants.{Nothing, Placed, Finished}
 
 -- a result is what the kind of its task's actor gives
-abbrev pub IsDone : Graph → Done → Type 0
-IsDone g d = d.fired ≡ fired (kind_of g d.task.actor) d.task.state d.task.inputs
+abbrev pub IsResult : Graph → Done → Type 0
+IsResult g d = d.fired ≡ fired (kind_of g d.task.actor) d.task.state d.task.inputs
 
 -- a result is that of its task in the graph that the board's tasks are of
 abbrev pub IsResultOf : Option Graph → Done → Type 0
-IsResultOf graph d = (g : Graph) × (graph ≡ Some g) × IsDone g d
+IsResultOf graph d = (g : Graph) × (graph ≡ Some g) × IsResult g d
 
-abbrev pub no_task : Task
-no_task = record { number = 0; actor = 0; tag = record { time = 0; step = 0 }; inputs = []; state = pos 0 }
+abbrev pub empty_task : Task
+empty_task = record { number = 0; actor = 0; tag = record { time = 0; step = 0 }; inputs = []; state = pos 0 }
 
 abbrev pub no_part : Part
 no_part = record { out = None; mine = None; holds = false; loads = 0; lost = 0; last = 0 }
@@ -44,11 +44,11 @@ keeper_first g = record { is_keeper = true; graph = Some g; parts = replicate 32
 
 -- a content that no seat has taken out lies in its slot: in phase ready it is the task, in phase done the result of the task
 abbrev pub Content : Graph → ℕ → Task → Bool → mathlib.Core.Option.Option (mathlib.Core.Option.Option Item) → Type 0
-Content g phase task busy home = busy ≡ false → (y : Item) × (home ≡ some (some y)) × (phase ≡ 1 → y ≡ Placed task) × (phase ≡ 3 → (done : Done) × (y ≡ Finished done) × (done.task ≡ task) × IsDone g done)
+Content g phase task busy home = busy ≡ false → (y : Item) × (home ≡ some (some y)) × (phase ≡ 1 → y ≡ Placed task) × (phase ≡ 3 → (done : Done) × (y ≡ Finished done) × (done.task ≡ task) × IsResult g done)
 
 -- what a seat knows of a slot agrees with the slot: with its keeper, the number and task of its last placement, its phase,
 -- the hand that claimed it, and whether its content is out
-pub record Fits (keeper number : ℕ) (task : Task) (phase owner : ℕ) (busy : Bool) (id : ℕ) (is_keeper : Bool) (p : Part) : Type 0 where
+pub record SeatFits (keeper number : ℕ) (task : Task) (phase owner : ℕ) (busy : Bool) (id : ℕ) (is_keeper : Bool) (p : Part) : Type 0 where
   pub only : is_keeper ≡ true → id ≡ keeper
   pub free : is_keeper ≡ true → phase ≡ 0 → p.out ≡ None
   pub out : is_keeper ≡ true → phase ≢ 0 → p.out ≡ Some (number, task)
@@ -70,7 +70,7 @@ pub record Slot (g : Graph) (keeper k : ℕ) (word : ℕ) (home : mathlib.Core.O
   pub small : phase < 4
   pub ready : phase ≡ 1 → busy ≡ false
   pub content : Content g phase task busy home
-  pub fits : (id : ℕ) (v : View) → get_elem? views id ≡ some v → Fits keeper number task phase owner busy id v.is_keeper (part k v)
+  pub fits : (id : ℕ) (v : View) → get_elem? views id ≡ some v → SeatFits keeper number task phase owner busy id v.is_keeper (part k v)
 
 -- the rule of the whole board; each view but a spent one names the board's graph
 pub record BoardRule (g : Graph) (s : State Item View) : Type 0 where

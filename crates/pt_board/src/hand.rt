@@ -3,7 +3,7 @@ ghost use Rattle.std.specs.Prelude.{◌≡◌, ◌<◌, ◌^◌, [], Option, Non
 ghost use Rattle.pt_board.specs.Rule.{IsResultOf, hand_first, part};
 ghost use Rattle.pt_types.specs.declared.graph.Graph.{Graph};
 ghost use Rattle.pt_board.specs.Seats.{SameElse, Unready};
-ghost use Rattle.pt_board.specs.Hands.{FoundNotReady, HasClaimed, HasFinished, HoldsNone, HoldsTicket, SawNoneReady};
+ghost use Rattle.pt_board.specs.Hands.{FoundNotReady, HoldsOneMore, HasFinished, HoldsNone, HoldsTicket, SawNoneReady};
 
 use crate::board::Board;
 use crate::keeper::Keeper;
@@ -98,7 +98,7 @@ impl Board {
     fn claim_from(&self, hand: &mut Hand, slot: usize) -> Option<Ticket>
         requires table { hand.old.table ≡ self.now.table }
         requires slot { slot < 32 }
-        ensures { MatchOption result (FoundNotReady slot hand.old hand.new) (HasClaimed hand.old hand.new) }
+        ensures { MatchOption result (FoundNotReady slot hand.old hand.new) (HoldsOneMore hand.old hand.new) }
     {
         let Some((number, task)) = self.slots.claim_at(&mut hand.seat, slot) else {
             return None;
@@ -111,7 +111,7 @@ impl Board {
     /// `None` comes only where at each slot the hand found the word not ready, or lost the exchange to another hand.
     pub fn claim(&self, hand: &mut Hand) -> Option<Ticket>
         requires table { hand.old.table ≡ self.now.table }
-        ensures claimed { MatchOption result (SawNoneReady hand.old hand.new) (HasClaimed hand.old hand.new) }
+        ensures claimed { MatchOption result (SawNoneReady hand.old hand.new) (HoldsOneMore hand.old hand.new) }
     {
         for slot in 0..SLOTS {
             if let Some(ticket) = self.claim_from(hand, slot) {

@@ -1,5 +1,5 @@
 //! What each step numbers. No value of these is made.
-ghost use Rattle.pt_board.specs.Plays.{took_free, put_ready, looked, tried, put_done, looked_done, put_free, gave_back, took_again};
+ghost use Rattle.pt_board.specs.Plays.{took_free, put_ready, with_load, tried, put_done, looked_done, put_free, gave_back, took_again};
 
 use crate::rule::View;
 use crate::table::Item;
@@ -23,7 +23,7 @@ impl Play<Item, View> for PutReady {
 pub struct Look;
 
 impl Play<Item, View> for Look {
-    ghost then = { looked };
+    ghost then = { with_load };
 }
 
 /// A hand claims a ready slot: an exchange, won or lost.

@@ -3,7 +3,7 @@
 //! The word of a slot is the number of its last placement times four, and a phase: 0 free, 1 ready, 2 taken, 3 done.
 //! A slot's content moves only while a seat has it, and a seat takes it and gives it back at a load or store of the word.
 ghost use Rattle.std.specs.Prelude.{◌≡◌, ◌≢◌, ℕ, ◌<◌, ◌^◌, ◌+◌, ◌*◌, ◌%◌, ◌∷◌, [], true, false, None, Some, IfOk, IfSome, IfNone, MatchOption, length, replicate};
-ghost use Rattle.pt_board.specs.Rule.{IsResultOf, IsDone, keeper_first, hand_first, part};
+ghost use Rattle.pt_board.specs.Rule.{IsResultOf, IsResult, keeper_first, hand_first, part};
 ghost use Rattle.pt_types.specs.declared.firing.Task.{Task};
 ghost use Rattle.pt_types.specs.declared.graph.Graph.{Graph};
 ghost use Rattle.pt_board.specs.Seats.{IsSeatOf, IsKeeperView, IsHandView, SameElse, Unready, Holds};
@@ -156,7 +156,7 @@ impl Slots {
         requires slot { (slot < 32) × ((part slot keeper.old.me.0).holds ≡ false) }
         requires out { (number < 2 ^ 62) × ((task : Task) × ((part slot keeper.old.me.0).out ≡ Some (number, task))) }
         ensures seat { IsSeatOf self.now.table.shared.table_id keeper.new × IsKeeperView keeper.new.me.0 × ((part slot keeper.new.me.0).holds ≡ false) }
-        ensures some { IfSome result (λ d. ((part slot keeper.old.me.0).out ≡ Some (number, d.task)) × ((g : Graph) → keeper.old.me.0.graph ≡ Some g → IsDone g d) × ((part slot keeper.new.me.0).out ≡ None)) }
+        ensures some { IfSome result (λ d. ((part slot keeper.old.me.0).out ≡ Some (number, d.task)) × ((g : Graph) → keeper.old.me.0.graph ≡ Some g → IsResult g d) × ((part slot keeper.new.me.0).out ≡ None)) }
         ensures none { IfNone result (((part slot keeper.new.me.0).out ≡ (part slot keeper.old.me.0).out) × ((part slot keeper.new.me.0).loads ≡ (part slot keeper.old.me.0).loads + 1) × ((part slot keeper.new.me.0).last % 4 ≢ 3)) }
         ensures others { SameElse slot keeper.old.me.0 keeper.new.me.0 }
         ensures graph { keeper.new.me.0.graph ≡ keeper.old.me.0.graph }

@@ -9,14 +9,14 @@ use Rattle.pt_types.specs.declared.graph.Graph.{Graph}
 use Rattle.pt_semantics.specs.Edges.{edges, links, of_wire, wires}
 use Rattle.pt_semantics.specs.Lists.{IsIn}
 use Rattle.pt_semantics.proofs.Lookups.{IsIn-append_left, none_some, same_some}
-use Rattle.pt_causality.specs.Branches.{IsNext}
+use Rattle.pt_causality.specs.Branches.{IsNextWire}
 
 -- the places of the wires from place j on
 pub record AreNext (ws : List Wire) (actors j : ℕ) (first next : List ℕ) : Type 0 where
   pub actors_len : length first ≡ actors
   pub wires_len : length next ≡ length ws
-  pub firsts : (a : ℕ) → a < actors → IsNext ws a j (get_or first a 0)
-  pub nexts : (i : ℕ) (w : Wire) → j ≤ i → slice_get ws i ≡ Some w → IsNext ws w.from (i + 1) (get_or next i 0)
+  pub firsts : (a : ℕ) → a < actors → IsNextWire ws a j (get_or first a 0)
+  pub nexts : (i : ℕ) (w : Wire) → j ≤ i → slice_get ws i ≡ Some w → IsNextWire ws w.from (i + 1) (get_or next i 0)
 
 -- one wire more, in front of the others
 pub one_before : (ws : List Wire) (actors j : ℕ) (first next : List ℕ) (w : Wire) → slice_get ws j ≡ Some w → w.from < actors → AreNext ws actors (j + 1) first next → AreNext ws actors j (set first w.from j) (set next j (get_or first w.from 0))
@@ -24,15 +24,15 @@ one_before ws actors j first next w at from is = record {
   actors_len = length-set first w.from j ∙ is.actors_len;
   wires_len = length-set next j (get_or first w.from 0) ∙ is.wires_len;
   firsts = λ a lt. ⊎_elim
-      (λ (e : a ≡ w.from). subst (IsNext ws a j) (sym (ap (λ k. get_or (set first w.from j) k 0) e ∙ get_or-set_same first w.from j 0 (subst (λ n. w.from < n) (sym is.actors_len) from))) (record {
+      (λ (e : a ≡ w.from). subst (IsNextWire ws a j) (sym (ap (λ k. get_or (set first w.from j) k 0) e ∙ get_or-set_same first w.from j 0 (subst (λ n. w.from < n) (sym is.actors_len) from))) (record {
         later = omega arith;
         none = λ i v le below. absurd (omega (arith, le, below));
         is = λ v here. ap (λ (x : Wire). x.from) (same_some v w (sym here ∙ at)) ∙ sym e;
       }))
       (λ (ne : a ≡ w.from → ⊥).
-      let rest : IsNext ws a (j + 1) (get_or first a 0) = is.firsts a lt in
+      let rest : IsNextWire ws a (j + 1) (get_or first a 0) = is.firsts a lt in
       let later : j + 1 ≤ get_or first a 0 = rest.later in
-      subst (IsNext ws a j) (sym (get_or-set_other first w.from a j 0 ne)) (record {
+      subst (IsNextWire ws a j) (sym (get_or-set_other first w.from a j 0 ne)) (record {
         later = omega (arith, later);
         none = λ i v le below here of. ⊎_elim
             (λ (e : i ≡ j). ne (sym of ∙ ap (λ (x : Wire). x.from) (same_some v w (sym here ∙ ap (slice_get ws) e ∙ at))))
@@ -45,9 +45,9 @@ one_before ws actors j first next w at from is = record {
       (λ (e : i ≡ j).
       let same : v ≡ w = same_some v w (sym here ∙ ap (slice_get ws) e ∙ at) in
       let within : j < length next = subst (λ n. j < n) (sym is.wires_len) (slice_get_within ws j w at) in
-      subst (IsNext ws v.from (i + 1)) (sym (ap (λ k. get_or (set next j (get_or first w.from 0)) k 0) e ∙ get_or-set_same next j (get_or first w.from 0) 0 within))
-      (subst (λ (x : Wire). IsNext ws x.from (i + 1) (get_or first w.from 0)) (sym same) (subst (λ k. IsNext ws w.from (k + 1) (get_or first w.from 0)) (sym e) (is.firsts w.from from))))
-      (λ (ne : i ≡ j → ⊥). subst (IsNext ws v.from (i + 1)) (sym (get_or-set_other next j i (get_or first w.from 0) 0 ne)) (is.nexts i v (omega (arith, le, ne)) here))
+      subst (IsNextWire ws v.from (i + 1)) (sym (ap (λ k. get_or (set next j (get_or first w.from 0)) k 0) e ∙ get_or-set_same next j (get_or first w.from 0) 0 within))
+      (subst (λ (x : Wire). IsNextWire ws x.from (i + 1) (get_or first w.from 0)) (sym same) (subst (λ k. IsNextWire ws w.from (k + 1) (get_or first w.from 0)) (sym e) (is.firsts w.from from))))
+      (λ (ne : i ≡ j → ⊥). subst (IsNextWire ws v.from (i + 1)) (sym (get_or-set_other next j i (get_or first w.from 0) 0 ne)) (is.nexts i v (omega (arith, le, ne)) here))
       (cases_eq i j);
 }
 
@@ -56,7 +56,7 @@ pub none_before : (ws : List Wire) (actors : ℕ) → AreNext ws actors (length 
 none_before ws actors = record {
   actors_len = length-replicate {A = ℕ} actors (length ws);
   wires_len = length-replicate {A = ℕ} (length ws) (length ws);
-  firsts = λ a lt. subst (IsNext ws a (length ws)) (sym (get_or-replicate {A = ℕ} actors a (length ws) 0 lt)) (record {
+  firsts = λ a lt. subst (IsNextWire ws a (length ws)) (sym (get_or-replicate {A = ℕ} actors a (length ws) 0 lt)) (record {
     later = omega arith;
     none = λ i w le below here. absurd (omega (arith, le, below));
     is = λ w here. absurd (none_some w (sym (slice_get_past ws (length ws) (omega arith)) ∙ here));

@@ -6,8 +6,8 @@ use Rattle.std.proofs.lemmas.List.Sums.{take_while-cons}
 use Rattle.pt_types.specs.declared.graph.Edge.{Edge}
 use Rattle.pt_semantics.specs.Lists.{Each, IsIn}
 use Rattle.pt_semantics.specs.Cycles.{Differ}
-use Rattle.pt_causality.specs.Ranking.{Apart, IsRing, Joins, walked}
-use Rattle.pt_causality.specs.Rings.{IsClosedBy, IsTurned, front_of}
+use Rattle.pt_causality.specs.Ranking.{Apart, IsCycleInLists, EdgesLead, walked}
+use Rattle.pt_causality.specs.Rings.{IsClosedBy, IsRotated, front_of}
 
 each_append : {X : Type 0} (P : X → Type 0) (xs ys : List X) → Each P xs → Each P ys → Each P (xs ++ ys)
 each_append P [] ys h k = k
@@ -47,11 +47,11 @@ differ_append (x ∷ xs) ys h k c = (each_append (λ (d : Edge). x.from ≢ d.fr
 differ_swap : (xs ys : List Edge) → Differ (xs ++ ys) → Differ (ys ++ xs)
 differ_swap xs ys h = let parts = differ_parts xs ys h in differ_append ys xs parts.1 parts.0 (cross_swap xs ys parts.2)
 
-joins_append : (incoming : List (List Edge)) (a b c : ℕ) (xs ys : List Edge) → Joins incoming a xs b → Joins incoming b ys c → Joins incoming a (xs ++ ys) c
-joins_append incoming a b c [] ys h k = subst (λ n. Joins incoming n ys c) (sym h) k
+joins_append : (incoming : List (List Edge)) (a b c : ℕ) (xs ys : List Edge) → EdgesLead incoming a xs b → EdgesLead incoming b ys c → EdgesLead incoming a (xs ++ ys) c
+joins_append incoming a b c [] ys h k = subst (λ n. EdgesLead incoming n ys c) (sym h) k
 joins_append incoming a b c (x ∷ xs) ys h k = (h.0, h.1, joins_append incoming x.to b c xs ys h.2 k)
 
-joins_parts : (incoming : List (List Edge)) (a c : ℕ) (xs ys : List Edge) → Joins incoming a (xs ++ ys) c → (b : ℕ) × Joins incoming a xs b × Joins incoming b ys c
+joins_parts : (incoming : List (List Edge)) (a c : ℕ) (xs ys : List Edge) → EdgesLead incoming a (xs ++ ys) c → (b : ℕ) × EdgesLead incoming a xs b × EdgesLead incoming b ys c
 joins_parts incoming a c [] ys h = (a, refl, h)
 joins_parts incoming a c (x ∷ xs) ys h = let rest = joins_parts incoming x.to c xs ys h.2 in (rest.0, (h.0, h.1, rest.1), rest.2)
 
@@ -59,11 +59,11 @@ joins_parts incoming a c (x ∷ xs) ys h = let rest = joins_parts incoming x.to 
 record IsFront (incoming : List (List Edge)) (top : ℕ) (trail : List Edge) (edge : Edge) : Type 1 where
   front : List Edge
   is : front_of edge trail ≡ front
-  joined : Joins incoming top front edge.from
+  joined : EdgesLead incoming top front edge.from
   differ : Differ (front ++ edge ∷ [])
   along : (P : ℕ → Type 0) → Each P (walked top trail) → Each (λ (e : Edge). P e.from) (front ++ edge ∷ [])
 
-front_at : (incoming : List (List Edge)) (top root : ℕ) (trail : List Edge) (edge : Edge) → Joins incoming top trail root → Apart (walked top trail) → IsIn edge.from (walked top trail) → IsFront incoming top trail edge
+front_at : (incoming : List (List Edge)) (top root : ℕ) (trail : List Edge) (edge : Edge) → EdgesLead incoming top trail root → Apart (walked top trail) → IsIn edge.from (walked top trail) → IsFront incoming top trail edge
 front_at incoming top root [] edge joined apart from =
     let same : edge.from ≡ top = ⊎_elim (λ (e : edge.from ≡ top). e) (λ (e : ⊥). absurd e) from in
     record { front = []; is = refl; joined = sym same; differ = (tt, tt); along = λ P h. (subst P (sym same) h.0, tt) }
@@ -95,7 +95,7 @@ each_at P [] h = tt
 each_at P (x ∷ xs) h = (h 0 (omega arith), each_at P xs (λ k below. h (suc k) (omega arith)))
 
 -- a cycle of edges, begun at the place of its least actor
-ring_turned : (incoming : List (List Edge)) (top : ℕ) (es : List Edge) (edge : Edge) (turned : List ℕ) → Joins incoming top es top → Differ es → IsTurned (map (λ (e : Edge). e.from) es) turned → IsRing incoming turned
+ring_turned : (incoming : List (List Edge)) (top : ℕ) (es : List Edge) (edge : Edge) (turned : List ℕ) → EdgesLead incoming top es top → Differ es → IsRotated (map (λ (e : Edge). e.from) es) turned → IsCycleInLists incoming turned
 ring_turned incoming top es edge turned joined differ are =
     let k = are.place in
     let froms : List ℕ = map (λ (e : Edge). e.from) es in
@@ -103,9 +103,9 @@ ring_turned incoming top es edge turned joined differ are =
     let path : List Edge = drop (k + 1) es ++ take k es in
     let below : k < length es = subst (λ n. k < n) (length-map es (λ (e : Edge). e.from)) are.least.0 in
     let whole : take k es ++ drop k es ≡ es = take-append-drop k es in
-    let parts = joins_parts incoming top top (take k es) (drop k es) (subst (λ (z : List Edge). Joins incoming top z top) (sym whole) joined) in
+    let parts = joins_parts incoming top top (take k es) (drop k es) (subst (λ (z : List Edge). EdgesLead incoming top z top) (sym whole) joined) in
     let begun : drop k es ++ take k es ≡ first ∷ path = ap (λ (z : List Edge). z ++ take k es) (drop_more es k edge below) in
-    let around : Joins incoming parts.0 (first ∷ path) parts.0 = subst (λ (z : List Edge). Joins incoming parts.0 z parts.0) begun (joins_append incoming parts.0 top parts.0 (drop k es) (take k es) parts.2 parts.1) in
+    let around : EdgesLead incoming parts.0 (first ∷ path) parts.0 = subst (λ (z : List Edge). EdgesLead incoming parts.0 z parts.0) begun (joins_append incoming parts.0 top parts.0 (drop k es) (take k es) parts.2 parts.1) in
     let froms_are : drop k froms ++ take k froms ≡ map (λ (e : Edge). e.from) (first ∷ path) =
     ap (λ (z : List ℕ). z ++ take k froms) (drop-map (λ (e : Edge). e.from) k es)
     ∙ (ap (λ (z : List ℕ). map (λ (e : Edge). e.from) (drop k es) ++ z) (take-map (λ (e : Edge). e.from) k es)
@@ -125,7 +125,7 @@ ring_turned incoming top es edge turned joined differ are =
 
 -- the cycle that an edge closes
 pub ring_closed : (incoming : List (List Edge)) (trail : List Edge) (edge : Edge) (actors turned : List ℕ) → IsClosedBy incoming trail edge →
-    actors ≡ map (λ (e : Edge). e.from) (front_of edge trail) ++ edge.from ∷ [] → IsTurned actors turned → IsRing incoming turned
+    actors ≡ map (λ (e : Edge). e.from) (front_of edge trail) ++ edge.from ∷ [] → IsRotated actors turned → IsCycleInLists incoming turned
 ring_closed incoming trail edge actors turned closed around are =
     let f = front_at incoming edge.to closed.root trail edge closed.joined closed.apart closed.from in
     let froms : actors ≡ map (λ (e : Edge). e.from) (f.front ++ edge ∷ []) =
@@ -133,4 +133,4 @@ ring_closed incoming trail edge actors turned closed around are =
     ring_turned incoming edge.to (f.front ++ edge ∷ []) edge turned
     (joins_append incoming edge.to edge.from edge.to f.front (edge ∷ []) f.joined (closed.in_list, refl, refl))
     f.differ
-    (subst (λ (z : List ℕ). IsTurned z turned) froms are)
+    (subst (λ (z : List ℕ). IsRotated z turned) froms are)

@@ -16,7 +16,7 @@ use Rattle.pt_causality.specs.declared.cycle.CycleFault.TheVariants.{Memory, Cyc
 use Rattle.pt_causality.specs.Incoming.{AreIncoming, comes_to, into}
 use Rattle.pt_causality.specs.Places.{fresh_place, place_at}
 use Rattle.pt_causality.specs.Ranked.{CauseOfCycle}
-use Rattle.pt_causality.specs.Ranking.{AreDone, AreJoined, IsOneAbove, Joins, LiesAbove, MeetsRing, Rests, done_count, marks_left, one_if_done}
+use Rattle.pt_causality.specs.Ranking.{ActorsAreDone, AreEdgeLists, IsOneAbove, EdgesLead, LiesAbove, MeetsRing, Rests, done_count, marks_left, one_if_done}
 use Rattle.pt_causality.proofs.Highest.{are_levels, are_ranks}
 
 filter_in : (p : Edge → Bool) (e : Edge) (xs : List Edge) → IsIn e (filter p xs) → IsIn e xs × (p e ≡ true)
@@ -65,7 +65,7 @@ is_listed : (es : List Edge) (count : ℕ) (incoming : List (List Edge)) → Are
 is_listed es count incoming are e mem below free =
     subst (IsIn e) (sym (are.lists e.to below)) (in_filter (comes_to e.to) e es mem (and_from (e.to == e.to) (e.weight.time == 0) (eq-eqb e.to e.to refl) (eq-eqb e.weight.time 0 free)))
 
-pub are_joined : (g : Graph) (incoming : List (List Edge)) → IsLawful g → AreIncoming (edges g) (length g.actors) incoming → AreJoined incoming
+pub are_joined : (g : Graph) (incoming : List (List Edge)) → IsLawful g → AreIncoming (edges g) (length g.actors) incoming → AreEdgeLists incoming
 are_joined g incoming lawful are = record {
   to = λ a e mem. (is_of (edges g) (length g.actors) incoming are a e mem).to;
   from = λ a e mem. subst (λ n. e.from < n) (sym are.len) ((wired g lawful).ends e (is_of (edges g) (length g.actors) incoming are a e mem).in_edges).0;
@@ -111,7 +111,7 @@ done_unless Open h shut = absurd (shut refl)
 done_unless Done h shut = refl
 
 -- once all are done
-module _ (g : Graph) (incoming : List (List Edge)) (places : List Place) (lawful : IsLawful g) (are : AreIncoming (edges g) (length g.actors) incoming) (all : AreDone incoming places) where
+module _ (g : Graph) (incoming : List (List Edge)) (places : List Place) (lawful : IsLawful g) (are : AreIncoming (edges g) (length g.actors) incoming) (all : ActorsAreDone incoming places) where
   above : (e : Edge) → IsIn e (edges g) → e.weight.time ≡ 0 → LiesAbove e (place_at places e.from) (place_at places e.to)
   above e mem free =
       let below : e.to < length g.actors = ((wired g lawful).ends e mem).1 in
@@ -146,7 +146,7 @@ module _ (g : Graph) (incoming : List (List Edge)) (places : List Place) (lawful
   })
 
 -- a cycle of edges in the lists is one of the graph, and takes no time
-joins_leads : (g : Graph) (incoming : List (List Edge)) → AreIncoming (edges g) (length g.actors) incoming → (a b : ℕ) (es : List Edge) → Joins incoming a es b → Leads g a es b × ((sum_along es).time ≡ 0)
+joins_leads : (g : Graph) (incoming : List (List Edge)) → AreIncoming (edges g) (length g.actors) incoming → (a b : ℕ) (es : List Edge) → EdgesLead incoming a es b → Leads g a es b × ((sum_along es).time ≡ 0)
 joins_leads g incoming are a b [] h = (h, refl)
 joins_leads g incoming are a b (e ∷ es) (mem, from, rest) =
     let of = is_of (edges g) (length g.actors) incoming are e.to e mem in
@@ -178,11 +178,11 @@ number_of number none places a =
     get_or_past (map number places) a 0 (subst (λ n. n ≤ a) (sym (length-map places number)) past) ∙ (sym none ∙ ap number (sym (get_or_past places a (fresh_place []) past))))
     (cases_lt a (length places))
 
-pub ranks_are : (g : Graph) (incoming : List (List Edge)) (places : List Place) (ranks : List ℕ) → IsLawful g → AreIncoming (edges g) (length g.actors) incoming → AreDone incoming places → ranks ≡ map (λ (p : Place). p.rank) places → AreRanks g (λ a. get_or ranks a 0)
+pub ranks_are : (g : Graph) (incoming : List (List Edge)) (places : List Place) (ranks : List ℕ) → IsLawful g → AreIncoming (edges g) (length g.actors) incoming → ActorsAreDone incoming places → ranks ≡ map (λ (p : Place). p.rank) places → AreRanks g (λ a. get_or ranks a 0)
 ranks_are g incoming places ranks lawful are all is =
     λ a. subst (IsLongest g NoDelay a) (sym (ap (λ ns. get_or ns a 0) is ∙ number_of (λ (p : Place). p.rank) refl places a)) (ranks_found g incoming places lawful are all a)
 
-pub levels_are : (g : Graph) (incoming : List (List Edge)) (places : List Place) (levels : List ℕ) → IsLawful g → AreIncoming (edges g) (length g.actors) incoming → AreDone incoming places → levels ≡ map (λ (p : Place). p.level) places → AreLevels g (λ a. get_or levels a 0)
+pub levels_are : (g : Graph) (incoming : List (List Edge)) (places : List Place) (levels : List ℕ) → IsLawful g → AreIncoming (edges g) (length g.actors) incoming → ActorsAreDone incoming places → levels ≡ map (λ (p : Place). p.level) places → AreLevels g (λ a. get_or levels a 0)
 levels_are g incoming places levels lawful are all is =
     λ a. subst (IsLongest g NoTime a) (sym (ap (λ ns. get_or ns a 0) is ∙ number_of (λ (p : Place). p.level) refl places a)) (levels_found g incoming places lawful are all a)
 

@@ -13,7 +13,7 @@ use Rattle.std.proofs.lemmas.List.Sorted.{IsPermutation-map, IsPermutation-middl
 use Rattle.pt_tags.specs.declared.tag.Delay.{Delay}
 use Rattle.pt_tags.specs.Tags.{AtMost}
 use Rattle.pt_causality.specs.declared.frontier.Waiting.{Waiting}
-use Rattle.pt_causality.specs.Waits.{compared, waiting_at, IsFirst, NoneBefore, SomeBefore}
+use Rattle.pt_causality.specs.Waits.{compared, waiting_at, HasLeastDelay, NoneBefore, SomeBefore}
 
 abbrev pub inner : Reverse Waiting → Waiting
 inner r = r.0
@@ -34,7 +34,7 @@ later_than : (d : Delay) (was : List (Reverse Waiting)) → NoneBefore d was →
 later_than d was h = All-map (λ (v : Waiting). AtMost d v.at) inner was h
 
 module _ (now : Delay) (ready : List ℕ) (was : List (Reverse Waiting)) (old : List Waiting) (is : map (waiting_at now) ready ++ map inner was ≡ old) where
-  first_by : (w : Waiting) → AtMost w.at now → NoneBefore w.at was → IsFirst w old
+  first_by : (w : Waiting) → AtMost w.at now → NoneBefore w.at was → HasLeastDelay w old
   first_by w most none =
       All-same (λ (v : Waiting). AtMost w.at v.at) old (map (waiting_at now) ready ++ map inner was) (sym is)
       (All-append (λ (v : Waiting). AtMost w.at v.at) (map (waiting_at now) ready) (map inner was) (all_at w.at now most ready) (later_than w.at was none))
@@ -61,18 +61,18 @@ module _ (now : Delay) (ready : List ℕ) (was : List (Reverse Waiting)) (old : 
       whole : map (waiting_at now) ready ++ map inner was ≡ map (waiting_at now) left ++ waiting_at now u ∷ map inner was
       whole = ap (λ z. map (waiting_at now) z ++ map inner was) split ∙ ap (λ z. z ++ map inner was) (map-append (waiting_at now) left (u ∷ [])) ∙ append_assoc (map (waiting_at now) left) (waiting_at now u ∷ []) (map inner was)
 
-  pub first_alone : (x : Reverse Waiting) → ready ≡ [] → IsUpperBound (λ v w. compared w.0 v.0) x was → IsFirst x.0 old
+  pub first_alone : (x : Reverse Waiting) → ready ≡ [] → IsUpperBound (λ v w. compared w.0 v.0) x was → HasLeastDelay x.0 old
   first_alone x none h =
       All-same (λ (v : Waiting). AtMost x.0.at v.at) old (map inner was) (sym is ∙ ap (λ z. map (waiting_at now) z ++ map inner was) none)
       (later_than x.0.at was (least_of_heap x was h))
 
-  pub first_later : (x : Reverse Waiting) → SomeBefore now was → IsUpperBound (λ v w. compared w.0 v.0) x was → IsFirst x.0 old
+  pub first_later : (x : Reverse Waiting) → SomeBefore now was → IsUpperBound (λ v w. compared w.0 v.0) x was → HasLeastDelay x.0 old
   first_later x (y, there, most) h =
       let none = least_of_heap x was h in
       let below : AtMost x.0.at y.0.at = All-contains (λ (z : Reverse Waiting). AtMost x.0.at z.0.at) was y none there in
       first_by x.0 (omega (arith, below, most)) none
 
-  pub first_ready : (u : ℕ) → NoneBefore now was → IsFirst (waiting_at now u) old
+  pub first_ready : (u : ℕ) → NoneBefore now was → HasLeastDelay (waiting_at now u) old
   first_ready u none = first_by (waiting_at now u) (omega arith) none
 
 pub none_left : (ready : List ℕ) (len : ℕ) → len ≡ length ready → true ≡ (len == 0) → ready ≡ []

@@ -14,10 +14,10 @@ use Rattle.pt_semantics.specs.Ranks.{sum_along}
 use Rattle.pt_semantics.specs.Units.{source, target}
 use Rattle.pt_causality.specs.declared.arcs.Arc.{Arc}
 use Rattle.pt_causality.specs.declared.units.Numbers.{Numbers}
-use Rattle.pt_causality.specs.Cells.{number_in, delay_at, row_at}
+use Rattle.pt_causality.specs.Cells.{number_in, delay_at, delay_row_at}
 use Rattle.pt_causality.specs.Units.{IsUnit}
 use Rattle.pt_causality.specs.Numbered.{AreNumbered}
-use Rattle.pt_causality.specs.Arcs.{arcs_from, Follows, total, HasNearest, IsRow, IsFit, AreFit, arc_of, leaves_place}
+use Rattle.pt_causality.specs.Arcs.{arcs_from, ArcsLead, total, HasNearest, HasLeastDelays, IsFit, AreFit, arc_of, leaves_place}
 use Rattle.pt_causality.specs.Delays.{HasLeast, AreLeast}
 use Rattle.pt_causality.proofs.Members.{of_filtered, in_filtered}
 use Rattle.pt_causality.proofs.Lawful.{ends_are_units, wires_are_light}
@@ -54,7 +54,7 @@ module _ (g : Graph) (lawful : IsLawful g) (n : Numbers) (numbered : AreNumbered
         let light = wires_are_light g for.wire lawful for.there in
         subst (IsFit (length arcs)) (sym for.is) (record { to = subst (λ k. number (target g for.wire) < k) (sym len) (target_below for.wire for.there); time = light.0; step = light.1 })
 
-    follows_goes : (path : List Edge) (x a : Part) → IsUnit g x → Goes g x path a → Follows arcs (number x) (map (arc_of g n.firsts.items) path) (number a)
+    follows_goes : (path : List Edge) (x a : Part) → IsUnit g x → Goes g x path a → ArcsLead arcs (number x) (map (arc_of g n.firsts.items) path) (number a)
     follows_goes [] x a unit same = ap number same
     follows_goes (e ∷ path) x a unit (there, from, on) = (
       subst (IsIn (arc_of g n.firsts.items e)) (sym (leave (number x) (numbered.below x unit)))
@@ -75,13 +75,13 @@ module _ (g : Graph) (lawful : IsLawful g) (n : Numbers) (numbered : AreNumbered
       number_is : number end ≡ k
       sum : sum_along edges ≡ total path
 
-    path_for : (path : List Arc) (x : Part) (k : ℕ) → IsUnit g x → Follows arcs (number x) path k → IsPathFor x path k
+    path_for : (path : List Arc) (x : Part) (k : ℕ) → IsUnit g x → ArcsLead arcs (number x) path k → IsPathFor x path k
     path_for [] x k unit same = record { edges = []; end = x; unit = unit; goes = refl; number_is = same; sum = refl }
     path_for (a ∷ path) x k unit (there, on) =
         let for = wire_for (number x) a there in
         let units = ends_are_units g for.wire lawful for.there in
         let from : source g for.wire ≡ x = numbered.apart (source g for.wire) x units.0 unit for.from in
-        let rest = path_for path (target g for.wire) k units.1 (subst (λ j. Follows arcs j path k) (ap (λ (z : Arc). z.to) for.is) on) in
+        let rest = path_for path (target g for.wire) k units.1 (subst (λ j. ArcsLead arcs j path k) (ap (λ (z : Arc). z.to) for.is) on) in
         record {
           edges = for.wire ∷ rest.edges;
           end = rest.end;
@@ -101,7 +101,7 @@ module _ (g : Graph) (lawful : IsLawful g) (n : Numbers) (numbered : AreNumbered
           least = λ path goes. subst (AtMost d) (same_sum path) (is.least (map (arc_of g n.firsts.items) path) (follows_goes path x a one goes));
         }
 
-    pub are_least : (rows : List (List (Option Delay))) → ((s : ℕ) → s < length arcs → IsRow arcs s (row_at rows s)) → AreLeast g (λ x a. delay_at (row_at rows (number x)) (number a))
+    pub are_least : (rows : List (List (Option Delay))) → ((s : ℕ) → s < length arcs → HasLeastDelays arcs s (delay_row_at rows s)) → AreLeast g (λ x a. delay_at (delay_row_at rows (number x)) (number a))
     are_least rows is x a one other =
-        least_by x a one other (delay_at (row_at rows (number x)) (number a))
+        least_by x a one other (delay_at (delay_row_at rows (number x)) (number a))
         (is (number x) (subst (λ k. number x < k) (sym len) (numbered.below x one)) (number a) (subst (λ k. number a < k) (sym len) (numbered.below a other)))

@@ -11,15 +11,15 @@ use Rattle.pt_semantics.specs.Lists.{IsIn}
 use Rattle.pt_causality.specs.declared.arcs.Arc.{Arc}
 use Rattle.pt_causality.specs.declared.frontier.Waiting.{Waiting}
 use Rattle.pt_causality.specs.Cells.{delay_at}
-use Rattle.pt_causality.specs.Arcs.{arcs_from, Follows, total, HasNearest, IsRow, IsSmallRow, IsFit, AreFit}
-use Rattle.pt_causality.specs.Waits.{IsFirst, is_open, reached}
+use Rattle.pt_causality.specs.Arcs.{arcs_from, ArcsLead, total, HasNearest, HasLeastDelays, IsSmallRow, IsFit, AreFit}
+use Rattle.pt_causality.specs.Waits.{HasLeastDelay, is_open, reached}
 use Rattle.pt_causality.proofs.Members.{some_is, not_both, cases_nat, cases_option, all_in, contains_in, in_map, first_or_rest, none_contained, none_open, in_pass, of_pass, few_pass}
 
 pub same_delay : (d e : Delay) → d.time ≡ e.time → d.step ≡ e.step → d ≡ e
 same_delay d e p q = λ i. record { time = p i; step = q i }
 
 -- a path can be continued at its end
-follows_push : (arcs : List (List Arc)) (s : ℕ) (path : List Arc) (k : ℕ) (a : Arc) → Follows arcs s path k → IsIn a (arcs_from arcs k) → Follows arcs s (path ++ a ∷ []) a.to
+follows_push : (arcs : List (List Arc)) (s : ℕ) (path : List Arc) (k : ℕ) (a : Arc) → ArcsLead arcs s path k → IsIn a (arcs_from arcs k) → ArcsLead arcs s (path ++ a ∷ []) a.to
 follows_push arcs s [] k a h there = (subst (λ j. IsIn a (arcs_from arcs j)) (sym h) there, refl)
 follows_push arcs s (b ∷ path) k a h there = (h.0, follows_push arcs b.to path k a h.1 there)
 
@@ -108,7 +108,7 @@ less_work arcs p row old new newer w taken pushed within none =
 module _ (arcs : List (List Arc)) (s : ℕ) where
   -- a path leads to place k with that delay
   abbrev Reaches : ℕ → Delay → Type 0
-  Reaches k d = (path : List Arc) × Follows arcs s path k × (total path ≡ d)
+  Reaches k d = (path : List Arc) × ArcsLead arcs s path k × (total path ≡ d)
 
   -- the search at any time
   pub record Searched (row : List (Option Delay)) (waiting : List Waiting) : Type 0 where
@@ -166,7 +166,7 @@ module _ (arcs : List (List Arc)) (s : ℕ) where
             met
 
     -- what waits is settled now, and what its arcs lead to waits
-    module _ (newer : List Waiting) (pushed : IsPermutation (map (reached w.at) (filter (is_open (slice_set row w.unit (Some w.at))) (arcs_from arcs w.unit)) ++ new) newer) (fit : AreFit arcs) (first : IsFirst w old) (none : delay_at row w.unit ≡ None) where
+    module _ (newer : List Waiting) (pushed : IsPermutation (map (reached w.at) (filter (is_open (slice_set row w.unit (Some w.at))) (arcs_from arcs w.unit)) ++ new) newer) (fit : AreFit arcs) (first : HasLeastDelay w old) (none : delay_at row w.unit ≡ None) where
       abbrev row_after : List (Option Delay)
       row_after = slice_set row w.unit (Some w.at)
 
@@ -324,7 +324,7 @@ module _ (arcs : List (List Arc)) (s : ℕ) where
     met_settled : (k : ℕ) (d : Delay) → Met row [] k d → Settled row k d
     met_settled k d met = ⊎_elim (λ (z : Settled row k d). z) (λ (z : (delay_at row k ≡ None) × Waits [] k d). absurd (none_contained z.1.one z.1.there)) met
 
-    along : (path : List Arc) (j k : ℕ) (d : Delay) → Settled row j d → Follows arcs j path k → Settled row k (then d (total path))
+    along : (path : List Arc) (j k : ℕ) (d : Delay) → Settled row j d → ArcsLead arcs j path k → Settled row k (then d (total path))
     along [] j k d z same = subst (λ i. Settled row i (then d zero_delay)) same (record { at = z.at; is = z.is; most = at_most_then z.at d zero_delay z.most })
     along (a ∷ path) j k d z (there, on) =
         let next = met_settled a.to (then z.at a.weight) (h.onward j z.at z.is a there) in
@@ -334,12 +334,12 @@ module _ (arcs : List (List Arc)) (s : ℕ) where
         further : (x c d v t : Delay) → AtMost x (then (then c v) t) → AtMost c d → AtMost x (then d (then v t))
         further x c d v t p q = omega arith
 
-    settled_by : (path : List Arc) (k : ℕ) → Follows arcs s path k → Settled row k (total path)
+    settled_by : (path : List Arc) (k : ℕ) → ArcsLead arcs s path k → Settled row k (total path)
     settled_by path k follows =
         let z = along path s k zero_delay (met_settled s zero_delay h.start) follows in
         record { at = z.at; is = z.is; most = let m = z.most in omega arith }
 
-    pub row_is : IsRow arcs s row
+    pub row_is : HasLeastDelays arcs s row
     row_is k less = by_case (delay_at row k) refl
       where
         by_case : (o : Option Delay) → delay_at row k ≡ o → HasNearest arcs s k o

@@ -8,8 +8,8 @@ use Rattle.pt_causality.specs.declared.places.Place.{Place}
 use Rattle.pt_causality.specs.declared.places.Mark.{Mark}
 use Rattle.pt_causality.specs.declared.places.Mark.TheVariants.{New, Open, Done}
 use Rattle.pt_causality.specs.Incoming.{into}
-use Rattle.pt_causality.specs.Places.{IsNext, looked, marked}
-use Rattle.pt_causality.specs.Ranking.{Comes, IsOneAbove, IsSettled, LiesAbove, one_if_done}
+use Rattle.pt_causality.specs.Places.{IsNextEdge, looked, marked}
+use Rattle.pt_causality.specs.Ranking.{Comes, IsOneAbove, NumbersAreSettled, LiesAbove, one_if_done}
 
 -- one actor has changed, which was not done
 pub record IsChange (was at : ℕ → Place) (a : ℕ) : Type 0 where
@@ -53,7 +53,7 @@ record IsWell (incoming : List (List Edge)) (was : ℕ → Place) (a n : ℕ) (p
   few : p.level + one_if_done p.mark ≤ n
   small : p.rank ≤ p.level
 
-settles : (incoming : List (List Edge)) (was at : ℕ → Place) (a m n : ℕ) → IsSettled incoming was m → m ≤ n → IsChange was at a → IsWell incoming was a n (at a) → IsSettled incoming at n
+settles : (incoming : List (List Edge)) (was at : ℕ → Place) (a m n : ℕ) → NumbersAreSettled incoming was m → m ≤ n → IsChange was at a → IsWell incoming was a n (at a) → NumbersAreSettled incoming at n
 settles incoming was at a m n s more change w = record {
   left = everywhere was at a (λ b p. p.left ≤ length (into incoming b)) change.others w.left s.left;
   looked = everywhere was at a (λ b p. (e : Edge) → IsIn e (into incoming b) → IsIn e (take p.left (into incoming b)) ⊎ LiesAbove e (at e.from) p) change.others
@@ -73,7 +73,7 @@ settles incoming was at a m n s more change w = record {
     lift b p e h = ⊎_elim (λ (waits : IsIn e (take p.left (into incoming b))). inl waits) (λ (above : LiesAbove e (was e.from) p). inr (lies was at a e p change above)) h
 
 -- an actor has another mark
-well_marked : (incoming : List (List Edge)) (was : ℕ → Place) (a m n : ℕ) (mark : Mark) → IsSettled incoming was m → (mark ≡ Done → (was a).left ≡ 0) → (was a).level + one_if_done mark ≤ n → IsWell incoming was a n (marked mark (was a))
+well_marked : (incoming : List (List Edge)) (was : ℕ → Place) (a m n : ℕ) (mark : Mark) → NumbersAreSettled incoming was m → (mark ≡ Done → (was a).left ≡ 0) → (was a).level + one_if_done mark ≤ n → IsWell incoming was a n (marked mark (was a))
 well_marked incoming was a m n mark s finished few = record {
   left = s.left a;
   looked = λ e mem. ⊎_elim (λ (waits : IsIn e (take (was a).left (into incoming a))). inl waits) (λ (h : LiesAbove e (was e.from) (was a)). inr (record { done = h.done; level = h.level; rank = h.rank })) (s.looked a e mem);
@@ -92,14 +92,14 @@ well_marked incoming was a m n mark s finished few = record {
         h
 
 -- an actor is opened
-pub settles_open : (incoming : List (List Edge)) (was at : ℕ → Place) (a n : ℕ) → IsSettled incoming was n → ((b : ℕ) → b ≢ a → at b ≡ was b) → (was a).mark ≡ New → at a ≡ marked Open (was a) → IsSettled incoming at n
+pub settles_open : (incoming : List (List Edge)) (was at : ℕ → Place) (a n : ℕ) → NumbersAreSettled incoming was n → ((b : ℕ) → b ≢ a → at b ≡ was b) → (was a).mark ≡ New → at a ≡ marked Open (was a) → NumbersAreSettled incoming at n
 settles_open incoming was at a n s others new is =
     let old : (was a).level + one_if_done (was a).mark ≤ n = s.few a in
     settles incoming was at a n n s (omega arith) (record { others = others; not_done = λ done. let h : New ≡ Done = sym new ∙ done in cc })
     (subst (IsWell incoming was a n) (sym is) (well_marked incoming was a n n Open s (λ (h : Open ≡ Done). cc) (omega (arith, old))))
 
 -- an actor is closed
-pub settles_closed : (incoming : List (List Edge)) (was at : ℕ → Place) (a n : ℕ) → IsSettled incoming was n → ((b : ℕ) → b ≢ a → at b ≡ was b) → (was a).mark ≡ Open → (was a).left ≡ 0 → at a ≡ marked Done (was a) → IsSettled incoming at (n + 1)
+pub settles_closed : (incoming : List (List Edge)) (was at : ℕ → Place) (a n : ℕ) → NumbersAreSettled incoming was n → ((b : ℕ) → b ≢ a → at b ≡ was b) → (was a).mark ≡ Open → (was a).left ≡ 0 → at a ≡ marked Done (was a) → NumbersAreSettled incoming at (n + 1)
 settles_closed incoming was at a n s others is_open none is =
     let old : (was a).level + one_if_done (was a).mark ≤ n = s.few a in
     settles incoming was at a n (n + 1) s (omega arith) (record { others = others; not_done = λ done. let h : Open ≡ Done = sym is_open ∙ done in cc })
@@ -127,7 +127,7 @@ in_take e (suc n) [] h = absurd h
 in_take e (suc n) (x ∷ xs) h = ⊎_elim (λ (same : e ≡ x). inl same) (λ (later : IsIn e (take n xs)). inr (in_take e n xs later)) h
 
 -- the edge that is looked at next leads to the actor
-pub next_in : (p : Place) (edges : List Edge) (e : Edge) → IsNext p edges e → IsIn e edges
+pub next_in : (p : Place) (edges : List Edge) (e : Edge) → IsNextEdge p edges e → IsIn e edges
 next_in p edges e next = in_take e p.left edges (subst (IsIn e) (sym next.last) (in_last e (take (p.left - 1) edges)))
 
 choice_or : (b : Bool) (old new : ℕ) → ((if b then max old new else old) ≡ old) ⊎ ((b ≡ true) × ((if b then max old new else old) ≡ new))
@@ -150,7 +150,7 @@ choice_new true old new h = grind (arith, common_steps)
 choice_new false old new h = let k : false ≡ true = h in cc
 
 -- one more edge to the actor was looked at, from one that is done
-well_looked : (incoming : List (List Edge)) (was : ℕ → Place) (a n : ℕ) (e : Edge) → IsSettled incoming was n → (was a).mark ≡ Open → (was e.from).mark ≡ Done → IsNext (was a) (into incoming a) e → IsWell incoming was a n (looked (was e.from) e (was a))
+well_looked : (incoming : List (List Edge)) (was : ℕ → Place) (a n : ℕ) (e : Edge) → NumbersAreSettled incoming was n → (was a).mark ≡ Open → (was e.from).mark ≡ Done → IsNextEdge (was a) (into incoming a) e → IsWell incoming was a n (looked (was e.from) e (was a))
 well_looked incoming was a n e s is_open done next =
     let p = was a in
     let before = was e.from in
@@ -216,8 +216,8 @@ well_looked incoming was a n e s is_open done next =
         (λ (new : ((e.weight.step == 0) ≡ true) × ((looked (was e.from) e (was a)).rank ≡ (was e.from).rank + 1)). inr (record { edge = e; in_list = e_in; such_edge = eqb-true e.weight.step 0 new.0; done = done; above = new.1 }))
         h
 
-pub settles_looked : (incoming : List (List Edge)) (was at : ℕ → Place) (a n : ℕ) (e : Edge) → IsSettled incoming was n → ((b : ℕ) → b ≢ a → at b ≡ was b) → (was a).mark ≡ Open → (was e.from).mark ≡ Done → IsNext (was a) (into incoming a) e →
-    at a ≡ looked (was e.from) e (was a) → IsSettled incoming at n
+pub settles_looked : (incoming : List (List Edge)) (was at : ℕ → Place) (a n : ℕ) (e : Edge) → NumbersAreSettled incoming was n → ((b : ℕ) → b ≢ a → at b ≡ was b) → (was a).mark ≡ Open → (was e.from).mark ≡ Done → IsNextEdge (was a) (into incoming a) e →
+    at a ≡ looked (was e.from) e (was a) → NumbersAreSettled incoming at n
 settles_looked incoming was at a n e s others is_open done next is =
     settles incoming was at a n n s (omega arith) (record { others = others; not_done = λ h. let k : Open ≡ Done = sym is_open ∙ h in cc })
     (subst (IsWell incoming was a n) (sym is) (well_looked incoming was a n e s is_open done next))

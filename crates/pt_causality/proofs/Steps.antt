@@ -10,8 +10,8 @@ use Rattle.pt_causality.specs.declared.places.Place.{Place}
 use Rattle.pt_causality.specs.declared.places.Mark.{Mark}
 use Rattle.pt_causality.specs.declared.places.Mark.TheVariants.{New, Open, Done}
 use Rattle.pt_causality.specs.Incoming.{into}
-use Rattle.pt_causality.specs.Places.{IsNext, fresh_place, looked, marked, place_at}
-use Rattle.pt_causality.specs.Ranking.{Apart, AreJoined, IsSettled, IsWalk, Joins, Rests, WentBack, done_count, marks_left, one_if_done, steps_left, walked}
+use Rattle.pt_causality.specs.Places.{IsNextEdge, fresh_place, looked, marked, place_at}
+use Rattle.pt_causality.specs.Ranking.{Apart, AreEdgeLists, NumbersAreSettled, IsWalk, EdgesLead, Rests, WentBack, done_count, marks_left, one_if_done, steps_left, walked}
 use Rattle.pt_causality.specs.Rings.{IsClosedBy}
 use Rattle.pt_causality.proofs.Settles.{next_in, settles_closed, settles_looked, settles_open}
 
@@ -36,14 +36,14 @@ top_within incoming places top trail walk = within places top (λ new. let h : O
 
 -- the edge that is looked at from the top of a walk
 pub record Looks (incoming : List (List Edge)) (places : List Place) (top : ℕ) (e : Edge) : Type 0 where
-  pub next : IsNext (place_at places top) (into incoming top) e
+  pub next : IsNextEdge (place_at places top) (into incoming top) e
   pub to : e.to ≡ top
   pub in_list : IsIn e (into incoming e.to)
   pub below : e.from < length places
 
-pub look_at : {incoming : List (List Edge)} {slice places : List Place} {top : ℕ} {trail : List Edge} {e : Edge} → AreJoined incoming → IsWalk incoming places top trail → slice ≡ places → IsNext (place_at slice top) (into incoming top) e → Looks incoming places top e
+pub look_at : {incoming : List (List Edge)} {slice places : List Place} {top : ℕ} {trail : List Edge} {e : Edge} → AreEdgeLists incoming → IsWalk incoming places top trail → slice ≡ places → IsNextEdge (place_at slice top) (into incoming top) e → Looks incoming places top e
 look_at {incoming} {slice} {places} {top} {trail} {e} joined walk same seen =
-    let next : IsNext (place_at places top) (into incoming top) e = subst (λ (ps : List Place). IsNext (place_at ps top) (into incoming top) e) same seen in
+    let next : IsNextEdge (place_at places top) (into incoming top) e = subst (λ (ps : List Place). IsNextEdge (place_at ps top) (into incoming top) e) same seen in
     let mem : IsIn e (into incoming top) = next_in (place_at places top) (into incoming top) e next in
     let to : e.to ≡ top = joined.to top e mem in
     record {
@@ -94,14 +94,14 @@ closed_step incoming places now top trail walk is =
     let sum : steps_left now + (p.left + marks_left p.mark) ≡ steps_left places + (p.left + 0) = summed (λ (q : Place). q.left + marks_left q.mark) places top (marked Done p) now s in
     record { shrinks = omega (arith, opened, sum); keeps = kept places top (marked Done p) now s (omega arith) }
 
-closed_settled : (incoming : List (List Edge)) (places now : List Place) (top : ℕ) (trail : List Edge) → IsWalk incoming places top trail → (place_at places top).left ≡ 0 → now ≡ slice_set places top (marked Done (place_at places top)) → IsSettled incoming (place_at now) (done_count now)
+closed_settled : (incoming : List (List Edge)) (places now : List Place) (top : ℕ) (trail : List Edge) → IsWalk incoming places top trail → (place_at places top).left ≡ 0 → now ≡ slice_set places top (marked Done (place_at places top)) → NumbersAreSettled incoming (place_at now) (done_count now)
 closed_settled incoming places now top trail walk none is =
     let s = closed_set incoming places now top trail walk is in
     let p = place_at places top in
     let opened : one_if_done p.mark ≡ 0 = ap one_if_done (top_open incoming places top trail walk) in
     let sum : done_count now + one_if_done p.mark ≡ done_count places + 1 = summed (λ (q : Place). one_if_done q.mark) places top (marked Done p) now s in
     let more : done_count now ≡ done_count places + 1 = omega (arith, opened, sum) in
-    subst (IsSettled incoming (place_at now)) (sym more)
+    subst (NumbersAreSettled incoming (place_at now)) (sym more)
     (settles_closed incoming (place_at places) (place_at now) top (done_count places) walk.settled (there places top (marked Done p) now s) (top_open incoming places top trail walk) none (here places top (marked Done p) now s))
 
 -- an actor that is open after it was open before, and is not the top
@@ -146,14 +146,14 @@ opened_step places now a below new is =
     let sum : steps_left now + (p.left + marks_left p.mark) ≡ steps_left places + (p.left + 1) = summed (λ (q : Place). q.left + marks_left q.mark) places a (marked Open p) now s in
     record { shrinks = omega (arith, unmet, sum); keeps = kept places a (marked Open p) now s (omega (arith, unmet)) }
 
-opened_settled : (incoming : List (List Edge)) (places now : List Place) (a : ℕ) → IsSettled incoming (place_at places) (done_count places) → a < length places → (place_at places a).mark ≡ New → now ≡ slice_set places a (marked Open (place_at places a)) → IsSettled incoming (place_at now) (done_count now)
+opened_settled : (incoming : List (List Edge)) (places now : List Place) (a : ℕ) → NumbersAreSettled incoming (place_at places) (done_count places) → a < length places → (place_at places a).mark ≡ New → now ≡ slice_set places a (marked Open (place_at places a)) → NumbersAreSettled incoming (place_at now) (done_count now)
 opened_settled incoming places now a settled below new is =
     let s : IsSet places a (marked Open (place_at places a)) now = record { below = below; is = is } in
     let p = place_at places a in
     let unmet : one_if_done p.mark ≡ 0 = ap one_if_done new in
     let sum : done_count now + one_if_done p.mark ≡ done_count places + 0 = summed (λ (q : Place). one_if_done q.mark) places a (marked Open p) now s in
     let same : done_count now ≡ done_count places = omega (arith, unmet, sum) in
-    subst (IsSettled incoming (place_at now)) (sym same)
+    subst (NumbersAreSettled incoming (place_at now)) (sym same)
     (settles_open incoming (place_at places) (place_at now) a (done_count places) settled (there places a (marked Open p) now s) new (here places a (marked Open p) now s))
 
 pub opened_root : (incoming : List (List Edge)) (places now : List Place) (a : ℕ) → Rests incoming places → a < length places → (place_at places a).mark ≡ New → now ≡ slice_set places a (marked Open (place_at places a)) → IsWalk incoming now a []
@@ -181,7 +181,7 @@ opened_walk incoming places now top trail e walk below in_list to new is =
       long = as_long places e.from (marked Open (place_at places e.from)) now s ∙ walk.long;
       settled = opened_settled incoming places now e.from walk.settled below new is;
       root = walk.root;
-      joined = (in_list, refl, subst (λ n. Joins incoming n trail walk.root) (sym to) walk.joined);
+      joined = (in_list, refl, subst (λ n. EdgesLead incoming n trail walk.root) (sym to) walk.joined);
       apart = subst (λ n. Apart (e.from ∷ walked n trail)) (sym to) (each_in (λ n. e.from ≢ n) (walked top trail) apart, walk.apart);
       are_open = λ a mem.
           ⊎_elim
@@ -198,7 +198,7 @@ opened_walk incoming places now top trail e walk below in_list to new is =
     }
 
 -- an edge from an actor that is done was looked at
-pub looked_step : (incoming : List (List Edge)) (places now : List Place) (top : ℕ) (trail : List Edge) (e : Edge) → IsWalk incoming places top trail → IsNext (place_at places top) (into incoming top) e → now ≡ slice_set places top (looked (place_at places e.from) e (place_at places top)) → IsStep places now
+pub looked_step : (incoming : List (List Edge)) (places now : List Place) (top : ℕ) (trail : List Edge) (e : Edge) → IsWalk incoming places top trail → IsNextEdge (place_at places top) (into incoming top) e → now ≡ slice_set places top (looked (place_at places e.from) e (place_at places top)) → IsStep places now
 looked_step incoming places now top trail e walk next is =
     let p = place_at places top in
     let q = looked (place_at places e.from) e p in
@@ -207,7 +207,7 @@ looked_step incoming places now top trail e walk next is =
     let sum : steps_left now + (p.left + marks_left p.mark) ≡ steps_left places + ((p.left - 1) + marks_left p.mark) = summed (λ (r : Place). r.left + marks_left r.mark) places top q now s in
     record { shrinks = omega (arith, some, sum); keeps = kept places top q now s (omega arith) }
 
-pub looked_walk : (incoming : List (List Edge)) (places now : List Place) (top : ℕ) (trail : List Edge) (e : Edge) → IsWalk incoming places top trail → IsNext (place_at places top) (into incoming top) e → (place_at places e.from).mark ≡ Done → now ≡ slice_set places top (looked (place_at places e.from) e (place_at places top)) → IsWalk incoming now top trail
+pub looked_walk : (incoming : List (List Edge)) (places now : List Place) (top : ℕ) (trail : List Edge) (e : Edge) → IsWalk incoming places top trail → IsNextEdge (place_at places top) (into incoming top) e → (place_at places e.from).mark ≡ Done → now ≡ slice_set places top (looked (place_at places e.from) e (place_at places top)) → IsWalk incoming now top trail
 looked_walk incoming places now top trail e walk next done is =
     let p = place_at places top in
     let q = looked (place_at places e.from) e p in
@@ -221,7 +221,7 @@ looked_walk incoming places now top trail e walk next done is =
     (cases_eq a top) in
     record {
       long = as_long places top q now s ∙ walk.long;
-      settled = subst (IsSettled incoming (place_at now)) (sym same) (settles_looked incoming (place_at places) (place_at now) top (done_count places) e walk.settled (there places top q now s) (top_open incoming places top trail walk) done next (here places top q now s));
+      settled = subst (NumbersAreSettled incoming (place_at now)) (sym same) (settles_looked incoming (place_at places) (place_at now) top (done_count places) e walk.settled (there places top q now s) (top_open incoming places top trail walk) done next (here places top q now s));
       root = walk.root;
       joined = walk.joined;
       apart = walk.apart;
@@ -230,14 +230,14 @@ looked_walk incoming places now top trail e walk next done is =
     }
 
 -- an edge from an open actor closes a cycle
-pub closes : (incoming : List (List Edge)) (places : List Place) (top : ℕ) (trail : List Edge) (e : Edge) → AreJoined incoming → IsWalk incoming places top trail → IsNext (place_at places top) (into incoming top) e → (place_at places e.from).mark ≡ Open → IsClosedBy incoming trail e
+pub closes : (incoming : List (List Edge)) (places : List Place) (top : ℕ) (trail : List Edge) (e : Edge) → AreEdgeLists incoming → IsWalk incoming places top trail → IsNextEdge (place_at places top) (into incoming top) e → (place_at places e.from).mark ≡ Open → IsClosedBy incoming trail e
 closes incoming places top trail e joined walk next opened =
     let mem : IsIn e (into incoming top) = next_in (place_at places top) (into incoming top) e next in
     let to : e.to ≡ top = joined.to top e mem in
     record {
       in_list = subst (λ n. IsIn e (into incoming n)) (sym to) mem;
       root = walk.root;
-      joined = subst (λ n. Joins incoming n trail walk.root) (sym to) walk.joined;
+      joined = subst (λ n. EdgesLead incoming n trail walk.root) (sym to) walk.joined;
       apart = subst (λ n. Apart (walked n trail)) (sym to) walk.apart;
       from = subst (λ n. IsIn e.from (walked n trail)) (sym to) (walk.on_walk e.from opened);
     }
@@ -256,14 +256,14 @@ done_le (p ∷ places) =
     at_most Done = omega arith
 
 -- an actor that is done has fewer actors before it than there are
-pub level_fits : (incoming : List (List Edge)) (places : List Place) (a : ℕ) → IsSettled incoming (place_at places) (done_count places) → (place_at places a).mark ≡ Done → (place_at places a).level + 1 ≤ length places
+pub level_fits : (incoming : List (List Edge)) (places : List Place) (a : ℕ) → NumbersAreSettled incoming (place_at places) (done_count places) → (place_at places a).mark ≡ Done → (place_at places a).level + 1 ≤ length places
 level_fits incoming places a settled done =
     let few : (place_at places a).level + one_if_done (place_at places a).mark ≤ done_count places = settled.few a in
     let one : one_if_done (place_at places a).mark ≡ 1 = ap one_if_done done in
     let most : done_count places ≤ length places = done_le places in
     omega (arith, few, one, most)
 
-pub rank_fits : (incoming : List (List Edge)) (places : List Place) (a : ℕ) → IsSettled incoming (place_at places) (done_count places) → (place_at places a).mark ≡ Done → (place_at places a).rank + 1 ≤ length places
+pub rank_fits : (incoming : List (List Edge)) (places : List Place) (a : ℕ) → NumbersAreSettled incoming (place_at places) (done_count places) → (place_at places a).mark ≡ Done → (place_at places a).rank + 1 ≤ length places
 rank_fits incoming places a settled done =
     let level : (place_at places a).level + 1 ≤ length places = level_fits incoming places a settled done in
     let small : (place_at places a).rank ≤ (place_at places a).level = settled.small a in

@@ -14,9 +14,9 @@ abbrev pub arcs_from : List (List Arc) → ℕ → List Arc
 arcs_from arcs j = slice_index_or arcs j []
 
 -- these arcs lead from place s to place k, each from where the one before leads
-abbrev pub Follows : List (List Arc) → ℕ → List Arc → ℕ → Type 0
-Follows arcs s [] k = s ≡ k
-Follows arcs s (a ∷ along) k = IsIn a (arcs_from arcs s) × Follows arcs a.to along k
+abbrev pub ArcsLead : List (List Arc) → ℕ → List Arc → ℕ → Type 0
+ArcsLead arcs s [] k = s ≡ k
+ArcsLead arcs s (a ∷ along) k = IsIn a (arcs_from arcs s) × ArcsLead arcs a.to along k
 
 -- the sum of the weights of these arcs
 abbrev pub total : List Arc → Delay
@@ -25,17 +25,17 @@ total (a ∷ along) = then a.weight (total along)
 
 -- d is the least delay of all paths from s to k
 pub record IsNearest (arcs : List (List Arc)) (s k : ℕ) (d : Delay) : Type 0 where
-  pub along : (path : List Arc) × Follows arcs s path k × (total path ≡ d)
-  pub least : (path : List Arc) → Follows arcs s path k → AtMost d (total path)
+  pub along : (path : List Arc) × ArcsLead arcs s path k × (total path ≡ d)
+  pub least : (path : List Arc) → ArcsLead arcs s path k → AtMost d (total path)
 
 -- the least delay from s to k; none exactly if no path leads there
 abbrev pub HasNearest : List (List Arc) → ℕ → ℕ → Option Delay → Type 0
-HasNearest arcs s k None = (path : List Arc) → Follows arcs s path k → ⊥
+HasNearest arcs s k None = (path : List Arc) → ArcsLead arcs s path k → ⊥
 HasNearest arcs s k (Some d) = IsNearest arcs s k d
 
 -- the row of place s has the least delay to each place
-abbrev pub IsRow : List (List Arc) → ℕ → List (Option Delay) → Type 0
-IsRow arcs s row = (k : ℕ) → k < length arcs → HasNearest arcs s k (delay_at row k)
+abbrev pub HasLeastDelays : List (List Arc) → ℕ → List (Option Delay) → Type 0
+HasLeastDelays arcs s row = (k : ℕ) → k < length arcs → HasNearest arcs s k (delay_at row k)
 
 -- each delay is small enough to add bounds and times to it
 abbrev pub IsSmallRow : List (Option Delay) → Type 0

@@ -4,7 +4,7 @@ use Rattle.std.specs.Int.{bit_at}
 use Rattle.std.specs.Option.{is_some}
 use Rattle.pt_tags.specs.declared.tag.Delay.{Delay}
 use Rattle.pt_types.specs.declared.graph.Unit.{Unit as Part}
-use Rattle.pt_causality.specs.Cells.{delay_at, number_in, row_at}
+use Rattle.pt_causality.specs.Cells.{delay_at, number_in, delay_row_at}
 
 -- bit n of these words
 abbrev pub bit_of : List ℕ → ℕ → ℕ
@@ -15,17 +15,17 @@ abbrev pub MayHave : List ℕ → Part → Type 0
 MayHave words x = x.group < 8 → 8 * x.actor + x.group < 64 * length words → bit_of words (8 * x.actor + x.group) ≡ 1
 
 -- the words at a place
-abbrev pub list_at : List (List ℕ) → ℕ → List ℕ
-list_at lists k = slice_index_or lists k []
+abbrev pub words_at : List (List ℕ) → ℕ → List ℕ
+words_at lists k = slice_index_or lists k []
 
 -- x may be in the list of each place at which this row has a delay
-abbrev pub IsListed : List (Option Delay) → List (List ℕ) → Part → Type 0
-IsListed row lists x = (k : ℕ) → is_some (delay_at row k) ≡ true → MayHave (list_at lists k) x
+abbrev pub MayBeListed : List (Option Delay) → List (List ℕ) → Part → Type 0
+MayBeListed row lists x = (k : ℕ) → is_some (delay_at row k) ≡ true → MayHave (words_at lists k) x
 
 -- this holds for each unit and the row with its number
-abbrev pub AreListed : List ℕ → List (List (Option Delay)) → List (List ℕ) → Type 0
-AreListed firsts rows lists = (x : Part) → IsListed (row_at rows (number_in firsts x)) lists x
+abbrev pub RowsAreListed : List ℕ → List (List (Option Delay)) → List (List ℕ) → Type 0
+RowsAreListed firsts rows lists = (x : Part) → MayBeListed (delay_row_at rows (number_in firsts x)) lists x
 
 -- each unit that may be in an old list may be in the new one
 abbrev pub HaveMore : List (List ℕ) → List (List ℕ) → Type 0
-HaveMore old new = (k : ℕ) (x : Part) → MayHave (list_at old k) x → MayHave (list_at new k) x
+HaveMore old new = (k : ℕ) (x : Part) → MayHave (words_at old k) x → MayHave (words_at new k) x

@@ -9,7 +9,7 @@ abbrev pub NoneFrom : List Wire → ℕ → ℕ → ℕ → Type 0
 NoneFrom ws a j k = (i : ℕ) (w : Wire) → j ≤ i → i < k → slice_get ws i ≡ Some w → w.from ≡ a → ⊥
 
 -- k is the index of actor a's first wire at index j or later, or no such wire exists
-pub record IsNext (ws : List Wire) (a j k : ℕ) : Type 0 where
+pub record IsNextWire (ws : List Wire) (a j k : ℕ) : Type 0 where
   pub later : j ≤ k
   pub none : NoneFrom ws a j k
   pub is : (w : Wire) → slice_get ws k ≡ Some w → w.from ≡ a
@@ -18,5 +18,5 @@ pub record IsNext (ws : List Wire) (a j k : ℕ) : Type 0 where
 pub record AreBranches (g : Graph) (b : Branches) : Type 0 where
   pub actors : length b.first.items ≡ length g.actors
   pub wires : length b.next.items ≡ length g.wires
-  pub first : (a : ℕ) → a < length g.actors → IsNext g.wires a 0 (slice_index_or b.first.items a 0)
-  pub next : (i : ℕ) (w : Wire) → slice_get g.wires i ≡ Some w → IsNext g.wires w.from (i + 1) (slice_index_or b.next.items i 0)
+  pub first : (a : ℕ) → a < length g.actors → IsNextWire g.wires a 0 (slice_index_or b.first.items a 0)
+  pub next : (i : ℕ) (w : Wire) → slice_get g.wires i ≡ Some w → IsNextWire g.wires w.from (i + 1) (slice_index_or b.next.items i 0)

@@ -21,5 +21,5 @@ abbrev pub delay_at : List (Option Delay) → ℕ → Option Delay
 delay_at row k = slice_index_or row k None
 
 -- the row at a place of a table
-abbrev pub row_at : List (List (Option Delay)) → ℕ → List (Option Delay)
-row_at rows i = slice_index_or rows i []
+abbrev pub delay_row_at : List (List (Option Delay)) → ℕ → List (Option Delay)
+delay_row_at rows i = slice_index_or rows i []

@@ -8,7 +8,7 @@ use Rattle.pt_semantics.specs.Edges.{Edge}
 use Rattle.pt_semantics.specs.Paths.{Goes, IsLeast}
 use Rattle.pt_causality.specs.declared.least.Least.{Least}
 use Rattle.pt_causality.specs.Before.{MayHave}
-use Rattle.pt_causality.specs.Cells.{number_in, delay_at, row_at}
+use Rattle.pt_causality.specs.Cells.{number_in, delay_at, delay_row_at}
 
 -- the least delay from x to a; none exactly if no path leads from x to a
 abbrev pub HasLeast : Graph → Part → Part → Option Delay → Type 0
@@ -25,7 +25,7 @@ AreSmall least = (x a : Part) → IfSome (least x a) (λ (d : Delay). (d.time < 
 
 -- the delays in a table of least delays
 abbrev pub least_of : Least → Part → Part → Option Delay
-least_of l x a = delay_at (row_at l.rows.items (number_in l.numbers.firsts.items x)) (number_in l.numbers.firsts.items a)
+least_of l x a = delay_at (delay_row_at l.rows.items (number_in l.numbers.firsts.items x)) (number_in l.numbers.firsts.items a)
 
 -- of each unit from which a path leads to a the bit is set, if it has one in these words
 abbrev pub HasAllBefore : Least → Part → List ℕ → Type 0

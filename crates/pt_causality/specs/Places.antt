@@ -26,6 +26,6 @@ looked before e p = record {
 }
 
 -- the next edge: the last of those that are still to be looked at
-pub record IsNext (p : Place) (edges : List Edge) (e : Edge) : Type 0 where
+pub record IsNextEdge (p : Place) (edges : List Edge) (e : Edge) : Type 0 where
   pub some : 0 < p.left
   pub last : take p.left edges ≡ take (p.left - 1) edges ++ e ∷ []

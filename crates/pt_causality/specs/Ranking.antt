@@ -32,7 +32,7 @@ abbrev pub done_count : List Place → ℕ
 done_count places = sum_by (λ (p : Place). one_if_done p.mark) places
 
 -- the edges in a list lead to the actor of the list, and come from actors that have lists
-pub record AreJoined (incoming : List (List Edge)) : Type 0 where
+pub record AreEdgeLists (incoming : List (List Edge)) : Type 0 where
   pub to : (a : ℕ) (e : Edge) → IsIn e (into incoming a) → e.to ≡ a
   pub from : (a : ℕ) (e : Edge) → IsIn e (into incoming a) → e.from < length incoming
 
@@ -54,7 +54,7 @@ abbrev pub Comes : (Edge → Type 0) → (Place → ℕ) → (ℕ → Place) →
 Comes such number at edges p = (number p ≡ 0) ⊎ IsOneAbove such number at edges p
 
 -- the numbers so far: each is 0, or one above the greatest at the sources of the edges that were looked at
-pub record IsSettled (incoming : List (List Edge)) (at : ℕ → Place) (done : ℕ) : Type 0 where
+pub record NumbersAreSettled (incoming : List (List Edge)) (at : ℕ → Place) (done : ℕ) : Type 0 where
   pub left : (a : ℕ) → (at a).left ≤ length (into incoming a)
   pub looked : (a : ℕ) (e : Edge) → IsIn e (into incoming a) → IsIn e (take (at a).left (into incoming a)) ⊎ LiesAbove e (at e.from) (at a)
   pub levels : (a : ℕ) → Comes (λ (e : Edge). Unit {0}) (λ (p : Place). p.level) at (into incoming a) (at a)
@@ -66,19 +66,19 @@ pub record IsSettled (incoming : List (List Edge)) (at : ℕ → Place) (done : 
 -- no walk is under way: each actor is new or done
 pub record Rests (incoming : List (List Edge)) (places : List Place) : Type 0 where
   pub long : length places ≡ length incoming
-  pub settled : IsSettled incoming (place_at places) (done_count places)
+  pub settled : NumbersAreSettled incoming (place_at places) (done_count places)
   pub none_open : (a : ℕ) → (place_at places a).mark ≢ Open
 
 -- each actor is done
-pub record AreDone (incoming : List (List Edge)) (places : List Place) : Type 0 where
+pub record ActorsAreDone (incoming : List (List Edge)) (places : List Place) : Type 0 where
   pub long : length places ≡ length incoming
-  pub settled : IsSettled incoming (place_at places) (done_count places)
+  pub settled : NumbersAreSettled incoming (place_at places) (done_count places)
   pub done : (a : ℕ) → a < length incoming → (place_at places a).mark ≡ Done
 
 -- these edges, each in its list, lead from actor a to actor b
-abbrev pub Joins : List (List Edge) → ℕ → List Edge → ℕ → Type 0
-Joins incoming a [] b = a ≡ b
-Joins incoming a (e ∷ es) b = IsIn e (into incoming e.to) × (e.from ≡ a) × Joins incoming e.to es b
+abbrev pub EdgesLead : List (List Edge) → ℕ → List Edge → ℕ → Type 0
+EdgesLead incoming a [] b = a ≡ b
+EdgesLead incoming a (e ∷ es) b = IsIn e (into incoming e.to) × (e.from ≡ a) × EdgesLead incoming e.to es b
 
 -- no two of these numbers are the same
 abbrev pub Apart : List ℕ → Type 0
@@ -92,9 +92,9 @@ walked top trail = top ∷ map (λ (e : Edge). e.to) trail
 -- the walk has gone back from its root to its top along this trail, and exactly the actors along it are open
 pub record IsWalk (incoming : List (List Edge)) (places : List Place) (top : ℕ) (trail : List Edge) : Type 0 where
   pub long : length places ≡ length incoming
-  pub settled : IsSettled incoming (place_at places) (done_count places)
+  pub settled : NumbersAreSettled incoming (place_at places) (done_count places)
   pub root : ℕ
-  pub joined : Joins incoming top trail root
+  pub joined : EdgesLead incoming top trail root
   pub apart : Apart (walked top trail)
   pub are_open : (a : ℕ) → IsIn a (walked top trail) → (place_at places a).mark ≡ Open
   pub on_walk : (a : ℕ) → (place_at places a).mark ≡ Open → IsIn a (walked top trail)
@@ -106,15 +106,15 @@ pub record WentBack (trail : List Edge) (top : ℕ) (rest : List Edge) : Type 0 
   pub to : top ≡ edge.to
 
 -- these actors are a cycle of edges in the lists, and the first has the least number
-pub record IsRing (incoming : List (List Edge)) (actors : List ℕ) : Type 0 where
+pub record IsCycleInLists (incoming : List (List Edge)) (actors : List ℕ) : Type 0 where
   pub start : ℕ
   pub edge : Edge
   pub path : List Edge
-  pub joined : Joins incoming start (edge ∷ path) start
+  pub joined : EdgesLead incoming start (edge ∷ path) start
   pub differ : Differ (edge ∷ path)
   pub actors_are : actors ≡ map (λ (e : Edge). e.from) (edge ∷ path)
   pub least : Each (λ (a : ℕ). start ≤ a) actors
 
 abbrev pub MeetsRing : List (List Edge) → CycleFault → Type 0
 MeetsRing incoming Memory = Unit {0}
-MeetsRing incoming (Cycle actors) = IsRing incoming actors
+MeetsRing incoming (Cycle actors) = IsCycleInLists incoming actors

@@ -20,8 +20,8 @@ abbrev pub waiting_at : Delay → ℕ → Waiting
 waiting_at d u = record { at = d; unit = u }
 
 -- no other has a smaller delay
-abbrev pub IsFirst : Waiting → List Waiting → Type 0
-IsFirst w all = All (λ (v : Waiting). AtMost w.at v.at) all
+abbrev pub HasLeastDelay : Waiting → List Waiting → Type 0
+HasLeastDelay w all = All (λ (v : Waiting). AtMost w.at v.at) all
 
 -- none of these has a delay smaller than d
 abbrev pub NoneBefore : Delay → List (Reverse Waiting) → Type 0

@@ -2,8 +2,8 @@
 
 ghost use Rattle.std.specs.Prelude.{◌≡◌, ◌≤◌, IfOk, length};
 ghost use Rattle.pt_types.specs.declared.graph.Unit.{Unit as Part};
-ghost use Rattle.pt_causality.specs.Before.{AreListed, HaveMore, IsListed, MayHave};
-ghost use Rattle.pt_causality.specs.Cells.{number_in, row_at};
+ghost use Rattle.pt_causality.specs.Before.{RowsAreListed, HaveMore, MayBeListed, MayHave};
+ghost use Rattle.pt_causality.specs.Cells.{number_in, delay_row_at};
 
 use crate::row::Row;
 use crate::units::Numbers;
@@ -65,7 +65,7 @@ fn none_listed(alloc: Global, count: usize, actors: usize) -> Result<Vec<Before>
 
 /// Adds a unit to the list of each place at which its row has a delay.
 fn list_by_row(lists: &mut [Before], row: &Row, unit: Unit)
-    ensures listed { IsListed row.now lists.new unit }
+    ensures listed { MayBeListed row.now lists.new unit }
     ensures others { HaveMore lists.old lists.new }
 {
     for place in 0..lists.len() {
@@ -78,7 +78,7 @@ fn list_by_row(lists: &mut [Before], row: &Row, unit: Unit)
 
 /// Adds a unit to the list of each unit to which a path leads from it.
 fn list_unit(lists: &mut [Before], numbers: &Numbers, rows: &[Row], unit: Unit)
-    ensures listed { IsListed (row_at rows.now (number_in numbers.now.firsts.items unit)) lists.new unit }
+    ensures listed { MayBeListed (delay_row_at rows.now (number_in numbers.now.firsts.items unit)) lists.new unit }
     ensures others { HaveMore lists.old lists.new }
 {
     match rows.get(numbers.of(unit)) {
@@ -90,7 +90,7 @@ fn list_unit(lists: &mut [Before], numbers: &Numbers, rows: &[Row], unit: Unit)
 /// Adds the units of an actor to these lists.
 fn list_actor(lists: &mut [Before], numbers: &Numbers, rows: &[Row], actor: u32)
     requires few { length rows.now ≤ 2048 }
-    ensures listed { (x : Part) → x.actor ≡ actor → IsListed (row_at rows.now (number_in numbers.now.firsts.items x)) lists.new x }
+    ensures listed { (x : Part) → x.actor ≡ actor → MayBeListed (delay_row_at rows.now (number_in numbers.now.firsts.items x)) lists.new x }
     ensures others { HaveMore lists.old lists.new }
 {
     for group in 0..numbers.groups(actor) {
@@ -102,7 +102,7 @@ fn list_actor(lists: &mut [Before], numbers: &Numbers, rows: &[Row], actor: u32)
 pub fn all_before(alloc: Global, numbers: &Numbers, rows: &[Row]) -> Result<Vec<Before>, AllocError>
     requires actors { length numbers.now.firsts.items ≤ 2048 }
     requires few { length rows.now ≤ 2048 }
-    ensures { IfOk result (λ lists. AreListed numbers.now.firsts.items rows.now lists.items) }
+    ensures { IfOk result (λ lists. RowsAreListed numbers.now.firsts.items rows.now lists.items) }
 {
     let mut lists = none_listed(alloc, rows.len(), numbers.firsts.len())?;
     for actor in 0..numbers.firsts.len() {

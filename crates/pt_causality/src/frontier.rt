@@ -3,7 +3,7 @@
 ghost use Rattle.std.specs.Prelude.{◌≡◌, ◌∷◌, [], IfSome, IfNone, OnOk, true, false};
 ghost use Rattle.std.specs.BinaryHeap.{heap_items, IsHeap};
 ghost use Rattle.std.specs.List.Sorted.{IsPermutation};
-ghost use Rattle.pt_causality.specs.Waits.{compared, IsFirst, NoneBefore, SomeBefore};
+ghost use Rattle.pt_causality.specs.Waits.{compared, HasLeastDelay, NoneBefore, SomeBefore};
 
 use pt_tags::Delay;
 use std::alloc::{AllocError, Global};
@@ -70,7 +70,7 @@ impl Frontier {
     /// Takes a unit with the least delay.
     pub fn pop(&mut self) -> Option<Waiting>
         ensures taken { IfSome result (λ w. IsPermutation self.old (w ∷ self.new)) }
-        ensures first { IfSome result (λ w. IsFirst w self.old) }
+        ensures first { IfSome result (λ w. HasLeastDelay w self.old) }
         ensures none { IfNone result (self.old ≡ []) }
     {
         if self.ready.is_empty() {

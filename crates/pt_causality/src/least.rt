@@ -2,7 +2,7 @@
 
 ghost use Rattle.std.specs.Prelude.{◌≡◌, ◌≤◌, IfOk, IfSome, length};
 ghost use Rattle.pt_types.specs.Lawful.{IsLawful};
-ghost use Rattle.pt_causality.specs.Before.{AreListed};
+ghost use Rattle.pt_causality.specs.Before.{RowsAreListed};
 
 use crate::arcs::arcs_by_unit;
 use crate::before::{Before, all_before};
@@ -22,7 +22,7 @@ pub struct Least {
     rows: Vec<Row>,
     /// By the number of the unit to which the paths lead; empty if there are no lists.
     before: Vec<Before>,
-    ghost listed: { AreListed numbers.firsts.items rows.items before.items },
+    ghost listed: { RowsAreListed numbers.firsts.items rows.items before.items },
     ghost few: { (length numbers.firsts.items ≤ 2048) × (length rows.items ≤ 2048) },
 }
 

@@ -2,7 +2,7 @@
 
 ghost use Rattle.std.specs.Prelude.{◌≡◌, ◌<◌, ◌≤◌, ◌+◌, ◌-◌, ◌^◌, ◌++◌, ◌∷◌, [], IfOk, length, map, slice_set, MatchOption};
 ghost use Rattle.pt_causality.specs.Incoming.{into};
-ghost use Rattle.pt_causality.specs.Places.{place_at, fresh_place, marked, looked, IsNext};
+ghost use Rattle.pt_causality.specs.Places.{place_at, fresh_place, marked, looked, IsNextEdge};
 
 use pt_tags::List;
 use pt_types::Edge;
@@ -51,7 +51,7 @@ pub fn next_edge(incoming: &[List<Edge>], places: &[Place], actor: u32) -> Optio
     requires actor { actor < length places.now }
     requires lists { length incoming.now ≡ length places.now }
     requires left { (place_at places.now actor).left ≤ length (into incoming.now actor) }
-    ensures { MatchOption result ((place_at places.now actor).left ≡ 0) (IsNext (place_at places.now actor) (into incoming.now actor)) }
+    ensures { MatchOption result ((place_at places.now actor).left ≡ 0) (IsNextEdge (place_at places.now actor) (into incoming.now actor)) }
 {
     let left = places[actor as usize].left;
     if left == 0 {

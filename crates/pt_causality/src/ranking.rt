@@ -2,7 +2,7 @@
 
 ghost use Rattle.std.specs.Prelude.{◌≡◌, ◌<◌, ◌≤◌, ◌+◌, ◌^◌, [], ℕ, IfOk, IfErr, OnOk, MatchOption, length, reverse};
 ghost use Rattle.pt_causality.specs.Places.{place_at};
-ghost use Rattle.pt_causality.specs.Ranking.{AreDone, AreJoined, IsWalk, MeetsRing, Rests, WentBack, marks_left, steps_left};
+ghost use Rattle.pt_causality.specs.Ranking.{ActorsAreDone, AreEdgeLists, IsWalk, MeetsRing, Rests, WentBack, marks_left, steps_left};
 
 use crate::cycle::CycleFault;
 use crate::places::{Mark, Place, fresh, look, next_edge, set_mark};
@@ -30,7 +30,7 @@ fn step(
     top: u32,
 ) -> Result<Option<u32>, CycleFault>
     requires few { length incoming.now + 1 < 2 ^ 32 }
-    requires joined { AreJoined incoming.now }
+    requires joined { AreEdgeLists incoming.now }
     requires walk { IsWalk incoming.now places.old.items top (reverse trail.old.items) }
     ensures walk { IfOk result (λ next. MatchOption next (Rests incoming.now places.new.items) (λ top. IsWalk incoming.now places.new.items top (reverse trail.new.items))) }
     ensures shrinks { OnOk result (steps_left places.new.items < steps_left places.old.items) }
@@ -65,7 +65,7 @@ fn finish(
     root: u32,
 ) -> Result<(), CycleFault>
     requires few { length incoming.now + 1 < 2 ^ 32 }
-    requires joined { AreJoined incoming.now }
+    requires joined { AreEdgeLists incoming.now }
     requires rests { Rests incoming.now places.old.items }
     requires root { root < length places.old.items }
     requires new { (place_at places.old.items root).mark ≡ Mark.New }
@@ -91,7 +91,7 @@ fn visit(
     actor: u32,
 ) -> Result<(), CycleFault>
     requires few { length incoming.now + 1 < 2 ^ 32 }
-    requires joined { AreJoined incoming.now }
+    requires joined { AreEdgeLists incoming.now }
     requires rests { Rests incoming.now places.old.items }
     requires actor { actor < length places.old.items }
     ensures rests { OnOk result (Rests incoming.now places.new.items) }
@@ -108,8 +108,8 @@ fn visit(
 /// The final state of all actors, each of which is done; or a cycle.
 pub fn visit_all(alloc: Global, incoming: &[List<Edge>]) -> Result<Vec<Place>, CycleFault>
     requires few { length incoming.now + 1 < 2 ^ 32 }
-    requires joined { AreJoined incoming.now }
-    ensures done { IfOk result (λ places. AreDone incoming.now places.items) }
+    requires joined { AreEdgeLists incoming.now }
+    ensures done { IfOk result (λ places. ActorsAreDone incoming.now places.items) }
     ensures ring { IfErr result (MeetsRing incoming.now) }
 {
     let Ok(mut places) = fresh(alloc, incoming) else {

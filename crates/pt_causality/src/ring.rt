@@ -4,7 +4,7 @@ ghost use Rattle.std.specs.Prelude.{◌≡◌, ◌<◌, ◌∷◌, ◌++◌, [],
 ghost use Rattle.std.specs.List.{IsFirstBest};
 ghost use Rattle.pt_types.specs.declared.graph.Edge.{Edge};
 ghost use Rattle.pt_causality.specs.Ranking.{MeetsRing};
-ghost use Rattle.pt_causality.specs.Rings.{IsClosedBy, IsTurned, front_of};
+ghost use Rattle.pt_causality.specs.Rings.{IsClosedBy, IsRotated, front_of};
 
 use crate::cycle::CycleFault;
 use pt_tags::List;
@@ -49,7 +49,7 @@ fn least_place(numbers: &[u32]) -> usize
 /// Rotates a ring of numbers so that the least number is the first.
 fn turn(numbers: &mut Vec<u32>)
     requires { 0 < length numbers.old.items }
-    ensures { IsTurned numbers.old.items numbers.new.items }
+    ensures { IsRotated numbers.old.items numbers.new.items }
 {
     let place = least_place(numbers.as_slice());
     numbers.as_mut_slice().rotate_left(place);

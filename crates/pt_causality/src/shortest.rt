@@ -4,7 +4,7 @@ ghost use Rattle.std.specs.Prelude.{◌≡◌, ◌<◌, ◌≤◌, ◌^◌, ◌+
 ghost use Rattle.std.specs.List.Sorted.{IsPermutation};
 ghost use Rattle.pt_semantics.specs.Lists.{IsIn};
 ghost use Rattle.pt_causality.specs.declared.arcs.Arc.{Arc};
-ghost use Rattle.pt_causality.specs.Arcs.{AreFit, IsRow, IsSmallRow};
+ghost use Rattle.pt_causality.specs.Arcs.{AreFit, HasLeastDelays, IsSmallRow};
 ghost use Rattle.pt_causality.specs.Waits.{is_open, reached};
 
 use crate::arcs::{Arc, Leaving};
@@ -38,7 +38,7 @@ pub fn row_from(alloc: Global, arcs: &[Leaving], start: u32) -> Result<Row, Allo
     requires start { start < length arcs.now }
     requires few { length arcs.now ≤ 2048 }
     requires fit { AreFit arcs.now }
-    ensures row { IfOk result (IsRow arcs.now start) }
+    ensures row { IfOk result (HasLeastDelays arcs.now start) }
     ensures small { IfOk result IsSmallRow }
 {
     let mut row = Row::new(alloc, arcs.len())?;

@@ -1,8 +1,8 @@
 //! All rows of the table.
 
 ghost use Rattle.std.specs.Prelude.{◌≡◌, ◌<◌, ◌≤◌, ℕ, IfOk, length};
-ghost use Rattle.pt_causality.specs.Arcs.{AreFit, IsRow, IsSmallRow};
-ghost use Rattle.pt_causality.specs.Cells.{row_at};
+ghost use Rattle.pt_causality.specs.Arcs.{AreFit, HasLeastDelays, IsSmallRow};
+ghost use Rattle.pt_causality.specs.Cells.{delay_row_at};
 
 use crate::arcs::Leaving;
 use crate::row::Row;
@@ -14,8 +14,8 @@ pub fn all_rows(alloc: Global, arcs: &[Leaving]) -> Result<Vec<Row>, AllocError>
     requires few { length arcs.now ≤ 2048 }
     requires fit { AreFit arcs.now }
     ensures len { IfOk result (λ rows. length rows.items ≡ length arcs.now) }
-    ensures rows { IfOk result (λ rows. (s : ℕ) → s < length arcs.now → IsRow arcs.now s (row_at rows.items s)) }
-    ensures small { IfOk result (λ rows. (s : ℕ) → IsSmallRow (row_at rows.items s)) }
+    ensures rows { IfOk result (λ rows. (s : ℕ) → s < length arcs.now → HasLeastDelays arcs.now s (delay_row_at rows.items s)) }
+    ensures small { IfOk result (λ rows. (s : ℕ) → IsSmallRow (delay_row_at rows.items s)) }
 {
     let mut rows = Vec::new(alloc);
     for start in 0..arcs.len() {

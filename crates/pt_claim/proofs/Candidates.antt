@@ -21,7 +21,7 @@ use Rattle.pt_state.specs.declared.fields.Fields.{Fields}
 use Rattle.pt_state.specs.declared.fields.Sensor.{Sensor}
 use Rattle.pt_state.specs.State.{IsSound, busy_in, left_in, rows_left, state_of}
 use Rattle.pt_state.specs.Sensors.{AreSensors, RiseFrom}
-use Rattle.pt_claim.specs.Least.{AtOrIn, Below, IsLeastOf}
+use Rattle.pt_claim.specs.Least.{AtOrIn, Below, IsLeastAmong}
 use Rattle.pt_claim.specs.Next.{no_sensor, IsPacedNext, IsPacedOfSome, IsSeenNext}
 use Rattle.pt_claim.proofs.Least.{least_one}
 
@@ -57,7 +57,7 @@ left_from (s ∷ ss) a row rest h =
     (cases_Bool (s.actor == a))
 
 -- the first row left of a sensor
-pub seen_one : (s : Sensor) (rows : List Row) (row : Row) (b r : ℕ) → rows ≡ s.rows → s.entered < length rows → row ≡ get_or rows s.entered row → r ≡ min b row.seen → IsLeastOf (AtOrIn b (IsSeenNext s)) r
+pub seen_one : (s : Sensor) (rows : List Row) (row : Row) (b r : ℕ) → rows ≡ s.rows → s.entered < length rows → row ≡ get_or rows s.entered row → r ≡ min b row.seen → IsLeastAmong (AtOrIn b (IsSeenNext s)) r
 seen_one s rows row b r same lt at is =
     let front : drop s.entered s.rows ≡ row ∷ drop (s.entered + 1) rows = ap (drop s.entered) (sym same) ∙ drop_more rows s.entered row lt ∙ ap (λ x. x ∷ drop (s.entered + 1) rows) (sym at) in
     least_one (IsSeenNext s) b row.seen r is (row, drop (s.entered + 1) rows, front, refl)
@@ -83,7 +83,7 @@ PacedNext g f = IsPacedOfSome g (waiting_in f.queue.events) (busy_in f.open_clai
 abbrev pub PacedAt : Graph → Fields → List Waiting → ℕ → ℕ → Type 0
 PacedAt g f listed k = IsPacedNext g (waiting_in f.queue.events) (busy_in f.open_claims.items) (get_or listed k nobody).unit
 
-pub next_is : (g : Graph) (f : Fields) (i closing seen r : ℕ) (taken : List OnLink) → IsSound g f → AreSensors g f.sensors.items → IsClosing g i closing → IsLeastOf (AtOrIn closing (SeenNext f)) seen → IsLeastOf (AtOrIn seen (PacedNext g f)) r → IsNextReading g i (state_of f taken) r
+pub next_is : (g : Graph) (f : Fields) (i closing seen r : ℕ) (taken : List OnLink) → IsSound g f → AreSensors g f.sensors.items → IsClosing g i closing → IsLeastAmong (AtOrIn closing (SeenNext f)) seen → IsLeastAmong (AtOrIn seen (PacedNext g f)) r → IsNextReading g i (state_of f taken) r
 next_is g f i closing seen r taken sound sensors closes first then = (
   ⊎_elim
       (λ (same : r ≡ seen). ⊎_elim
@@ -115,7 +115,7 @@ next_is g f i closing seen r taken sound sensors closes first then = (
 
 -- of the listed units one has it, or of all units of the graph
 pub listed_is_all : (g : Graph) (f : Fields) (listed : List Waiting) (b r : ℕ) → IsSound g f → AreWaiting g (waiting_in f.queue.events) listed
-    → IsLeastOf (AtOrIn b (Below (length listed) (PacedAt g f listed))) r → IsLeastOf (AtOrIn b (PacedNext g f)) r
+    → IsLeastAmong (AtOrIn b (Below (length listed) (PacedAt g f listed))) r → IsLeastAmong (AtOrIn b (PacedNext g f)) r
 listed_is_all g f listed b r sound are least = (
   ⊎_elim (λ (same : r ≡ b). inl same)
       (λ (h : Below (length listed) (PacedAt g f listed) r). inr ((get_or listed h.0 nobody).unit, event_is_unit g f (get_or listed h.0 nobody).unit h.2.0 sound h.2.1, h.2)) least.0,

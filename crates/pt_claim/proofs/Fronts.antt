@@ -22,7 +22,7 @@ use Rattle.pt_state.specs.declared.fields.Fields.{Fields}
 use Rattle.pt_state.specs.State.{IsSound, busy_in}
 use Rattle.pt_queue.specs.Events.{waiting_in}
 use Rattle.pt_queue.specs.declared.waiting.Waiting.{Waiting}
-use Rattle.pt_claim.specs.Fronts.{AreFirst, AreFront, IsAhead, IsAmong, IsInOrder, IsPut, IsSafeUnit, IsTaken, IsNextSafe, StandsBefore, one_of}
+use Rattle.pt_claim.specs.Fronts.{AreFirst, AreFront, IsAhead, IsAmong, IsInOrder, IsInserted, IsSafeUnit, IsTaken, IsNextSafe, StandsBefore, one_of}
 use Rattle.pt_claim.proofs.Ordering.{ahead_or, ahead_trans, cut_off, each_drop, each_insert, each_map, each_take, in_drop, in_insert, itself_in, order_insert, order_take, some_behind, take_insert}
 use Rattle.pt_claim.proofs.SafeTags.{same_tags}
 
@@ -66,7 +66,7 @@ either_place p = grind arith
 
 -- a safe unit was put among those that come first
 pub first_put : (g : Graph) (waits : Values) (busy : Part → Option Task) (r a k : ℕ) (tag : Tag) (old new : List Waiting) → AreFirst g waits busy r a k old → IsUnit g (record { actor = a; group = k }) → IsSafe g waits busy r (record { actor = a; group = k }) tag →
-    IsPut (record { unit = record { actor = a; group = k }; tag = tag }) old new → AreFirst g waits busy r a (k + 1) new
+    IsInserted (record { unit = record { actor = a; group = k }; tag = tag }) old new → AreFirst g waits busy r a (k + 1) new
 first_put g waits busy r a k tag old new first unit safe put = subst (AreFirst g waits busy r a (k + 1)) (sym put.is) (record {
   in_order = order_take 64 (insert old put.place c) order;
   safe = each_take (IsSafeUnit g waits busy r) 64 (insert old put.place c) (each_insert (IsSafeUnit g waits busy r) old put.place c first.safe (record { is_unit = unit; safe = safe }));
@@ -199,7 +199,7 @@ front_alone g f r None sound first = front_found g f r false [] sound (omega ari
 front_alone g f r (Some c) sound first = front_found g f r false (c ∷ []) sound (omega arith) refl first
 
 -- the first safe unit is put before none
-pub put_first : (alone : Option Waiting) (c : Waiting) → alone ≡ None → IsPut c (one_of alone) (c ∷ [])
+pub put_first : (alone : Option Waiting) (c : Waiting) → alone ≡ None → IsInserted c (one_of alone) (c ∷ [])
 put_first None c h = record { place = 0; is_place = record { within = omega arith; before = tt; behind = tt }; is = refl }
 put_first (Some d) c h = absurd (none_some d (sym h))
 

@@ -27,7 +27,7 @@ use Rattle.pt_queue.specs.Events.{IsLeastTag}
 use Rattle.pt_queue.proofs.Found.{reach_past, past_reach}
 use Rattle.pt_state.specs.declared.fields.OpenClaim.{OpenClaim}
 use Rattle.pt_state.specs.State.{busy_in, IsOpen}
-use Rattle.pt_claim.specs.Safe.{leads_to}
+use Rattle.pt_claim.specs.Safe.{may_lead_to}
 
 pub not_some : {X : Type 0} (x : Option X) → is_some x ≡ false → x ≡ None
 not_some None h = refl
@@ -72,7 +72,7 @@ all_fail test [] h = refl
 all_fail test (x ∷ xs) h = ap (λ b. b || list_any test xs) (h x (inl refl)) ∙ all_fail test xs (λ e m. h e (inr m))
 
 -- no open claim leads to a unit at a tag or before exactly where the test of none holds
-pub open_clear : (g : Graph) (least : Part → Part → Option Delay) (claims : List OpenClaim) (u : Part) (t : Tag) → AreLeast g least → IsUnit g u → Each (IsOpen g claims) claims → (list_any (leads_to least u t) claims ≡ false) ↔ ((x : Part) (task : Task) (path : List Edge) → busy_in claims x ≡ Some task → Goes g x path u → Before t (plus task.tag (sum_along path)))
+pub open_clear : (g : Graph) (least : Part → Part → Option Delay) (claims : List OpenClaim) (u : Part) (t : Tag) → AreLeast g least → IsUnit g u → Each (IsOpen g claims) claims → (list_any (may_lead_to least u t) claims ≡ false) ↔ ((x : Part) (task : Task) (path : List Edge) → busy_in claims x ≡ Some task → Goes g x path u → Before t (plus task.tag (sum_along path)))
 open_clear g least claims u t is unit sound = (
   (λ h x task path busy go.
       let f = first_of_found (λ (c : OpenClaim). when (same_part c.unit x) (Some c.task)) claims task busy in
@@ -80,9 +80,9 @@ open_clear g least claims u t is unit sound = (
       let here : f.0.unit ≡ x = same_part-true f.0.unit x w.0 in
       let task_is : f.0.task ≡ task = same_some f.0.task task w.1 in
       let was : IsOpen g claims f.0 = Each-in (IsOpen g claims) claims sound f.0 f.1 in
-      let far = reach_past g f.0.unit u (least f.0.unit u) t f.0.task.tag (is f.0.unit u was.is_unit unit) (none_passes (leads_to least u t) claims h f.0 f.1) in
+      let far = reach_past g f.0.unit u (least f.0.unit u) t f.0.task.tag (is f.0.unit u was.is_unit unit) (none_passes (may_lead_to least u t) claims h f.0 f.1) in
       subst (λ (z : Task). Before t (plus z.tag (sum_along path))) task_is (far path (subst (λ z. Goes g z path u) (sym here) go))),
-  (λ clear. all_fail (leads_to least u t) claims (λ c mem.
+  (λ clear. all_fail (may_lead_to least u t) claims (λ c mem.
       let was : IsOpen g claims c = Each-in (IsOpen g claims) claims sound c mem in
       past_reach g c.unit u (least c.unit u) t c.task.tag (is c.unit u was.is_unit unit) (λ path go. clear c.unit c.task path was.found go))),
 )

@@ -12,7 +12,7 @@ use Rattle.pt_semantics.specs.Paced.{at_least_zero, paced_by}
 use Rattle.pt_semantics.proofs.Least.{paced_meets}
 use Rattle.pt_queue.specs.Events.{IsLeastTag}
 use Rattle.pt_claim.proofs.SafeTags.{same_tags, bounds_paced}
-use Rattle.pt_claim.specs.Least.{AtOrIn, IsLeastOf}
+use Rattle.pt_claim.specs.Least.{AtOrIn, IsLeastAmong}
 use Rattle.pt_claim.specs.Next.{IsPacedNext}
 use Rattle.pt_claim.proofs.Least.{least_one}
 
@@ -22,7 +22,7 @@ clamped (pos n) b = omega (arith, ints, clamps)
 clamped (negsuc n) b = omega (arith, ints, clamps)
 
 -- a unit has no open claim, and t is the least tag of its events
-pub paced_one : (g : Graph) (waits : Values) (busy : Part → Option Task) (u : Part) (t : Tag) (o : Option ℤ) (b r : ℕ) → busy u ≡ None → IsLeastTag g waits u (Some t) → HasOffset g u o → r ≡ min b (paced_by o t) → IsLeastOf (AtOrIn b (IsPacedNext g waits busy u)) r
+pub paced_one : (g : Graph) (waits : Values) (busy : Part → Option Task) (u : Part) (t : Tag) (o : Option ℤ) (b r : ℕ) → busy u ≡ None → IsLeastTag g waits u (Some t) → HasOffset g u o → r ≡ min b (paced_by o t) → IsLeastAmong (AtOrIn b (IsPacedNext g waits busy u)) r
 paced_one g waits busy u t o b r free least has is =
     least_one (IsPacedNext g waits busy u) b (paced_by o t) r is (t, least.0, least.1, free, (o, has, refl))
     (λ d h.

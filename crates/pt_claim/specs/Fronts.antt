@@ -22,15 +22,15 @@ IsInOrder [] = Unit {0}
 IsInOrder (c ∷ cs) = Each (IsAhead c) cs × IsInOrder cs
 
 -- the first n of these units come before c, and the others do not
-pub record IsPlace (c : Waiting) (cs : List Waiting) (n : ℕ) : Type 0 where
+pub record IsFrontPlace (c : Waiting) (cs : List Waiting) (n : ℕ) : Type 0 where
   pub within : n ≤ length cs
   pub before : Each (λ (d : Waiting). IsAhead d c) (take n cs)
   pub behind : Each (λ (d : Waiting). IsAhead d c → ⊥) (drop n cs)
 
 -- c is inserted at its place, and the first 64 remain
-pub record IsPut (c : Waiting) (old new : List Waiting) : Type 0 where
+pub record IsInserted (c : Waiting) (old new : List Waiting) : Type 0 where
   pub place : ℕ
-  pub is_place : IsPlace c old place
+  pub is_place : IsFrontPlace c old place
   pub is : new ≡ take 64 (insert old place c)
 
 -- a unit of the graph is safe at this tag

@@ -2,8 +2,8 @@
 use Rattle.std.specs.Prelude.{◌≡◌, ◌<◌, ◌≤◌, ◌⊎◌, ℕ}
 
 -- c is one of these numbers, and none of them is less
-abbrev pub IsLeastOf : (ℕ → Type 0) → ℕ → Type 0
-IsLeastOf P c = P c × ((d : ℕ) → P d → c ≤ d)
+abbrev pub IsLeastAmong : (ℕ → Type 0) → ℕ → Type 0
+IsLeastAmong P c = P c × ((d : ℕ) → P d → c ≤ d)
 
 -- b, or one of these numbers
 abbrev pub AtOrIn : ℕ → (ℕ → Type 0) → ℕ → Type 0

@@ -7,5 +7,5 @@ use Rattle.pt_queue.specs.Scans.{reaches}
 use Rattle.pt_state.specs.declared.fields.OpenClaim.{OpenClaim}
 
 -- an open claim can lead to unit u at t or before
-abbrev pub leads_to : (Part → Part → Option Delay) → Part → Tag → OpenClaim → Bool
-leads_to least u t c = reaches (least c.unit u) c.task.tag t
+abbrev pub may_lead_to : (Part → Part → Option Delay) → Part → Tag → OpenClaim → Bool
+may_lead_to least u t c = reaches (least c.unit u) c.task.tag t

@@ -1,7 +1,7 @@
 //! Safe units, in the order in which they are claimed.
 
 ghost use Rattle.std.specs.Prelude.{◌≡◌, ◌↔◌, true};
-ghost use Rattle.pt_claim.specs.Fronts.{IsAhead, IsInOrder, IsPlace, IsPut};
+ghost use Rattle.pt_claim.specs.Fronts.{IsAhead, IsInOrder, IsFrontPlace, IsInserted};
 
 use arrayvec::ArrayVec;
 use pt_queue::Waiting;
@@ -25,7 +25,7 @@ fn is_before(a: Waiting, b: Waiting) -> bool
 /// How many of these units come before another one.
 fn place_of(units: &[Waiting], next: Waiting) -> usize
     requires { IsInOrder units.now }
-    ensures { IsPlace next units.now result }
+    ensures { IsFrontPlace next units.now result }
 {
     for behind in 0..units.len() {
         let place = units.len() - behind;
@@ -39,7 +39,7 @@ fn place_of(units: &[Waiting], next: Waiting) -> usize
 /// Inserts a unit in order, and keeps the first 64.
 pub fn put(units: &mut ArrayVec<Waiting, 64>, next: Waiting)
     requires { IsInOrder units.old.items }
-    ensures { IsPut next units.old.items units.new.items }
+    ensures { IsInserted next units.old.items units.new.items }
 {
     let place = place_of(units.as_slice(), next);
     if !units.is_full() {

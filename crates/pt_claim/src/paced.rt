@@ -4,7 +4,7 @@ ghost use Rattle.std.specs.Prelude.{◌≡◌, Some, min};
 ghost use Rattle.pt_semantics.specs.Paced.{paced_by};
 ghost use Rattle.pt_queue.specs.Events.{waiting_in, IsLeastTag};
 ghost use Rattle.pt_state.specs.State.{busy_in, IsSound};
-ghost use Rattle.pt_claim.specs.Least.{AtOrIn, IsLeastOf};
+ghost use Rattle.pt_claim.specs.Least.{AtOrIn, IsLeastAmong};
 ghost use Rattle.pt_claim.specs.Next.{IsPacedNext, IsPacedOfSome};
 
 use pt_offsets::Plan;
@@ -30,7 +30,7 @@ fn sooner_paced(offset: Option<i64>, tag: Tag, so_far: u64) -> u64
 fn sooner_of_unit(fields: &Fields, plan: &Plan, waiting: Waiting, so_far: u64) -> u64
     requires sound { IsSound plan.now.graph fields.now }
     requires tag { IsLeastTag plan.now.graph (waiting_in fields.now.queue.events) waiting.unit (Some waiting.tag) }
-    ensures { IsLeastOf (AtOrIn so_far (IsPacedNext plan.now.graph (waiting_in fields.now.queue.events) (busy_in fields.now.open_claims.items) waiting.unit)) result }
+    ensures { IsLeastAmong (AtOrIn so_far (IsPacedNext plan.now.graph (waiting_in fields.now.queue.events) (busy_in fields.now.open_claims.items) waiting.unit)) result }
 {
     if fields.open_claims.has(waiting.unit) {
         return so_far;
@@ -41,7 +41,7 @@ fn sooner_of_unit(fields: &Fields, plan: &Plan, waiting: Waiting, so_far: u64) -
 /// The least of `so_far` and the paced readings of all units that have events and no open claim.
 pub fn paced_next(fields: &Fields, plan: &Plan, so_far: u64) -> u64
     requires sound { IsSound plan.now.graph fields.now }
-    ensures { IsLeastOf (AtOrIn so_far (IsPacedOfSome plan.now.graph (waiting_in fields.now.queue.events) (busy_in fields.now.open_claims.items))) result }
+    ensures { IsLeastAmong (AtOrIn so_far (IsPacedOfSome plan.now.graph (waiting_in fields.now.queue.events) (busy_in fields.now.open_claims.items))) result }
 {
     let mut least = so_far;
     for waiting in fields.queue.waiting() {

@@ -9,7 +9,7 @@ ghost use Rattle.pt_causality.specs.Delays.{AreLeast, IsUnit, least_of};
 ghost use Rattle.pt_offsets.specs.Plans.{AreOffsets};
 ghost use Rattle.pt_queue.specs.Events.{waiting_in, IsLeastTag};
 ghost use Rattle.pt_state.specs.State.{busy_in, IsSound};
-ghost use Rattle.pt_claim.specs.Safe.{leads_to};
+ghost use Rattle.pt_claim.specs.Safe.{may_lead_to};
 
 use pt_causality::Least;
 use pt_offsets::Offsets;
@@ -31,14 +31,14 @@ fn is_due(offset: Option<i64>, tag: Tag, reading: u64) -> bool
 
 /// Whether an open claim can lead to a unit at the tag or before.
 fn leads_to(least: &Least, unit: Unit, tag: Tag, claim: &OpenClaim) -> bool
-    ensures { result ≡ leads_to (least_of least.now) unit tag claim.now }
+    ensures { result ≡ may_lead_to (least_of least.now) unit tag claim.now }
 {
     reaches(least.get(claim.unit, unit), claim.task.tag, tag)
 }
 
 /// Whether one of the open claims can lead to a unit at the tag or before.
 fn is_held_up(claims: &OpenClaims, least: &Least, unit: Unit, tag: Tag) -> bool
-    ensures { result ≡ list_any (leads_to (least_of least.now) unit tag) claims.now.items }
+    ensures { result ≡ list_any (may_lead_to (least_of least.now) unit tag) claims.now.items }
 {
     let (front, back) = claims.as_slices();
     front

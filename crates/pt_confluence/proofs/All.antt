@@ -28,7 +28,7 @@ use Rattle.pt_causality.specs.Ranked.{level_of, rank_of}
 use Rattle.pt_offsets.specs.Plans.{IsAdmitted, Parts}
 use Rattle.pt_turn.specs.Platforms.{PlatformView, rows_at, state_at}
 use Rattle.pt_turn.specs.All.{histories_of}
-use Rattle.pt_confluence.specs.Gathered.{AreClaimed, AreLegal, HaveFinished, IsItsHistory, tasks_of}
+use Rattle.pt_confluence.specs.Gathered.{AgreeOnClaims, AreLegal, HaveFinished, IsItsHistory, claimed_tasks}
 
 pub legal_none : AreLegal []
 legal_none i v h = absurd (none_some v h)
@@ -50,11 +50,11 @@ claims_are g u (turn ∷ turns) =
     filter_map-append (of_unit g u) turn.claimed (flat_map (λ (t : Turn). t.claimed) turns)
     ∙ ap (λ xs. filter_map (of_unit g u) turn.claimed ++ xs) (claims_are g u turns)
 
-all_claims_are : (g : Graph) (u : Part) (platforms : List PlatformView) → filter_map (of_unit g u) (flat_map tasks_of platforms) ≡ flat_map (λ (v : PlatformView). claims_of g v.turns u) platforms
+all_claims_are : (g : Graph) (u : Part) (platforms : List PlatformView) → filter_map (of_unit g u) (flat_map claimed_tasks platforms) ≡ flat_map (λ (v : PlatformView). claims_of g v.turns u) platforms
 all_claims_are g u [] = refl
 all_claims_are g u (v ∷ platforms) =
-    filter_map-append (of_unit g u) (tasks_of v) (flat_map tasks_of platforms)
-    ∙ ap (λ xs. xs ++ filter_map (of_unit g u) (flat_map tasks_of platforms)) (claims_are g u v.turns)
+    filter_map-append (of_unit g u) (claimed_tasks v) (flat_map claimed_tasks platforms)
+    ∙ ap (λ xs. xs ++ filter_map (of_unit g u) (flat_map claimed_tasks platforms)) (claims_are g u v.turns)
     ∙ ap (λ xs. claims_of g v.turns u ++ xs) (all_claims_are g u platforms)
 
 none_of : {X Y : Type 0} (f : X → List Y) (xs : List X) → ((i : ℕ) (x : X) → slice_get xs i ≡ Some x → f x ≡ []) → flat_map f xs ≡ []
@@ -143,7 +143,7 @@ module _ (plan : Parts) (rows : ℕ → List Row) (platforms : List PlatformView
       (λ x mem. ne (sym ((home_holds g level i rows v.turns (state_at v) is_wired (levels_grow g level admitted.levels) run.fit (legal i v there).leads).claims u x mem)))
 
   -- the tasks of a unit, of all platforms, are its claims
-  pub claimed : (u : Part) → filter_map (of_unit g u) (flat_map tasks_of platforms) ≡ all_claims g (histories_of platforms) u
+  pub claimed : (u : Part) → filter_map (of_unit g u) (flat_map claimed_tasks platforms) ≡ all_claims g (histories_of platforms) u
   claimed u =
       let (v, there) = platform_at (platform_of g u.actor) (is_wired.homes u.actor) in
       all_claims_are g u platforms
@@ -151,7 +151,7 @@ module _ (plan : Parts) (rows : ℕ → List Row) (platforms : List PlatformView
       ∙ ap (λ ts. claims_of g ts u) (history_at (platform_of g u.actor) v there)
 
   -- and where the firings are the meaning, it is theirs
-  pub claimed_of : (xs : List ActorFiring) → IsMeaning g (rank_of plan.ranks) rows xs → AreClaimed plan platforms xs
+  pub claimed_of : (xs : List ActorFiring) → IsMeaning g (rank_of plan.ranks) rows xs → AgreeOnClaims plan platforms xs
   claimed_of xs meaning = record {
     units = confluence g level (rank_of plan.ranks) rows (histories_of platforms) ends xs is_wired admitted.levels admitted.ranks run.fit legal_at finished_at run.linked meaning;
     actors = by_actor g level (rank_of plan.ranks) rows (histories_of platforms) ends xs is_wired admitted.levels admitted.ranks run.fit legal_at finished_at run.linked meaning;

@@ -30,7 +30,7 @@ use Rattle.pt_laws.proofs.MeaningWalk.{HasPart, in_parts, narrow, part_cases, pa
 use Rattle.pt_laws.proofs.Sorted.{sorted_is_meaning}
 use Rattle.pt_laws.proofs.Threads.{firing_at_in}
 use Rattle.pt_semantics.proofs.Words.{firings_agree, when-false, when-true}
-use Rattle.pt_confluence.specs.Joined.{InOrder, joined, whole}
+use Rattle.pt_confluence.specs.Joined.{TasksInOrder, neighbours_joined, whole_firing}
 use Rattle.pt_confluence.proofs.Neighbours.{AreOne, HasInput, IsWithin, Strict, are_full, in_key_order, made_of, strict_joined, within_joined}
 use Rattle.pt_confluence.proofs.Claims.{agree, fired_by, fires, has_input, own_input, rising_at, same_firing, same_state}
 
@@ -111,22 +111,22 @@ abbrev made_by : Kind → Tag → List (Option ℤ) → ℤ → Firing
 made_by k t inputs q = record { tag = t; inputs = inputs; before = q; after = (fired k q inputs).state; outputs = (fired k q inputs).outputs }
 
 module _ (g : Graph) (rank : ℕ → ℕ) (rows : ℕ → List Row) (f : Firings) (behaves : Behaves g (opening g rows) Everywhere f) (tasks : List Task) (claimed : (u : Part) → filter_map (of_unit g u) tasks ≡ f u)
-    (sorted : List Task) (order : InOrder rank sorted) (of_them : (t : Task) → IsIn t sorted → IsIn t tasks) (all_of_them : (t : Task) → IsIn t tasks → IsIn t sorted) where
+    (sorted : List Task) (order : TasksInOrder rank sorted) (of_them : (t : Task) → IsIn t sorted → IsIn t tasks) (all_of_them : (t : Task) → IsIn t tasks → IsIn t sorted) where
   abbrev firings : List ActorFiring
-  firings = map (whole g) (joined sorted)
+  firings = map (whole_firing g) (neighbours_joined sorted)
 
   agreeing : (x : Task) → IsIn x sorted → (y : Task) → IsIn y sorted → AreOne x y → (p : ℕ) (v w : ℤ) → p < 8 → at_port x.inputs p ≡ Some v → at_port y.inputs p ≡ Some w → v ≡ w
   agreeing x mx y my one = agree g (opening g rows) f behaves tasks claimed x y (of_them x mx) (of_them y my) one
 
   -- a task is within each joined one of its actor and tag
-  within : (t y : Task) → IsIn t sorted → IsIn y (joined sorted) → AreOne t y → IsWithin t y
+  within : (t y : Task) → IsIn t sorted → IsIn y (neighbours_joined sorted) → AreOne t y → IsWithin t y
   within t y mt my one =
       let (z, mz, w) = within_joined sorted agreeing t mt in
-      let same : z ≡ y = strict_one rank (joined sorted) (strict_joined rank sorted order) z y mz my (record { actor = sym w.one.actor ∙ one.actor; tag = sym w.one.tag ∙ one.tag }) in
+      let same : z ≡ y = strict_one rank (neighbours_joined sorted) (strict_joined rank sorted order) z y mz my (record { actor = sym w.one.actor ∙ one.actor; tag = sym w.one.tag ∙ one.tag }) in
       subst (IsWithin t) same w
 
   -- of whose inputs those of the task's unit are the task's
-  own_part : (t y : Task) → IsIn t sorted → IsIn y (joined sorted) → AreOne t y → narrowed (kind_of g t.actor) (unit_of g t).group y.inputs ≡ t.inputs
+  own_part : (t y : Task) → IsIn t sorted → IsIn y (neighbours_joined sorted) → AreOne t y → narrowed (kind_of g t.actor) (unit_of g t).group y.inputs ≡ t.inputs
   own_part t y mt my one =
       eight_below (λ p. when (input_group (kind_of g t.actor) p == (unit_of g t).group) (at_port y.inputs p)) (λ p. at_port t.inputs p) port
       ∙ sym (has_input g (opening g rows) f behaves tasks claimed t (of_them t mt)).ports
@@ -152,19 +152,19 @@ module _ (g : Graph) (rank : ℕ → ℕ) (rows : ℕ → List Row) (f : Firings
           (λ v at. absurd (false≢true (sym off ∙ eq-eqb (input_group (kind_of g t.actor) p) (unit_of g t).group (own_input g (opening g rows) f behaves tasks claimed t (of_them t mt) p v lt at)))))
           (cases_Bool (input_group (kind_of g t.actor) p == (unit_of g t).group))
 
-  part_is : (t y : Task) → IsIn t sorted → IsIn y (joined sorted) → AreOne t y → HasPart g (unit_of g t) (whole g y) × (the_part (kind_of g t.actor) (whole g y) (narrow g (unit_of g t) (whole g y)) ≡ firing_by g t)
+  part_is : (t y : Task) → IsIn t sorted → IsIn y (neighbours_joined sorted) → AreOne t y → HasPart g (unit_of g t) (whole_firing g y) × (the_part (kind_of g t.actor) (whole_firing g y) (narrow g (unit_of g t) (whole_firing g y)) ≡ firing_by g t)
   part_is t y mt my one =
       let own = own_part t y mt my one in
       let (first, mf, of, state) = (made_of sorted y my).first in
       let same : y.state ≡ t.state =
       sym state ∙ same_state g (opening g rows) f behaves tasks claimed first t (of_them first mf) (of_them t mt) (record { actor = of.actor ∙ sym one.actor; tag = of.tag ∙ sym one.tag }) in
-      let present : any_present (narrow g (unit_of g t) (whole g y)) ≡ true = ap any_present own ∙ (has_input g (opening g rows) f behaves tasks claimed t (of_them t mt)).present in (
+      let present : any_present (narrow g (unit_of g t) (whole_firing g y)) ≡ true = ap any_present own ∙ (has_input g (opening g rows) f behaves tasks claimed t (of_them t mt)).present in (
         record {
           actor = sym one.actor;
           present = present;
           is =
               when-true (y.actor == t.actor) _ (eq-eqb y.actor t.actor (sym one.actor))
-              ∙ when-true (any_present (narrow g (unit_of g t) (whole g y))) (Some (the_part (kind_of g t.actor) (whole g y) (narrow g (unit_of g t) (whole g y)))) present;
+              ∙ when-true (any_present (narrow g (unit_of g t) (whole_firing g y))) (Some (the_part (kind_of g t.actor) (whole_firing g y) (narrow g (unit_of g t) (whole_firing g y)))) present;
         },
         λ i. made_by (kind_of g t.actor) (sym one.tag i) (own i) (same i),
       )
@@ -174,14 +174,14 @@ module _ (g : Graph) (rank : ℕ → ℕ) (rows : ℕ → List Row) (f : Firings
   part_of_task t mt =
       let (y, my, w) = within_joined sorted agreeing t mt in
       let (has, is) = part_is t y mt my w.one in
-      subst (λ x. IsIn x (parts g firings (unit_of g t))) is (part_in g (unit_of g t) firings (whole g y) (map_in (whole g) (joined sorted) y my) has)
+      subst (λ x. IsIn x (parts g firings (unit_of g t))) is (part_in g (unit_of g t) firings (whole_firing g y) (map_in (whole_firing g) (neighbours_joined sorted) y my) has)
 
   -- and each part a task's firing
   task_of_part : (u : Part) (x : Firing) → IsIn x (parts g firings u) → (t : Task) × IsIn t sorted × (unit_of g t ≡ u) × (firing_by g t ≡ x)
   task_of_part u x mem =
       let (z, mz, has, is) = in_parts g u firings x mem in
-      let (y, my, e) = in_map (whole g) (joined sorted) z mz in
-      let has_y : HasPart g u (whole g y) = subst (HasPart g u) e has in
+      let (y, my, e) = in_map (whole_firing g) (neighbours_joined sorted) z mz in
+      let has_y : HasPart g u (whole_firing g y) = subst (HasPart g u) e has in
       let (p, v, lt, there) = eight_found (λ q. when (input_group (kind_of g u.actor) q == u.group) (at_port y.inputs q)) has_y.present in
       let found = when_found (input_group (kind_of g u.actor) p == u.group) (at_port y.inputs p) v there in
       let (t, mt, one, at) = (made_of sorted y my).found p v lt found.1 in
@@ -192,7 +192,7 @@ module _ (g : Graph) (rank : ℕ → ℕ) (rows : ℕ → List Row) (f : Firings
         t,
         mt,
         unit,
-        sym (part_is t y mt my one).1 ∙ ap (λ (w : Part). the_part (kind_of g w.actor) (whole g y) (narrow g w (whole g y))) unit
+        sym (part_is t y mt my one).1 ∙ ap (λ (w : Part). the_part (kind_of g w.actor) (whole_firing g y) (narrow g w (whole_firing g y))) unit
             ∙ ap (λ (k : ActorFiring). the_part (kind_of g u.actor) k (narrow g u k)) (sym e) ∙ sym is,
       )
 

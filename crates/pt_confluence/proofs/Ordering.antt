@@ -7,11 +7,11 @@ use Rattle.pt_semantics.specs.Lists.{Each, IsIn}
 use Rattle.pt_semantics.specs.Meaning.{NotAfter}
 use Rattle.pt_semantics.proofs.Lookups.{Each-from}
 use Rattle.pt_semantics.proofs.Words.{Each-map}
-use Rattle.pt_confluence.specs.Joined.{InOrder}
+use Rattle.pt_confluence.specs.Joined.{TasksInOrder}
 
 -- the same tasks in order
 pub record AreOrdered (rank : ℕ → ℕ) (xs ys : List Task) : Type 0 where
-  pub order : InOrder rank ys
+  pub order : TasksInOrder rank ys
   pub of_them : (t : Task) → IsIn t ys → IsIn t xs
   pub all : (t : Task) → IsIn t xs → IsIn t ys
 
@@ -69,7 +69,7 @@ module _ (rank : ℕ → ℕ) where
   After x y = NotAfter rank x.tag x.actor y.tag y.actor
 
   -- one task more
-  put_in : (t : Task) (xs : List Task) → InOrder rank xs → (ys : List Task) × AreOrdered rank (t ∷ xs) ys
+  put_in : (t : Task) (xs : List Task) → TasksInOrder rank xs → (ys : List Task) × AreOrdered rank (t ∷ xs) ys
   put_in t [] h = (t ∷ [], record { order = (tt, tt); of_them = λ k m. m; all = λ k m. m })
   put_in t (x ∷ xs) h =
       ⊎_elim

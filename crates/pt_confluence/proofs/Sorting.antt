@@ -16,7 +16,7 @@ use Rattle.pt_semantics.specs.Lists.{IsIn}
 use Rattle.pt_semantics.specs.Meaning.{NotAfter}
 use Rattle.pt_semantics.proofs.Lookups.{none_some, same_some}
 use Rattle.pt_semantics.proofs.Words.{Each-map}
-use Rattle.pt_confluence.specs.Joined.{InOrder}
+use Rattle.pt_confluence.specs.Joined.{TasksInOrder}
 use Rattle.pt_confluence.specs.Moments.{moment_cmp, moment_of}
 use Rattle.pt_confluence.proofs.Ordering.{AreOrdered, weak_then}
 
@@ -24,7 +24,7 @@ not_after : (rank : ℕ → ℕ) (x y : Task) → is_lt (moment_cmp (moment_of r
 not_after rank x y h = grind (arith, nat_tests, common_steps)
 
 module _ {X : Type 0} (v : X → Task) (rank : ℕ → ℕ) where
-  order_from : (xs : List X) → IsSortedByKey (λ x. moment_of rank (v x)) moment_cmp xs → InOrder rank (map v xs)
+  order_from : (xs : List X) → IsSortedByKey (λ x. moment_of rank (v x)) moment_cmp xs → TasksInOrder rank (map v xs)
   order_from [] h = tt
   order_from (x ∷ []) h = (tt, tt)
   order_from (x ∷ y ∷ ys) h =

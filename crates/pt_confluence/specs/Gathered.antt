@@ -25,7 +25,7 @@ pub record HaveFinished (plan : Parts) (rows : ℕ → List Row) (platforms : Li
 
 -- the firings and the claims agree: each unit's claims are, in order, its parts of the firings, with the same tags, inputs,
 -- states and outputs; each claim is a part of one of its actor's firings, and each input of a firing is claimed
-pub record AreClaimed (plan : Parts) (platforms : List PlatformView) (firings : List ActorFiring) : Type 0 where
+pub record AgreeOnClaims (plan : Parts) (platforms : List PlatformView) (firings : List ActorFiring) : Type 0 where
   pub units : (u : Part) → all_claims plan.graph (histories_of platforms) u ≡ parts plan.graph firings u
   pub actors : AreTheFirings plan.graph (all_claims plan.graph (histories_of platforms)) firings
 
@@ -40,8 +40,8 @@ abbrev pub by_task : Task → ActorFiring
 by_task task = record { actor = task.actor; tag = task.tag; inputs = task.inputs; before = task.state; after = task.state; outputs = [] }
 
 -- all tasks claimed by a platform
-abbrev pub tasks_of : PlatformView → List Task
-tasks_of v = flat_map (λ (turn : Turn). turn.claimed) v.turns
+abbrev pub claimed_tasks : PlatformView → List Task
+claimed_tasks v = flat_map (λ (turn : Turn). turn.claimed) v.turns
 
 -- the recorded turns of a platform are a legal history
 abbrev pub IsItsHistory : PlatformView → Type 0

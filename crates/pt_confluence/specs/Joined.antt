@@ -11,9 +11,9 @@ use Rattle.pt_semantics.specs.Lists.{Each, or_else}
 use Rattle.pt_semantics.specs.Meaning.{NotAfter}
 
 -- tasks in the order of tag, rank and actor
-abbrev pub InOrder : (ℕ → ℕ) → List Task → Type 0
-InOrder rank [] = Unit {0}
-InOrder rank (x ∷ xs) = Each (λ (y : Task). NotAfter rank x.tag x.actor y.tag y.actor) xs × InOrder rank xs
+abbrev pub TasksInOrder : (ℕ → ℕ) → List Task → Type 0
+TasksInOrder rank [] = Unit {0}
+TasksInOrder rank (x ∷ xs) = Each (λ (y : Task). NotAfter rank x.tag x.actor y.tag y.actor) xs × TasksInOrder rank xs
 
 -- two tasks are of one actor and tag
 abbrev pub is_same_firing : Task → Task → Bool
@@ -24,18 +24,18 @@ abbrev pub both : Task → Task → Task
 both x y = record x { inputs = eight (λ p. or_else (at_port x.inputs p) (at_port y.inputs p)) }
 
 -- a task in front of others, joined with the first of them if both are of one actor and tag
-abbrev pub before : Task → List Task → List Task
-before x [] = x ∷ []
-before x (y ∷ ys) = if is_same_firing x y then both x y ∷ ys else x ∷ y ∷ ys
+abbrev pub joined_in_front : Task → List Task → List Task
+joined_in_front x [] = x ∷ []
+joined_in_front x (y ∷ ys) = if is_same_firing x y then both x y ∷ ys else x ∷ y ∷ ys
 
 -- the tasks, with neighbours of one actor and tag joined
-abbrev pub joined : List Task → List Task
-joined [] = []
-joined (x ∷ xs) = before x (joined xs)
+abbrev pub neighbours_joined : List Task → List Task
+neighbours_joined [] = []
+neighbours_joined (x ∷ xs) = joined_in_front x (neighbours_joined xs)
 
 -- a joined task as the whole firing of its actor
-abbrev pub whole : Graph → Task → ActorFiring
-whole g task = record {
+abbrev pub whole_firing : Graph → Task → ActorFiring
+whole_firing g task = record {
   actor = task.actor;
   tag = task.tag;
   inputs = task.inputs;

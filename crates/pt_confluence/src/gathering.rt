@@ -6,8 +6,8 @@ ghost use Rattle.pt_types.specs.declared.firing.Task.{Task};
 ghost use Rattle.pt_types.specs.declared.rows.Row.{Row};
 ghost use Rattle.pt_semantics.specs.Meaning.{IsMeaning};
 ghost use Rattle.pt_causality.specs.Ranked.{rank_of};
-ghost use Rattle.pt_confluence.specs.Gathered.{AreClaimed, AreLegal, HaveFinished, tasks_of};
-ghost use Rattle.pt_confluence.specs.Joined.{joined};
+ghost use Rattle.pt_confluence.specs.Gathered.{AgreeOnClaims, AreLegal, HaveFinished, claimed_tasks};
+ghost use Rattle.pt_confluence.specs.Joined.{neighbours_joined};
 ghost use Rattle.pt_confluence.specs.Moments.{moment_cmp, moment_of};
 
 use crate::joining::join;
@@ -27,7 +27,7 @@ use std::alloc::Global;
 /// units of lanes, are joined into one firing.
 pub fn gather(alloc: Global, plan: &Plan, platforms: &[Platform]) -> Result<Firings, Memory>
     ensures meaning { IfOk result (λ firings. (rows : ℕ → List Row) → HaveFinished plan.now rows platforms.now → IsMeaning plan.now.graph (rank_of plan.now.ranks) rows firings) }
-    ensures claimed { IfOk result (λ firings. (rows : ℕ → List Row) → HaveFinished plan.now rows platforms.now → AreClaimed plan.now platforms.now firings) }
+    ensures claimed { IfOk result (λ firings. (rows : ℕ → List Row) → HaveFinished plan.now rows platforms.now → AgreeOnClaims plan.now platforms.now firings) }
 {
     let tasks = all_tasks(alloc, platforms)?;
     let mut sorted = references(alloc, tasks.as_slice())?;
@@ -37,7 +37,7 @@ pub fn gather(alloc: Global, plan: &Plan, platforms: &[Platform]) -> Result<Firi
 
 /// All tasks claimed by platforms, platform by platform.
 fn all_tasks(alloc: Global, platforms: &[Platform]) -> Result<Vec<Task>, Memory>
-    ensures tasks { IfOk result (λ tasks. tasks.items ≡ flat_map tasks_of platforms.now) }
+    ensures tasks { IfOk result (λ tasks. tasks.items ≡ flat_map claimed_tasks platforms.now) }
     ensures legal { IfOk result (λ tasks. AreLegal platforms.now) }
 {
     let mut tasks = Vec::new(alloc);

@@ -6,7 +6,7 @@ ghost use Rattle.pt_types.specs.declared.firing.Task.{Task};
 ghost use Rattle.pt_types.specs.Lookups.{kind_of};
 ghost use Rattle.pt_semantics.specs.Firing.{fired};
 ghost use Rattle.pt_semantics.specs.Lists.{or_else};
-ghost use Rattle.pt_confluence.specs.Joined.{both, is_same_firing, joined, whole};
+ghost use Rattle.pt_confluence.specs.Joined.{both, is_same_firing, neighbours_joined, whole_firing};
 ghost use Rattle.pt_confluence.specs.Making.{made};
 
 use pt_actors::fire_kind;
@@ -25,7 +25,7 @@ pub struct Joining {
 /// The whole firings of sorted tasks: neighbours of one actor and tag are joined.
 pub fn join(alloc: Global, graph: &Graph, tasks: &[&Task]) -> Result<Firings, Memory>
     requires lawful { IsLawful graph.now }
-    ensures { IfOk result (λ firings. firings ≡ map (whole graph.now) (joined (map (λ task. task.now) tasks.now))) }
+    ensures { IfOk result (λ firings. firings ≡ map (whole_firing graph.now) (neighbours_joined (map (λ task. task.now) tasks.now))) }
 {
     let mut joining = Joining {
         firings: Firings::new(alloc),
@@ -115,7 +115,7 @@ fn or_else(first: Option<i64>, second: Option<i64>) -> Option<i64>
 /// The whole firing of a joined task.
 fn whole(graph: &Graph, task: &Task) -> ActorFiring
     requires lawful { IsLawful graph.now }
-    ensures { result ≡ whole graph.now task.now }
+    ensures { result ≡ whole_firing graph.now task.now }
 {
     let fired = fire(graph, task);
     ActorFiring {

@@ -2,7 +2,7 @@
 use Rattle.std.proofs.Common.{◌≡◌, ℕ, ◌+◌, ◌<◌, ◌≤◌, List, [], ◌∷◌, ◌++◌, Some, None, Option, length, get_or, set, refl, sym, ap, subst, ◌∙◌, ⊎_elim, arith, append_assoc, length-append}
 use Rattle.std.specs.Prelude.{slice_get}
 use Rattle.std.proofs.lemmas.Bool.{cases_eq}
-use Rattle.pt_ends.specs.Places.{AreCollected, AreDistinct, AreLaid, AreWithin, IsElsewhere, IsFull}
+use Rattle.pt_ends.specs.Places.{AreCollected, AreDistinct, AreLaid, NumbersAreBelow, IsElsewhere, PlaceIsFull}
 use Rattle.pt_pool.proofs.Lanes.{get_here, same_some, set_elsewhere, set_here}
 use Rattle.pt_ends.proofs.Lists.{get_front, get_last, get_none, get_snoc}
 
@@ -80,7 +80,7 @@ module _ {T : Type 0} (owners : List ℕ) (owner : ℕ) (old : List (Option T)) 
         others = λ l e. set_elsewhere places k l None (λ q. e (subst (λ (n : ℕ). slice_get owners n ≡ Some owner) (sym q) here)) ∙ h.others l e;
       }
 
-  pub place_is : (k : ℕ) (places : List (Option T)) (things : List (ℕ × T)) → Collecting owners owner k old places things → k < length owners → get_or owners k 0 ≡ owner → ((l : ℕ) → slice_get owners l ≡ Some owner → IsFull old l) → IsFull places k
+  pub place_is : (k : ℕ) (places : List (Option T)) (things : List (ℕ × T)) → Collecting owners owner k old places things → k < length owners → get_or owners k 0 ≡ owner → ((l : ℕ) → slice_get owners l ≡ Some owner → PlaceIsFull old l) → PlaceIsFull places k
   place_is k places things h lt mine full =
       let here : slice_get owners k ≡ Some owner = get_here owners k 0 lt ∙ ap Some mine in
       let f = full k here in
@@ -101,7 +101,7 @@ module _ {T : Type 0} (xs ys rest orig : List (ℕ × T)) (x : ℕ × T) (is : y
   pub last_is : slice_get orig (length xs) ≡ Some x
   last_is = ap (λ (l : List (ℕ × T)). slice_get l (length xs)) whole ∙ get_front (xs ++ x ∷ []) rest (length xs) x (get_last xs x)
 
-  pub laid_more : (places : List (Option T)) (v : Option T) (n : ℕ) → AreDistinct orig → AreWithin n orig → n ≡ length places → v ≡ Some x.1 → AreLaid (length ys) orig places → AreLaid (length xs) orig (set places x.0 v)
+  pub laid_more : (places : List (Option T)) (v : Option T) (n : ℕ) → AreDistinct orig → NumbersAreBelow n orig → n ≡ length places → v ≡ Some x.1 → AreLaid (length ys) orig places → AreLaid (length xs) orig (set places x.0 v)
   laid_more places v n distinct within count val laid i e le at = ⊎_elim
       (λ (q : i ≡ length xs).
       let same : e ≡ x = same_some e x (sym at ∙ ap (slice_get orig) q ∙ last_is) in

@@ -6,7 +6,7 @@ use Rattle.std.proofs.lemmas.Option.{slice_get_within}
 use Rattle.pt_pool.specs.Station.{StationView}
 use Rattle.pt_pool.proofs.Lanes.{get_map, same_some}
 use Rattle.pt_free.specs.Orders.{count_up, numbers}
-use Rattle.pt_ends.specs.Settled.{AreInOrder}
+use Rattle.pt_ends.specs.Settled.{AreByNumber}
 use Rattle.pt_ends.specs.Numbered.{NumberedInOrder}
 use Rattle.pt_ends.proofs.Lists.{get_front, get_last}
 

@@ -10,8 +10,8 @@ use Rattle.pt_links.specs.Ends.{SentBy, TakenBy}
 use Rattle.pt_pool.specs.Ends.{AreEnds, End}
 use Rattle.pt_pool.specs.Station.{StationView}
 use Rattle.pt_pool.proofs.Lanes.{get_map, got_map, same_some}
-use Rattle.pt_ends.specs.Places.{AreDistinct, AreLaid, AreWithin}
-use Rattle.pt_ends.specs.Settled.{AreInOrder, AreOfOneLink, AreReturned, AreSettled, IsSettled}
+use Rattle.pt_ends.specs.Places.{AreDistinct, AreLaid, NumbersAreBelow}
+use Rattle.pt_ends.specs.Settled.{AreByNumber, AreOfOneLink, AreReturned, AreSettled, LinkIsSettled}
 use Rattle.pt_ends.proofs.Lists.{get_front, get_last}
 
 -- The last of the front of a list.
@@ -30,7 +30,7 @@ module _ {T : Type 0} (xs ys rest orig : List T) (x : T) (is : ys ≡ xs ++ x �
 
 -- The ends of one station.
 module _ {X : Type 0} (end_of : ℕ × X → End) (named : (p : ℕ × X) → (end_of p).number ≡ p.0) (plan : Parts) (side : Graph → Link → ℕ) (n : ℕ) (things : List (ℕ × X)) (ends : AreEnds plan side n (map end_of things)) where
-  pub ends_within : (m : ℕ) → length plan.graph.links ≤ m → AreWithin m things
+  pub ends_within : (m : ℕ) → length plan.graph.links ≤ m → NumbersAreBelow m things
   ends_within m le i p at =
       let o = ends.own i (end_of p) (get_map end_of things i p at) in
       let w = slice_get_within plan.graph.links (end_of p).number o.0 o.1 in
@@ -39,7 +39,7 @@ module _ {X : Type 0} (end_of : ℕ × X → End) (named : (p : ℕ × X) → (e
   pub ends_distinct : AreDistinct things
   ends_distinct i j d e at at' q = ends.apart i j (end_of d) (end_of e) (get_map end_of things i d at) (get_map end_of things j e at') (named d ∙ q ∙ sym (named e))
 
-  module _ (is : StationView → ℕ → X → Type 0) (xs ys rest orig : List StationView) (s : StationView) (more : ys ≡ xs ++ s ∷ []) (front : orig ≡ ys ++ rest) (order : AreInOrder orig) (mine : s.platform.number ≡ n)
+  module _ (is : StationView → ℕ → X → Type 0) (xs ys rest orig : List StationView) (s : StationView) (more : ys ≡ xs ++ s ∷ []) (front : orig ≡ ys ++ rest) (order : AreByNumber orig) (mine : s.platform.number ≡ n)
       (hold : (i : ℕ) (p : ℕ × X) → slice_get things i ≡ Some p → is s p.0 p.1) where
     last : slice_get orig (length xs) ≡ Some s
     last = last_at xs ys rest orig s more front
@@ -69,7 +69,7 @@ module _ {X : Type 0} (end_of : ℕ × X → End) (named : (p : ℕ × X) → (e
 -- Settled ends.
 
 pub settled_more : (xs ys rest orig : List (Option SentBy)) (us vs more all : List (Option TakenBy)) (x : Option SentBy) (u : Option TakenBy) → ys ≡ xs ++ x ∷ [] → orig ≡ ys ++ rest → vs ≡ us ++ u ∷ [] → all ≡ vs ++ more → length us ≡ length xs
-    → ((o : SentBy) (i : TakenBy) → x ≡ Some o → u ≡ Some i → IsSettled o i) → AreSettled (length ys) orig all → AreSettled (length xs) orig all
+    → ((o : SentBy) (i : TakenBy) → x ≡ Some o → u ≡ Some i → LinkIsSettled o i) → AreSettled (length ys) orig all → AreSettled (length xs) orig all
 settled_more xs ys rest orig us vs more all x u is front is' front' count one before l o i le at at' = ⊎_elim
     (λ (q : l ≡ length xs).
     one o i (same_some x (Some o) (sym (last_at xs ys rest orig x is front) ∙ ap (slice_get orig) (sym q) ∙ at))

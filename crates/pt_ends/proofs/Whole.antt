@@ -11,14 +11,14 @@ use Rattle.pt_semantics.specs.Wired.{IsWired}
 use Rattle.pt_turn.specs.All.{histories_of}
 use Rattle.pt_turn.specs.Platforms.{PlatformView}
 use Rattle.pt_links.specs.Ends.{LinkId, SentBy, TakenBy}
-use Rattle.pt_pool.specs.Ends.{leaves, reaches}
+use Rattle.pt_pool.specs.Ends.{leaves, receiving_platform}
 use Rattle.pt_pool.specs.Station.{StationView}
 use Rattle.pt_pool.proofs.Lanes.{get_here, get_map, same_some}
-use Rattle.pt_ends.specs.Settled.{AreInOrder, AreOfOneLink, AreReturned, AreSettled, IsSentBy, IsTakenBy, platform_of_station}
+use Rattle.pt_ends.specs.Settled.{AreByNumber, AreOfOneLink, AreReturned, AreSettled, IsSentBy, IsTakenBy, platform_of_station}
 use Rattle.pt_ends.proofs.Matching.{matched_at}
 
-module _ (g : Graph) (link : ℕ → LinkId) (stations : List StationView) (outs : List (Option SentBy)) (ins : List (Option TakenBy)) (order : AreInOrder stations) (count : length stations ≡ length g.platforms) (wired : IsWired g)
-    (sent : AreReturned g leaves (IsSentBy link) 0 stations outs) (taken : AreReturned g reaches (IsTakenBy link) 0 stations ins) where
+module _ (g : Graph) (link : ℕ → LinkId) (stations : List StationView) (outs : List (Option SentBy)) (ins : List (Option TakenBy)) (order : AreByNumber stations) (count : length stations ≡ length g.platforms) (wired : IsWired g)
+    (sent : AreReturned g leaves (IsSentBy link) 0 stations outs) (taken : AreReturned g receiving_platform (IsTakenBy link) 0 stations ins) where
   history : (i : ℕ) (s : StationView) → slice_get stations i ≡ Some s → histories_of (map platform_of_station stations) i ≡ s.platform.turns
   history i s at = ap (λ (z : Option PlatformView). unwrap_or (option_map (λ (v : PlatformView). v.turns) z) []) (get_map platform_of_station stations i s at)
 

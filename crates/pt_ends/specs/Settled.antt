@@ -12,8 +12,8 @@ use Rattle.pt_links.specs.Ends.{LinkId, SentBy, TakenBy}
 use Rattle.pt_pool.specs.Station.{IsOfRun, StationView}
 
 -- each has the number of its place
-abbrev pub AreInOrder : List StationView → Type 0
-AreInOrder stations = (i : ℕ) (s : StationView) → slice_get stations i ≡ Some s → s.platform.number ≡ i
+abbrev pub AreByNumber : List StationView → Type 0
+AreByNumber stations = (i : ℕ) (s : StationView) → slice_get stations i ≡ Some s → s.platform.number ≡ i
 
 abbrev pub platform_of_station : StationView → PlatformView
 platform_of_station s = s.platform
@@ -46,8 +46,8 @@ abbrev pub AreReturned : {X : Type 0} → Graph → (Graph → Link → ℕ) →
 AreReturned {X} g side is k stations places = (l : ℕ) (link : Link) (i : ℕ) (s : StationView) → slice_get g.links l ≡ Some link → k ≤ i → slice_get stations i ≡ Some s → side g link ≡ s.platform.number → (e : X) × (slice_get places l ≡ Some (Some e)) × is s l e
 
 -- what was sent at one end of a link is what was taken at the other, and then what is left
-abbrev pub IsSettled : SentBy → TakenBy → Type 0
-IsSettled o i = (left : List Message) × (o.sent ≡ i.taken ++ left)
+abbrev pub LinkIsSettled : SentBy → TakenBy → Type 0
+LinkIsSettled o i = (left : List Message) × (o.sent ≡ i.taken ++ left)
 
 -- the two ends in each place are those of one link
 abbrev pub AreOfOneLink : List (Option SentBy) → List (Option TakenBy) → Type 0
@@ -55,4 +55,4 @@ AreOfOneLink outs ins = (l : ℕ) (o : SentBy) (i : TakenBy) → slice_get outs 
 
 -- the two ends in each place from the k-th on are settled
 abbrev pub AreSettled : ℕ → List (Option SentBy) → List (Option TakenBy) → Type 0
-AreSettled k outs ins = (l : ℕ) (o : SentBy) (i : TakenBy) → k ≤ l → slice_get outs l ≡ Some (Some o) → slice_get ins l ≡ Some (Some i) → IsSettled o i
+AreSettled k outs ins = (l : ℕ) (o : SentBy) (i : TakenBy) → k ≤ l → slice_get outs l ≡ Some (Some o) → slice_get ins l ≡ Some (Some i) → LinkIsSettled o i

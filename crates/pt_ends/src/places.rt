@@ -1,7 +1,7 @@
 //! Things with a number, and their places.
 
 ghost use Rattle.std.specs.Prelude.{◌≡◌, ◌<◌, ◌≤◌, ◌^◌, ℕ, IfOk, Some, None, length, slice_get, vec_len};
-ghost use Rattle.pt_ends.specs.Places.{AreCollected, AreDistinct, AreLaid, IsFull, IsElsewhere, AreWithin};
+ghost use Rattle.pt_ends.specs.Places.{AreCollected, AreDistinct, AreLaid, PlaceIsFull, IsElsewhere, NumbersAreBelow};
 
 use pt_tags::Memory;
 use std::alloc::Global;
@@ -27,7 +27,7 @@ pub fn collect<T: Drop>(
     places: &mut Vec<Option<T>>,
 ) -> Result<Vec<(u32, T)>, Memory>
     requires few { length owners.now ≤ 2 ^ 32 }
-    requires full { (l : ℕ) → slice_get owners.now l ≡ Some owner → IsFull places.old.items l }
+    requires full { (l : ℕ) → slice_get owners.now l ≡ Some owner → PlaceIsFull places.old.items l }
     ensures count { vec_len places.new ≡ vec_len places.old }
     ensures collected { IfOk result (λ things. AreCollected owners.now owner (length owners.now) places.old.items things.items) }
     ensures others { (l : ℕ) → IsElsewhere owners.now owner l → slice_get places.new.items l ≡ slice_get places.old.items l }
@@ -49,7 +49,7 @@ pub fn collect<T: Drop>(
 
 /// Puts each thing into the place of its number.
 pub fn lay<T: Drop>(mut things: Vec<(u32, T)>, places: &mut Vec<Option<T>>)
-    requires within { AreWithin (vec_len places.old) things.items }
+    requires within { NumbersAreBelow (vec_len places.old) things.items }
     requires distinct { AreDistinct things.items }
     ensures count { vec_len places.new ≡ vec_len places.old }
     ensures laid { AreLaid 0 things.items places.new.items }

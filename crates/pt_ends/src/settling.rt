@@ -1,11 +1,11 @@
 //! Takes the stations of a run apart, and settles their links.
 
 ghost use Rattle.std.specs.Prelude.{◌≡◌, ◌≤◌, IfOk, IfSome, Some, length, map, vec_len};
-ghost use Rattle.pt_pool.specs.Station.{graph_of};
+ghost use Rattle.pt_pool.specs.Station.{plan_graph};
 ghost use Rattle.pt_semantics.specs.Linked.{AreMatched};
 ghost use Rattle.pt_turn.specs.All.{histories_of};
-ghost use Rattle.pt_pool.specs.Ends.{leaves, reaches};
-ghost use Rattle.pt_ends.specs.Settled.{AreInOrder, AreOfOneLink, AreReturned, AreSettled, AreStations, IsSentBy, IsSettled, IsTakenBy, platform_of_station, told_of_station};
+ghost use Rattle.pt_pool.specs.Ends.{leaves, receiving_platform};
+ghost use Rattle.pt_ends.specs.Settled.{AreByNumber, AreOfOneLink, AreReturned, AreSettled, AreStations, IsSentBy, LinkIsSettled, IsTakenBy, platform_of_station, told_of_station};
 
 use crate::places::{empty_places, lay};
 use pt_io::Clock;
@@ -42,7 +42,7 @@ pub fn settle_run<J: Run, C: Clock, R: Wait>(
     plan: &Plan,
 ) -> Result<Settled<C>, Memory>
     requires plan { J.plan ≡ Some plan.now }
-    requires order { AreInOrder stations.items }
+    requires order { AreByNumber stations.items }
     requires count { length stations.items ≡ length plan.now.graph.platforms }
     ensures platforms { IfOk result (λ r. r.platforms.items ≡ map platform_of_station stations.items) }
     ensures clocks { IfOk result (λ r. map C.told r.clocks.items ≡ map told_of_station stations.items) }
@@ -66,12 +66,12 @@ fn take_apart<J: Run, C: Clock>(
     mut stations: Vec<Station<J, C>>,
     links: usize,
 ) -> Result<Pieces<C>, Memory>
-    requires order { AreInOrder stations.items }
-    requires links { length (graph_of J.plan).links ≤ links }
+    requires order { AreByNumber stations.items }
+    requires links { length (plan_graph J.plan).links ≤ links }
     ensures platforms { IfOk result (λ p. p.platforms.items ≡ map platform_of_station stations.items) }
     ensures clocks { IfOk result (λ p. map C.told p.clocks.items ≡ map told_of_station stations.items) }
-    ensures outlets { IfOk result (λ p. AreReturned (graph_of J.plan) leaves (IsSentBy J.link) 0 stations.items p.outlets.items) }
-    ensures inlets { IfOk result (λ p. AreReturned (graph_of J.plan) reaches (IsTakenBy J.link) 0 stations.items p.inlets.items) }
+    ensures outlets { IfOk result (λ p. AreReturned (plan_graph J.plan) leaves (IsSentBy J.link) 0 stations.items p.outlets.items) }
+    ensures inlets { IfOk result (λ p. AreReturned (plan_graph J.plan) receiving_platform (IsTakenBy J.link) 0 stations.items p.inlets.items) }
     ensures count { IfOk result (λ p. (vec_len p.outlets ≡ links) × (vec_len p.inlets ≡ links)) }
     ensures of_run { IfOk result (λ p. AreStations J.plan J.rows J.link J.began J.fixed 0 stations.items) }
 {
@@ -123,7 +123,7 @@ fn settle_all<R: Wait>(rt: &R, mut outlets: Vec<Option<Outlet>>, mut inlets: Vec
 /// Settles a link if both of its ends are there.
 fn settle_one<R: Wait>(rt: &R, outlet: Option<Outlet>, inlet: Option<Inlet>)
     requires { IfSome outlet (λ o. IfSome inlet (λ i. i.link ≡ o.link)) }
-    ensures { IfSome outlet (λ o. IfSome inlet (λ i. IsSettled o i)) }
+    ensures { IfSome outlet (λ o. IfSome inlet (λ i. LinkIsSettled o i)) }
 {
     if let (Some(outlet), Some(inlet)) = (outlet, inlet) {
         let _settled = settle(rt, outlet, inlet);

@@ -17,7 +17,7 @@ use Rattle.pt_semantics.specs.Units.{at_input}
 use Rattle.pt_semantics.proofs.Lookups.{none_some, or_else_none, or_else_assoc, when_found, when_none}
 use Rattle.pt_causality.specs.Units.{IsUnit}
 use Rattle.pt_state.specs.declared.fields.Sensor.{Sensor}
-use Rattle.pt_state.specs.State.{left_in, rows_left, rows_of}
+use Rattle.pt_state.specs.State.{left_in, rows_left, rows_at_sensors}
 use Rattle.pt_state.specs.Sensors.{at_sensor, seen_at, IsSensor, RiseFrom}
 
 -- the rows that are due of one sensor, and of several
@@ -160,13 +160,13 @@ left_after r (x ∷ xs) (y ∷ ys) len h a =
     (cases_Bool (x.actor == a))
 
 -- all rows of each sensor stay
-rows_here : (s : Sensor) (ss : List Sensor) (a : ℕ) → (s.actor == a) ≡ true → rows_of (s ∷ ss) a ≡ s.rows
+rows_here : (s : Sensor) (ss : List Sensor) (a : ℕ) → (s.actor == a) ≡ true → rows_at_sensors (s ∷ ss) a ≡ s.rows
 rows_here s ss a e = ap (λ b. unwrap_or (or_else (when b (Some s.rows)) (first_of (λ (z : Sensor). when (z.actor == a) (Some z.rows)) ss)) []) e
 
-rows_other : (s : Sensor) (ss : List Sensor) (a : ℕ) → (s.actor == a) ≡ false → rows_of (s ∷ ss) a ≡ rows_of ss a
+rows_other : (s : Sensor) (ss : List Sensor) (a : ℕ) → (s.actor == a) ≡ false → rows_at_sensors (s ∷ ss) a ≡ rows_at_sensors ss a
 rows_other s ss a e = ap (λ b. unwrap_or (or_else (when b (Some s.rows)) (first_of (λ (z : Sensor). when (z.actor == a) (Some z.rows)) ss)) []) e
 
-pub rows_after : (r : ℕ) (xs ys : List Sensor) → length ys ≡ length xs → AllEntered r xs ys → (a : ℕ) → rows_of ys a ≡ rows_of xs a
+pub rows_after : (r : ℕ) (xs ys : List Sensor) → length ys ≡ length xs → AllEntered r xs ys → (a : ℕ) → rows_at_sensors ys a ≡ rows_at_sensors xs a
 rows_after r [] [] len h a = refl
 rows_after r [] (y ∷ ys) len h a = absurd (omega (arith, len))
 rows_after r (x ∷ xs) [] len h a = absurd (omega (arith, len))

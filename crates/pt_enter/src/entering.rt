@@ -7,7 +7,7 @@ ghost use Rattle.pt_semantics.specs.Floor.{NothingThere};
 ghost use Rattle.pt_semantics.specs.Meaning.{added};
 ghost use Rattle.pt_semantics.specs.Rows.{TimesRise};
 ghost use Rattle.pt_queue.specs.Events.{waiting_in};
-ghost use Rattle.pt_state.specs.State.{state_of, left_in, rows_of, IsSound};
+ghost use Rattle.pt_state.specs.State.{state_of, left_in, rows_at_sensors, IsSound};
 ghost use Rattle.pt_state.specs.Sensors.{at_sensor, seen_at, AreSensors, NeverEnters};
 
 use pt_queue::Queue;
@@ -90,7 +90,7 @@ pub fn enter(fields: &mut Fields, graph: &Graph, reading: u64, kept: &mut Vec<Ro
     ensures sensors { AreSensors graph.now fields.new.sensors.items }
     ensures entered { (taken : Sequence OnLink) → state_of fields.new taken ≡ after_rows (state_of fields.old taken) reading }
     ensures rows { kept.new.items ≡ kept.old.items ++ all_due graph.now reading (left_in fields.old.sensors.items) }
-    ensures all_rows { (a : ℕ) → rows_of fields.new.sensors.items a ≡ rows_of fields.old.sensors.items a }
+    ensures all_rows { (a : ℕ) → rows_at_sensors fields.new.sensors.items a ≡ rows_at_sensors fields.old.sensors.items a }
     ensures events { fields.old.queue.spare ≡ fields.new.queue.spare + length (all_due graph.now reading (left_in fields.old.sensors.items)) }
     ensures kept { vec_capacity kept.old ≤ vec_capacity kept.new }
     ensures groups { fields.new.queue.groups ≡ fields.old.queue.groups }

@@ -20,8 +20,8 @@ use Rattle.pt_semantics.specs.Meaning.{Values, World, ActorFiring, at_time, row_
 use Rattle.pt_semantics.specs.Tables.{tables_from, table_of, lines_of, line_of, line, head}
 use Rattle.pt_semantics.proofs.Tags.{same_tag-true}
 use Rattle.pt_semantics.proofs.Lookups.{none_some, first_of_found, first_of-append, when_found, when_none, when_or_else}
-use Rattle.pt_examples.specs.Programs.{Acts, lines_text, rows_of, ranks_of}
-use Rattle.pt_examples.specs.Worked.{Writes}
+use Rattle.pt_examples.specs.Programs.{Acts, lines_text, listed_rows, ranks_of}
+use Rattle.pt_examples.specs.Worked.{HasMeaningLines}
 
 abbrev pub matches : Event → ℕ → ℕ → Tag → Bool
 matches e a p t = (e.actor == a && e.port == p) && same_tag e.tag t
@@ -316,7 +316,7 @@ run_is (suc n) g rank (e ∷ es) states xs h =
 
 -- the firings of a program, at most 200 of them
 abbrev pub computed : Graph → List ℕ → List (List Row) → Option (List ActorFiring)
-computed g ranks rows = run 200 g (ranks_of ranks) (events_at_start g (rows_of rows) (length g.actors)) (λ a. first_state (kind_of g a))
+computed g ranks rows = run 200 g (ranks_of ranks) (events_at_start g (listed_rows rows) (length g.actors)) (λ a. first_state (kind_of g a))
 
 -- the lines of a table, before they are text
 abbrev act_of : ℕ → List ℕ → ActorFiring → List Acts
@@ -358,18 +358,18 @@ from_is a [] xs = refl
 from_is a (actor ∷ more) xs = ap₂ (λ y z. y ++ z) (kind_is a actor.name actor.kind xs) (from_is (suc a) more xs) ∙ sym (lines_append (acts_by a actor.name actor.kind xs) (acts_from (suc a) more xs))
 
 -- what is computed is what the program writes
-pub worked : {g : Graph} {ranks : List ℕ} {rows : List (List Row)} {lines : List Acts} → nat_le (length rows) (length g.actors) ≡ true → computed g ranks rows ≡ Some (unwrap_or (computed g ranks rows) []) → acts_from 0 g.actors (unwrap_or (computed g ranks rows) []) ≡ lines → Writes g ranks rows lines
+pub worked : {g : Graph} {ranks : List ℕ} {rows : List (List Row)} {lines : List Acts} → nat_le (length rows) (length g.actors) ≡ true → computed g ranks rows ≡ Some (unwrap_or (computed g ranks rows) []) → acts_from 0 g.actors (unwrap_or (computed g ranks rows) []) ≡ lines → HasMeaningLines g ranks rows lines
 worked {g} {ranks} {rows} {lines} few is table = record {
   firings = unwrap_or (computed g ranks rows) [];
-  meaning = subst (λ w. Runs g (ranks_of ranks) w (unwrap_or (computed g ranks rows) [])) start (run_is 200 g (ranks_of ranks) (events_at_start g (rows_of rows) (length g.actors)) (λ a. first_state (kind_of g a)) (unwrap_or (computed g ranks rows) []) is);
+  meaning = subst (λ w. Runs g (ranks_of ranks) w (unwrap_or (computed g ranks rows) [])) start (run_is 200 g (ranks_of ranks) (events_at_start g (listed_rows rows) (length g.actors)) (λ a. first_state (kind_of g a)) (unwrap_or (computed g ranks rows) []) is);
   table = ap (λ z. head ++ z) (from_is 0 g.actors (unwrap_or (computed g ranks rows) []) ∙ ap lines_text table);
 }
   where
     up_to : (a b c : ℕ) → nat_le a b ≡ true → b ≤ c → a ≤ c
     up_to a b c h k = grind (arith, nat_tests)
 
-    waits : ◌≡◌ {A = Values} (waits_of (events_at_start g (rows_of rows) (length g.actors))) (opening g (rows_of rows))
-    waits = λ i b p t. start_is g (rows_of rows) (λ a le. past_rows rows a (up_to (length rows) (length g.actors) a few le)) b p t i
+    waits : ◌≡◌ {A = Values} (waits_of (events_at_start g (listed_rows rows) (length g.actors))) (opening g (listed_rows rows))
+    waits = λ i b p t. start_is g (listed_rows rows) (λ a le. past_rows rows a (up_to (length rows) (length g.actors) a few le)) b p t i
 
-    start : world (events_at_start g (rows_of rows) (length g.actors)) (λ a. first_state (kind_of g a)) ≡ at_start g (rows_of rows)
+    start : world (events_at_start g (listed_rows rows) (length g.actors)) (λ a. first_state (kind_of g a)) ≡ at_start g (listed_rows rows)
     start = λ i. record { waits = waits i; states = λ a. first_state (kind_of g a) }

@@ -33,7 +33,7 @@ use Rattle.pt_semantics.proofs.Tags.{same_tag-true}
 use Rattle.pt_semantics.proofs.Lookups.{none_some, same_some, or_else_found, when_found, first_of_found, cases_part}
 use Rattle.pt_semantics.proofs.Claiming.{event_found, without_found}
 use Rattle.pt_semantics.proofs.Floor.{put_same, put_other}
-use Rattle.pt_examples.specs.Smallest.{one, row, rows, three, task, done, level, turns, firing}
+use Rattle.pt_examples.specs.Smallest.{one, row, rows, input_three, task, done, level, turns, firing}
 use Rattle.pt_types.specs.Limits.{most_claims}
 
 abbrev at_50 : Tag
@@ -130,16 +130,16 @@ next1 = record {
 waits3 : (a p : ℕ) (t : Tag) (v : ℤ) → s3.waits a p t ≡ Some v → ⊥
 waits3 a p t v h =
     ⊎_elim
-    (λ (early : added s2.waits (going one (wires one) (leaves_unit one u0) task.tag three) a p t ≡ Some v).
+    (λ (early : added s2.waits (going one (wires one) (leaves_unit one u0) task.tag input_three) a p t ≡ Some v).
     ⊎_elim
     (λ (old : s2.waits a p t ≡ Some v).
     let w = without_found one s1.waits u0 task.tag a p t v old in
     let e = waits1 a p t v w.0 in
     w.1 (ap (λ b. at_input one b p) e.0) (tag_is ∙ e.1))
-    (λ (new : going one (wires one) (leaves_unit one u0) task.tag three a p t ≡ Some v). none_some v (when_found _ None v new).1)
+    (λ (new : going one (wires one) (leaves_unit one u0) task.tag input_three a p t ≡ Some v). none_some v (when_found _ None v new).1)
     (or_else_found (s2.waits a p t) _ v early))
     (λ (late : when (p == 0) (row_at (due 61 (s2.left a)) t) ≡ Some v). rows_gone a t v (when_found (p == 0) _ v late).1)
-    (or_else_found (added s2.waits (going one (wires one) (leaves_unit one u0) task.tag three) a p t) _ v h)
+    (or_else_found (added s2.waits (going one (wires one) (leaves_unit one u0) task.tag input_three) a p t) _ v h)
   where
     tag_is : task.tag ≡ at_50
     tag_is = refl

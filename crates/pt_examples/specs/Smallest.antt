@@ -32,14 +32,14 @@ abbrev pub rows : ℕ → List Row
 rows zero = row ∷ []
 rows (suc a) = []
 
-abbrev pub three : List (Option ℤ)
-three = Some (pos 3) ∷ None ∷ None ∷ None ∷ None ∷ None ∷ None ∷ None ∷ []
+abbrev pub input_three : List (Option ℤ)
+input_three = Some (pos 3) ∷ None ∷ None ∷ None ∷ None ∷ None ∷ None ∷ None ∷ []
 
 abbrev pub task : Task
-task = record { number = 0; actor = 0; tag = record { time = 50; step = 0 }; inputs = three; state = pos 0 }
+task = record { number = 0; actor = 0; tag = record { time = 50; step = 0 }; inputs = input_three; state = pos 0 }
 
 abbrev pub done : Done
-done = record { task = task; fired = record { state = pos 0; outputs = three } }
+done = record { task = task; fired = record { state = pos 0; outputs = input_three } }
 
 abbrev pub level : ℕ → ℕ
 level a = 0
@@ -52,10 +52,10 @@ turns =
     ∷ []
 
 abbrev pub firing : ActorFiring
-firing = record { actor = 0; tag = record { time = 50; step = 0 }; inputs = three; before = pos 0; after = pos 0; outputs = three }
+firing = record { actor = 0; tag = record { time = 50; step = 0 }; inputs = input_three; before = pos 0; after = pos 0; outputs = input_three }
 
 -- this history is legal and finished, and this firing is the meaning
-pub record IsRun : Type 0 where
+pub record IsSmallestRun : Type 0 where
   pub state : State
   pub legal : IsLegal one level 0 rows turns state
   pub finished : IsFinished one 0 state

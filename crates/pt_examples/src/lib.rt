@@ -4,7 +4,7 @@
 #![tactic(auto)]
 
 ghost use Rattle.pt_examples.specs.Readings.{LanesStandApart, LinkedReadings, PairedReading};
-ghost use Rattle.pt_examples.specs.Smallest.{IsRun};
+ghost use Rattle.pt_examples.specs.Smallest.{IsSmallestRun};
 ghost use Rattle.pt_examples.specs.SmallestPaced.{IsPacedOne};
 ghost use Rattle.pt_examples.specs.Worked.{AreWorked};
 
@@ -26,7 +26,7 @@ pub fn linked_readings()
 /// One sensor with one row: its three turns are a legal and finished history, its one claim is the meaning, and the graph
 /// and its rows satisfy the premises of the theorems.
 pub fn smallest_run()
-    ensures { IsRun }
+    ensures { IsSmallestRun }
 {}
 
 /// The beginning of a paced run of the same program: two rounds at 55 lead to reading 61, and the graph satisfies the

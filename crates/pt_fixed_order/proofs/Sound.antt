@@ -37,7 +37,7 @@ use Rattle.pt_semantics.proofs.Longest.{levels_grow}
 use Rattle.pt_semantics.proofs.Lookups.{same_some}
 use Rattle.pt_laws.proofs.Onward.{cases_same}
 use Rattle.pt_semantics.proofs.Words.{when-false}
-use Rattle.pt_fixed_order.specs.Sound.{GoesOn, IsForeign, SendsNothingElse, Sound}
+use Rattle.pt_fixed_order.specs.Sound.{NoneWasLast, IsForeign, SendsNothingElse, Sound}
 
 abbrev pub OwnBusy : Graph → ℕ → State → Type 0
 OwnBusy g i s = (u : Part) (task : Task) → s.busy u ≡ Some task → platform_of g u.actor ≡ i
@@ -143,20 +143,20 @@ pub single_push : (turns : List Turn) (turn : Turn) → Each IsSingle turns → 
 single_push [] turn h one = (one, tt)
 single_push (x ∷ turns) turn h one = (h.0, single_push turns turn h.1 one)
 
-pub goes_on_time : (g : Graph) (level : ℕ → ℕ) (i : ℕ) (turns : List Turn) (s new : State) → GoesOn g level i s turns new → LegalOnTime g level i s turns new
+pub goes_on_time : (g : Graph) (level : ℕ → ℕ) (i : ℕ) (turns : List Turn) (s new : State) → NoneWasLast g level i s turns new → LegalOnTime g level i s turns new
 goes_on_time g level i [] s new e = e
 goes_on_time g level i (turn ∷ turns) s new (mid, is, on, rest) = (mid, is, goes_on_time g level i turns mid new rest)
 
-pub goes_legal : (g : Graph) (level : ℕ → ℕ) (i : ℕ) (turns : List Turn) (s new : State) → GoesOn g level i s turns new → Legal g level i s turns new
+pub goes_legal : (g : Graph) (level : ℕ → ℕ) (i : ℕ) (turns : List Turn) (s new : State) → NoneWasLast g level i s turns new → Legal g level i s turns new
 goes_legal g level i [] s new e = e
 goes_legal g level i (turn ∷ turns) s new (mid, is, on, rest) = (false, mid, is, (λ l. absurd (on l)), goes_legal g level i turns mid new rest)
 
-pub push_last : (g : Graph) (level : ℕ → ℕ) (i : ℕ) (turns : List Turn) (turn : Turn) (late : Bool) (s mid new : State) → GoesOn g level i s turns mid → IsTurn g level i mid turn late new → Legal g level i s (turns ++ turn ∷ []) new
+pub push_last : (g : Graph) (level : ℕ → ℕ) (i : ℕ) (turns : List Turn) (turn : Turn) (late : Bool) (s mid new : State) → NoneWasLast g level i s turns mid → IsTurn g level i mid turn late new → Legal g level i s (turns ++ turn ∷ []) new
 push_last g level i [] turn late s mid new e is = subst (λ z. Legal g level i z (turn ∷ []) new) e (late, new, is, (λ l. refl), refl)
 push_last g level i (x ∷ turns) turn late s mid new (one, ix, on, rest) is = (false, one, ix, (λ l. absurd (on l)), push_last g level i turns turn late one mid new rest is)
 
-pub push_on : (g : Graph) (level : ℕ → ℕ) (i : ℕ) (turns : List Turn) (turn : Turn) (s mid new : State) → GoesOn g level i s turns mid → (is : IsTurn g level i mid turn false new) → (IsLast g mid turn.last false is.ready → ⊥) → GoesOn g level i s (turns ++ turn ∷ []) new
-push_on g level i [] turn s mid new e is on = subst (λ z. GoesOn g level i z (turn ∷ []) new) e (new, is, on, refl)
+pub push_on : (g : Graph) (level : ℕ → ℕ) (i : ℕ) (turns : List Turn) (turn : Turn) (s mid new : State) → NoneWasLast g level i s turns mid → (is : IsTurn g level i mid turn false new) → (IsLast g mid turn.last false is.ready → ⊥) → NoneWasLast g level i s (turns ++ turn ∷ []) new
+push_on g level i [] turn s mid new e is on = subst (λ z. NoneWasLast g level i z (turn ∷ []) new) e (new, is, on, refl)
 push_on g level i (x ∷ turns) turn s mid new (one, ix, on2, rest) is on = (one, ix, on2, push_on g level i turns turn one mid new rest is on)
 
 -- all histories when one of them has a turn more
@@ -251,12 +251,12 @@ module _ (g : Graph) (level : ℕ → ℕ) (rows : ℕ → List Row) (wired : Is
         record {
           goes = λ p. ⊎_elim
               (λ (here : p ≡ m.platform).
-              subst (λ q. GoesOn g level q (opened g q rows) (y.did q) (y.at q)) (sym here)
-              (subst (λ l. GoesOn g level m.platform (opened g m.platform rows) l (y.at m.platform)) (sym k.joins)
+              subst (λ q. NoneWasLast g level q (opened g q rows) (y.did q) (y.at q)) (sym here)
+              (subst (λ l. NoneWasLast g level m.platform (opened g m.platform rows) l (y.at m.platform)) (sym k.joins)
               (push_on g level m.platform (x.did m.platform) m.turn (opened g m.platform rows) (x.at m.platform) (y.at m.platform) (h.goes m.platform) turn.0 on)))
               (λ (there : p ≢ m.platform).
-              subst (λ l. GoesOn g level p (opened g p rows) l (y.at p)) (sym (k.others p there).1)
-              (subst (GoesOn g level p (opened g p rows) (x.did p)) (sym (k.others p there).0) (h.goes p)))
+              subst (λ l. NoneWasLast g level p (opened g p rows) l (y.at p)) (sym (k.others p there).1)
+              (subst (NoneWasLast g level p (opened g p rows) (x.did p)) (sym (k.others p there).0) (h.goes p)))
               (cases_same p m.platform);
           single = single_after;
           linked = linked_after;

@@ -25,19 +25,19 @@ abbrev pub WasTaken : ℕ → ℕ → ℕ → Type 0
 WasTaken j from to = ((from < to) × ((to < j) ⊎ (j ≤ from))) ⊎ ((to < j) × (j ≤ from))
 
 -- in that case nothing is on the way on the link
-abbrev pub AreTaken : Graph → ℕ → Together → Type 0
-AreTaken g j x = (l : ℕ) (link : Link) → slice_get g.links l ≡ Some link → WasTaken j (platform_of g link.from) (platform_of g link.to) → x.on_way l ≡ []
+abbrev pub IsAllTaken : Graph → ℕ → Together → Type 0
+IsAllTaken g j x = (l : ℕ) (link : Link) → slice_get g.links l ≡ Some link → WasTaken j (platform_of g link.from) (platform_of g link.to) → x.on_way l ≡ []
 
 -- the visits of a run from its start, at these readings of the clocks; the next one visits platform j
-pub record Goes (g : Graph) (level : ℕ → ℕ) (rows : ℕ → List Row) (most : ℕ) (readings : ℕ → List ℕ) (j : ℕ) (y : Together) : Type 0 where
+pub record IsGoing (g : Graph) (level : ℕ → ℕ) (rows : ℕ → List Row) (most : ℕ) (readings : ℕ → List ℕ) (j : ℕ) (y : Together) : Type 0 where
   pub made : List Made
   pub visits : Going g level most 0 (λ i. raised_list (readings i)) (together_at_start g rows) made j y
 
 -- one more visit, at one more reading, which does not end the run
 abbrev pub VisitsGoOn : Type 0
 VisitsGoOn = (g : Graph) (level : ℕ → ℕ) (rows : ℕ → List Row) (most : ℕ) (readings : ℕ → List ℕ) (j r : ℕ) (y z : Together) (m : Made) →
-    Goes g level rows most readings j y → m.platform ≡ j → IsVisit g level most (λ l. 64) (later_of (greatest_of 0 (readings j)) r) y m z → (IsOver g m z → ⊥) →
-    Goes g level rows most (with_reading readings j r) (platform_after g j) z
+    IsGoing g level rows most readings j y → m.platform ≡ j → IsVisit g level most (λ l. 64) (later_of (greatest_of 0 (readings j)) r) y m z → (IsOver g m z → ⊥) →
+    IsGoing g level rows most (with_reading readings j r) (platform_after g j) z
 
 -- the visits of a whole run
 pub record Went (g : Graph) (level : ℕ → ℕ) (rows : ℕ → List Row) (most : ℕ) (readings : ℕ → List ℕ) (z : Together) : Type 0 where
@@ -47,17 +47,17 @@ pub record Went (g : Graph) (level : ℕ → ℕ) (rows : ℕ → List Row) (mos
 -- one more visit, which ends the run: the visits are those so far and this one
 abbrev pub VisitsEnd : Type 0
 VisitsEnd = (g : Graph) (level : ℕ → ℕ) (rows : ℕ → List Row) (most : ℕ) (readings : ℕ → List ℕ) (j r : ℕ) (y z : Together) (m : Made) →
-    (so_far : Goes g level rows most readings j y) → m.platform ≡ j → IsVisit g level most (λ l. 64) (later_of (greatest_of 0 (readings j)) r) y m z → IsOver g m z →
+    (so_far : IsGoing g level rows most readings j y) → m.platform ≡ j → IsVisit g level most (λ l. 64) (later_of (greatest_of 0 (readings j)) r) y m z → IsOver g m z →
     ((k : ℕ) → length g.platforms ≤ k → readings k ≡ []) → j < length g.platforms → (went : Went g level rows most (with_reading readings j r) z) × (went.made ≡ so_far.made ++ m ∷ [])
 
 -- before the visit of platform j nothing that it sent is on the way
 abbrev pub LinksAreFree : Type 0
-LinksAreFree = (g : Graph) (j : ℕ) (x : Together) → ((l : ℕ) (link : Link) → slice_get g.links l ≡ Some link → (platform_of g link.from < length g.platforms) × (platform_of g link.to < length g.platforms) × (platform_of g link.from ≡ platform_of g link.to → ⊥)) → AreTaken g j x →
+LinksAreFree = (g : Graph) (j : ℕ) (x : Together) → ((l : ℕ) (link : Link) → slice_get g.links l ≡ Some link → (platform_of g link.from < length g.platforms) × (platform_of g link.to < length g.platforms) × (platform_of g link.from ≡ platform_of g link.to → ⊥)) → IsAllTaken g j x →
     (l : ℕ) (link : Link) → slice_get g.links l ≡ Some link → platform_of g link.from ≡ j → x.on_way l ≡ []
 
 -- after a visit without a late message the same is true of the platform after it
 abbrev pub LinksStayFree : Type 0
-LinksStayFree = (g : Graph) (level : ℕ → ℕ) (most r j : ℕ) (x z : Together) (m : Made) → (room : ℕ → ℕ) → AreTaken g j x → j < length g.platforms → IsVisit g level most room r x m z → m.platform ≡ j → m.late ≡ false →
+LinksStayFree = (g : Graph) (level : ℕ → ℕ) (most r j : ℕ) (x z : Together) (m : Made) → (room : ℕ → ℕ) → IsAllTaken g j x → j < length g.platforms → IsVisit g level most room r x m z → m.platform ≡ j → m.late ≡ false →
     ((l : ℕ) (link : Link) → slice_get g.links l ≡ Some link → (platform_of g link.from ≡ j → ⊥) → on_link l m.turn.sent ≡ []) →
     ((l : ℕ) (link : Link) → slice_get g.links l ≡ Some link → (platform_of g link.from < length g.platforms) × (platform_of g link.to < length g.platforms) × (platform_of g link.from ≡ platform_of g link.to → ⊥)) →
-    AreTaken g (platform_after g j) z
+    IsAllTaken g (platform_after g j) z

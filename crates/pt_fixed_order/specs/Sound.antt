@@ -20,13 +20,13 @@ abbrev pub SendsNothingElse : Graph → ℕ → State → Type 0
 SendsNothingElse g i s = (l : ℕ) → IsForeign g i l → s.outbox l ≡ []
 
 -- turns of one platform, none of which was its last
-abbrev pub GoesOn : Graph → (ℕ → ℕ) → ℕ → State → List Turn → State → Type 0
-GoesOn g level i s [] new = new ≡ s
-GoesOn g level i s (turn ∷ turns) new = (mid : State) × (is : IsTurn g level i s turn false mid) × (IsLast g s turn.last false is.ready → ⊥) × GoesOn g level i mid turns new
+abbrev pub NoneWasLast : Graph → (ℕ → ℕ) → ℕ → State → List Turn → State → Type 0
+NoneWasLast g level i s [] new = new ≡ s
+NoneWasLast g level i s (turn ∷ turns) new = (mid : State) × (is : IsTurn g level i s turn false mid) × (IsLast g s turn.last false is.ready → ⊥) × NoneWasLast g level i mid turns new
 
 -- all platforms between two visits, if none so far ended the run
 pub record Sound (g : Graph) (level : ℕ → ℕ) (rows : ℕ → List Row) (x : Together) : Type 0 where
-  pub goes : (p : ℕ) → GoesOn g level p (opened g p rows) (x.did p) (x.at p)
+  pub goes : (p : ℕ) → NoneWasLast g level p (opened g p rows) (x.did p) (x.at p)
   pub single : (p : ℕ) → Each IsSingle (x.did p)
   pub linked : (l : ℕ) (link : Link) → slice_get g.links l ≡ Some link → all_sent l (x.did (platform_of g link.from)) ≡ all_taken l (x.did (platform_of g link.to)) ++ x.on_way l
   pub own : (p : ℕ) → SendsNothingElse g p (x.at p)

@@ -11,10 +11,10 @@ use Rattle.pt_airways.specs.declared.in_air.InAir.{InAir}
 use Rattle.pt_airways.specs.Arrivals.{AirwayView, NeverFall}
 use Rattle.pt_turn.specs.Platforms.{PlatformView, state_at}
 use Rattle.pt_flights.specs.Skies.{lag_of, true_time}
-use Rattle.pt_flights.specs.Moments.{IsArrival, IsLeast, IsReading, OfOne}
+use Rattle.pt_flights.specs.Moments.{IsArrival, IsLeastNumber, IsReading, OfOne}
 use Rattle.pt_visits.specs.Least.{lesser}
 
-pub least_both : (P Q : ℕ → Type 0) (a b : Option ℕ) → IsLeast P a → IsLeast Q b → IsLeast (λ n. P n ⊎ Q n) (lesser a b)
+pub least_both : (P Q : ℕ → Type 0) (a b : Option ℕ) → IsLeastNumber P a → IsLeastNumber Q b → IsLeastNumber (λ n. P n ⊎ Q n) (lesser a b)
 least_both P Q None None p q = λ n h. ⊎_elim (p n) (q n) h
 least_both P Q None (Some b) p q = (inr q.0, λ n h. ⊎_elim (λ (x : P n). absurd (p n x)) (q.1 n) h)
 least_both P Q (Some a) None p q = (inl p.0, λ n h. ⊎_elim (p.1 n) (λ (x : Q n). absurd (q n x)) h)
@@ -29,7 +29,7 @@ least_both P Q (Some a) (Some b) p q =
     (cases_lt a b)
 
 -- of the same numbers
-pub least_as : (P Q : ℕ → Type 0) (a : Option ℕ) → ((n : ℕ) → P n → Q n) → ((n : ℕ) → Q n → P n) → IsLeast P a → IsLeast Q a
+pub least_as : (P Q : ℕ → Type 0) (a : Option ℕ) → ((n : ℕ) → P n → Q n) → ((n : ℕ) → Q n → P n) → IsLeastNumber P a → IsLeastNumber Q a
 least_as P Q None to back p = λ n h. p n (back n h)
 least_as P Q (Some a) to back p = (to a p.0, λ n h. p.1 n (back n h))
 
@@ -37,10 +37,10 @@ least_as P Q (Some a) to back p = (to a p.0, λ n h. p.1 n (back n h))
 abbrev pub Below : {X : Type 0} → (X → ℕ → Type 0) → ℕ → List X → ℕ → Type 0
 Below {X} P n xs time = (i : ℕ) × (x : X) × (i < n) × (slice_get xs i ≡ Some x) × P x time
 
-pub none_below : {X : Type 0} (P : X → ℕ → Type 0) (xs : List X) → IsLeast (Below P 0 xs) None
+pub none_below : {X : Type 0} (P : X → ℕ → Type 0) (xs : List X) → IsLeastNumber (Below P 0 xs) None
 none_below P xs = λ n h. omega (arith, h.2)
 
-pub all_below : {X : Type 0} (P : X → ℕ → Type 0) (n : ℕ) (xs : List X) (a : Option ℕ) → length xs ≤ n → IsLeast (Below P n xs) a → IsLeast (OfOne P xs) a
+pub all_below : {X : Type 0} (P : X → ℕ → Type 0) (n : ℕ) (xs : List X) (a : Option ℕ) → length xs ≤ n → IsLeastNumber (Below P n xs) a → IsLeastNumber (OfOne P xs) a
 all_below P n xs a ends h =
     least_as (Below P n xs) (OfOne P xs) a
     (λ time b. (b.0, b.1, b.3, b.4))
@@ -65,7 +65,7 @@ module _ {X : Type 0} (P : X → ℕ → Type 0) (n : ℕ) (xs : List X) (x : X)
       before : (k : ℕ) → (k ≡ n → ⊥) → k < n + 1 → k < n
       before k other lt = omega (arith, other, lt)
 
-  pub below_more : (a b : Option ℕ) → IsLeast (Below P n xs) a → IsLeast (P x) b → IsLeast (Below P (n + 1) xs) (lesser a b)
+  pub below_more : (a b : Option ℕ) → IsLeastNumber (Below P n xs) a → IsLeastNumber (P x) b → IsLeastNumber (Below P (n + 1) xs) (lesser a b)
   below_more a b h p = least_as (λ time. Below P n xs time ⊎ P x time) (Below P (n + 1) xs) (lesser a b) to_more from_more (least_both (Below P n xs) (P x) a b h p)
 
 -- a later reading is not at an earlier time
@@ -81,10 +81,10 @@ later_time air i v w le =
 
 -- of one platform
 pub reading_here : (air : Air) (v : PlatformView) (next time : Option ℕ) → MatchOption next (v.closed ≡ true) (λ r. (v.closed ≡ false) × IsNextReading v.plan.graph v.number (state_at v) r)
-    → time ≡ option_map (true_time air v.number) next → IsLeast (IsReading air v) time
-reading_here air v None time closed is = subst (IsLeast (IsReading air v)) (sym is) (λ n h. false≢true (sym h.1 ∙ closed))
+    → time ≡ option_map (true_time air v.number) next → IsLeastNumber (IsReading air v) time
+reading_here air v None time closed is = subst (IsLeastNumber (IsReading air v)) (sym is) (λ n h. false≢true (sym h.1 ∙ closed))
 reading_here air v (Some r) time (still, next) is =
-    subst (IsLeast (IsReading air v)) (sym is)
+    subst (IsLeastNumber (IsReading air v)) (sym is)
     ((r, still, next.0, refl), λ n h. subst (λ (k : ℕ). true_time air v.number r ≤ k) (sym h.3) (later_time air v.number r h.0 (next.1 h.0 h.2)))
 
 -- of one link
@@ -96,13 +96,13 @@ none_before least (x ∷ ms) latest m h there =
     (λ (rest : IsIn m ms). let le = none_before x.arrives ms latest m h.1 rest in omega (arith, le, h.0))
     there
 
-pub arrival_here : (a : AirwayView) (next : Option ℕ) → NeverFall 0 a.on_way a.latest → next ≡ option_map (λ (m : InAir). m.arrives) (slice_get a.on_way 0) → IsLeast (IsArrival a) next
+pub arrival_here : (a : AirwayView) (next : Option ℕ) → NeverFall 0 a.on_way a.latest → next ≡ option_map (λ (m : InAir). m.arrives) (slice_get a.on_way 0) → IsLeastNumber (IsArrival a) next
 arrival_here a next order is = with_first a.on_way a.latest order is
   where
-    with_first : (ms : List InAir) (latest : ℕ) → NeverFall 0 ms latest → next ≡ option_map (λ (m : InAir). m.arrives) (slice_get ms 0) → IsLeast (λ time. (m : InAir) × IsIn m ms × (time ≡ m.arrives)) next
-    with_first [] latest order is = subst (IsLeast (λ time. (m : InAir) × IsIn m [] × (time ≡ m.arrives))) (sym is) (λ n h. h.1)
+    with_first : (ms : List InAir) (latest : ℕ) → NeverFall 0 ms latest → next ≡ option_map (λ (m : InAir). m.arrives) (slice_get ms 0) → IsLeastNumber (λ time. (m : InAir) × IsIn m ms × (time ≡ m.arrives)) next
+    with_first [] latest order is = subst (IsLeastNumber (λ time. (m : InAir) × IsIn m [] × (time ≡ m.arrives))) (sym is) (λ n h. h.1)
     with_first (x ∷ ms) latest order is =
-        subst (IsLeast (λ time. (m : InAir) × IsIn m (x ∷ ms) × (time ≡ m.arrives))) (sym is) (
+        subst (IsLeastNumber (λ time. (m : InAir) × IsIn m (x ∷ ms) × (time ≡ m.arrives))) (sym is) (
           (x, inl refl, refl),
           λ n h. subst (λ (k : ℕ). x.arrives ≤ k) (sym h.2)
               (⊎_elim (λ (same : h.0 ≡ x). let e = ap (λ (y : InAir). y.arrives) same in omega (arith, e)) (λ (rest : IsIn h.0 ms). none_before x.arrives ms latest h.0 order.1 rest) h.1),

@@ -26,6 +26,6 @@ abbrev pub IsMoment : Air → List PlatformView → List AirwayView → ℕ → 
 IsMoment air platforms airways time = OfOne (IsReading air) platforms time ⊎ OfOne IsArrival airways time
 
 -- the least number for which P holds, or None if there is no such number
-abbrev pub IsLeast : (ℕ → Type 0) → Option ℕ → Type 0
-IsLeast P None = (n : ℕ) → P n → ⊥
-IsLeast P (Some n) = P n × ((other : ℕ) → P other → n ≤ other)
+abbrev pub IsLeastNumber : (ℕ → Type 0) → Option ℕ → Type 0
+IsLeastNumber P None = (n : ℕ) → P n → ⊥
+IsLeastNumber P (Some n) = P n × ((other : ℕ) → P other → n ≤ other)

@@ -5,7 +5,7 @@ use Rattle.pt_types.specs.declared.graph.Graph.{Graph}
 use Rattle.pt_types.specs.declared.graph.Link.{Link}
 use Rattle.pt_air.specs.declared.air.Air.{Air}
 use Rattle.pt_airways.specs.declared.in_air.InAir.{InAir}
-use Rattle.pt_airways.specs.Arrivals.{AirwayView, put_on}
+use Rattle.pt_airways.specs.Arrivals.{AirwayView, airway_with}
 use Rattle.pt_visits.specs.Pipes.{leads_to}
 
 -- how far the clock of platform i lags behind true time
@@ -43,7 +43,7 @@ left_on g i now l a = if leads_to g i (slice_get g.links l) then record a { on_w
 -- the airway with these messages, which are put on it at this time, one after the other
 abbrev pub put_all : ℕ → List ℕ → ℕ → List Message → AirwayView → AirwayView
 put_all now transits delay [] a = a
-put_all now transits delay (m ∷ ms) a = put_all now transits delay ms (put_on now transits delay m a)
+put_all now transits delay (m ∷ ms) a = put_all now transits delay ms (airway_with now transits delay m a)
 
 -- link l with these messages, which are put on it at this time
 abbrev pub put_link : Air → Graph → ℕ → ℕ → List Message → AirwayView → AirwayView

@@ -1,7 +1,7 @@
 //! The next true time at which something can happen.
 
 ghost use Rattle.std.specs.Prelude.{◌≡◌, IfOk, option_map};
-ghost use Rattle.pt_flights.specs.Moments.{IsArrival, IsLeast, IsMoment, IsReading, OfOne};
+ghost use Rattle.pt_flights.specs.Moments.{IsArrival, IsLeastNumber, IsMoment, IsReading, OfOne};
 ghost use Rattle.pt_flights.specs.Skies.{true_time};
 
 use crate::flying::lag_of;
@@ -20,7 +20,7 @@ pub fn next_time(
     airways: &[Airway],
     air: &Air,
 ) -> Result<Option<u64>, Memory>
-    ensures { IfOk result (IsLeast (IsMoment air.now platforms.now airways.now)) }
+    ensures { IfOk result (IsLeastNumber (IsMoment air.now platforms.now airways.now)) }
 {
     let reading = next_reading(platforms, air)?;
     Ok(lesser(reading, next_arrival(airways)))
@@ -28,7 +28,7 @@ pub fn next_time(
 
 /// The least true time at which something can happen on a platform.
 fn next_reading(platforms: &[Platform], air: &Air) -> Result<Option<u64>, Memory>
-    ensures { IfOk result (IsLeast (OfOne (IsReading air.now) platforms.now)) }
+    ensures { IfOk result (IsLeastNumber (OfOne (IsReading air.now) platforms.now)) }
 {
     let mut least = None;
     for i in 0..platforms.len() {
@@ -39,7 +39,7 @@ fn next_reading(platforms: &[Platform], air: &Air) -> Result<Option<u64>, Memory
 
 /// The least true time at which something can happen on this platform.
 fn reading_of(platform: &Platform, air: &Air) -> Result<Option<u64>, Memory>
-    ensures { IfOk result (IsLeast (IsReading air.now platform.now)) }
+    ensures { IfOk result (IsLeastNumber (IsReading air.now platform.now)) }
 {
     match platform.next_reading() {
         None => Ok(None),
@@ -59,7 +59,7 @@ fn true_time(air: &Air, number: u32, reading: u64) -> Result<u64, Memory>
 
 /// The least arrival of all messages on their way.
 fn next_arrival(airways: &[Airway]) -> Option<u64>
-    ensures { IsLeast (OfOne IsArrival airways.now) result }
+    ensures { IsLeastNumber (OfOne IsArrival airways.now) result }
 {
     let mut least = None;
     for l in 0..airways.len() {

@@ -6,7 +6,7 @@ use Rattle.std.proofs.lemmas.Grind.{get_or-set_at}
 use Rattle.std.proofs.Math.Nat.{pow-suc}
 use Rattle.std.proofs.lemmas.List.{map-append}
 use Rattle.pt_pool.specs.Station.{StationView}
-use Rattle.pt_free.specs.Orders.{numbers, count_up, weight, Among, HasAt}
+use Rattle.pt_free.specs.Orders.{numbers, count_up, order_weight, Among, HasAt}
 use Rattle.pt_free.proofs.Powers.{weight-snoc}
 
 abbrev init : List ℕ → List ℕ
@@ -41,8 +41,8 @@ halves total n m k s e f h =
     let m' : 2 ^ m ≡ 2 ^ n * 2 = ap (λ (x : ℕ). 2 ^ x) (omega arith) ∙ pow-suc 2 n in
     let s' : 2 ^ s ≡ 2 ^ n = ap (λ (x : ℕ). 2 ^ x) f in omega arith
 
-pub weighed : (xs : List StationView) (s : StationView) → weight (numbers (xs ++ s ∷ [])) ≡ weight (numbers xs) + 2 ^ s.platform.number
-weighed xs s = ap weight (map-append (λ (v : StationView). v.platform.number) xs (s ∷ [])) ∙ weight-snoc (numbers xs) s.platform.number
+pub weighed : (xs : List StationView) (s : StationView) → order_weight (numbers (xs ++ s ∷ [])) ≡ order_weight (numbers xs) + 2 ^ s.platform.number
+weighed xs s = ap order_weight (map-append (λ (v : StationView). v.platform.number) xs (s ∷ [])) ∙ order_weight-snoc (numbers xs) s.platform.number
 
 among_snoc : (w x : ℕ) (xs : List ℕ) → Among w (xs ++ x ∷ []) → Among w xs ⊎ (x ≡ w)
 among_snoc w x [] (zero, lt, is) = inr (is 0)

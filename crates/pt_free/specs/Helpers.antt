@@ -20,8 +20,8 @@ pub record IsNewBoard (g : Graph) (board : BoardView) (keeper : KeeperView) : Ty
   pub none : keeper.next ≡ 0
 
 -- each board is the one of its place
-abbrev pub AreTables : (ℕ → TableId) → List TableId → Type 0
-AreTables table boards = (i : ℕ) (t : TableId) → slice_get boards i ≡ Some t → t ≡ table i
+abbrev pub AreBoards : (ℕ → TableId) → List TableId → Type 0
+AreBoards table boards = (i : ℕ) (t : TableId) → slice_get boards i ≡ Some t → t ≡ table i
 
 abbrev pub table_in : Option TableId → TableId
 table_in None = no_link

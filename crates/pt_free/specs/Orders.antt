@@ -14,9 +14,9 @@ count_up zero = []
 count_up (suc n) = count_up n ++ n ∷ []
 
 -- 2 to the power of each, added up
-abbrev pub weight : List ℕ → ℕ
-weight [] = 0
-weight (x ∷ xs) = 2 ^ x + weight xs
+abbrev pub order_weight : List ℕ → ℕ
+order_weight [] = 0
+order_weight (x ∷ xs) = 2 ^ x + order_weight xs
 
 -- the number is in the list
 abbrev pub Among : ℕ → List ℕ → Type 0

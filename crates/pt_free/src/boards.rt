@@ -1,6 +1,6 @@
 //! New boards, and the sites and hands at them.
 
-ghost use Rattle.pt_pool.specs.Station.{graph_of};
+ghost use Rattle.pt_pool.specs.Station.{plan_graph};
 ghost use Rattle.std.specs.Prelude.{◌≡◌, [], IfOk, Some, vec_len};
 ghost use Rattle.std.specs.Arc.{arc_value};
 
@@ -26,14 +26,14 @@ pub(crate) struct NewBoard<J: Run> {
 impl<J: Run> Model for NewBoard<J> {
     ghost use Rattle.std.specs.Arc.{arc_value};
     ghost use Rattle.atomic_table.specs.Seated.{TableId};
-    ghost use Rattle.pt_pool.specs.Station.{graph_of};
+    ghost use Rattle.pt_pool.specs.Station.{plan_graph};
     ghost use Rattle.pt_free.specs.Helpers.{IsNewBoard};
 
     ghost Value = { TableId };
 
     ghost view = { λ b. b.keeper.table };
 
-    ghost invariant = { λ b. IsNewBoard (graph_of J.plan) (arc_value b.board) b.keeper };
+    ghost invariant = { λ b. IsNewBoard (plan_graph J.plan) (arc_value b.board) b.keeper };
 }
 
 impl<J: Run> NewBoard<J> {

@@ -1,7 +1,7 @@
 //! A threaded run: the workers visit the stations, and then the caller visits them to the end.
-ghost use Rattle.pt_pool.specs.Station.{graph_of};
+ghost use Rattle.pt_pool.specs.Station.{plan_graph};
 ghost use Rattle.std.specs.Prelude.{◌≡◌, ◌≤◌, Ok, None, length, vec_len, IfOk, IfSome, OnOk, false};
-ghost use Rattle.pt_free.specs.Helpers.{AreTables};
+ghost use Rattle.pt_free.specs.Helpers.{AreBoards};
 ghost use Rattle.pt_free.specs.Orders.{numbers, count_up, AllDone, AreUnmarked, HasFailed};
 ghost use Rattle.pt_free.specs.Surveys.{Surveyed};
 
@@ -178,12 +178,12 @@ fn free_in<
     gate: &G,
 ) -> Result<Ended<J, C>, Memory>
     requires name { (blank.name ≡ L.name) × (blank.parts ≡ L.parts) × (blank.parts ≡ vec_len stations) }
-    requires count { vec_len stations ≡ length (graph_of J.plan).platforms }
+    requires count { vec_len stations ≡ length (plan_graph J.plan).platforms }
     requires order { numbers stations.items ≡ count_up (vec_len stations) }
-    requires few { length (graph_of J.plan).platforms ≤ 16 }
-    requires boards { (vec_len boards ≡ vec_len stations) × AreTables B.table boards.items }
+    requires few { length (plan_graph J.plan).platforms ≤ 16 }
+    requires boards { (vec_len boards ≡ vec_len stations) × AreBoards B.table boards.items }
     requires most { (1 ≤ most) × (most ≤ 32) }
-    ensures order { IfOk result (λ e. (vec_len e.stations ≡ length (graph_of J.plan).platforms) × (numbers e.stations.items ≡ count_up (length (graph_of J.plan).platforms))) }
+    ensures order { IfOk result (λ e. (vec_len e.stations ≡ length (plan_graph J.plan).platforms) × (numbers e.stations.items ≡ count_up (length (plan_graph J.plan).platforms))) }
     ensures done { IfOk result (λ e. e.fault ≡ None → AllDone e.stations.items) }
     ensures fault { IfOk result (λ e. IfSome e.fault (HasFailed e.stations.items)) }
     ensures unmarked { IfOk result (λ e. AreUnmarked e.stations.items) }
@@ -227,11 +227,11 @@ pub fn free<J: Run + Send + Sync, C: Clock + Send, G: Gate + Sync, R: Threads + 
     most: usize,
     gate: &G,
 ) -> Result<Ended<J, C>, Memory>
-    requires count { vec_len stations ≡ length (graph_of J.plan).platforms }
+    requires count { vec_len stations ≡ length (plan_graph J.plan).platforms }
     requires order { numbers stations.items ≡ count_up (vec_len stations) }
-    requires few { length (graph_of J.plan).platforms ≤ 16 }
+    requires few { length (plan_graph J.plan).platforms ≤ 16 }
     requires most { (1 ≤ most) × (most ≤ 32) }
-    ensures order { IfOk result (λ e. (vec_len e.stations ≡ length (graph_of J.plan).platforms) × (numbers e.stations.items ≡ count_up (length (graph_of J.plan).platforms))) }
+    ensures order { IfOk result (λ e. (vec_len e.stations ≡ length (plan_graph J.plan).platforms) × (numbers e.stations.items ≡ count_up (length (plan_graph J.plan).platforms))) }
     ensures done { IfOk result (λ e. e.fault ≡ None → AllDone e.stations.items) }
     ensures fault { IfOk result (λ e. IfSome e.fault (HasFailed e.stations.items)) }
     ensures unmarked { IfOk result (λ e. AreUnmarked e.stations.items) }

@@ -1,6 +1,6 @@
 //! What fires the tasks of a run.
 
-ghost use Rattle.pt_pool.specs.Station.{graph_of};
+ghost use Rattle.pt_pool.specs.Station.{plan_graph};
 ghost use Rattle.std.specs.Prelude.{◌≡◌, Some};
 ghost use Rattle.std.specs.Arc.{arc_value};
 ghost use Rattle.pt_post.specs.Posted.{IsDone};
@@ -35,7 +35,7 @@ impl<J: Run> Hand<J> {
 
     /// The run's graph.
     pub(crate) fn graph(&self) -> &Graph
-        ensures { result.now ≡ graph_of J.plan }
+        ensures { result.now ≡ plan_graph J.plan }
     {
         self.plan.graph()
     }
@@ -43,7 +43,7 @@ impl<J: Run> Hand<J> {
     /// Fires a task.
     pub fn fire(&self, blocks: &Blocks, task: &Task) -> Done
         ensures task { result.task ≡ task.now }
-        ensures done { IsDone (graph_of J.plan) result }
+        ensures done { IsDone (plan_graph J.plan) result }
     {
         fire_one(blocks, self.plan.graph(), task)
     }

@@ -1,6 +1,6 @@
 //! Workers' hands at the boards of platforms.
 
-ghost use Rattle.pt_pool.specs.Station.{graph_of};
+ghost use Rattle.pt_pool.specs.Station.{plan_graph};
 ghost use Rattle.std.specs.Prelude.{◌≡◌, Some};
 ghost use Rattle.std.specs.Arc.{arc_value};
 ghost use Rattle.pt_board.specs.Hands.{HoldsNone};
@@ -27,21 +27,21 @@ pub(crate) struct Helper<J: Run, B: Boards> {
 impl<J: Run, B: Boards> Model for Helper<J, B> {
     ghost use Rattle.std.specs.Prelude.{ℕ};
     ghost use Rattle.std.specs.Arc.{arc_value};
-    ghost use Rattle.pt_pool.specs.Station.{graph_of};
+    ghost use Rattle.pt_pool.specs.Station.{plan_graph};
     ghost use Rattle.pt_free.specs.Helpers.{IsHelper};
 
     ghost Value = { ℕ };
 
     ghost view = { λ h. h.platform };
 
-    ghost invariant = { λ h. IsHelper (graph_of J.plan) B.table h.platform (arc_value h.board) h.hand };
+    ghost invariant = { λ h. IsHelper (plan_graph J.plan) B.table h.platform (arc_value h.board) h.hand };
 }
 
 impl<J: Run, B: Boards> Helper<J, B> {
     /// For a hand of this board that holds no ticket.
     pub(crate) fn new(board: Arc<Board>, hand: BoardHand, platform: u32) -> Helper<J, B>
         requires table { (hand.table ≡ (arc_value board).table) × (hand.table ≡ B.table platform) }
-        requires graph { hand.knows.graph ≡ Some (graph_of J.plan) }
+        requires graph { hand.knows.graph ≡ Some (plan_graph J.plan) }
         requires none { HoldsNone hand }
         ensures { result ≡ platform }
     {

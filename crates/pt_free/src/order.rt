@@ -1,7 +1,7 @@
 //! Stations in the order of their numbers.
-ghost use Rattle.pt_pool.specs.Station.{graph_of};
+ghost use Rattle.pt_pool.specs.Station.{plan_graph};
 ghost use Rattle.std.specs.Prelude.{◌≡◌, ◌+◌, ◌^◌, length, vec_len, IfOk};
-ghost use Rattle.pt_free.specs.Orders.{numbers, count_up, weight};
+ghost use Rattle.pt_free.specs.Orders.{numbers, count_up, order_weight};
 
 use pt_io::Clock;
 use pt_pool::{Run, Station};
@@ -29,8 +29,8 @@ pub(crate) fn in_order<J: Run, C: Clock>(
     alloc: Global,
     mut stations: Vec<Station<J, C>>,
 ) -> Result<Vec<Station<J, C>>, Memory>
-    requires count { vec_len stations ≡ length (graph_of J.plan).platforms }
-    requires weight { weight (numbers stations.items) + 1 ≡ 2 ^ vec_len stations }
+    requires count { vec_len stations ≡ length (plan_graph J.plan).platforms }
+    requires order_weight { order_weight (numbers stations.items) + 1 ≡ 2 ^ vec_len stations }
     ensures count { IfOk result (λ v. vec_len v ≡ vec_len stations) }
     ensures order { IfOk result (λ v. numbers v.items ≡ count_up (vec_len stations)) }
 {

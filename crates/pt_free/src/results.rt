@@ -1,7 +1,7 @@
 //! Results of a run's tasks.
 
 ghost use Rattle.std.specs.Prelude.{◌≡◌};
-ghost use Rattle.pt_pool.specs.Station.{graph_of};
+ghost use Rattle.pt_pool.specs.Station.{plan_graph};
 ghost use Rattle.pt_post.specs.Posted.{AreDone, IsDone};
 
 use pt_actors::Done;
@@ -19,14 +19,14 @@ pub(crate) struct Results<J: Run> {
 impl<J: Run> Model for Results<J> {
     ghost use Rattle.std.specs.Prelude.{List};
     ghost use Rattle.pt_types.specs.declared.firing.Done.{Done as Whole};
-    ghost use Rattle.pt_pool.specs.Station.{graph_of};
+    ghost use Rattle.pt_pool.specs.Station.{plan_graph};
     ghost use Rattle.pt_post.specs.Posted.{AreDone};
 
     ghost Value = { List Whole };
 
     ghost view = { λ r. r.items.items };
 
-    ghost invariant = { λ r. AreDone (graph_of J.plan) r.items.items };
+    ghost invariant = { λ r. AreDone (plan_graph J.plan) r.items.items };
 }
 
 impl<J: Run> Results<J> {
@@ -40,7 +40,7 @@ impl<J: Run> Results<J> {
 
     /// Adds a result. `false` if memory ran out.
     pub(crate) fn keep(&mut self, done: Done) -> bool
-        requires { IsDone (graph_of J.plan) done }
+        requires { IsDone (plan_graph J.plan) done }
     {
         match self.items.push(done) {
             Ok(()) => true,
@@ -50,7 +50,7 @@ impl<J: Run> Results<J> {
 
     /// All of them.
     pub(crate) fn as_slice(&self) -> &[Done]
-        ensures { AreDone (graph_of J.plan) result.now }
+        ensures { AreDone (plan_graph J.plan) result.now }
     {
         self.items.as_slice()
     }

@@ -1,9 +1,9 @@
 //! Workers over locked sites.
-ghost use Rattle.pt_pool.specs.Station.{graph_of};
+ghost use Rattle.pt_pool.specs.Station.{plan_graph};
 ghost use Rattle.std.specs.Prelude.{◌≡◌, ◌+◌, ◌^◌, ◌<◌, ◌≤◌, ℕ, length, vec_len, IfOk};
 ghost use Rattle.pt_post.specs.Posted.{IsDone};
-ghost use Rattle.pt_free.specs.Helpers.{AreTables};
-ghost use Rattle.pt_free.specs.Orders.{numbers, count_up, weight};
+ghost use Rattle.pt_free.specs.Helpers.{AreBoards};
+ghost use Rattle.pt_free.specs.Orders.{numbers, count_up, order_weight};
 
 use crate::boards::{NewBoard, dismiss, staff};
 use crate::hand::Hand;
@@ -125,7 +125,7 @@ impl<J: Run, L: Ledger, B: Boards, C: Clock> Bay<J, L, B, C> {
 
     /// Keeps a result for the next visit. `false` if memory ran out.
     fn keep(&mut self, done: Done) -> bool
-        requires { IsDone (graph_of J.plan) done }
+        requires { IsDone (plan_graph J.plan) done }
     {
         self.site.keep(done).is_ok()
     }
@@ -150,7 +150,7 @@ fn keep_at<J: Run, L: Ledger, B: Boards, C: Clock, R: Wait>(
     bay: &Mutex<Bay<J, L, B, C>>,
     done: Done,
 ) -> bool
-    requires { IsDone (graph_of J.plan) done }
+    requires { IsDone (plan_graph J.plan) done }
 {
     bay.lock(rt).keep(done)
 }
@@ -334,8 +334,8 @@ pub(crate) fn lock_all<J: Run, L: Ledger, B: Boards, C: Clock>(
     requires name { (blank.name ≡ L.name) × (blank.parts ≡ L.parts) }
     requires parts { L.parts ≡ vec_len stations }
     requires order { numbers stations.items ≡ count_up (vec_len stations) }
-    requires few { length (graph_of J.plan).platforms ≤ 16 }
-    requires boards { (vec_len boards ≡ vec_len stations) × AreTables B.table boards.items }
+    requires few { length (plan_graph J.plan).platforms ≤ 16 }
+    requires boards { (vec_len boards ≡ vec_len stations) × AreBoards B.table boards.items }
     ensures parts { IfOk result (λ r. (vec_len r.0 ≡ vec_len stations) × (r.1.parts ≡ vec_len stations)) }
     ensures total { IfOk result (λ r. r.1.amount + 1 ≡ 2 ^ vec_len stations) }
     ensures rest { IfOk result (λ r. (r.2.parts ≡ 0) × (r.2.amount ≡ 0)) }
@@ -401,7 +401,7 @@ pub(crate) fn unlock_all<J: Run, L: Ledger, B: Boards, C: Clock>(
     requires parts { vec_len bays ≡ total.now.parts }
     requires none { (all.parts ≡ 0) × (all.amount ≡ 0) }
     ensures parts { IfOk result (λ v. vec_len v ≡ total.now.parts) }
-    ensures weight { IfOk result (λ v. weight (numbers v.items) ≡ total.now.amount) }
+    ensures order_weight { IfOk result (λ v. order_weight (numbers v.items) ≡ total.now.amount) }
 {
     let mut crews = unlock_crews(alloc, crews)?;
     let Ok(mut stations) = Vec::with_capacity(alloc, bays.len()) else {

@@ -15,10 +15,10 @@ use Rattle.pt_graph_text.specs.Faults.{at, top}
 use Rattle.pt_types.specs.Names.{is_name}
 use Rattle.pt_types.specs.Lawful.{repeated_from}
 use Rattle.pt_graph.specs.Chains.{◌<|>◌, found, first_index}
-use Rattle.pt_graph.specs.Limits.{too_many, most_actors, most_wires, row_count, cell_count}
-use Rattle.pt_graph.specs.Ranges.{is_time, kind_in_range, wire_in_range, pair_in_range, head_in_range, top_range, range_place}
+use Rattle.pt_graph.specs.Limits.{too_many, most_actors, most_wires, machine_row_count, lane_cell_count}
+use Rattle.pt_graph.specs.Ranges.{is_time_number, kind_in_range, wire_in_range, pair_in_range, head_in_range, top_range, range_place}
 use Rattle.pt_graph.specs.Naming.{actor_is_named, name_place}
-use Rattle.pt_graph.specs.Known.{number_in, itself, actor_name, pair_again_from, is_platform, is_known, repeated_place, unknown_by, unknown_place}
+use Rattle.pt_graph.specs.Known.{first_named, itself, name_of_actor, pair_again_from, is_platform, is_known, repeated_place, unknown_by, unknown_place}
 use Rattle.pt_graph.specs.GraphOf.{checked}
 use Rattle.pt_graph.proofs.Passing.{check_before}
 use Rattle.pt_types.proofs.Conditions.{none_if, none_unless}
@@ -53,8 +53,8 @@ pub record HasLimits (d : Document) : Type 0 where
   pub wires : nat_lt (most_wires d.version) (length d.wires) ≡ false
   pub links : nat_lt 64 (length d.links) ≡ false
   pub pairs : nat_lt 120 (length d.pairs) ≡ false
-  pub rows : list_any (λ (a : ActorText). nat_lt 64 (row_count a.kind)) d.actors ≡ false
-  pub cells : nat_lt 1024 (sum (map (λ (a : ActorText). cell_count a.kind) d.actors)) ≡ false
+  pub rows : list_any (λ (a : ActorText). nat_lt 64 (machine_row_count a.kind)) d.actors ≡ false
+  pub cells : nat_lt 1024 (sum (map (λ (a : ActorText). lane_cell_count a.kind) d.actors)) ≡ false
 
 pub has_limits : (d : Document) → too_many d ≡ None → HasLimits d
 unfolding too_many
@@ -64,8 +64,8 @@ has_limits d h =
     let wires = none_if (nat_lt (most_wires d.version) (length d.wires)) (fault.TooMany what.Wires) _ actors.1 in
     let links = none_if (nat_lt 64 (length d.links)) (fault.TooMany what.Links) _ wires.1 in
     let pairs = none_if (nat_lt 120 (length d.pairs)) (fault.TooMany what.Pairs) _ links.1 in
-    let rows = none_if (list_any (λ (a : ActorText). nat_lt 64 (row_count a.kind)) d.actors) (fault.TooMany what.Rows) _ pairs.1 in
-    let cells = none_if (nat_lt 1024 (sum (map (λ (a : ActorText). cell_count a.kind) d.actors))) (fault.TooMany what.Cells) _ rows.1 in
+    let rows = none_if (list_any (λ (a : ActorText). nat_lt 64 (machine_row_count a.kind)) d.actors) (fault.TooMany what.Rows) _ pairs.1 in
+    let cells = none_if (nat_lt 1024 (sum (map (λ (a : ActorText). lane_cell_count a.kind) d.actors))) (fault.TooMany what.Cells) _ rows.1 in
     record { platforms = platforms.0; actors = actors.0; wires = wires.0; links = links.0; pairs = pairs.0; rows = rows.0; cells = cells.0 }
 
 -- none of these fails the test
@@ -79,21 +79,21 @@ pub record HasRanges (d : Document) : Type 0 where
   pub head : (head_in_range d.head && not (length d.platforms == 0)) ≡ true
   pub actors : list_all (λ (a : ActorText). kind_in_range a.kind) d.actors ≡ true
   pub wires : list_all wire_in_range d.wires ≡ true
-  pub links : list_all (λ (l : LinkText). is_time l.delay) d.links ≡ true
+  pub links : list_all (λ (l : LinkText). is_time_number l.delay) d.links ≡ true
   pub pairs : list_all pair_in_range d.pairs ≡ true
 
 pub has_ranges : (d : Document) → range_place d ≡ None → HasRanges d
 unfolding range_place
 has_ranges d h =
-    let pairs = none_first (top_range d <|> found part.Actor (position (λ (a : ActorText). not (kind_in_range a.kind)) d.actors) <|> found part.Wire (position (λ w. not (wire_in_range w)) d.wires) <|> found part.Link (position (λ (l : LinkText). not (is_time l.delay)) d.links)) (found part.Pair (position (λ p. not (pair_in_range p)) d.pairs)) h in
-    let links = none_first (top_range d <|> found part.Actor (position (λ (a : ActorText). not (kind_in_range a.kind)) d.actors) <|> found part.Wire (position (λ w. not (wire_in_range w)) d.wires)) (found part.Link (position (λ (l : LinkText). not (is_time l.delay)) d.links)) pairs.0 in
+    let pairs = none_first (top_range d <|> found part.Actor (position (λ (a : ActorText). not (kind_in_range a.kind)) d.actors) <|> found part.Wire (position (λ w. not (wire_in_range w)) d.wires) <|> found part.Link (position (λ (l : LinkText). not (is_time_number l.delay)) d.links)) (found part.Pair (position (λ p. not (pair_in_range p)) d.pairs)) h in
+    let links = none_first (top_range d <|> found part.Actor (position (λ (a : ActorText). not (kind_in_range a.kind)) d.actors) <|> found part.Wire (position (λ w. not (wire_in_range w)) d.wires)) (found part.Link (position (λ (l : LinkText). not (is_time_number l.delay)) d.links)) pairs.0 in
     let wires = none_first (top_range d <|> found part.Actor (position (λ (a : ActorText). not (kind_in_range a.kind)) d.actors)) (found part.Wire (position (λ w. not (wire_in_range w)) d.wires)) links.0 in
     let actors = none_first (top_range d) (found part.Actor (position (λ (a : ActorText). not (kind_in_range a.kind)) d.actors)) wires.0 in
     record {
       head = none_unless (head_in_range d.head && not (length d.platforms == 0)) top actors.0;
       actors = none_at part.Actor (λ (a : ActorText). kind_in_range a.kind) d.actors actors.1;
       wires = none_at part.Wire wire_in_range d.wires wires.1;
-      links = none_at part.Link (λ (l : LinkText). is_time l.delay) d.links links.1;
+      links = none_at part.Link (λ (l : LinkText). is_time_number l.delay) d.links links.1;
       pairs = none_at part.Pair pair_in_range d.pairs pairs.1;
     }
 
@@ -112,38 +112,38 @@ has_names d h =
 
 pub record HasNoneTwice (d : Document) : Type 0 where
   pub platforms : repeated_from itself [] 0 d.platforms ≡ None
-  pub actors : repeated_from actor_name [] 0 d.actors ≡ None
+  pub actors : repeated_from name_of_actor [] 0 d.actors ≡ None
   pub pairs : pair_again_from [] 0 d.pairs ≡ None
 
 pub has_none_twice : (d : Document) → repeated_place d ≡ None → HasNoneTwice d
 unfolding repeated_place
 has_none_twice d h =
-    let pairs = none_first (found part.Platform (repeated_from itself [] 0 d.platforms) <|> found part.Actor (repeated_from actor_name [] 0 d.actors)) (found part.Pair (pair_again_from [] 0 d.pairs)) h in
-    let actors = none_first (found part.Platform (repeated_from itself [] 0 d.platforms)) (found part.Actor (repeated_from actor_name [] 0 d.actors)) pairs.0 in
+    let pairs = none_first (found part.Platform (repeated_from itself [] 0 d.platforms) <|> found part.Actor (repeated_from name_of_actor [] 0 d.actors)) (found part.Pair (pair_again_from [] 0 d.pairs)) h in
+    let actors = none_first (found part.Platform (repeated_from itself [] 0 d.platforms)) (found part.Actor (repeated_from name_of_actor [] 0 d.actors)) pairs.0 in
     record {
       platforms = none_mapped (at part.Platform) (repeated_from itself [] 0 d.platforms) actors.0;
-      actors = none_mapped (at part.Actor) (repeated_from actor_name [] 0 d.actors) actors.1;
+      actors = none_mapped (at part.Actor) (repeated_from name_of_actor [] 0 d.actors) actors.1;
       pairs = none_mapped (at part.Pair) (pair_again_from [] 0 d.pairs) pairs.1;
     }
 
 pub record IsKnown (d : Document) : Type 0 where
   pub actors : list_all (λ (a : ActorText). is_platform d.platforms a.platform) d.actors ≡ true
-  pub wires : list_all (λ (w : WireText). is_known (number_in actor_name d.actors) w.from w.to) d.wires ≡ true
-  pub links : list_all (λ (l : LinkText). is_known (number_in actor_name d.actors) l.from l.to) d.links ≡ true
+  pub wires : list_all (λ (w : WireText). is_known (first_named name_of_actor d.actors) w.from w.to) d.wires ≡ true
+  pub links : list_all (λ (l : LinkText). is_known (first_named name_of_actor d.actors) l.from l.to) d.links ≡ true
   pub pairs : list_all (λ (p : PairText). is_platform d.platforms p.a && is_platform d.platforms p.b) d.pairs ≡ true
 
 pub all_known : (d : Document) → unknown_place d ≡ None → IsKnown d
 unfolding unknown_by
 all_known d h =
     let actor_place = found part.Actor (position (λ (a : ActorText). not (is_platform d.platforms a.platform)) d.actors) in
-    let wire_place = found part.Wire (first_index (λ (w : WireText). not (is_known (number_in actor_name d.actors) w.from w.to)) d.wires) in
-    let link_place = found part.Link (first_index (λ (l : LinkText). not (is_known (number_in actor_name d.actors) l.from l.to)) d.links) in
+    let wire_place = found part.Wire (first_index (λ (w : WireText). not (is_known (first_named name_of_actor d.actors) w.from w.to)) d.wires) in
+    let link_place = found part.Link (first_index (λ (l : LinkText). not (is_known (first_named name_of_actor d.actors) l.from l.to)) d.links) in
     let pairs = none_first (actor_place <|> wire_place <|> link_place) (found part.Pair (position (λ (p : PairText). not (is_platform d.platforms p.a && is_platform d.platforms p.b)) d.pairs)) h in
     let links = none_first (actor_place <|> wire_place) link_place pairs.0 in
     let wires = none_first actor_place wire_place links.0 in
     record {
       actors = none_at part.Actor (λ (a : ActorText). is_platform d.platforms a.platform) d.actors wires.0;
-      wires = none_from part.Wire (λ (w : WireText). is_known (number_in actor_name d.actors) w.from w.to) d.wires wires.1;
-      links = none_from part.Link (λ (l : LinkText). is_known (number_in actor_name d.actors) l.from l.to) d.links links.1;
+      wires = none_from part.Wire (λ (w : WireText). is_known (first_named name_of_actor d.actors) w.from w.to) d.wires wires.1;
+      links = none_from part.Link (λ (l : LinkText). is_known (first_named name_of_actor d.actors) l.from l.to) d.links links.1;
       pairs = none_at part.Pair (λ (p : PairText). is_platform d.platforms p.a && is_platform d.platforms p.b) d.pairs pairs.1;
     }

@@ -12,7 +12,7 @@ pub between : (low high : ℕ) (z : ℤ) → is_between (pos low) (pos high) z �
 between low high (pos n) h = h
 between low high (negsuc n) h = absurd cc
 
-pub time_of : (z : ℤ) → ranges.is_time z ≡ true → is_time (unsigned_abs z) ≡ true
+pub time_of : (z : ℤ) → ranges.is_time_number z ≡ true → is_time (unsigned_abs z) ≡ true
 time_of z h = (and_parts (nat_le 0 (unsigned_abs z)) (is_time (unsigned_abs z)) (between 0 1000000000000000 z h)).1
 
 pub held_small : (n : ℕ) → n ≤ 1024 → held n ≡ n

@@ -18,7 +18,7 @@ use Rattle.pt_graph_text.specs.declared.fault.Place.{Place}
 use Rattle.pt_graph_text.specs.declared.fault.GraphFault.TheVariants as fault
 use Rattle.pt_graph_text.specs.declared.fault.Part.TheVariants as part
 use Rattle.pt_graph.specs.Chains.{refused, found}
-use Rattle.pt_graph.specs.EndFaults.{joined, feeding, bad_wire, unfed_at, link_place, block_place}
+use Rattle.pt_graph.specs.EndFaults.{checked_ends, feeding, bad_wire, unfed_at, link_place, block_place}
 use Rattle.pt_graph.specs.Graphs.{actors_of, wires_of, links_of, graph_from}
 use Rattle.pt_graph.specs.GraphOf.{graph_of, graph_in, checked, built, json_of}
 use Rattle.pt_types.specs.Limits.{most_graph_bytes}
@@ -100,8 +100,8 @@ linked_from actors links x h =
       none_mapped (at part.Actor) (misfit_from links 0 actors) e.1,
     )
 
-pub joins : (actors : List Actor) (wires : List Wire) (links : List Link) (x : ⊤) → joined actors wires links ≡ Ok x → Joins actors wires links
-unfolding joined
+pub joins : (actors : List Actor) (wires : List Wire) (links : List Link) (x : ⊤) → checked_ends actors wires links ≡ Ok x → Joins actors wires links
+unfolding checked_ends
 joins actors wires links x h =
     let a = both_ok (refused (wire_ends actors wires)) (λ done. from_crossing actors wires links) x h in
     let b = both_ok (refused (cross_wires actors wires)) (λ done. from_feeding actors wires links) x a.2 in
@@ -134,7 +134,7 @@ pub record Given (blocks : List Named) (g : Graph) : Type 0 where
 built-given : (blocks : List Named) (d : Document) (g : Graph) → built blocks d ≡ Ok g → Joins (actors_of blocks d) (wires_of d) (links_of d) × (g ≡ graph_from blocks d)
 unfolding built
 built-given blocks d g h =
-    let a = both_ok (joined (actors_of blocks d) (wires_of d) (links_of d)) (λ done. refused (option_map fault.Block (block_place blocks d)) >>= (λ done. Ok (graph_from blocks d))) g h in
+    let a = both_ok (checked_ends (actors_of blocks d) (wires_of d) (links_of d)) (λ done. refused (option_map fault.Block (block_place blocks d)) >>= (λ done. Ok (graph_from blocks d))) g h in
     let b = both_ok (refused (option_map fault.Block (block_place blocks d))) (λ done. Ok (graph_from blocks d)) g a.2 in
     (joins (actors_of blocks d) (wires_of d) (links_of d) a.0 a.1, ok_same (Ok (graph_from blocks d)) g (graph_from blocks d) b.2 refl)
 

@@ -11,7 +11,7 @@ use Rattle.pt_blocks.specs.Blocks.{find_block}
 use Rattle.pt_graph_text.specs.declared.document.RowText.{RowText}
 use Rattle.pt_graph_text.specs.declared.kinds.KindText.{KindText}
 use Rattle.pt_graph_text.specs.declared.kinds.KindText.TheVariants as text
-use Rattle.pt_graph.specs.Limits.{row_count}
+use Rattle.pt_graph.specs.Limits.{machine_row_count}
 use Rattle.pt_graph.specs.Ranges as ranges
 use Rattle.pt_graph.specs.Ranges.{kind_in_range, row_in_range}
 use Rattle.pt_graph.specs.Naming.{kind_is_named}
@@ -51,7 +51,7 @@ machine_lawful blocks start outputs rows laws h few =
     (rows_lawful blocks outputs rows laws parts.0 parts.1)
 
 -- a kind of the file whose numbers and names passed their checks, with few rows, gives a lawful kind
-pub kind_lawful : (blocks : List Named) (k : KindText) → list_all (λ (b : Named). law_in_range b.law) blocks ≡ true → kind_in_range k ≡ true → kind_is_named k ≡ true → nat_lt 64 (row_count k) ≡ false → kind_is_lawful (kind_from blocks k) ≡ true
+pub kind_lawful : (blocks : List Named) (k : KindText) → list_all (λ (b : Named). law_in_range b.law) blocks ≡ true → kind_in_range k ≡ true → kind_is_named k ≡ true → nat_lt 64 (machine_row_count k) ≡ false → kind_is_lawful (kind_from blocks k) ≡ true
 kind_lawful blocks (text.Sensor file bound) laws h named few = and_from _ (is_time (unsigned_abs bound)) named (time_of bound h)
 kind_lawful blocks (text.Send slack) laws h named few = time_of slack h
 kind_lawful blocks (text.Actuator slack) laws h named few = time_of slack h
@@ -59,7 +59,7 @@ kind_lawful blocks (text.Merge n) laws h named few = small_among 2 8 n (omega ar
 kind_lawful blocks (text.Delay d) laws h named few = time_of d h
 kind_lawful blocks (text.Machine start outputs rows) laws h named few = machine_lawful blocks start outputs rows laws h few
 kind_lawful blocks (text.Every start period) laws h named few =
-    let parts = and_parts (ranges.is_time start) (is_between (pos 1) (pos 1000000000000000) period) h in
+    let parts = and_parts (ranges.is_time_number start) (is_between (pos 1) (pos 1000000000000000) period) h in
     and_from (is_time (unsigned_abs start)) (is_among 1 1000000000000000 (unsigned_abs period)) (time_of start parts.0) (between 1 1000000000000000 period parts.1)
 kind_lawful blocks (text.Block block) laws h named few = law_of_found blocks (find_block blocks block) laws
 kind_lawful blocks (text.Lanes cells) laws h named few = lanes_lawful cells h

@@ -16,11 +16,11 @@ use Rattle.pt_graph_text.specs.declared.version.Version.{Version}
 use Rattle.pt_graph_text.specs.declared.version.Version.TheVariants.{First, Second}
 use Rattle.pt_graph_text.specs.declared.fault.GraphFault.{GraphFault}
 use Rattle.pt_graph_text.specs.Faults.{Gives}
-use Rattle.pt_graph.specs.Limits.{most_actors, most_wires, cell_count}
-use Rattle.pt_graph.specs.Ranges.{is_time, head_in_range}
+use Rattle.pt_graph.specs.Limits.{most_actors, most_wires, lane_cell_count}
+use Rattle.pt_graph.specs.Ranges.{is_time_number, head_in_range}
 use Rattle.pt_graph.specs.Ranges as ranges
-use Rattle.pt_graph.specs.Known.{number_in, actor_name}
-use Rattle.pt_graph.specs.Graphs.{actor_from, wire_from, link_from, pair_from, actors_of, wires_of, links_of, graph_from, whole}
+use Rattle.pt_graph.specs.Known.{first_named, name_of_actor}
+use Rattle.pt_graph.specs.Graphs.{actor_from, wire_from, link_from, pair_from, actors_of, wires_of, links_of, graph_from, whole_graph}
 use Rattle.pt_graph.specs.GraphOf.{graph_in, graph_of}
 use Rattle.pt_graph.proofs.Checked.{NoneFound, none_found, has_limits, has_ranges, has_names, has_none_twice, all_known}
 use Rattle.pt_graph.proofs.InRange.{time_of, length_map}
@@ -37,11 +37,11 @@ fewest_wires : (v : Version) → most_wires v ≤ 4096
 fewest_wires First = omega arith
 fewest_wires Second = omega arith
 
-head_parts : (d : Document) → (head_in_range d.head && not (length d.platforms == 0)) ≡ true → (ranges.is_time d.head.until ≡ true) × (ranges.is_time d.head.clock_error ≡ true) × (1 ≤ length d.platforms)
+head_parts : (d : Document) → (head_in_range d.head && not (length d.platforms == 0)) ≡ true → (ranges.is_time_number d.head.until ≡ true) × (ranges.is_time_number d.head.clock_error ≡ true) × (1 ≤ length d.platforms)
 head_parts d h =
     let parts = and_parts (head_in_range d.head) (not (length d.platforms == 0)) h in
-    let two = and_parts (is_between (pos 1) (pos 2) d.head.version && ranges.is_time d.head.until) (ranges.is_time d.head.clock_error) parts.0 in
-    let one = and_parts (is_between (pos 1) (pos 2) d.head.version) (ranges.is_time d.head.until) two.0 in
+    let two = and_parts (is_between (pos 1) (pos 2) d.head.version && ranges.is_time_number d.head.until) (ranges.is_time_number d.head.clock_error) parts.0 in
+    let one = and_parts (is_between (pos 1) (pos 2) d.head.version) (ranges.is_time_number d.head.until) two.0 in
     (one.1, two.1, some_length (length d.platforms) parts.1)
   where
     some_length : (n : ℕ) → not (n == 0) ≡ true → 1 ≤ n
@@ -49,7 +49,7 @@ head_parts d h =
 
 -- the graph of a document that passed all its checks
 graph_lawful : (blocks : List Named) (d : Document) → list_all (λ (b : Named). law_in_range b.law) blocks ≡ true → NoneFound d → Joins (actors_of blocks d) (wires_of d) (links_of d) → IsLawful (graph_from blocks d)
-unfolding whole
+unfolding whole_graph
 graph_lawful blocks d laws checks ends =
     let limits = has_limits d checks.many in
     let in_range = has_ranges d checks.range in
@@ -68,11 +68,11 @@ graph_lawful blocks d laws checks ends =
       some_platform = head.2;
       few_platforms = few_platforms;
       few_actors = omega arith;
-      few_links = omega (arith, ltb-false 64 (length d.links) limits.links, length_map (link_from (number_in actor_name d.actors)) d.links);
+      few_links = omega (arith, ltb-false 64 (length d.links) limits.links, length_map (link_from (first_named name_of_actor d.actors)) d.links);
       few_pairs = omega (arith, ltb-false 120 (length d.pairs) limits.pairs, length_map (pair_from d.platforms) d.pairs);
-      few_cells = subst (λ ns. sum ns ≤ 1024) (sym (cells_of_all blocks d.platforms d.actors)) (ltb-false 1024 (sum (map (λ (a : ActorText). cell_count a.kind) d.actors)) limits.cells);
+      few_cells = subst (λ ns. sum ns ≤ 1024) (sym (cells_of_all blocks d.platforms d.actors)) (ltb-false 1024 (sum (map (λ (a : ActorText). lane_cell_count a.kind) d.actors)) limits.cells);
       visible = wires_of d;
-      few_wires = omega (arith, length_map (wire_from (number_in actor_name d.actors)) d.wires);
+      few_wires = omega (arith, length_map (wire_from (first_named name_of_actor d.actors)) d.wires);
       wires = refl;
       platforms = names.platforms;
       actors = actors_lawful blocks d.platforms d.actors few_names laws in_range.actors names.actors limits.rows known.actors;

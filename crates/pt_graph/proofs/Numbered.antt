@@ -4,7 +4,7 @@ use Rattle.std.specs.List.{list_any, position_or_len}
 use Rattle.std.proofs.lemmas.Bool.{ltb-true, lt-ltb}
 use Rattle.std.proofs.lemmas.Option.{cond_some}
 use Rattle.pt_types.specs.Lawful.{is_named, repeated_from}
-use Rattle.pt_graph.specs.Known.{number_in}
+use Rattle.pt_graph.specs.Known.{first_named}
 use Rattle.pt_graph.specs.Graphs.{number_or_0}
 use Rattle.pt_types.proofs.Conditions.{none_if}
 use Rattle.pt_graph.proofs.InRange.{held_small}
@@ -13,7 +13,7 @@ some_value : {A : Type 0} (o : Option A) → is_some o ≡ true → (x : A) × (
 some_value (Some x) h = (x, refl)
 some_value None h = absurd cc
 
-index_below : {X : Type 0} (name_of : X → List ℕ) (xs : List X) (n : List ℕ) (i : ℕ) → number_in name_of xs n ≡ Some i → i < length xs
+index_below : {X : Type 0} (name_of : X → List ℕ) (xs : List X) (n : List ℕ) (i : ℕ) → first_named name_of xs n ≡ Some i → i < length xs
 index_below name_of xs n i h =
     let found = cond_some (nat_lt (position_or_len (λ x. bytes_eq (name_of x) n) xs) (length xs)) (position_or_len (λ x. bytes_eq (name_of x) n) xs) i h in
     let less = ltb-true (position_or_len (λ x. bytes_eq (name_of x) n) xs) (length xs) found.0 in
@@ -21,13 +21,13 @@ index_below name_of xs n i h =
     omega arith
 
 -- the number of a known name
-pub number_is : {X : Type 0} (name_of : X → List ℕ) (xs : List X) (n : List ℕ) → length xs ≤ 1024 → is_some (number_in name_of xs n) ≡ true → (i : ℕ) × (number_in name_of xs n ≡ Some i) × (i < length xs) × (number_or_0 (number_in name_of xs n) ≡ i)
+pub number_is : {X : Type 0} (name_of : X → List ℕ) (xs : List X) (n : List ℕ) → length xs ≤ 1024 → is_some (first_named name_of xs n) ≡ true → (i : ℕ) × (first_named name_of xs n ≡ Some i) × (i < length xs) × (number_or_0 (first_named name_of xs n) ≡ i)
 number_is name_of xs n few h =
-    let it = some_value (number_in name_of xs n) h in
+    let it = some_value (first_named name_of xs n) h in
     let less = index_below name_of xs n it.0 it.1 in
     (it.0, it.1, less, ap number_or_0 it.1 ∙ held_small it.0 (omega arith))
 
-pub number_below : {X : Type 0} (name_of : X → List ℕ) (xs : List X) (n : List ℕ) → length xs ≤ 1024 → is_some (number_in name_of xs n) ≡ true → nat_lt (number_or_0 (number_in name_of xs n)) (length xs) ≡ true
+pub number_below : {X : Type 0} (name_of : X → List ℕ) (xs : List X) (n : List ℕ) → length xs ≤ 1024 → is_some (first_named name_of xs n) ≡ true → nat_lt (number_or_0 (first_named name_of xs n)) (length xs) ≡ true
 number_below name_of xs n few h =
     let it = number_is name_of xs n few h in
     let less = it.2 in

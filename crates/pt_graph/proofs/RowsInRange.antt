@@ -10,7 +10,7 @@ use Rattle.pt_blocks.specs.declared.blocks.Named.{Named}
 use Rattle.pt_blocks.specs.Blocks.{find_block, law_at}
 use Rattle.pt_graph_text.specs.declared.document.RowText.{RowText}
 use Rattle.pt_graph.specs.Ranges.{row_in_range, emit_in_range}
-use Rattle.pt_graph.specs.Graphs.{small, block_of, emit_from, row_from}
+use Rattle.pt_graph.specs.Graphs.{small, number_and_law, emit_from, row_from}
 use Rattle.pt_types.proofs.SmallKinds.{among}
 
 -- the law of a block of the list, or the law that stands for none
@@ -23,7 +23,7 @@ pub law_of_found : (blocks : List Named) (o : Option ℕ) → list_all (λ (b : 
 law_of_found blocks None h = refl
 law_of_found blocks (Some n) h = law_of_listed blocks n h
 
-guard_lawful : (blocks : List Named) (o : Option (List ℕ)) → list_all (λ (b : Named). law_in_range b.law) blocks ≡ true → guard_is_lawful (option_map (block_of blocks) o) ≡ true
+guard_lawful : (blocks : List Named) (o : Option (List ℕ)) → list_all (λ (b : Named). law_in_range b.law) blocks ≡ true → guard_is_lawful (option_map (number_and_law blocks) o) ≡ true
 guard_lawful blocks None h = refl
 guard_lawful blocks (Some name) h = law_of_found blocks (find_block blocks name) h
 
@@ -45,7 +45,7 @@ row_lawful : (blocks : List Named) (outputs : ℤ) (r : RowText) → list_all (�
 unfolding row_from
 row_lawful blocks outputs r laws out h =
     let parts = and_parts (int_le r.low r.high) (emit_in_range outputs r.emit) h in
-    and_from (int_le r.low r.high && emit_is_lawful (small outputs) (option_map emit_from r.emit)) (guard_is_lawful (option_map (block_of blocks) r.guard))
+    and_from (int_le r.low r.high && emit_is_lawful (small outputs) (option_map emit_from r.emit)) (guard_is_lawful (option_map (number_and_law blocks) r.guard))
     (and_from (int_le r.low r.high) (emit_is_lawful (small outputs) (option_map emit_from r.emit)) parts.0 (emit_lawful outputs r.emit out parts.1))
     (guard_lawful blocks r.guard laws)
 

@@ -8,14 +8,14 @@ use Rattle.pt_graph_text.specs.declared.document.Document.{Document}
 use Rattle.pt_graph_text.specs.declared.fault.GraphFault.{GraphFault}
 use Rattle.pt_graph_text.specs.declared.fault.GraphFault.TheVariants as fault
 use Rattle.pt_graph.specs.declared.reader.Wiring.{Wiring}
-use Rattle.pt_graph.specs.Known.{number_in, actor_name}
+use Rattle.pt_graph.specs.Known.{first_named, name_of_actor}
 use Rattle.pt_graph.specs.Index.{at_name}
 use Rattle.pt_graph.specs.Graphs.{wires_of, links_of}
 use Rattle.pt_graph.specs.GraphOf.{json_of, checked}
 
 -- the document passes its checks, and the map has the numbers of its actors; or the document has this fault
 abbrev pub GivesNumbers : Document → Result (BTreeMap (Bor (List ℕ)) ℕ) GraphFault → Type 0
-GivesNumbers d (Ok m) = (checked d ≡ Ok tt) × (at_name m ≡ number_in actor_name d.actors)
+GivesNumbers d (Ok m) = (checked d ≡ Ok tt) × (at_name m ≡ first_named name_of_actor d.actors)
 GivesNumbers d (Err e) = e ≢ fault.Memory → checked d ≡ Err e
 
 -- the document passes its checks, and these are its wires and links; or the document has this fault

@@ -39,8 +39,8 @@ feeding actors wires = do
   refused (option_map unfed_at (first_unfed (is_fed wires) 0 actors))
 
 -- the checks of wires and links, in order; the first that fails gives the fault
-unfoldable pub joined : List Actor → List Wire → List Link → Result ⊤ GraphFault
-joined actors wires links = do
+unfoldable pub checked_ends : List Actor → List Wire → List Link → Result ⊤ GraphFault
+checked_ends actors wires links = do
   done ← refused (option_map fault.WireEnd (bad_wire (ends_fit actors) wires))
   done ← refused (option_map fault.CrossWire (bad_wire (stays_home actors) wires))
   done ← feeding actors wires

@@ -15,7 +15,7 @@ use Rattle.pt_graph.specs.Limits.{too_many}
 use Rattle.pt_graph.specs.Ranges.{range_place}
 use Rattle.pt_graph.specs.Naming.{name_place}
 use Rattle.pt_graph.specs.Known.{repeated_place, unknown_place}
-use Rattle.pt_graph.specs.EndFaults.{joined, block_place}
+use Rattle.pt_graph.specs.EndFaults.{checked_ends, block_place}
 use Rattle.pt_graph.specs.Graphs.{actors_of, wires_of, links_of, graph_from}
 use Rattle.pt_types.specs.Limits.{most_graph_bytes}
 
@@ -35,7 +35,7 @@ checked d = do
 -- the graph of a document: first the checks of wires and links, with numbers for names, then that of blocks
 unfoldable pub built : List Named → Document → Result Graph GraphFault
 built blocks d = do
-  done ← joined (actors_of blocks d) (wires_of d) (links_of d)
+  done ← checked_ends (actors_of blocks d) (wires_of d) (links_of d)
   done ← refused (option_map fault.Block (block_place blocks d))
   Ok (graph_from blocks d)
 

@@ -24,7 +24,7 @@ use Rattle.pt_types.specs.Groups.{held}
 use Rattle.pt_types.specs.Ends.{hidden_wires}
 use Rattle.pt_blocks.specs.declared.blocks.Named.{Named}
 use Rattle.pt_blocks.specs.Blocks.{find_block, law_at}
-use Rattle.pt_graph.specs.Known.{number_in, itself, actor_name}
+use Rattle.pt_graph.specs.Known.{first_named, itself, name_of_actor}
 
 -- a number of the file as a natural number of 32 bits; numbers in their ranges fit
 abbrev pub small : ℤ → ℕ
@@ -35,14 +35,14 @@ abbrev pub number_or_0 : Option ℕ → ℕ
 number_or_0 n = held (unwrap_or n 0)
 
 -- the number and the law of the block with this name
-abbrev pub block_of : List Named → List ℕ → ℕ × Law
-block_of blocks name = (number_or_0 (find_block blocks name), unwrap_or (option_and_then (law_at blocks) (find_block blocks name)) Least)
+abbrev pub number_and_law : List Named → List ℕ → ℕ × Law
+number_and_law blocks name = (number_or_0 (find_block blocks name), unwrap_or (option_and_then (law_at blocks) (find_block blocks name)) Least)
 
 abbrev pub emit_from : ℤ × ℤ → ℕ × ℤ
 emit_from e = (small e.0, e.1)
 
 unfoldable pub row_from : List Named → RowText → MachineRow
-row_from blocks r = record { state = r.state; low = r.low; high = r.high; next = r.next; emit = option_map emit_from r.emit; guard = option_map (block_of blocks) r.guard }
+row_from blocks r = record { state = r.state; low = r.low; high = r.high; next = r.next; emit = option_map emit_from r.emit; guard = option_map (number_and_law blocks) r.guard }
 
 abbrev pub kind_from : List Named → KindText → Kind
 kind_from blocks (text.Sensor file bound) = kind.Sensor file (unsigned_abs bound)
@@ -61,7 +61,7 @@ kind_from blocks text.Sum = kind.Sum
 kind_from blocks text.Latch = kind.Latch
 kind_from blocks (text.Machine start outputs rows) = kind.Machine start (small outputs) (map (row_from blocks) rows)
 kind_from blocks (text.Every start period) = kind.Every (unsigned_abs start) (unsigned_abs period)
-kind_from blocks (text.Block block) = kind.Block (block_of blocks block).0 (block_of blocks block).1
+kind_from blocks (text.Block block) = kind.Block (number_and_law blocks block).0 (number_and_law blocks block).1
 kind_from blocks (text.Lanes cells) = kind.Lanes (map small cells)
 
 -- an actor with its name, the number of its platform, its kind and its visible ports
@@ -69,7 +69,7 @@ abbrev pub with_ports : List ℕ → ℕ → Kind → Actor
 with_ports name platform k = record { name = name; platform = platform; kind = k; inputs = held (visible_inputs k); outputs = held (visible_outputs k) }
 
 abbrev pub platform_number : List (List ℕ) → List ℕ → ℕ
-platform_number platforms n = number_or_0 (number_in itself platforms n)
+platform_number platforms n = number_or_0 (first_named itself platforms n)
 
 abbrev pub actor_from : List Named → List (List ℕ) → ActorText → Actor
 actor_from blocks platforms a = with_ports a.name (platform_number platforms a.platform) (kind_from blocks a.kind)
@@ -88,14 +88,14 @@ abbrev pub actors_of : List Named → Document → List Actor
 actors_of blocks d = map (actor_from blocks d.platforms) d.actors
 
 abbrev pub wires_of : Document → List Wire
-wires_of d = map (wire_from (number_in actor_name d.actors)) d.wires
+wires_of d = map (wire_from (first_named name_of_actor d.actors)) d.wires
 
 abbrev pub links_of : Document → List Link
-links_of d = map (link_from (number_in actor_name d.actors)) d.links
+links_of d = map (link_from (first_named name_of_actor d.actors)) d.links
 
 -- the graph with these numbers and parts
-unfoldable pub whole : Head → List (List ℕ) → List Actor → List Wire → List Link → List PairError → Graph
-whole head platforms actors wires links pairs = record {
+unfoldable pub whole_graph : Head → List (List ℕ) → List Actor → List Wire → List Link → List PairError → Graph
+whole_graph head platforms actors wires links pairs = record {
   until = unsigned_abs head.until;
   clock_error = unsigned_abs head.clock_error;
   platforms = platforms;
@@ -107,7 +107,7 @@ whole head platforms actors wires links pairs = record {
 
 -- the graph of these parts; hidden wires are last
 abbrev pub graph_with : Document → List Actor → List Wire → List Link → Graph
-graph_with d actors wires links = whole d.head d.platforms actors (wires ++ hidden_wires 0 actors) links (map (pair_from d.platforms) d.pairs)
+graph_with d actors wires links = whole_graph d.head d.platforms actors (wires ++ hidden_wires 0 actors) links (map (pair_from d.platforms) d.pairs)
 
 abbrev pub graph_from : List Named → Document → Graph
 graph_from blocks d = graph_with d (actors_of blocks d) (wires_of d) (links_of d)

@@ -28,6 +28,6 @@ abbrev pub FeedsTwice : List Wire → Twice → Type 0
 FeedsTwice wires twice.Memory = Unit {0}
 FeedsTwice wires (twice.At i) = fed_twice_from [] 0 wires ≡ Some i
 
-abbrev pub Feeds : {S : Type 0} → List Wire → Result (set.HashSet (ℕ × ℕ) S) Twice → Type 0
-Feeds wires (Ok s) = HasFed wires s
-Feeds wires (Err t) = FeedsTwice wires t
+abbrev pub IsFeedIndex : {S : Type 0} → List Wire → Result (set.HashSet (ℕ × ℕ) S) Twice → Type 0
+IsFeedIndex wires (Ok s) = HasFed wires s
+IsFeedIndex wires (Err t) = FeedsTwice wires t

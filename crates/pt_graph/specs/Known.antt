@@ -12,14 +12,14 @@ use Rattle.pt_graph.specs.Chains.{◌<|>◌, found, first_index}
 use Rattle.pt_types.specs.Lawful.{repeated_from}
 
 -- the number of the first item with this name
-abbrev pub number_in : {A : Type 0} → (A → List ℕ) → List A → List ℕ → Option ℕ
-number_in name_of xs n = position (λ x. bytes_eq (name_of x) n) xs
+abbrev pub first_named : {A : Type 0} → (A → List ℕ) → List A → List ℕ → Option ℕ
+first_named name_of xs n = position (λ x. bytes_eq (name_of x) n) xs
 
 abbrev pub itself : List ℕ → List ℕ
 itself n = n
 
-abbrev pub actor_name : ActorText → List ℕ
-actor_name a = a.name
+abbrev pub name_of_actor : ActorText → List ℕ
+name_of_actor a = a.name
 
 -- two pairs name the same platforms
 abbrev pub same_pair : PairText → PairText → Bool
@@ -33,11 +33,11 @@ pair_again_from seen i (p ∷ ps) = if list_any (same_pair p) seen then Some i e
 unfoldable pub repeated_place : Document → Option Place
 repeated_place d =
     found part.Platform (repeated_from itself [] 0 d.platforms)
-    <|> found part.Actor (repeated_from actor_name [] 0 d.actors)
+    <|> found part.Actor (repeated_from name_of_actor [] 0 d.actors)
     <|> found part.Pair (pair_again_from [] 0 d.pairs)
 
 abbrev pub is_platform : List (List ℕ) → List ℕ → Bool
-is_platform platforms n = is_some (number_in itself platforms n)
+is_platform platforms n = is_some (first_named itself platforms n)
 
 -- both names have a number
 abbrev pub is_known : (List ℕ → Option ℕ) → List ℕ → List ℕ → Bool
@@ -52,4 +52,4 @@ unknown_by numbers d =
     <|> found part.Pair (position (λ (p : PairText). not (is_platform d.platforms p.a && is_platform d.platforms p.b)) d.pairs)
 
 abbrev pub unknown_place : Document → Option Place
-unknown_place d = unknown_by (number_in actor_name d.actors) d
+unknown_place d = unknown_by (first_named name_of_actor d.actors) d

@@ -20,14 +20,14 @@ most_wires First = 1024
 most_wires Second = 4096
 
 -- the number of rows of a machine
-abbrev pub row_count : KindText → ℕ
-row_count (text.Machine start outputs rows) = length rows
-row_count _ = 0
+abbrev pub machine_row_count : KindText → ℕ
+machine_row_count (text.Machine start outputs rows) = length rows
+machine_row_count _ = 0
 
 -- the number of cells of lanes
-abbrev pub cell_count : KindText → ℕ
-cell_count (text.Lanes cells) = length cells
-cell_count _ = 0
+abbrev pub lane_cell_count : KindText → ℕ
+lane_cell_count (text.Lanes cells) = length cells
+lane_cell_count _ = 0
 
 -- the first array that is too long; the cells of all lanes are counted together
 unfoldable pub too_many : Document → Option GraphFault
@@ -37,6 +37,6 @@ too_many d =
     else if nat_lt (most_wires d.version) (length d.wires) then Some (fault.TooMany what.Wires)
     else if nat_lt 64 (length d.links) then Some (fault.TooMany what.Links)
     else if nat_lt 120 (length d.pairs) then Some (fault.TooMany what.Pairs)
-    else if list_any (λ (a : ActorText). nat_lt 64 (row_count a.kind)) d.actors then Some (fault.TooMany what.Rows)
-    else if nat_lt 1024 (sum (map (λ (a : ActorText). cell_count a.kind) d.actors)) then Some (fault.TooMany what.Cells)
+    else if list_any (λ (a : ActorText). nat_lt 64 (machine_row_count a.kind)) d.actors then Some (fault.TooMany what.Rows)
+    else if nat_lt 1024 (sum (map (λ (a : ActorText). lane_cell_count a.kind) d.actors)) then Some (fault.TooMany what.Cells)
     else None

@@ -17,8 +17,8 @@ use Rattle.pt_graph.specs.Chains.{◌<|>◌, found}
 use Rattle.pt_types.specs.Kinds.{is_between}
 
 -- a time: 0 to 10 ^ 15 microseconds
-abbrev pub is_time : ℤ → Bool
-is_time z = is_between (pos 0) (pos 1000000000000000) z
+abbrev pub is_time_number : ℤ → Bool
+is_time_number z = is_between (pos 0) (pos 1000000000000000) z
 
 abbrev pub emit_in_range : ℤ → Option (ℤ × ℤ) → Bool
 emit_in_range outputs None = true
@@ -32,14 +32,14 @@ abbrev pub sum_is_small : List ℤ → Bool
 sum_is_small cells = nat_le (sum (map unsigned_abs cells)) 8
 
 abbrev pub kind_in_range : KindText → Bool
-kind_in_range (text.Sensor file bound) = is_time bound
-kind_in_range (text.Send slack) = is_time slack
-kind_in_range (text.Actuator slack) = is_time slack
+kind_in_range (text.Sensor file bound) = is_time_number bound
+kind_in_range (text.Send slack) = is_time_number slack
+kind_in_range (text.Actuator slack) = is_time_number slack
 kind_in_range (text.Scale num den) = is_between (negsuc 999999999) (pos 1000000000) num && is_between (pos 1) (pos 1000000000) den
 kind_in_range (text.Merge n) = is_between (pos 2) (pos 8) n
-kind_in_range (text.Delay d) = is_time d
+kind_in_range (text.Delay d) = is_time_number d
 kind_in_range (text.Machine start outputs rows) = is_between (pos 1) (pos 8) outputs && list_all (row_in_range outputs) rows
-kind_in_range (text.Every start period) = is_time start && is_between (pos 1) (pos 1000000000000000) period
+kind_in_range (text.Every start period) = is_time_number start && is_between (pos 1) (pos 1000000000000000) period
 kind_in_range (text.Lanes cells) = nat_le 1 (length cells) && nat_le (length cells) 8 && list_all (is_between (pos 1) (pos 8)) cells && sum_is_small cells
 kind_in_range _ = true
 
@@ -48,10 +48,10 @@ wire_in_range w = is_between (pos 0) (pos 7) w.output && is_between (pos 0) (pos
 
 -- the clock error is a time, and the pair is of two different platforms
 abbrev pub pair_in_range : PairText → Bool
-pair_in_range p = is_time p.error && not (bytes_eq p.a p.b)
+pair_in_range p = is_time_number p.error && not (bytes_eq p.a p.b)
 
 abbrev pub head_in_range : Head → Bool
-head_in_range h = is_between (pos 1) (pos 2) h.version && is_time h.until && is_time h.clock_error
+head_in_range h = is_between (pos 1) (pos 2) h.version && is_time_number h.until && is_time_number h.clock_error
 
 -- the top object, if one of its numbers is out of range or there is no platform
 abbrev pub top_range : Document → Option Place
@@ -62,5 +62,5 @@ range_place d =
     top_range d
     <|> found part.Actor (position (λ (a : ActorText). not (kind_in_range a.kind)) d.actors)
     <|> found part.Wire (position (λ w. not (wire_in_range w)) d.wires)
-    <|> found part.Link (position (λ (l : LinkText). not (is_time l.delay)) d.links)
+    <|> found part.Link (position (λ (l : LinkText). not (is_time_number l.delay)) d.links)
     <|> found part.Pair (position (λ p. not (pair_in_range p)) d.pairs)

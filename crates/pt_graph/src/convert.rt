@@ -5,7 +5,7 @@ ghost use Rattle.pt_types.specs.declared.kind.Law.TheVariants.{Least};
 ghost use Rattle.pt_blocks.specs.Blocks.{law_at};
 ghost use Rattle.pt_graph_text.specs.declared.kinds.KindText.TheVariants as text;
 ghost use Rattle.pt_graph.specs.Index.{at_name};
-ghost use Rattle.pt_graph.specs.Graphs.{small, number_or_0, block_of, emit_from, row_from, kind_from, with_ports, platform_number, actor_from, wire_from, link_from, pair_from, actors_of, is_number_kind};
+ghost use Rattle.pt_graph.specs.Graphs.{small, number_or_0, number_and_law, emit_from, row_from, kind_from, with_ports, platform_number, actor_from, wire_from, link_from, pair_from, actors_of, is_number_kind};
 
 use crate::blocks::find;
 use crate::known::{index_of, number_at};
@@ -143,7 +143,7 @@ fn emit_from(emit: Option<(i64, i64)>) -> Option<(u32, i64)>
 }
 
 fn guard_from(listed: &[Named], guard: &Option<Name>) -> Option<(u32, Law)>
-    ensures { result ≡ option_map (block_of listed.now) guard.now }
+    ensures { result ≡ option_map (number_and_law listed.now) guard.now }
 {
     match guard {
         Some(name) => Some(block_of(listed, name)),
@@ -153,7 +153,7 @@ fn guard_from(listed: &[Named], guard: &Option<Name>) -> Option<(u32, Law)>
 
 /// The number and the law of the block with this name.
 fn block_of(listed: &[Named], name: &Name) -> (u32, Law)
-    ensures { result ≡ block_of listed.now name.now }
+    ensures { result ≡ number_and_law listed.now name.now }
 {
     let number = find(listed, name);
     (number_or_0(number), law_of(listed, number))

@@ -7,7 +7,7 @@ ghost use Rattle.pt_types.specs.Ends.{ends_fit, stays_home, unfed_from, first_un
 ghost use Rattle.pt_graph_text.specs.declared.fault.GraphFault.TheVariants as fault;
 ghost use Rattle.pt_graph_text.specs.declared.fault.Part.TheVariants as part;
 ghost use Rattle.pt_graph.specs.Chains.{found, refused};
-ghost use Rattle.pt_graph.specs.EndFaults.{bad_wire, unfed_at, link_place, feeding, joined};
+ghost use Rattle.pt_graph.specs.EndFaults.{bad_wire, unfed_at, link_place, feeding, checked_ends};
 ghost use Rattle.pt_graph.specs.Index.{has_input};
 ghost use Rattle.pt_graph_text.specs.Faults.{Gives};
 
@@ -19,14 +19,14 @@ use std::alloc::{AllocError, Global};
 use std::collections::HashSet;
 
 /// Checks the wires and links.
-#[tactic(auto, unfolding(crate::specs::EndFaults::joined))]
+#[tactic(auto, unfolding(crate::specs::EndFaults::checked_ends))]
 pub fn check_ends(
     alloc: Global,
     actors: &[Actor],
     wires: &[Wire],
     links: &[Link],
 ) -> Result<(), GraphFault>
-    ensures { Gives (joined actors.now wires.now links.now) result }
+    ensures { Gives (checked_ends actors.now wires.now links.now) result }
 {
     refuse(wire_end(actors, wires))?;
     refuse(cross_wire(actors, wires))?;

@@ -2,8 +2,8 @@
 
 ghost use Rattle.std.specs.Prelude.{◌≡◌, ℕ, [], IfOk};
 ghost use Rattle.pt_types.specs.Lawful.{repeated_from};
-ghost use Rattle.pt_graph.specs.Known.{number_in};
-ghost use Rattle.pt_graph.specs.Index.{at_name, Feeds};
+ghost use Rattle.pt_graph.specs.Known.{first_named};
+ghost use Rattle.pt_graph.specs.Index.{at_name, IsFeedIndex};
 
 use crate::known::Named;
 use pt_types::Wire;
@@ -15,7 +15,7 @@ pub fn numbers<'a, T: Named>(
     alloc: Global,
     items: &'a [T],
 ) -> Result<BTreeMap<&'a str, usize>, AllocError>
-    ensures { IfOk result (λ m. at_name m ≡ number_in T.name_of items.now) }
+    ensures { IfOk result (λ m. at_name m ≡ first_named T.name_of items.now) }
 {
     let mut numbers = BTreeMap::new(alloc);
     for (i, item) in items.iter().enumerate() {
@@ -52,7 +52,7 @@ pub enum Twice {
 
 /// The inputs to which wires lead, each as an actor and the input's number.
 pub fn fed_inputs(alloc: Global, wires: &[Wire]) -> Result<HashSet<(usize, u32)>, Twice>
-    ensures { Feeds wires.now result }
+    ensures { IsFeedIndex wires.now result }
 {
     let mut fed = HashSet::new(alloc);
     for (i, wire) in wires.iter().enumerate() {

@@ -9,7 +9,7 @@ ghost use Rattle.pt_graph_text.specs.declared.document.ActorText.{ActorText};
 ghost use Rattle.pt_graph_text.specs.declared.document.LinkText.{LinkText};
 ghost use Rattle.pt_graph_text.specs.declared.document.WireText.{WireText};
 ghost use Rattle.pt_graph_text.specs.declared.document.PairText.{PairText};
-ghost use Rattle.pt_graph.specs.Known.{number_in, itself, actor_name, same_pair, pair_again_from, repeated_place, is_platform, is_known, unknown_by};
+ghost use Rattle.pt_graph.specs.Known.{first_named, itself, name_of_actor, same_pair, pair_again_from, repeated_place, is_platform, is_known, unknown_by};
 
 use crate::index::repeated;
 use crate::ranges::found;
@@ -37,9 +37,9 @@ impl Named for Name {
 }
 
 impl Named for ActorText {
-    ghost use Rattle.pt_graph.specs.Known.{actor_name};
+    ghost use Rattle.pt_graph.specs.Known.{name_of_actor};
 
-    ghost name_of = { actor_name };
+    ghost name_of = { name_of_actor };
 
     fn name(&self) -> &str {
         self.name.as_str()
@@ -170,7 +170,7 @@ fn is_platform(platforms: &List<Name>, name: &Name) -> bool
 
 /// The index of the first item with this name.
 pub fn index_of<T: Named>(items: &[T], name: &str) -> Option<usize>
-    ensures { result ≡ number_in T.name_of items.now name.now }
+    ensures { result ≡ first_named T.name_of items.now name.now }
 {
     items.iter().position(|item| item.name() == name)
 }

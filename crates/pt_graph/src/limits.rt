@@ -3,7 +3,7 @@
 ghost use Rattle.std.specs.Prelude.{◌≡◌, nat_lt, map, sum, min, ◌-◌, ◌^◌};
 ghost use Rattle.std.specs.List.{list_any};
 ghost use Rattle.pt_graph_text.specs.declared.document.ActorText.{ActorText};
-ghost use Rattle.pt_graph.specs.Limits.{too_many, most_actors, most_wires, row_count, cell_count};
+ghost use Rattle.pt_graph.specs.Limits.{too_many, most_actors, most_wires, machine_row_count, lane_cell_count};
 
 use pt_graph_text::{ActorText, Document, GraphFault, KindText, Version, What};
 
@@ -50,13 +50,13 @@ fn most_wires(version: Version) -> usize
 }
 
 fn has_many_rows(actors: &[ActorText]) -> bool
-    ensures { result ≡ list_any (λ (a : ActorText). nat_lt 64 (row_count a.kind)) actors.now }
+    ensures { result ≡ list_any (λ (a : ActorText). nat_lt 64 (machine_row_count a.kind)) actors.now }
 {
     actors.iter().any(|actor| row_count(&actor.kind) > 64)
 }
 
 fn row_count(kind: &KindText) -> usize
-    ensures { result ≡ row_count kind.now }
+    ensures { result ≡ machine_row_count kind.now }
 {
     match kind {
         KindText::Machine { rows, .. } => rows.as_slice().len(),
@@ -65,14 +65,14 @@ fn row_count(kind: &KindText) -> usize
 }
 
 fn has_many_cells(actors: &[ActorText]) -> bool
-    ensures { result ≡ nat_lt 1024 (sum (map (λ (a : ActorText). cell_count a.kind) actors.now)) }
+    ensures { result ≡ nat_lt 1024 (sum (map (λ (a : ActorText). lane_cell_count a.kind) actors.now)) }
 {
     cells_of_all(actors) > 1024
 }
 
 /// The number of cells of all lanes, at most the greatest `usize`.
 fn cells_of_all(actors: &[ActorText]) -> usize
-    ensures { result ≡ min (sum (map (λ (a : ActorText). cell_count a.kind) actors.now)) (2 ^ 64 - 1) }
+    ensures { result ≡ min (sum (map (λ (a : ActorText). lane_cell_count a.kind) actors.now)) (2 ^ 64 - 1) }
 {
     let mut total: usize = 0;
     for actor in actors {
@@ -82,7 +82,7 @@ fn cells_of_all(actors: &[ActorText]) -> usize
 }
 
 fn cell_count(kind: &KindText) -> usize
-    ensures { result ≡ cell_count kind.now }
+    ensures { result ≡ lane_cell_count kind.now }
 {
     match kind {
         KindText::Lanes { cells } => cells.as_slice().len(),

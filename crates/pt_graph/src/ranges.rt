@@ -6,7 +6,7 @@ ghost use Rattle.pt_types.specs.Kinds.{is_between};
 ghost use Rattle.pt_graph_text.specs.declared.document.ActorText.{ActorText};
 ghost use Rattle.pt_graph_text.specs.declared.document.LinkText.{LinkText};
 ghost use Rattle.pt_graph.specs.Chains.{found};
-ghost use Rattle.pt_graph.specs.Ranges.{is_time, top_range, range_place, head_in_range, kind_in_range, row_in_range, wire_in_range, pair_in_range, sum_is_small};
+ghost use Rattle.pt_graph.specs.Ranges.{is_time_number, top_range, range_place, head_in_range, kind_in_range, row_in_range, wire_in_range, pair_in_range, sum_is_small};
 
 use pt_graph_text::{
     ActorText, Document, Head, KindText, LinkText, PairText, Part, Place, RowText, WireText, place,
@@ -60,7 +60,7 @@ fn odd_wire(wires: &List<WireText>) -> Option<usize>
 }
 
 fn odd_link(links: &List<LinkText>) -> Option<usize>
-    ensures { result ≡ position (λ (l : LinkText). not (is_time l.delay)) links.now }
+    ensures { result ≡ position (λ (l : LinkText). not (is_time_number l.delay)) links.now }
 {
     links.as_slice().iter().position(|l| !is_time(l.delay))
 }
@@ -78,7 +78,7 @@ fn is_between(low: i64, high: i64, number: i64) -> bool
 }
 
 fn is_time(number: i64) -> bool
-    ensures { result ≡ is_time number }
+    ensures { result ≡ is_time_number number }
 {
     is_between(0, MOST_TIME, number)
 }

@@ -11,7 +11,7 @@ ghost use Rattle.pt_graph.specs.Known.{repeated_place, unknown_by};
 ghost use Rattle.pt_graph.specs.Index.{at_name};
 ghost use Rattle.pt_graph.specs.Checking.{document_of_bytes, GivesNumbers, GivesWiring};
 ghost use Rattle.pt_graph.specs.EndFaults.{block_place};
-ghost use Rattle.pt_graph.specs.Graphs.{actors_of, wires_of, links_of, graph_with, whole};
+ghost use Rattle.pt_graph.specs.Graphs.{actors_of, wires_of, links_of, graph_with, whole_graph};
 ghost use Rattle.pt_graph.specs.GraphOf.{built, graph_in, graph_of};
 
 use crate::blocks::block_place;
@@ -178,7 +178,7 @@ fn graph(
     Ok(whole(head, platforms, actors, wires, links, clock_errors))
 }
 
-#[tactic(auto, unfolding(crate::specs::Graphs::whole))]
+#[tactic(auto, unfolding(crate::specs::Graphs::whole_graph))]
 fn whole(
     head: Head,
     platforms: List<Name>,
@@ -187,7 +187,7 @@ fn whole(
     links: Vec<Link>,
     clock_errors: Vec<PairError>,
 ) -> Graph
-    ensures { result ≡ whole head platforms actors.items wires.items links.items clock_errors.items }
+    ensures { result ≡ whole_graph head platforms actors.items wires.items links.items clock_errors.items }
 {
     Graph {
         until: head.until.unsigned_abs(),

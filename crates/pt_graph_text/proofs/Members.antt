@@ -12,7 +12,7 @@ use Rattle.json.specs.declared.token.Token.{Token as Handed}
 use Rattle.json.specs.declared.token.Token.TheVariants.{BeginObject, EndObject, BeginArray, EndArray, Key, String, Number, Bool, Null, Bad}
 use Rattle.serde_json.specs.Data.{Data, Num, number, array, Items, Members, no_members, member, put}
 use Rattle.serde_json.specs.Read.{number_of, of_json, of_items, converted}
-use Rattle.pt_graph_text.specs.Apart.{hollow, hollow_members, emptied, members_in}
+use Rattle.pt_graph_text.specs.Apart.{hollow, hollow_members, without_items, members_in}
 use Rattle.pt_graph_text.proofs.Turns.{converted_some}
 
 hollow-match_ordering : (o : Ordering) (a b c : Members) → hollow_members (match_ordering o a b c) ≡ match_ordering o (hollow_members a) (hollow_members b) (hollow_members c)
@@ -70,7 +70,7 @@ reads_plain zero t ts e = reads_no_object (λ ts. None) (λ ts. None) t ts e
 reads_plain (suc d) t ts e = reads_no_object (λ ts. json.items (value d) (length ts) ts) (λ ts. json.members (value d) (length ts) ts) t ts e
 
 abbrev pub HasNoMembers : Data → Type 0
-HasNoMembers d = (emptied d ≡ d) × (members_in d ≡ no_members)
+HasNoMembers d = (without_items d ≡ d) × (members_in d ≡ no_members)
 
 abbrev HaveNone : Option Data → Type 0
 HaveNone None = ⊤

@@ -37,13 +37,13 @@ and_part (Ok front) (Some x) = Ok (front ++ x ∷ [])
 and_part (Err i) part = Err i
 
 -- an object without the items of its arrays; any other value as it is
-abbrev pub emptied : Data → Data
-emptied null = null
-emptied (boolean b) = boolean b
-emptied (number n) = number n
-emptied (string s) = string s
-emptied (array ds) = array ds
-emptied (object ms) = object (hollow_members ms)
+abbrev pub without_items : Data → Data
+without_items null = null
+without_items (boolean b) = boolean b
+without_items (number n) = number n
+without_items (string s) = string s
+without_items (array ds) = array ds
+without_items (object ms) = object (hollow_members ms)
 
 -- the members of an object; none if the value is not an object
 abbrev pub members_in : Data → Members

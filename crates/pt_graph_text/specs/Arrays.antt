@@ -4,7 +4,7 @@ use Rattle.serde_json.specs.Data.{Data, Members}
 use Rattle.serde_json.specs.Find.{as_str}
 use Rattle.pt_graph_text.specs.Apart.{list_at}
 use Rattle.pt_graph_text.specs.Documents.{actor_of, wire_of, link_of, pair_of}
-use Rattle.pt_graph_text.specs.Faults.{◌>>=◌, or_fault, parts, top}
+use Rattle.pt_graph_text.specs.Faults.{◌>>=◌, or_fault, array_parts, top}
 use Rattle.pt_graph_text.specs.Whole.{head_of}
 use Rattle.pt_graph_text.specs.declared.fault.Part.TheVariants as part
 use Rattle.pt_graph_text.specs.declared.fault.GraphFault.{GraphFault}
@@ -38,9 +38,9 @@ document_with v left a = do
   wires ← or_fault (fault.Member top) a.wires
   links ← or_fault (fault.Member top) a.links
   pairs ← or_fault (fault.Member top) (pairs_in v a.pairs)
-  platforms ← parts part.Platform platforms
-  actors ← parts part.Actor actors
-  wires ← parts part.Wire wires
-  links ← parts part.Link links
-  pairs ← parts part.Pair pairs
+  platforms ← array_parts part.Platform platforms
+  actors ← array_parts part.Actor actors
+  wires ← array_parts part.Wire wires
+  links ← array_parts part.Link links
+  pairs ← array_parts part.Pair pairs
   Ok (record { version = v; head = head; platforms = platforms; actors = actors; wires = wires; links = links; pairs = pairs })

@@ -23,9 +23,9 @@ Decodes o (Ok x) = o ≡ Some x
 Decodes o (Err e) = Fails o e
 
 -- the value, if a test is true
-abbrev pub only : {A : Type 0} → Bool → Option A → Option A
-only true o = o
-only false o = None
+abbrev pub only_if : {A : Type 0} → Bool → Option A → Option A
+only_if true o = o
+only_if false o = None
 
 abbrev pub whole : Data → Option ℤ
 whole d = option_and_then as_i64 (as_number d)

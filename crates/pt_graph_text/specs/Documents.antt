@@ -2,8 +2,8 @@
 use Rattle.std.specs.Prelude.{Option, Some, codes}
 use Rattle.serde_json.specs.Data.{Data}
 use Rattle.serde_json.specs.Find.{as_str}
-use Rattle.pt_graph_text.specs.Decoding.{◌>>=◌, only, field, place, whole, has_members, has_items}
-use Rattle.pt_graph_text.specs.Kinds.{kind_of}
+use Rattle.pt_graph_text.specs.Decoding.{◌>>=◌, only_if, field, place, whole, has_members, has_items}
+use Rattle.pt_graph_text.specs.Kinds.{kind_text_of}
 use Rattle.pt_graph_text.specs.declared.version.Version.{Version}
 use Rattle.pt_graph_text.specs.declared.document.LinkText.{LinkText}
 use Rattle.pt_graph_text.specs.declared.document.WireText.{WireText}
@@ -11,14 +11,14 @@ use Rattle.pt_graph_text.specs.declared.document.PairText.{PairText}
 use Rattle.pt_graph_text.specs.declared.document.ActorText.{ActorText}
 
 unfoldable pub link_of : Version → Data → Option LinkText
-link_of v d = only (has_members 3 d) (do
+link_of v d = only_if (has_members 3 d) (do
   from ← field as_str (codes "from") d
   to ← field as_str (codes "to") d
   delay ← field whole (codes "delay") d
   Some (record { from = from; to = to; delay = delay }))
 
 unfoldable pub wire_of : Version → Data → Option WireText
-wire_of v d = only (has_items 4 d) (do
+wire_of v d = only_if (has_items 4 d) (do
   from ← place as_str 0 d
   output ← place whole 1 d
   to ← place as_str 2 d
@@ -26,7 +26,7 @@ wire_of v d = only (has_items 4 d) (do
   Some (record { from = from; output = output; to = to; input = input }))
 
 unfoldable pub pair_of : Version → Data → Option PairText
-pair_of v d = only (has_items 3 d) (do
+pair_of v d = only_if (has_items 3 d) (do
   a ← place as_str 0 d
   b ← place as_str 1 d
   error ← place whole 2 d
@@ -37,5 +37,5 @@ actor_of v d = do
   word ← field as_str (codes "kind") d
   name ← field as_str (codes "name") d
   platform ← field as_str (codes "platform") d
-  kind ← kind_of v word d
+  kind ← kind_text_of v word d
   Some (record { name = name; platform = platform; kind = kind })

@@ -29,6 +29,6 @@ or_fault e None = Err e
 or_fault e (Some x) = Ok x
 
 -- the parts of an array, or the fault of the first that could not be decoded
-abbrev pub parts : {A : Type 0} → Part → Result A ℕ → Result A GraphFault
-parts p (Ok xs) = Ok xs
-parts p (Err i) = Err (fault.Member (at p i))
+abbrev pub array_parts : {A : Type 0} → Part → Result A ℕ → Result A GraphFault
+array_parts p (Ok xs) = Ok xs
+array_parts p (Err i) = Err (fault.Member (at p i))

@@ -4,10 +4,10 @@ use Rattle.serde_json.specs.Data.{Data, Items, no_items}
 use Rattle.serde_json.specs.Find.{get, as_str, as_array}
 use Rattle.serde_json.specs.Read.{read}
 use Rattle.pt_graph_text.specs.Decoding as decoding
-use Rattle.pt_graph_text.specs.Decoding.{only, field, whole, has_members, each_from}
+use Rattle.pt_graph_text.specs.Decoding.{only_if, field, whole, has_members, each_from}
 use Rattle.pt_graph_text.specs.Versions.{version_of}
 use Rattle.pt_graph_text.specs.Documents.{actor_of, wire_of, link_of, pair_of}
-use Rattle.pt_graph_text.specs.Faults.{◌>>=◌, or_fault, parts, top}
+use Rattle.pt_graph_text.specs.Faults.{◌>>=◌, or_fault, array_parts, top}
 use Rattle.pt_graph_text.specs.declared.fault.Part.TheVariants as part
 use Rattle.pt_graph_text.specs.declared.fault.GraphFault.{GraphFault}
 use Rattle.pt_graph_text.specs.declared.fault.GraphFault.TheVariants as fault
@@ -23,7 +23,7 @@ top_members Second = 8
 
 -- the numbers of the top object
 unfoldable pub head_of : Version → Data → Option Head
-head_of v d = only (has_members (top_members v) d)
+head_of v d = only_if (has_members (top_members v) d)
     (decoding.◌>>=◌ (field whole (codes "ptides") d) (λ version.
     decoding.◌>>=◌ (field whole (codes "until") d) (λ until.
     decoding.◌>>=◌ (field whole (codes "clock_error") d) (λ clock_error.
@@ -46,11 +46,11 @@ document_in v d = do
   wires ← or_fault (fault.Member top) (array (codes "wires") d)
   links ← or_fault (fault.Member top) (array (codes "links") d)
   pairs ← or_fault (fault.Member top) (pairs_of v d)
-  platforms ← parts part.Platform (each_from as_str 0 platforms)
-  actors ← parts part.Actor (each_from (actor_of v) 0 actors)
-  wires ← parts part.Wire (each_from (wire_of v) 0 wires)
-  links ← parts part.Link (each_from (link_of v) 0 links)
-  pairs ← parts part.Pair (each_from (pair_of v) 0 pairs)
+  platforms ← array_parts part.Platform (each_from as_str 0 platforms)
+  actors ← array_parts part.Actor (each_from (actor_of v) 0 actors)
+  wires ← array_parts part.Wire (each_from (wire_of v) 0 wires)
+  links ← array_parts part.Link (each_from (link_of v) 0 links)
+  pairs ← array_parts part.Pair (each_from (pair_of v) 0 pairs)
   Ok (record { version = v; head = head; platforms = platforms; actors = actors; wires = wires; links = links; pairs = pairs })
 
 abbrev pub document_of : Data → Result Document GraphFault

@@ -152,11 +152,11 @@ fn row_members(version: Version, value: &Value) -> usize
 }
 
 impl Decode for RowText {
-    ghost use Rattle.pt_graph_text.specs.Rows.{row_of};
+    ghost use Rattle.pt_graph_text.specs.Rows.{row_text_of};
 
-    ghost decoded = { row_of };
+    ghost decoded = { row_text_of };
 
-    #[tactic(auto, unfolding(crate::specs::Rows::row_of))]
+    #[tactic(auto, unfolding(crate::specs::Rows::row_text_of))]
     fn decode(alloc: Global, version: Version, value: &Value) -> Result<RowText, Misfit> {
         if !has_members(value, row_members(version, value)) {
             return Err(Misfit::Member);

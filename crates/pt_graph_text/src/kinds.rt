@@ -3,7 +3,7 @@
 ghost use Rattle.std.specs.Prelude.{◌≡◌};
 ghost use Rattle.serde_json.specs.View.{view};
 ghost use Rattle.pt_graph_text.specs.Decoding.{Decodes};
-ghost use Rattle.pt_graph_text.specs.Kinds.{kind_of, number_kind_of, other_kind_of, plain_of, sensor_of, send_of, actuator_of, every_of, delay_of, scale_of, shift_of, above_of, merge_of, machine_of, block_of, lanes_of};
+ghost use Rattle.pt_graph_text.specs.Kinds.{kind_text_of, number_kind_of, other_kind_of, plain_of, sensor_of, send_of, actuator_of, every_of, delay_of, scale_of, shift_of, above_of, merge_of, machine_of, block_of, lanes_of};
 
 use crate::decode::{Misfit, has_members, member};
 use crate::document::RowText;
@@ -65,14 +65,14 @@ pub enum KindText {
 }
 
 /// The kind with this word, with its members.
-#[tactic(auto, unfolding(crate::specs::Kinds::kind_of))]
+#[tactic(auto, unfolding(crate::specs::Kinds::kind_text_of))]
 pub fn kind_of(
     alloc: Global,
     version: Version,
     word: &str,
     value: &Value,
 ) -> Result<KindText, Misfit>
-    ensures { Decodes (kind_of version word.now (view value.now)) result }
+    ensures { Decodes (kind_text_of version word.now (view value.now)) result }
 {
     match word {
         "sensor" => sensor_of(alloc, version, value),

@@ -5,7 +5,7 @@ ghost use Rattle.json.specs.Json.{value, members};
 ghost use Rattle.serde_json.specs.Data.{Data, Members, no_members, object as object_of, put};
 ghost use Rattle.serde_json.specs.Read.{of_json, of_members, converted};
 ghost use Rattle.serde_json.specs.View.{view};
-ghost use Rattle.pt_graph_text.specs.Apart.{hollow, hollow_members, emptied, members_in};
+ghost use Rattle.pt_graph_text.specs.Apart.{hollow, hollow_members, without_items, members_in};
 ghost use Rattle.pt_graph_text.specs.declared.version.Version.{Version};
 
 use crate::reading::{Unread, value_from};
@@ -58,7 +58,7 @@ pub fn read_object<L: Lists>(
 ) -> Result<Object<L>, Unread>
     ensures ok { IfOk result
         (λ object. (d : Data) × (converted of_json (value depth reader.old) ≡ Some (d, reader.new))
-        × (view object.left ≡ emptied d) × (object.lists ≡ L.lists_of version (members_in d))) }
+        × (view object.left ≡ without_items d) × (object.lists ≡ L.lists_of version (members_in d))) }
     ensures shorter { OnOk result (length reader.new < length reader.old) }
     ensures err { result ≡ Err Unread.NotJson
         → converted of_json (value depth reader.old) ≡ None }

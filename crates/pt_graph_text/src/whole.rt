@@ -5,8 +5,8 @@ ghost use Rattle.serde_json.specs.Data.{Data};
 ghost use Rattle.serde_json.specs.Read.{read};
 ghost use Rattle.serde_json.specs.View.{view};
 ghost use Rattle.pt_graph_text.specs.Decoding.{Decodes};
-ghost use Rattle.pt_graph_text.specs.Faults.{Gives, at, or_fault, top, parts};
-ghost use Rattle.pt_graph_text.specs.Apart.{emptied, members_in};
+ghost use Rattle.pt_graph_text.specs.Faults.{Gives, at, or_fault, top, array_parts};
+ghost use Rattle.pt_graph_text.specs.Apart.{without_items, members_in};
 ghost use Rattle.pt_graph_text.specs.Arrays.{arrays_of, pairs_in, document_with};
 ghost use Rattle.pt_graph_text.specs.Whole.{head_of, top_members, document_of_text};
 
@@ -56,7 +56,7 @@ pub fn read_document(alloc: Global, text: &str) -> Result<Document, GraphFault>
 /// Reads the top object, with its arrays decoded as in this version.
 fn read_top(alloc: Global, version: Version, text: &str) -> Result<Object<Arrays>, GraphFault>
     ensures ok { IfOk result
-        (λ object. (d : Data) × (read text.now ≡ Some d) × (view object.left ≡ emptied d)
+        (λ object. (d : Data) × (read text.now ≡ Some d) × (view object.left ≡ without_items d)
         × (object.lists ≡ arrays_of version (members_in d))) }
     ensures err { IfErr result
         (λ e. e ≢ GraphFault.Memory → (e ≡ GraphFault.NotJson) × (read text.now ≡ None)) }
@@ -159,7 +159,7 @@ fn top<T>(listed: Option<Listed<T>>) -> Result<Listed<T>, GraphFault>
 
 /// The parts of an array, or the place of the first that could not be decoded.
 fn within<T>(part: Part, listed: Listed<T>) -> Result<List<T>, GraphFault>
-    ensures { result ≡ parts part listed }
+    ensures { result ≡ array_parts part listed }
 {
     match listed {
         Ok(parts) => Ok(parts),

@@ -27,9 +27,9 @@ use Rattle.pt_graph_text.specs.Whole.{document_of, document_in, head_of}
 use Rattle.pt_graph_text.specs.Faults.{◌>>=◌, or_fault, at}
 use Rattle.pt_graph.specs.Chains.{refused}
 use Rattle.pt_graph.specs.Limits.{most_actors}
-use Rattle.pt_graph.specs.Ranges.{is_time, head_in_range}
-use Rattle.pt_graph.specs.Known.{number_in, actor_name as text_name}
-use Rattle.pt_graph.specs.EndFaults.{joined, has_blocks, block_place}
+use Rattle.pt_graph.specs.Ranges.{is_time_number, head_in_range}
+use Rattle.pt_graph.specs.Known.{first_named, name_of_actor as text_name}
+use Rattle.pt_graph.specs.EndFaults.{checked_ends, has_blocks, block_place}
 use Rattle.pt_graph.specs.Graphs.{actor_from, wire_from, link_from, pair_from, actors_of, wires_of, links_of, graph_from}
 use Rattle.pt_graph.specs.Graphs as graphs
 use Rattle.pt_graph.specs.GraphOf.{graph_of, graph_in, checked, built, json_of}
@@ -70,7 +70,7 @@ same_graph g h e = cc
 built_from : (blocks : List Named) (d : Document) (g : Graph) → built blocks d ≡ Ok g → BuiltFrom blocks d g
 unfolding built
 built_from blocks d g h =
-    let a = both_ok (joined (actors_of blocks d) (wires_of d) (links_of d)) (λ done. refused (option_map fault.Block (block_place blocks d)) >>= (λ done. Ok (graph_from blocks d))) g h in
+    let a = both_ok (checked_ends (actors_of blocks d) (wires_of d) (links_of d)) (λ done. refused (option_map fault.Block (block_place blocks d)) >>= (λ done. Ok (graph_from blocks d))) g h in
     let b = both_ok (refused (option_map fault.Block (block_place blocks d))) (λ done. Ok (graph_from blocks d)) g a.2 in
     let none = none_mapped fault.Block (block_place blocks d) (none_refused (option_map fault.Block (block_place blocks d)) b.0 b.1) in
     let lost = position (λ (a : ActorText). not (has_blocks blocks a.kind)) d.actors in
@@ -104,7 +104,7 @@ record IsFrom (g : Graph) (blocks : List Named) (d : Document) : Type 0 where
   pairs : g.clock_errors ≡ map (pair_from d.platforms) d.pairs
 
 is_from : (blocks : List Named) (d : Document) → IsFrom (graph_from blocks d) blocks d
-unfolding graphs.whole
+unfolding graphs.whole_graph
 is_from blocks d = record { until = refl; clock_error = refl; platforms = refl; actors = refl; wires = refl; links = refl; pairs = refl }
 
 -- the written value has these parts
@@ -124,11 +124,11 @@ has_outputs blocks platforms actors i less =
     let it = mapped_at (actor_from blocks platforms) actors i (actor_at turned i) (slice_get-get_or turned i no_actor less) in
     subst (λ (a : Actor). a.outputs ≡ held (visible_outputs a.kind)) it.2 refl
 
-head_times : (d : Document) → (head_in_range d.head && not (length d.platforms == 0)) ≡ true → (is_time d.head.until ≡ true) × (is_time d.head.clock_error ≡ true)
+head_times : (d : Document) → (head_in_range d.head && not (length d.platforms == 0)) ≡ true → (is_time_number d.head.until ≡ true) × (is_time_number d.head.clock_error ≡ true)
 head_times d h =
     let parts = and_parts (head_in_range d.head) (not (length d.platforms == 0)) h in
-    let two = and_parts (is_between (pos 1) (pos 2) d.head.version && is_time d.head.until) (is_time d.head.clock_error) parts.0 in
-    let one = and_parts (is_between (pos 1) (pos 2) d.head.version) (is_time d.head.until) two.0 in
+    let two = and_parts (is_between (pos 1) (pos 2) d.head.version && is_time_number d.head.until) (is_time_number d.head.clock_error) parts.0 in
+    let one = and_parts (is_between (pos 1) (pos 2) d.head.version) (is_time_number d.head.until) two.0 in
     (one.1, two.1)
 
 most_actors_are : (v : Version) (n : ℕ) → nat_lt (most_actors v) n ≡ false → n ≤ 1024
@@ -148,7 +148,7 @@ document_back blocks g source few fit =
     let few_turned : length (actors_of blocks d) ≤ 1024 = omega (arith, length_map (actor_from blocks d.platforms) d.actors) in
     let has : Has g blocks d.platforms d.actors = record { platforms_are = parts.platforms; actors_are = parts.actors; few_platforms = few_platforms; few_actors = few_actors } in
     let wires : visible_wires g ≡ wires_of d = rw (parts.actors, parts.wires) (visible_only (actors_of blocks d) (wires_of d) few_turned (has_outputs blocks d.platforms d.actors) source.joins.ends) in
-    let numbers = number_in text_name d.actors in
+    let numbers = first_named text_name d.actors in
     let fits_turned : list_all (λ (a : Actor). kind_fits a.kind) (map (actor_from blocks d.platforms) d.actors) ≡ true = rw parts.actors at fit in
     let actors = each_turned (actor_of Second) (actor_data g blocks) (actor_from blocks d.platforms) d.actors (actors_back g blocks d.platforms d.actors has (blocks_back blocks few) d.actors ranges.actors fits_turned source.blocks_known known.actors) in
     let wires_read = each_turned (wire_of Second) (wire_data g) (wire_from numbers) d.wires (wires_back g blocks d.platforms d.actors has d.wires ranges.wires known.wires) in

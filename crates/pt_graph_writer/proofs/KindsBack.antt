@@ -11,10 +11,10 @@ use Rattle.pt_graph_text.specs.declared.document.ActorText.{ActorText}
 use Rattle.pt_graph_text.specs.declared.kinds.KindText.{KindText}
 use Rattle.pt_graph_text.specs.declared.kinds.KindText.TheVariants as text
 use Rattle.pt_graph_text.specs.Decoding.{whole}
-use Rattle.pt_graph_text.specs.Rows.{row_of, emit_of}
-use Rattle.pt_graph_text.specs.Kinds.{kind_of, number_kind_of, other_kind_of, sensor_of, send_of, actuator_of, every_of, delay_of, scale_of, shift_of, above_of, merge_of, machine_of, block_of, lanes_of}
+use Rattle.pt_graph_text.specs.Rows.{row_text_of, emit_of}
+use Rattle.pt_graph_text.specs.Kinds.{kind_text_of, number_kind_of, other_kind_of, sensor_of, send_of, actuator_of, every_of, delay_of, scale_of, shift_of, above_of, merge_of, machine_of, block_of, lanes_of}
 use Rattle.pt_graph_text.specs.Documents.{actor_of}
-use Rattle.pt_graph.specs.Ranges.{is_time, kind_in_range, row_in_range, emit_in_range, sum_is_small}
+use Rattle.pt_graph.specs.Ranges.{is_time_number, kind_in_range, row_in_range, emit_in_range, sum_is_small}
 use Rattle.pt_graph.specs.EndFaults.{has_blocks, guard_has_block, has_name}
 use Rattle.pt_graph.specs.Graphs as graphs
 use Rattle.pt_graph.specs.Graphs.{small, row_from, kind_from, emit_from}
@@ -40,13 +40,13 @@ pub record IsGood (blocks : List Named) (k : KindText) : Type 0 where
 
 -- each known block has its name at its number
 abbrev pub NamesBlocks : List Named → Type 0
-NamesBlocks blocks = (name : List ℕ) → has_name blocks name ≡ true → block_name blocks (graphs.block_of blocks name).0 ≡ name
+NamesBlocks blocks = (name : List ℕ) → has_name blocks name ≡ true → block_name blocks (graphs.number_and_law blocks name).0 ≡ name
 
 abbrev IsBack : List Named → KindText → Type 0
 IsBack blocks k = (name platform : List ℕ) → actor_of Second (kind_data blocks name platform k) ≡ Some (actor_text name platform k)
 
 sensor_back : (blocks : List Named) (file : List ℕ) (bound : ℤ) → IsGood blocks (text.Sensor file bound) → IsBack blocks (text.Sensor file bound)
-unfolding actor_of kind_of sensor_of
+unfolding actor_of kind_text_of sensor_of
 sensor_back blocks file bound good name platform = rw (whole_time bound good.range) refl
 
 fits_below : (low : ℤ) (high : ℕ) (z : ℤ) → high ≤ 1000000000000000 → is_between low (pos high) z ≡ true → fits z ≡ true
@@ -57,67 +57,67 @@ fits_below low high (pos n) few h =
 fits_below low high (negsuc n) few h = refl
 
 send_back : (blocks : List Named) (slack : ℤ) → IsGood blocks (text.Send slack) → IsBack blocks (text.Send slack)
-unfolding actor_of kind_of send_of
+unfolding actor_of kind_text_of send_of
 send_back blocks slack good name platform = rw (whole_time slack good.range) refl
 
 actuator_back : (blocks : List Named) (slack : ℤ) → IsGood blocks (text.Actuator slack) → IsBack blocks (text.Actuator slack)
-unfolding actor_of kind_of actuator_of
+unfolding actor_of kind_text_of actuator_of
 actuator_back blocks slack good name platform = rw (whole_time slack good.range) refl
 
 every_back : (blocks : List Named) (start period : ℤ) → IsGood blocks (text.Every start period) → IsBack blocks (text.Every start period)
-unfolding actor_of kind_of every_of
+unfolding actor_of kind_text_of every_of
 every_back blocks start period good name platform =
-    let both = and_parts (is_time start) (is_between (pos 1) (pos 1000000000000000) period) good.range in
+    let both = and_parts (is_time_number start) (is_between (pos 1) (pos 1000000000000000) period) good.range in
     rw (whole_time start both.0, whole_between 1 1000000000000000 period (omega arith) both.1) refl
 
 delay_back : (blocks : List Named) (time : ℤ) → IsGood blocks (text.Delay time) → IsBack blocks (text.Delay time)
-unfolding actor_of kind_of delay_of
+unfolding actor_of kind_text_of delay_of
 delay_back blocks time good name platform = rw (whole_time time good.range) refl
 
 scale_back : (blocks : List Named) (num den : ℤ) → IsGood blocks (text.Scale num den) → IsBack blocks (text.Scale num den)
-unfolding actor_of kind_of number_kind_of scale_of
+unfolding actor_of kind_text_of number_kind_of scale_of
 scale_back blocks num den good name platform =
     let both = and_parts (is_between (negsuc 999999999) (pos 1000000000) num) (is_between (pos 1) (pos 1000000000) den) good.range in
     rw (whole_fits num (fits_below (negsuc 999999999) 1000000000 num (omega arith) both.0), whole_fits den (fits_below (pos 1) 1000000000 den (omega arith) both.1)) refl
 
 shift_back : (blocks : List Named) (by : ℤ) → IsGood blocks (text.Shift by) → IsBack blocks (text.Shift by)
-unfolding actor_of kind_of number_kind_of shift_of
+unfolding actor_of kind_text_of number_kind_of shift_of
 shift_back blocks by good name platform = rw (whole_fits by good.fit) refl
 
 above_back : (blocks : List Named) (limit : ℤ) → IsGood blocks (text.Above limit) → IsBack blocks (text.Above limit)
-unfolding actor_of kind_of number_kind_of above_of
+unfolding actor_of kind_text_of number_kind_of above_of
 above_back blocks limit good name platform = rw (whole_fits limit good.fit) refl
 
 merge_back : (blocks : List Named) (n : ℤ) → IsGood blocks (text.Merge n) → IsBack blocks (text.Merge n)
-unfolding actor_of kind_of number_kind_of other_kind_of merge_of
+unfolding actor_of kind_text_of number_kind_of other_kind_of merge_of
 merge_back blocks n good name platform = rw (whole_small 2 8 n (omega arith) good.range) refl
 
 block_back : (blocks : List Named) (block : List ℕ) → NamesBlocks blocks → IsGood blocks (text.Block block) → IsBack blocks (text.Block block)
-unfolding actor_of kind_of number_kind_of other_kind_of block_of
+unfolding actor_of kind_text_of number_kind_of other_kind_of block_of
 block_back blocks block names good name platform = rw (names block good.known) refl
 
 receive_back : (blocks : List Named) → IsBack blocks text.Receive
-unfolding actor_of kind_of
+unfolding actor_of kind_text_of
 receive_back blocks name platform = refl
 
 add_back : (blocks : List Named) → IsBack blocks text.Add
-unfolding actor_of kind_of number_kind_of
+unfolding actor_of kind_text_of number_kind_of
 add_back blocks name platform = refl
 
 sub_back : (blocks : List Named) → IsBack blocks text.Sub
-unfolding actor_of kind_of number_kind_of
+unfolding actor_of kind_text_of number_kind_of
 sub_back blocks name platform = refl
 
 count_back : (blocks : List Named) → IsBack blocks text.Count
-unfolding actor_of kind_of number_kind_of
+unfolding actor_of kind_text_of number_kind_of
 count_back blocks name platform = refl
 
 sum_back : (blocks : List Named) → IsBack blocks text.Sum
-unfolding actor_of kind_of number_kind_of
+unfolding actor_of kind_text_of number_kind_of
 sum_back blocks name platform = refl
 
 latch_back : (blocks : List Named) → IsBack blocks text.Latch
-unfolding actor_of kind_of number_kind_of other_kind_of
+unfolding actor_of kind_text_of number_kind_of other_kind_of
 latch_back blocks name platform = refl
 
 cells_back : (cells : List ℤ) → list_all (is_between (pos 1) (pos 8)) cells ≡ true → AllBack whole (λ c. natural (small c)) cells
@@ -127,7 +127,7 @@ cells_back (c ∷ cells) h =
     (whole_small 1 8 c (omega arith) both.0, cells_back cells both.1)
 
 lanes_back : (blocks : List Named) (cells : List ℤ) → IsGood blocks (text.Lanes cells) → IsBack blocks (text.Lanes cells)
-unfolding actor_of kind_of number_kind_of other_kind_of lanes_of
+unfolding actor_of kind_text_of number_kind_of other_kind_of lanes_of
 lanes_back blocks cells good name platform =
     let three = and_parts (nat_le 1 (length cells) && nat_le (length cells) 8 && list_all (is_between (pos 1) (pos 8)) cells) (sum_is_small cells) good.range in
     let two = and_parts (nat_le 1 (length cells) && nat_le (length cells) 8) (list_all (is_between (pos 1) (pos 8)) cells) three.0 in
@@ -155,8 +155,8 @@ emit_output (negsuc m) z few h = absurd cc
 
 row_back : (blocks : List Named) (outputs : ℤ) → NamesBlocks blocks → is_between (pos 1) (pos 8) outputs ≡ true → (state low high next : ℤ) (emit : Option (ℤ × ℤ)) (guard : Option (List ℕ))
     → RowIsGood blocks outputs (record { state = state; low = low; high = high; next = next; emit = emit; guard = guard })
-    → row_of Second (row_data blocks (row_from blocks (record { state = state; low = low; high = high; next = next; emit = emit; guard = guard }))) ≡ Some (record { state = state; low = low; high = high; next = next; emit = emit; guard = guard })
-unfolding row_of row_from emit_of guard_has_block
+    → row_text_of Second (row_data blocks (row_from blocks (record { state = state; low = low; high = high; next = next; emit = emit; guard = guard }))) ≡ Some (record { state = state; low = low; high = high; next = next; emit = emit; guard = guard })
+unfolding row_text_of row_from emit_of guard_has_block
 row_back blocks outputs names few state low high next None None good = rw (whole_fits state good.state, whole_fits low good.low, whole_fits high good.high, whole_fits next good.next) refl
 row_back blocks outputs names few state low high next None (Some guard) good = rw (whole_fits state good.state, whole_fits low good.low, whole_fits high good.high, whole_fits next good.next, names guard good.known) refl
 row_back blocks outputs names few state low high next (Some emit) None good = rw (whole_fits state good.state, whole_fits low good.low, whole_fits high good.high, whole_fits next good.next, emit_output outputs emit.0 few good.emit, whole_fits emit.1 good.value) refl
@@ -181,7 +181,7 @@ row_good blocks outputs r range fit known =
 
 rows_back : (blocks : List Named) (outputs : ℤ) → NamesBlocks blocks → is_between (pos 1) (pos 8) outputs ≡ true → (rows : List RowText)
     → list_all (row_in_range outputs) rows ≡ true → list_all row_numbers_fit (map (row_from blocks) rows) ≡ true → list_all (λ (r : RowText). guard_has_block blocks r.guard) rows ≡ true
-    → AllBack (row_of Second) (λ r. row_data blocks (row_from blocks r)) rows
+    → AllBack (row_text_of Second) (λ r. row_data blocks (row_from blocks r)) rows
 rows_back blocks outputs names few [] range fit known = tt
 rows_back blocks outputs names few (r ∷ rows) range fit known =
     let ranges = and_parts (row_in_range outputs r) (list_all (row_in_range outputs) rows) range in
@@ -190,11 +190,11 @@ rows_back blocks outputs names few (r ∷ rows) range fit known =
     (row_back blocks outputs names few r.state r.low r.high r.next r.emit r.guard (row_good blocks outputs r ranges.0 fitting.0 knowing.0), rows_back blocks outputs names few rows ranges.1 fitting.1 knowing.1)
 
 machine_back : (blocks : List Named) (start outputs : ℤ) (rows : List RowText) → NamesBlocks blocks → IsGood blocks (text.Machine start outputs rows) → IsBack blocks (text.Machine start outputs rows)
-unfolding actor_of kind_of number_kind_of other_kind_of machine_of
+unfolding actor_of kind_text_of number_kind_of other_kind_of machine_of
 machine_back blocks start outputs rows names good name platform =
     let ranges = and_parts (is_between (pos 1) (pos 8) outputs) (list_all (row_in_range outputs) rows) good.range in
     let fitting = and_parts (fits start) (list_all row_numbers_fit (map (row_from blocks) rows)) good.fit in
-    let each = each_turned (row_of Second) (row_data blocks) (row_from blocks) rows (rows_back blocks outputs names ranges.0 rows ranges.1 fitting.1 good.known) in
+    let each = each_turned (row_text_of Second) (row_data blocks) (row_from blocks) rows (rows_back blocks outputs names ranges.0 rows ranges.1 fitting.1 good.known) in
     rw (whole_fits start fitting.0, whole_small 1 8 outputs (omega arith) ranges.0, each) refl
 
 pub kind_back : (blocks : List Named) (k : KindText) → NamesBlocks blocks → IsGood blocks k → (name platform : List ℕ) → actor_of Second (kind_data blocks name platform k) ≡ Some (actor_text name platform k)

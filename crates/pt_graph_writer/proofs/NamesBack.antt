@@ -11,7 +11,7 @@ use Rattle.pt_types.specs.Groups.{no_actor}
 use Rattle.pt_types.specs.declared.kind.Law.TheVariants.{Least}
 use Rattle.pt_blocks.specs.declared.blocks.Named.{Named}
 use Rattle.pt_graph_text.specs.declared.document.ActorText.{ActorText}
-use Rattle.pt_graph.specs.Known.{number_in, itself, actor_name as text_name}
+use Rattle.pt_graph.specs.Known.{first_named, itself, name_of_actor as text_name}
 use Rattle.pt_graph.specs.Graphs.{number_or_0, platform_number, actor_from}
 use Rattle.pt_graph.proofs.Numbered.{number_is}
 use Rattle.pt_graph_writer.specs.Text.{block_name}
@@ -38,25 +38,25 @@ found_from f name turn d n same k (x ∷ xs) i h =
 
 -- a known name stands at its number, in a list that was turned into another with the same names
 pub found_name : {A B : Type 0} (f : A → List ℕ) (name : B → List ℕ) (turn : A → B) (d : B) (n : List ℕ) (xs : List A) → ((x : A) → name (turn x) ≡ f x) → length xs ≤ 1024
-    → is_some (number_in f xs n) ≡ true → name (slice_index_or (map turn xs) (number_or_0 (number_in f xs n)) d) ≡ n
+    → is_some (first_named f xs n) ≡ true → name (slice_index_or (map turn xs) (number_or_0 (first_named f xs n)) d) ≡ n
 found_name f name turn d n xs same few h =
     let number = number_is f xs n few h in
     let at = found_from f name turn d n same 0 xs number.0 (sym (position_from-zero (λ x. bytes_eq (f x) n) xs) ∙ number.1) in
     let plus : 0 + at.0 ≡ at.0 = omega arith in
-    let index : number_or_0 (number_in f xs n) ≡ at.0 = number.3 ∙ (at.1 ∙ plus) in
+    let index : number_or_0 (first_named f xs n) ≡ at.0 = number.3 ∙ (at.1 ∙ plus) in
     ap (λ i. name (slice_index_or (map turn xs) i d)) index ∙ at.2
 
 map_same : {A : Type 0} (xs : List A) → map (λ x. x) xs ≡ xs
 map_same [] = refl
 map_same (x ∷ xs) = ap (λ ys. x ∷ ys) (map_same xs)
 
-pub platform_back : (g : Graph) (n : List ℕ) → length g.platforms ≤ 1024 → is_some (number_in itself g.platforms n) ≡ true → platform_name g (platform_number g.platforms n) ≡ n
+pub platform_back : (g : Graph) (n : List ℕ) → length g.platforms ≤ 1024 → is_some (first_named itself g.platforms n) ≡ true → platform_name g (platform_number g.platforms n) ≡ n
 platform_back g n few h =
-    let number = number_or_0 (number_in itself g.platforms n) in
+    let number = number_or_0 (first_named itself g.platforms n) in
     ap (λ xs. slice_index_or xs number []) (sym (map_same g.platforms)) ∙ found_name itself itself (λ x. x) [] n g.platforms (λ x. refl) few h
 
 pub actor_back : (blocks : List Named) (platforms : List (List ℕ)) (actors : List ActorText) (g : Graph) (n : List ℕ) → g.actors ≡ map (actor_from blocks platforms) actors → length actors ≤ 1024
-    → is_some (number_in text_name actors n) ≡ true → actor_name g (number_or_0 (number_in text_name actors n)) ≡ n
+    → is_some (first_named text_name actors n) ≡ true → actor_name g (number_or_0 (first_named text_name actors n)) ≡ n
 actor_back blocks platforms actors g n are few h =
     rw are (found_name text_name (λ (a : Actor). a.name) (actor_from blocks platforms) no_actor n actors (λ x. refl) few h)
 
@@ -69,5 +69,5 @@ blocks_back blocks few name h =
     let number = number_is block_named blocks name (omega arith) h in
     let there : slice_get blocks number.0 ≡ Some (slice_index_or blocks number.0 no_block) = slice_get-get_or blocks number.0 no_block number.2 in
     let named = found_name block_named block_named (λ (b : Named). b) no_block name blocks (λ b. refl) (omega arith) h in
-    let here : (slice_index_or blocks number.0 no_block).name ≡ name = ap (λ i. (slice_index_or blocks i no_block).name) (sym number.3) ∙ (ap (λ bs. (slice_index_or bs (number_or_0 (number_in block_named blocks name)) no_block).name) (sym (map_same blocks)) ∙ named) in
+    let here : (slice_index_or blocks number.0 no_block).name ≡ name = ap (λ i. (slice_index_or blocks i no_block).name) (sym number.3) ∙ (ap (λ bs. (slice_index_or bs (number_or_0 (first_named block_named blocks name)) no_block).name) (sym (map_same blocks)) ∙ named) in
     ap (block_name blocks) number.3 ∙ (ap (λ o. unwrap_or (option_map block_named o) []) there ∙ here)

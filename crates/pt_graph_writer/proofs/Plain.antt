@@ -16,7 +16,7 @@ use Rattle.pt_types.specs.declared.kind.Kind.TheVariants.{Machine, Lanes}
 use Rattle.pt_types.specs.declared.kind.Law.{Law}
 use Rattle.pt_types.specs.declared.kind.MachineRow.{MachineRow}
 use Rattle.pt_blocks.specs.declared.blocks.Named.{Named}
-use Rattle.pt_graph_writer.specs.Text.{members, fields, entries, natural, whole_number, block_name, emit_data, guard_fields, row_data, kind_word, kind_fields, actor_data, row_members, actor_members, link_members, graph_members, wire_data, link_data, pair_data, visible_wires, graph_data}
+use Rattle.pt_graph_writer.specs.Text.{members, fields, entries, natural, whole_number, block_name, emit_data, guard_fields, row_data, kind_word, kind_fields, actor_data, row_fields, actor_members, link_members, graph_members, wire_data, link_data, pair_data, visible_wires, graph_data}
 use Rattle.pt_types.specs.Lookups.{platform_name, actor_name}
 
 -- no float, and no deeper than n
@@ -113,8 +113,8 @@ plain_guard n blocks (Some guard) = (plain_string n (block_name blocks guard.0),
 
 plain_row : (blocks : List Named) (r : MachineRow) → IsPlain 2 (row_data blocks r)
 plain_row blocks r =
-    let all : AllPlain 1 (row_members blocks r) = (plain_whole 1 r.state, (plain_whole 1 r.low, (plain_whole 1 r.high, (plain_whole 1 r.next, (plain_emit r.emit, plain_guard 1 blocks r.guard))))) in
-    plain_object 1 (row_members blocks r) all
+    let all : AllPlain 1 (row_fields blocks r) = (plain_whole 1 r.state, (plain_whole 1 r.low, (plain_whole 1 r.high, (plain_whole 1 r.next, (plain_emit r.emit, plain_guard 1 blocks r.guard))))) in
+    plain_object 1 (row_fields blocks r) all
 
 plain_kind : (blocks : List Named) (k : Kind) → AllPlain 3 (kind_fields blocks k)
 plain_kind blocks (Machine start outputs rows) = (plain_whole 3 start, (plain_natural 3 outputs, (plain_array 2 (row_data blocks) (plain_row blocks) rows, tt)))

@@ -13,10 +13,10 @@ use Rattle.pt_graph_text.specs.declared.fault.Place.{Place}
 use Rattle.pt_graph_text.specs.declared.fault.Part.TheVariants as part
 use Rattle.pt_graph.specs.Chains.{◌<|>◌, found}
 use Rattle.pt_graph.specs.Limits.{too_many, most_actors, most_wires}
-use Rattle.pt_graph.specs.Ranges.{is_time, head_in_range, kind_in_range, wire_in_range, pair_in_range, top_range, range_place}
+use Rattle.pt_graph.specs.Ranges.{is_time_number, head_in_range, kind_in_range, wire_in_range, pair_in_range, top_range, range_place}
 use Rattle.pt_graph.specs.Naming.{name_place}
 use Rattle.pt_graph.specs.Known.{repeated_place, unknown_by}
-use Rattle.pt_graph.specs.Graphs.{whole}
+use Rattle.pt_graph.specs.Graphs.{whole_graph}
 use Rattle.pt_graph.specs.GraphOf.{checked, built}
 use Rattle.pt_graph.proofs.Checked.{NoneFound, has_limits, HasRanges, has_ranges}
 
@@ -49,8 +49,8 @@ not_many d h =
 top_none : (d : Document) → HasRanges d → top_range (second d) ≡ None
 top_none d ranges =
     let parts = and_parts (head_in_range d.head) (not (length d.platforms == 0)) ranges.head in
-    let two = and_parts (is_between (pos 1) (pos 2) d.head.version && is_time d.head.until) (is_time d.head.clock_error) parts.0 in
-    let one = and_parts (is_between (pos 1) (pos 2) d.head.version) (is_time d.head.until) two.0 in
+    let two = and_parts (is_between (pos 1) (pos 2) d.head.version && is_time_number d.head.until) (is_time_number d.head.clock_error) parts.0 in
+    let one = and_parts (is_between (pos 1) (pos 2) d.head.version) (is_time_number d.head.until) two.0 in
     rw (one.1, two.1, parts.1) refl
 
 top_first : (d : Document) → HasRanges d → top_range d ≡ None
@@ -61,7 +61,7 @@ other_places d first =
     first
     <|> found part.Actor (position (λ (a : ActorText). not (kind_in_range a.kind)) d.actors)
     <|> found part.Wire (position (λ w. not (wire_in_range w)) d.wires)
-    <|> found part.Link (position (λ (l : LinkText). not (is_time l.delay)) d.links)
+    <|> found part.Link (position (λ (l : LinkText). not (is_time_number l.delay)) d.links)
     <|> found part.Pair (position (λ p. not (pair_in_range p)) d.pairs)
 
 in_range : (d : Document) → range_place d ≡ None → range_place (second d) ≡ None
@@ -75,5 +75,5 @@ unfolding checked name_place repeated_place unknown_by
 second_checked d none = rw (not_many d none.many, in_range d none.range, none.name, none.repeated, none.unknown) refl
 
 pub second_built : (blocks : List Named) (d : Document) → built blocks (second d) ≡ built blocks d
-unfolding built whole
+unfolding built whole_graph
 second_built blocks d = refl

@@ -6,7 +6,7 @@ use Rattle.serde_json.specs.Data.{Data}
 use Rattle.serde_json.specs.View.{items_of}
 use Rattle.pt_types.specs.Kinds.{is_between}
 use Rattle.pt_graph_text.specs.Decoding.{whole, each_from}
-use Rattle.pt_graph.specs.Ranges.{is_time}
+use Rattle.pt_graph.specs.Ranges.{is_time_number}
 use Rattle.pt_graph.specs.Graphs.{small}
 use Rattle.pt_graph.proofs.InRange.{between, small_is}
 use Rattle.pt_types.proofs.SmallKinds.{among}
@@ -27,7 +27,7 @@ whole_between low high (pos n) few h =
     whole_natural n (lt-ltb n 9223372036854775808 less)
 whole_between low high (negsuc n) few h = absurd cc
 
-pub whole_time : (z : ℤ) → is_time z ≡ true → whole (natural (unsigned_abs z)) ≡ Some z
+pub whole_time : (z : ℤ) → is_time_number z ≡ true → whole (natural (unsigned_abs z)) ≡ Some z
 whole_time z h = whole_between 0 1000000000000000 z (omega arith) h
 
 pub whole_small : (low high : ℕ) (z : ℤ) → high ≤ 1024 → is_between (pos low) (pos high) z ≡ true → whole (natural (small z)) ≡ Some z

@@ -54,8 +54,8 @@ guard_fields blocks None = []
 guard_fields blocks (Some guard) = (codes "guard", string (block_name blocks guard.0)) ∷ []
 
 -- a row of a machine
-abbrev pub row_members : List Named → MachineRow → List (List ℕ × Data)
-row_members blocks r =
+abbrev pub row_fields : List Named → MachineRow → List (List ℕ × Data)
+row_fields blocks r =
     (codes "state", whole_number r.state)
     ∷ (codes "low", whole_number r.low)
     ∷ (codes "high", whole_number r.high)
@@ -64,7 +64,7 @@ row_members blocks r =
     ∷ guard_fields blocks r.guard
 
 abbrev pub row_data : List Named → MachineRow → Data
-row_data blocks r = fields (row_members blocks r)
+row_data blocks r = fields (row_fields blocks r)
 
 -- the word for a kind
 abbrev pub kind_word : Kind → List ℕ

@@ -2,7 +2,7 @@
 use Rattle.std.proofs.Common.{◌≡◌, ℕ, suc, Bool, true, false, ◌==◌, List, [], ◌∷◌, ◌++◌, flat_map, refl, ap, ◌∙◌, append_assoc, ⊎_elim}
 use Rattle.std.specs.List.{concat}
 use Rattle.std.proofs.lemmas.Bool.{cases_Bool}
-use Rattle.pt_hints.specs.Lines.{Block, before_first, begins_turn, blocks_from, lines_of, with_line}
+use Rattle.pt_hints.specs.Lines.{Block, before_first, begins_turn, blocks_from, text_lines, with_line}
 
 -- the texts of blocks, one after another
 abbrev pub joined : List Block → List ℕ
@@ -26,9 +26,9 @@ concat_first b [] = refl
 concat_first b (line ∷ lines) = refl
 
 -- the lines of a text, joined, are the text
-pub concat_lines : (text : List ℕ) → concat (lines_of text) ≡ text
+pub concat_lines : (text : List ℕ) → concat (text_lines text) ≡ text
 concat_lines [] = refl
 concat_lines (b ∷ bs) = ⊎_elim
     (λ (ends : (b == 10) ≡ true). rw ends (ap (λ (xs : List ℕ). b ∷ xs) (concat_lines bs)))
-    (λ (other : (b == 10) ≡ false). rw other (concat_first b (lines_of bs) ∙ ap (λ (xs : List ℕ). b ∷ xs) (concat_lines bs)))
+    (λ (other : (b == 10) ≡ false). rw other (concat_first b (text_lines bs) ∙ ap (λ (xs : List ℕ). b ∷ xs) (concat_lines bs)))
     (cases_Bool (b == 10))

@@ -20,7 +20,7 @@ use Rattle.pt_semantics.specs.Turn.{Turn}
 use Rattle.pt_tables.specs.Log.{lines_from, log_head, log_text, turn_line, turn_lines}
 use Rattle.pt_hints.specs.Items.{Item, item_line}
 use Rattle.pt_hints.specs.Items.Item.{claim, got, post, row, sent}
-use Rattle.pt_hints.specs.Lines.{Block, at_log, before_first, begins_turn, blocks_from, lines_of, with_line}
+use Rattle.pt_hints.specs.Lines.{Block, at_log, before_first, begins_turn, blocks_from, text_lines, with_line}
 use Rattle.pt_hints.specs.Numbered.{numbered}
 use Rattle.pt_hints.proofs.Blocks.{block_ends, block_more}
 use Rattle.pt_hints.proofs.Cuts.{Lacks}
@@ -31,24 +31,24 @@ use Rattle.pt_hints.proofs.Splitting.{HaveNoLog, at_log_past}
 use Rattle.pt_hints.proofs.TurnTexts.{each_append, head_body, head_lacks, items_of, turn_text}
 
 -- a line without a line feed before its last byte is the first one
-pub line_first : (body rest : List ℕ) → Lacks 10 body → lines_of (body ++ 10 ∷ rest) ≡ (body ++ 10 ∷ []) ∷ lines_of rest
+pub line_first : (body rest : List ℕ) → Lacks 10 body → text_lines (body ++ 10 ∷ rest) ≡ (body ++ 10 ∷ []) ∷ text_lines rest
 line_first [] rest lacks = refl
 line_first (x ∷ body) rest lacks = rw (ne_eqb x 10 lacks.0) (ap (before_first x) (line_first body rest lacks.1))
 
 -- whole lines, of which none is `log`
 record IsLined (text : List ℕ) : Type 0 where
-  lines : (rest : List ℕ) → lines_of (text ++ rest) ≡ lines_of text ++ lines_of rest
-  none : HaveNoLog (lines_of text)
+  lines : (rest : List ℕ) → text_lines (text ++ rest) ≡ text_lines text ++ text_lines rest
+  none : HaveNoLog (text_lines text)
 
 lined_nothing : IsLined []
 lined_nothing = record { lines = λ rest. refl; none = tt }
 
 lined_append : (a b : List ℕ) → IsLined a → IsLined b → IsLined (a ++ b)
 lined_append a b one other =
-    let both : lines_of (a ++ b) ≡ lines_of a ++ lines_of b = one.lines b in
+    let both : text_lines (a ++ b) ≡ text_lines a ++ text_lines b = one.lines b in
     record {
-      lines = λ rest. ap lines_of (append_assoc a b rest) ∙ one.lines (b ++ rest) ∙ ap (λ (ls : List (List ℕ)). lines_of a ++ ls) (other.lines rest) ∙ sym (append_assoc (lines_of a) (lines_of b) (lines_of rest)) ∙ ap (λ (ls : List (List ℕ)). ls ++ lines_of rest) (sym both);
-      none = subst HaveNoLog (sym both) (each_append (λ (l : List ℕ). bytes_eq l log_head ≡ false) (lines_of a) (lines_of b) one.none other.none);
+      lines = λ rest. ap text_lines (append_assoc a b rest) ∙ one.lines (b ++ rest) ∙ ap (λ (ls : List (List ℕ)). text_lines a ++ ls) (other.lines rest) ∙ sym (append_assoc (text_lines a) (text_lines b) (text_lines rest)) ∙ ap (λ (ls : List (List ℕ)). ls ++ text_lines rest) (sym both);
+      none = subst HaveNoLog (sym both) (each_append (λ (l : List ℕ). bytes_eq l log_head ≡ false) (text_lines a) (text_lines b) one.none other.none);
     }
 
 has_b : (b : ℕ) (xs ys : List ℕ) → Lacks b (xs ++ b ∷ ys) → ⊥
@@ -68,9 +68,9 @@ comma_line xs ys = false_from_ne_true (bytes_eq (xs ++ 44 ∷ ys) log_head)
 lined_line : (xs ys : List ℕ) → Lacks 10 (xs ++ 44 ∷ ys) → IsLined ((xs ++ 44 ∷ ys) ++ 10 ∷ [])
 lined_line xs ys lacks =
     let body = xs ++ 44 ∷ ys in
-    let alone : lines_of (body ++ 10 ∷ []) ≡ (body ++ 10 ∷ []) ∷ [] = line_first body [] lacks in
+    let alone : text_lines (body ++ 10 ∷ []) ≡ (body ++ 10 ∷ []) ∷ [] = line_first body [] lacks in
     record {
-      lines = λ rest. ap lines_of (append_assoc body (10 ∷ []) rest) ∙ line_first body rest lacks ∙ ap (λ (ls : List (List ℕ)). ls ++ lines_of rest) (sym alone);
+      lines = λ rest. ap text_lines (append_assoc body (10 ∷ []) rest) ∙ line_first body rest lacks ∙ ap (λ (ls : List (List ℕ)). ls ++ text_lines rest) (sym alone);
       none = subst HaveNoLog (sym alone) (ap (λ (zs : List ℕ). bytes_eq zs log_head) (append_assoc xs (44 ∷ ys) (10 ∷ [])) ∙ comma_line xs (ys ++ 10 ∷ []), tt);
     }
 
@@ -112,10 +112,10 @@ lined_tables n a (actor ∷ actors) xs lawful =
     lined_append (table_of a actor.name actor.kind xs) (tables_from (suc a) actors xs) (lined_table a actor.name actor.kind xs (lacks_name 10 actor.name no_line_feed_in_names (lawful_name n actor parts.0))) (lined_tables n (suc a) actors xs parts.1)
 
 -- the lines before the first line `log` of a lawful log are its tables, and those after it are the turns
-pub log_cut : (g : Graph) (firings : List ActorFiring) (histories : List (List Turn)) → IsLawful g → at_log (lines_of (tables_text g firings ++ log_text g histories)) ≡ Some (lines_of (tables_text g firings), lines_of (lines_from g 0 histories))
+pub log_cut : (g : Graph) (firings : List ActorFiring) (histories : List (List Turn)) → IsLawful g → at_log (text_lines (tables_text g firings ++ log_text g histories)) ≡ Some (text_lines (tables_text g firings), text_lines (lines_from g 0 histories))
 log_cut g firings histories lawful =
     let tables = lined_append head (tables_from 0 g.actors firings) lined_head (lined_tables (length g.platforms) 0 g.actors firings lawful.actors) in
-    ap at_log (tables.lines (log_text g histories)) ∙ at_log_past (lines_of (tables_text g firings)) (lines_of (lines_from g 0 histories)) tables.none
+    ap at_log (tables.lines (log_text g histories)) ∙ at_log_past (text_lines (tables_text g firings)) (text_lines (lines_from g 0 histories)) tables.none
 
 no_turn : (g : Graph) (item : Item) (rest : List ℕ) → begins_turn (item_line g item ++ rest) ≡ false
 no_turn g (post done) rest = refl
@@ -124,41 +124,41 @@ no_turn g (got x) rest = rw (item_line_is g (got x)) refl
 no_turn g (claim task) rest = refl
 no_turn g (sent x) rest = rw (item_line_is g (sent x)) refl
 
-item_first : (g : Graph) (item : Item) (rest : List ℕ) → IsLawful g → lines_of (item_line g item ++ rest) ≡ item_line g item ∷ lines_of rest
+item_first : (g : Graph) (item : Item) (rest : List ℕ) → IsLawful g → text_lines (item_line g item ++ rest) ≡ item_line g item ∷ text_lines rest
 item_first g item rest lawful =
     let is = item_line_is g item in
-    ap (λ (l : List ℕ). lines_of (l ++ rest)) is ∙ ap lines_of (append_assoc (body_of g item) (10 ∷ []) rest) ∙ line_first (body_of g item) rest (body_lacks g item lawful) ∙ ap (λ (l : List ℕ). l ∷ lines_of rest) (sym is)
+    ap (λ (l : List ℕ). text_lines (l ++ rest)) is ∙ ap text_lines (append_assoc (body_of g item) (10 ∷ []) rest) ∙ line_first (body_of g item) rest (body_lacks g item lawful) ∙ ap (λ (l : List ℕ). l ∷ text_lines rest) (sym is)
 
 -- the lines of a turn after its first are of its block
-items_join : (g : Graph) (items : List Item) (n m : ℕ) (text rest : List ℕ) → IsLawful g → (k : ℕ) × (with_line n text (blocks_from m (lines_of (flat_map (item_line g) items ++ rest))) ≡ with_line n (text ++ flat_map (item_line g) items) (blocks_from k (lines_of rest)))
-items_join g [] n m text rest lawful = (m, ap (λ (t : List ℕ). with_line n t (blocks_from m (lines_of rest))) (sym (append-nil text)))
+items_join : (g : Graph) (items : List Item) (n m : ℕ) (text rest : List ℕ) → IsLawful g → (k : ℕ) × (with_line n text (blocks_from m (text_lines (flat_map (item_line g) items ++ rest))) ≡ with_line n (text ++ flat_map (item_line g) items) (blocks_from k (text_lines rest)))
+items_join g [] n m text rest lawful = (m, ap (λ (t : List ℕ). with_line n t (blocks_from m (text_lines rest))) (sym (append-nil text)))
 items_join g (item ∷ items) n m text rest lawful =
     let l = item_line g item in
     let more = flat_map (item_line g) items in
     let later = items_join g items n (suc m) (text ++ l) rest lawful in
     let here = block_more n m text l (l ++ (more ++ rest)) (more ++ rest) (item_first g item (more ++ rest) lawful) (no_turn g item (more ++ rest)) in
-    (later.0, ap (λ (xs : List ℕ). with_line n text (blocks_from m (lines_of xs))) (append_assoc l more rest) ∙ here ∙ later.1 ∙ ap (λ (t : List ℕ). with_line n t (blocks_from later.0 (lines_of rest))) (append_assoc text l more))
+    (later.0, ap (λ (xs : List ℕ). with_line n text (blocks_from m (text_lines xs))) (append_assoc l more rest) ∙ here ∙ later.1 ∙ ap (λ (t : List ℕ). with_line n t (blocks_from later.0 (text_lines rest))) (append_assoc text l more))
 
 -- nothing, or the next turn
 abbrev EndsTurn : List ℕ → Type 0
 EndsTurn rest = (rest ≡ []) ⊎ (begins_turn rest ≡ true)
 
-turn_ends : (n m : ℕ) (text rest : List ℕ) → EndsTurn rest → with_line n text (blocks_from m (lines_of rest)) ≡ record { line = n; text = text } ∷ blocks_from m (lines_of rest)
+turn_ends : (n m : ℕ) (text rest : List ℕ) → EndsTurn rest → with_line n text (blocks_from m (text_lines rest)) ≡ record { line = n; text = text } ∷ blocks_from m (text_lines rest)
 turn_ends n m text rest ends = ⊎_elim
-    (λ (nothing : rest ≡ []). subst (λ (xs : List ℕ). with_line n text (blocks_from m (lines_of xs)) ≡ record { line = n; text = text } ∷ blocks_from m (lines_of xs)) (sym nothing) refl)
+    (λ (nothing : rest ≡ []). subst (λ (xs : List ℕ). with_line n text (blocks_from m (text_lines xs)) ≡ record { line = n; text = text } ∷ blocks_from m (text_lines xs)) (sym nothing) refl)
     (λ (turn : begins_turn rest ≡ true). block_ends n m text rest turn)
     ends
 
-turn_block : (g : Graph) (p n : ℕ) (t : Turn) (rest : List ℕ) → IsLawful g → EndsTurn rest → (k : ℕ) × (blocks_from n (lines_of (turn_lines g p t ++ rest)) ≡ record { line = n; text = turn_lines g p t } ∷ blocks_from k (lines_of rest))
+turn_block : (g : Graph) (p n : ℕ) (t : Turn) (rest : List ℕ) → IsLawful g → EndsTurn rest → (k : ℕ) × (blocks_from n (text_lines (turn_lines g p t ++ rest)) ≡ record { line = n; text = turn_lines g p t } ∷ blocks_from k (text_lines rest))
 turn_block g p n t rest lawful ends =
     let first = turn_line (platform_name g p) t.first t.last t.count in
     let items = flat_map (item_line g) (items_of t) in
     let body = head_body (platform_name g p) t.first t.last t.count in
     let is : turn_lines g p t ≡ first ++ items = turn_text g p t in
     let shape : turn_lines g p t ++ rest ≡ body ++ 10 ∷ (items ++ rest) = ap (λ (xs : List ℕ). xs ++ rest) is ∙ append_assoc first items rest ∙ append_assoc body (10 ∷ []) (items ++ rest) in
-    let lines : lines_of (turn_lines g p t ++ rest) ≡ first ∷ lines_of (items ++ rest) = ap lines_of shape ∙ line_first body (items ++ rest) (head_lacks g p t.first t.last t.count lawful) in
+    let lines : text_lines (turn_lines g p t ++ rest) ≡ first ∷ text_lines (items ++ rest) = ap text_lines shape ∙ line_first body (items ++ rest) (head_lacks g p t.first t.last t.count lawful) in
     let joined = items_join g (items_of t) n (suc n) first rest lawful in
-    (joined.0, ap (blocks_from n) lines ∙ joined.1 ∙ ap (λ (xs : List ℕ). with_line n xs (blocks_from joined.0 (lines_of rest))) (sym is) ∙ turn_ends n joined.0 (turn_lines g p t) rest ends)
+    (joined.0, ap (blocks_from n) lines ∙ joined.1 ∙ ap (λ (xs : List ℕ). with_line n xs (blocks_from joined.0 (text_lines rest))) (sym is) ∙ turn_ends n joined.0 (turn_lines g p t) rest ends)
 
 -- the text of a turn of a platform
 abbrev pub text_of : Graph → ℕ × Turn → List ℕ
@@ -169,7 +169,7 @@ ends_at g [] = inl refl
 ends_at g (x ∷ xs) = inr refl
 
 -- the blocks of the texts of turns are these texts
-pub turn_blocks : (g : Graph) (n : ℕ) (xs : List (ℕ × Turn)) → IsLawful g → map (λ (block : Block). block.text) (blocks_from n (lines_of (flat_map (text_of g) xs))) ≡ map (text_of g) xs
+pub turn_blocks : (g : Graph) (n : ℕ) (xs : List (ℕ × Turn)) → IsLawful g → map (λ (block : Block). block.text) (blocks_from n (text_lines (flat_map (text_of g) xs))) ≡ map (text_of g) xs
 turn_blocks g n [] lawful = refl
 turn_blocks g n (x ∷ xs) lawful =
     let rest = flat_map (text_of g) xs in
@@ -187,5 +187,5 @@ histories_text g p (turns ∷ histories) =
     ap (λ (xs : List ℕ). xs ++ lines_from g (p + 1) histories) (turns_text g p turns) ∙ ap (λ (xs : List ℕ). flat_map (text_of g) these ++ xs) (histories_text g (p + 1) histories) ∙ sym (flat_map-append (text_of g) these (numbered (p + 1) histories))
 
 -- the blocks after the line `log` of a lawful log are the texts of the turns, in order
-pub log_blocks : (g : Graph) (n : ℕ) (histories : List (List Turn)) → IsLawful g → map (λ (block : Block). block.text) (blocks_from n (lines_of (lines_from g 0 histories))) ≡ map (text_of g) (numbered 0 histories)
-log_blocks g n histories lawful = ap (λ (xs : List ℕ). map (λ (block : Block). block.text) (blocks_from n (lines_of xs))) (histories_text g 0 histories) ∙ turn_blocks g n (numbered 0 histories) lawful
+pub log_blocks : (g : Graph) (n : ℕ) (histories : List (List Turn)) → IsLawful g → map (λ (block : Block). block.text) (blocks_from n (text_lines (lines_from g 0 histories))) ≡ map (text_of g) (numbered 0 histories)
+log_blocks g n histories lawful = ap (λ (xs : List ℕ). map (λ (block : Block). block.text) (blocks_from n (text_lines xs))) (histories_text g 0 histories) ∙ turn_blocks g n (numbered 0 histories) lawful

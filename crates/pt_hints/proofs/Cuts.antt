@@ -4,7 +4,7 @@ use Rattle.std.proofs.lemmas.List.{drop_all, take_all}
 use Rattle.std.proofs.lemmas.Bool.{eq-eqb, false_from_ne_true, ne_eqb}
 use Rattle.pt_semantics.specs.Lists.{Each}
 use Rattle.pt_hints.specs.Fields.{after, before}
-use Rattle.pt_hints.specs.Lines.{before_first, lines_of}
+use Rattle.pt_hints.specs.Lines.{before_first, text_lines}
 
 -- no byte of the text is b
 abbrev pub Lacks : ℕ → List ℕ → Type 0
@@ -41,7 +41,7 @@ lacks_append b [] ys one other = other
 lacks_append b (x ∷ xs) ys one other = (one.0, lacks_append b xs ys one.1 other)
 
 -- the first line ends at place k
-pub line_here : (xs : List ℕ) (k : ℕ) → k < length xs → (get_or xs k 0 == 10) ≡ true → ((j : ℕ) → j < k → (get_or xs j 0 == 10) ≡ true → ⊥) → lines_of xs ≡ take (suc k) xs ∷ lines_of (drop (suc k) xs)
+pub line_here : (xs : List ℕ) (k : ℕ) → k < length xs → (get_or xs k 0 == 10) ≡ true → ((j : ℕ) → j < k → (get_or xs j 0 == 10) ≡ true → ⊥) → text_lines xs ≡ take (suc k) xs ∷ text_lines (drop (suc k) xs)
 line_here [] k less is none = absurd (omega arith)
 line_here (x ∷ xs) zero less is none = rw is refl
 line_here (x ∷ xs) (suc k) less is none =
@@ -50,7 +50,7 @@ line_here (x ∷ xs) (suc k) less is none =
     rw other (ap (before_first x) rest)
 
 -- the only line has no line feed
-pub line_whole : (xs : List ℕ) → 0 < length xs → ((j : ℕ) → j < length xs → (get_or xs j 0 == 10) ≡ true → ⊥) → lines_of xs ≡ xs ∷ []
+pub line_whole : (xs : List ℕ) → 0 < length xs → ((j : ℕ) → j < length xs → (get_or xs j 0 == 10) ≡ true → ⊥) → text_lines xs ≡ xs ∷ []
 line_whole [] some none = absurd (omega arith)
 line_whole (x ∷ []) some none =
     let other : (x == 10) ≡ false = false_from_ne_true (x == 10) (none 0 (omega arith)) in
@@ -60,5 +60,5 @@ line_whole (x ∷ y ∷ xs) some none =
     let rest = line_whole (y ∷ xs) (omega arith) (λ j small. none (suc j) (omega arith)) in
     rw other (ap (before_first x) rest)
 
-pub line_whole_at : (xs : List ℕ) → 0 < length xs → ((j : ℕ) → j < length xs → (get_or xs j 0 == 10) ≡ true → ⊥) → lines_of xs ≡ take (length xs) xs ∷ lines_of (drop (length xs) xs)
+pub line_whole_at : (xs : List ℕ) → 0 < length xs → ((j : ℕ) → j < length xs → (get_or xs j 0 == 10) ≡ true → ⊥) → text_lines xs ≡ take (length xs) xs ∷ text_lines (drop (length xs) xs)
 line_whole_at xs some none = rw (take_all (length xs) xs (omega arith), drop_all (length xs) xs (omega arith)) (line_whole xs some none)

@@ -8,7 +8,7 @@ use Rattle.std.proofs.lemmas.Slice.Eq.{bytes_eq-Decides, starts_is}
 use Rattle.std.proofs.Math.Seq.{take-add}
 use Rattle.pt_tables.specs.Log.{log_head}
 use Rattle.pt_hints.specs.Fields.{IsFirstLine}
-use Rattle.pt_hints.specs.Lines.{at_log, begins_turn, blocks_from, lines_of, with_line}
+use Rattle.pt_hints.specs.Lines.{at_log, begins_turn, blocks_from, text_lines, with_line}
 use Rattle.pt_hints.specs.Places.{IsFirstBlock, IsLogAt}
 use Rattle.pt_hints.proofs.Blocks.{block_ends, block_more}
 use Rattle.pt_hints.proofs.Splitting.{HaveNoLog, at_log_none, at_log_past, concat_push, lines_front, no_log_push}
@@ -19,7 +19,7 @@ pub record HavePassed (bytes : List ℕ) (place line : ℕ) : Type 0 where
   pub within : place ≤ length bytes
   pub few : line ≤ place + 1
   pub text : take place bytes ≡ concat passed
-  pub lines : lines_of bytes ≡ passed ++ lines_of (drop place bytes)
+  pub lines : text_lines bytes ≡ passed ++ text_lines (drop place bytes)
   pub number : line ≡ length passed + 1
   pub none : HaveNoLog passed
 
@@ -28,7 +28,7 @@ pub record AreOfFirst (bytes : List ℕ) (len lines : ℕ) : Type 0 where
   pub some : 1 ≤ lines
   pub few : lines ≤ len
   pub within : len ≤ length bytes
-  pub blocks : (n : ℕ) → blocks_from n (lines_of bytes) ≡ with_line n (take len bytes) (blocks_from (n + lines) (lines_of (drop len bytes)))
+  pub blocks : (n : ℕ) → blocks_from n (text_lines bytes) ≡ with_line n (take len bytes) (blocks_from (n + lines) (text_lines (drop len bytes)))
 
 -- a text that begins so
 starts_so : (s p : List ℕ) → starts_with nat_eq s p ≡ true → s ≡ p ++ drop (length p) s
@@ -54,7 +54,7 @@ not_log s len h = false_from_ne_true (bytes_eq (take len s) log_head)
 
 pub more_of_first : (bytes : List ℕ) (len lines more : ℕ) → AreOfFirst bytes len lines → IsFirstLine (drop len bytes) more → begins_turn (drop len bytes) ≡ false → AreOfFirst bytes (len + more) (lines + 1)
 more_of_first bytes len lines more so_far line other =
-    let line_is : lines_of (drop len bytes) ≡ take more (drop len bytes) ∷ lines_of (drop (len + more) bytes) = line.lines ∙ ap (λ (xs : List ℕ). take more (drop len bytes) ∷ lines_of xs) (drop-drop more len bytes) in
+    let line_is : text_lines (drop len bytes) ≡ take more (drop len bytes) ∷ text_lines (drop (len + more) bytes) = line.lines ∙ ap (λ (xs : List ℕ). take more (drop len bytes) ∷ text_lines xs) (drop-drop more len bytes) in
     record {
       some = omega arith;
       few = omega (arith, so_far.few, line.some);
@@ -81,7 +81,7 @@ passed_more bytes place line more so_far first other =
       within = omega (arith, first.within, so_far.within, length-drop place bytes);
       few = omega (arith, so_far.few, first.some);
       text = take-add place more bytes ∙ ap (λ (xs : List ℕ). xs ++ text) so_far.text ∙ sym (concat_push so_far.passed text);
-      lines = so_far.lines ∙ ap (λ (ls : List (List ℕ)). so_far.passed ++ ls) (first.lines ∙ ap (λ (xs : List ℕ). text ∷ lines_of xs) (drop-drop more place bytes)) ∙ sym (append_assoc so_far.passed (text ∷ []) (lines_of (drop (place + more) bytes)));
+      lines = so_far.lines ∙ ap (λ (ls : List (List ℕ)). so_far.passed ++ ls) (first.lines ∙ ap (λ (xs : List ℕ). text ∷ text_lines xs) (drop-drop more place bytes)) ∙ sym (append_assoc so_far.passed (text ∷ []) (text_lines (drop (place + more) bytes)));
       number = omega (arith, so_far.number, length-append so_far.passed (text ∷ []));
       none = no_log_push so_far.passed text so_far.none (not_log rest more other);
     }
@@ -91,17 +91,17 @@ log_found bytes place line so_far log =
     let rest = drop place bytes in
     let is : rest ≡ log_head ++ drop 4 rest = starts_so rest log_head log in
     let later : drop 4 rest ≡ drop (place + 4) bytes = drop-drop 4 place bytes in
-    let lines_is : lines_of bytes ≡ so_far.passed ++ log_head ∷ lines_of (drop (place + 4) bytes) = so_far.lines ∙ ap (λ (xs : List ℕ). so_far.passed ++ lines_of xs) is ∙ ap (λ (xs : List ℕ). so_far.passed ++ log_head ∷ lines_of xs) later in
-    let before_is : lines_of (take place bytes) ≡ so_far.passed = ap lines_of so_far.text ∙ lines_front bytes so_far.passed (lines_of rest) so_far.lines in
+    let lines_is : text_lines bytes ≡ so_far.passed ++ log_head ∷ text_lines (drop (place + 4) bytes) = so_far.lines ∙ ap (λ (xs : List ℕ). so_far.passed ++ text_lines xs) is ∙ ap (λ (xs : List ℕ). so_far.passed ++ log_head ∷ text_lines xs) later in
+    let before_is : text_lines (take place bytes) ≡ so_far.passed = ap text_lines so_far.text ∙ lines_front bytes so_far.passed (text_lines rest) so_far.lines in
     record {
-      lines = ap at_log lines_is ∙ at_log_past so_far.passed (lines_of (drop (place + 4) bytes)) so_far.none ∙ ap (λ (ls : List (List ℕ)). Some (ls, lines_of (drop (place + 4) bytes))) (sym before_is);
+      lines = ap at_log lines_is ∙ at_log_past so_far.passed (text_lines (drop (place + 4) bytes)) so_far.none ∙ ap (λ (ls : List (List ℕ)). Some (ls, text_lines (drop (place + 4) bytes))) (sym before_is);
       number = so_far.number ∙ ap (λ (ls : List (List ℕ)). length ls + 1) (sym before_is);
       parts = sym (take-append-drop place bytes) ∙ ap (λ (xs : List ℕ). take place bytes ++ xs) (is ∙ ap (λ (xs : List ℕ). log_head ++ xs) later) ∙ sym (append_assoc (take place bytes) log_head (drop (place + 4) bytes));
       few = so_far.few;
       within = omega (arith, so_far.within, length-drop place bytes, ap length is, length-append log_head (drop 4 rest));
     }
 
-pub log_missed : (bytes : List ℕ) (place line : ℕ) → HavePassed bytes place line → length bytes ≤ place → at_log (lines_of bytes) ≡ None
+pub log_missed : (bytes : List ℕ) (place line : ℕ) → HavePassed bytes place line → length bytes ≤ place → at_log (text_lines bytes) ≡ None
 log_missed bytes place line so_far end =
-    let lines_is : lines_of bytes ≡ so_far.passed = so_far.lines ∙ ap (λ (xs : List ℕ). so_far.passed ++ lines_of xs) (drop_all place bytes end) ∙ append-nil so_far.passed in
+    let lines_is : text_lines bytes ≡ so_far.passed = so_far.lines ∙ ap (λ (xs : List ℕ). so_far.passed ++ text_lines xs) (drop_all place bytes end) ∙ append-nil so_far.passed in
     ap at_log lines_is ∙ at_log_none so_far.passed so_far.none

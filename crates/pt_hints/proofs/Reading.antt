@@ -12,7 +12,7 @@ use Rattle.pt_types.specs.declared.graph.Graph.{Graph}
 use Rattle.pt_types.specs.Lawful.{IsLawful}
 use Rattle.pt_semantics.specs.Lists.{Each}
 use Rattle.pt_hints.specs.Fields.{after, before}
-use Rattle.pt_hints.specs.Items.{IsTellableItem, Item, Tally, entry_of, item_line, message_text, tally, with_entries, with_entry}
+use Rattle.pt_hints.specs.Items.{IsTellableItem, Item, Tally, entry_of, item_line, message_text, tally, with_entries, with_line}
 use Rattle.pt_hints.specs.Items.Item.{claim, got, post, row, sent}
 use Rattle.pt_hints.specs.declared.entries.Entry.{Entry}
 use Rattle.pt_hints.specs.declared.hints.Hints.{Hints}
@@ -82,7 +82,7 @@ pub record IsNext (g : Graph) (items : List Item) (begun : Hints) (rest : List �
   pub all_told : Each (IsTellableItem g) more
   pub line : before 10 rest ++ 10 ∷ [] ≡ item_line g item
   pub text : after 10 rest ≡ flat_map (item_line g) more
-  pub total : with_entries (with_entry (tally hints) (entry_of item)) (map entry_of more) ≡ with_entries (tally begun) (map entry_of items)
+  pub total : with_entries (with_line (tally hints) (entry_of item)) (map entry_of more) ≡ with_entries (tally begun) (map entry_of items)
 
 next_of : (g : Graph) (items : List Item) (begun : Hints) (rest : List ℕ) (hints : Hints) (left : List Item) → IsLawful g → 0 < length rest → Each (IsTellableItem g) left → rest ≡ flat_map (item_line g) left → with_entries (tally hints) (map entry_of left) ≡ with_entries (tally begun) (map entry_of items) → IsNext g items begun rest hints
 next_of g items begun rest hints [] lawful some told e total = absurd (omega (arith, ap length e))
@@ -137,17 +137,17 @@ empty_rest xs h = nil_from_length xs (eqb-true (length xs) 0 (sym h))
 pub line_at : (rest line whole : List ℕ) → line ≡ before 10 rest → before 10 rest ++ 10 ∷ [] ≡ whole → line ++ 10 ∷ [] ≡ whole
 line_at rest line whole is e = ap (λ (xs : List ℕ). xs ++ 10 ∷ []) is ∙ e
 
-left_after : (g : Graph) (items : List Item) (begun : Hints) (rest : List ℕ) (hints : Hints) (line more : List ℕ) (entry : Entry) (new : Hints) → IsNext g items begun rest hints → line ≡ before 10 rest → more ≡ after 10 rest → ((item : Item) → IsTellableItem g item → line ++ 10 ∷ [] ≡ item_line g item → Some entry ≡ Some (entry_of item)) → tally new ≡ with_entry (tally hints) entry → AreLeft g items begun more new
+left_after : (g : Graph) (items : List Item) (begun : Hints) (rest : List ℕ) (hints : Hints) (line more : List ℕ) (entry : Entry) (new : Hints) → IsNext g items begun rest hints → line ≡ before 10 rest → more ≡ after 10 rest → ((item : Item) → IsTellableItem g item → line ++ 10 ∷ [] ≡ item_line g item → Some entry ≡ Some (entry_of item)) → tally new ≡ with_line (tally hints) entry → AreLeft g items begun more new
 left_after g items begun rest hints line more entry new next is later reads adds =
     let entry_is : entry ≡ entry_of next.item = same_Some entry (entry_of next.item) (reads next.item next.told (line_at rest line (item_line g next.item) is next.line)) in
     record {
       left = next.more;
       told = next.all_told;
       text = later ∙ next.text;
-      total = ap (λ (so_far : Tally). with_entries so_far (map entry_of next.more)) (adds ∙ ap (with_entry (tally hints)) entry_is) ∙ next.total;
+      total = ap (λ (so_far : Tally). with_entries so_far (map entry_of next.more)) (adds ∙ ap (with_line (tally hints)) entry_is) ∙ next.total;
     }
 
-pub reads_on : (g : Graph) (text : List ℕ) (begun : Hints) (rest : List ℕ) (hints : Hints) (line more : List ℕ) (entry : Entry) (new : Hints) → IsLawful g → 0 < length rest → IsReading g text begun rest hints → line ≡ before 10 rest → more ≡ after 10 rest → ((item : Item) → IsTellableItem g item → line ++ 10 ∷ [] ≡ item_line g item → Some entry ≡ Some (entry_of item)) → tally new ≡ with_entry (tally hints) entry → new.claims ≤ hints.claims + 1 → IsReading g text begun more new
+pub reads_on : (g : Graph) (text : List ℕ) (begun : Hints) (rest : List ℕ) (hints : Hints) (line more : List ℕ) (entry : Entry) (new : Hints) → IsLawful g → 0 < length rest → IsReading g text begun rest hints → line ≡ before 10 rest → more ≡ after 10 rest → ((item : Item) → IsTellableItem g item → line ++ 10 ∷ [] ≡ item_line g item → Some entry ≡ Some (entry_of item)) → tally new ≡ with_line (tally hints) entry → new.claims ≤ hints.claims + 1 → IsReading g text begun more new
 reads_on g text begun rest hints line more entry new lawful some so_far is later reads adds few = record {
   room = omega (arith, so_far.room, few, after_shorter 10 rest some, ap length later);
   reads = λ items told e. left_after g items begun rest hints line more entry new (next_item g items begun rest hints lawful some (so_far.reads items told e)) is later reads adds;

@@ -4,7 +4,7 @@ use Rattle.std.specs.List.{concat}
 use Rattle.std.proofs.lemmas.Bool.{cases_Bool}
 use Rattle.pt_semantics.specs.Lists.{Each}
 use Rattle.pt_tables.specs.Log.{log_head}
-use Rattle.pt_hints.specs.Lines.{at_log, before_first, lines_of}
+use Rattle.pt_hints.specs.Lines.{at_log, before_first, text_lines}
 
 pub concat_push : (xs : List (List ℕ)) (y : List ℕ) → concat (xs ++ y ∷ []) ≡ concat xs ++ y
 concat_push [] y = append-nil y
@@ -15,30 +15,30 @@ first_apart : (x : List ℕ) (xs front rest : List (List ℕ)) → x ∷ xs ≡ 
 first_apart x xs [] rest e = inl refl
 first_apart x xs (y ∷ front) rest e = inr (front, cc, cc)
 
-lines_front_at : (b : ℕ) (lines front rest : List (List ℕ)) → ((more : List (List ℕ)) (less : List (List ℕ)) → lines ≡ more ++ less → lines_of (concat more) ≡ more) → (b == 10) ≡ false → before_first b lines ≡ front ++ rest → lines_of (concat front) ≡ front
+lines_front_at : (b : ℕ) (lines front rest : List (List ℕ)) → ((more : List (List ℕ)) (less : List (List ℕ)) → lines ≡ more ++ less → text_lines (concat more) ≡ more) → (b == 10) ≡ false → before_first b lines ≡ front ++ rest → text_lines (concat front) ≡ front
 lines_front_at b [] front rest known other e = ⊎_elim
-    (λ (nothing : front ≡ []). subst (λ (ls : List (List ℕ)). lines_of (concat ls) ≡ ls) (sym nothing) refl)
-    (λ (some : (more : List (List ℕ)) × (front ≡ (b ∷ []) ∷ more) × ([] ≡ more ++ rest)). subst (λ (ls : List (List ℕ)). lines_of (concat ls) ≡ ls) (sym (some.1 ∙ ap (λ (ls : List (List ℕ)). (b ∷ []) ∷ ls) (nothing_left some.0 rest some.2))) (rw other refl))
+    (λ (nothing : front ≡ []). subst (λ (ls : List (List ℕ)). text_lines (concat ls) ≡ ls) (sym nothing) refl)
+    (λ (some : (more : List (List ℕ)) × (front ≡ (b ∷ []) ∷ more) × ([] ≡ more ++ rest)). subst (λ (ls : List (List ℕ)). text_lines (concat ls) ≡ ls) (sym (some.1 ∙ ap (λ (ls : List (List ℕ)). (b ∷ []) ∷ ls) (nothing_left some.0 rest some.2))) (rw other refl))
     (first_apart (b ∷ []) [] front rest e)
   where
     nothing_left : (more less : List (List ℕ)) → [] ≡ more ++ less → more ≡ []
     nothing_left [] less h = refl
     nothing_left (x ∷ more) less h = cc
 lines_front_at b (line ∷ lines) front rest known other e = ⊎_elim
-    (λ (nothing : front ≡ []). subst (λ (ls : List (List ℕ)). lines_of (concat ls) ≡ ls) (sym nothing) refl)
-    (λ (some : (more : List (List ℕ)) × (front ≡ (b ∷ line) ∷ more) × (lines ≡ more ++ rest)). subst (λ (ls : List (List ℕ)). lines_of (concat ls) ≡ ls) (sym some.1) (rw other (ap (before_first b) (known (line ∷ some.0) rest (ap (λ (ls : List (List ℕ)). line ∷ ls) some.2)))))
+    (λ (nothing : front ≡ []). subst (λ (ls : List (List ℕ)). text_lines (concat ls) ≡ ls) (sym nothing) refl)
+    (λ (some : (more : List (List ℕ)) × (front ≡ (b ∷ line) ∷ more) × (lines ≡ more ++ rest)). subst (λ (ls : List (List ℕ)). text_lines (concat ls) ≡ ls) (sym some.1) (rw other (ap (before_first b) (known (line ∷ some.0) rest (ap (λ (ls : List (List ℕ)). line ∷ ls) some.2)))))
     (first_apart (b ∷ line) lines front rest e)
 
 -- the first lines of a text, joined, are those lines again
-pub lines_front : (bytes : List ℕ) (front rest : List (List ℕ)) → lines_of bytes ≡ front ++ rest → lines_of (concat front) ≡ front
+pub lines_front : (bytes : List ℕ) (front rest : List (List ℕ)) → text_lines bytes ≡ front ++ rest → text_lines (concat front) ≡ front
 lines_front [] [] rest e = refl
 lines_front [] (line ∷ front) rest e = cc
 lines_front (b ∷ bytes) front rest e = ⊎_elim
     (λ (ends : (b == 10) ≡ true). ⊎_elim
-    (λ (nothing : front ≡ []). subst (λ (ls : List (List ℕ)). lines_of (concat ls) ≡ ls) (sym nothing) refl)
-    (λ (some : (more : List (List ℕ)) × (front ≡ (b ∷ []) ∷ more) × (lines_of bytes ≡ more ++ rest)). subst (λ (ls : List (List ℕ)). lines_of (concat ls) ≡ ls) (sym some.1) (rw ends (ap (λ (ls : List (List ℕ)). (b ∷ []) ∷ ls) (lines_front bytes some.0 rest some.2))))
-    (first_apart (b ∷ []) (lines_of bytes) front rest (rw ends at e)))
-    (λ (other : (b == 10) ≡ false). lines_front_at b (lines_of bytes) front rest (lines_front bytes) other (rw other at e))
+    (λ (nothing : front ≡ []). subst (λ (ls : List (List ℕ)). text_lines (concat ls) ≡ ls) (sym nothing) refl)
+    (λ (some : (more : List (List ℕ)) × (front ≡ (b ∷ []) ∷ more) × (text_lines bytes ≡ more ++ rest)). subst (λ (ls : List (List ℕ)). text_lines (concat ls) ≡ ls) (sym some.1) (rw ends (ap (λ (ls : List (List ℕ)). (b ∷ []) ∷ ls) (lines_front bytes some.0 rest some.2))))
+    (first_apart (b ∷ []) (text_lines bytes) front rest (rw ends at e)))
+    (λ (other : (b == 10) ≡ false). lines_front_at b (text_lines bytes) front rest (lines_front bytes) other (rw other at e))
     (cases_Bool (b == 10))
 
 -- none of these lines is `log`

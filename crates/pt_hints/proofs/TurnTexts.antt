@@ -15,7 +15,7 @@ use Rattle.pt_semantics.specs.Turn.{Turn}
 use Rattle.pt_tables.specs.Log.{claim_line, post_line, row_line, sent_line, take_line, turn_line, turn_lines}
 use Rattle.pt_hints.specs.Fields.{after, before}
 use Rattle.pt_hints.specs.Hints.{IsTellable, IsTellableOn}
-use Rattle.pt_hints.specs.Items.{IsTellableItem, Item, Tally, entry_of, item_line, nothing_yet, with_entries, with_entry}
+use Rattle.pt_hints.specs.Items.{IsTellableItem, Item, Tally, entry_of, item_line, nothing_yet, with_entries, with_line}
 use Rattle.pt_hints.specs.Items.Item.{claim, got, post, row, sent}
 use Rattle.pt_hints.specs.declared.entries.Entry.{Entry}
 use Rattle.pt_hints.proofs.Cuts.{Lacks, after_at, before_at, lacks_append}
@@ -86,7 +86,7 @@ items_told g p t told =
 
 with_append : (xs ys : List Entry) (so_far : Tally) → with_entries so_far (xs ++ ys) ≡ with_entries (with_entries so_far xs) ys
 with_append [] ys so_far = refl
-with_append (x ∷ xs) ys so_far = with_append xs ys (with_entry so_far x)
+with_append (x ∷ xs) ys so_far = with_append xs ys (with_line so_far x)
 
 with_posts : (a : List ℕ) (b : List OnLink) (c : ℕ) (d : List OnLink) (ds : List Done) → with_entries (record { posts = a; taken = b; claims = c; sent = d }) (map entry_of (map post ds)) ≡ record { posts = a ++ map (λ (done : Done). done.task.number) ds; taken = b; claims = c; sent = d }
 with_posts a b c d [] = rw append-nil refl

@@ -1,6 +1,6 @@
 -- A text cut at the first of a byte, and its first line.
 use Rattle.std.specs.Prelude.{◌≡◌, ℕ, ◌==◌, ◌<◌, ◌≤◌, List, [], ◌∷◌, length, take, drop, if◌then◌else◌}
-use Rattle.pt_hints.specs.Lines.{lines_of}
+use Rattle.pt_hints.specs.Lines.{text_lines}
 
 -- what comes before the first b; the whole text if there is no b
 abbrev pub before : ℕ → List ℕ → List ℕ
@@ -16,4 +16,4 @@ after b (x ∷ xs) = if x == b then xs else after b xs
 pub record IsFirstLine (bytes : List ℕ) (len : ℕ) : Type 0 where
   pub some : 0 < len
   pub within : len ≤ length bytes
-  pub lines : lines_of bytes ≡ take len bytes ∷ lines_of (drop len bytes)
+  pub lines : text_lines bytes ≡ take len bytes ∷ text_lines (drop len bytes)

@@ -3,7 +3,7 @@ use Rattle.std.specs.Prelude.{◌≡◌, ℕ}
 use Rattle.pt_hints.specs.declared.head.Head.{Head}
 
 -- platform p, a turn's first and last reading, and its count
-pub record IsHead (p r s n : ℕ) (head : Head) : Type 0 where
+pub record IsTurnHead (p r s n : ℕ) (head : Head) : Type 0 where
   pub platform : head.platform ≡ p
   pub first : head.first ≡ r
   pub last : head.last ≡ s

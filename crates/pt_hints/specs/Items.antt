@@ -78,14 +78,14 @@ word_is text =
     if bytes_eq text (codes "post") then Some word.Post else (if bytes_eq text (codes "row") then Some word.Row else (if bytes_eq text (codes "take") then Some word.Take else (if bytes_eq text (codes "claim") then Some word.Claim else (if bytes_eq text (codes "sent") then Some word.Sent else None))))
 
 -- what the hints have after one more line
-abbrev pub with_entry : Tally → Entry → Tally
-with_entry so_far (Post number) = record so_far { posts = so_far.posts ++ number ∷ [] }
-with_entry so_far Row = so_far
-with_entry so_far (Take x) = record so_far { taken = so_far.taken ++ x ∷ [] }
-with_entry so_far Claim = record so_far { claims = so_far.claims + 1 }
-with_entry so_far (Sent x) = record so_far { sent = so_far.sent ++ x ∷ [] }
+abbrev pub with_line : Tally → Entry → Tally
+with_line so_far (Post number) = record so_far { posts = so_far.posts ++ number ∷ [] }
+with_line so_far Row = so_far
+with_line so_far (Take x) = record so_far { taken = so_far.taken ++ x ∷ [] }
+with_line so_far Claim = record so_far { claims = so_far.claims + 1 }
+with_line so_far (Sent x) = record so_far { sent = so_far.sent ++ x ∷ [] }
 
 -- what they have after several lines
 abbrev pub with_entries : Tally → List Entry → Tally
 with_entries so_far [] = so_far
-with_entries so_far (entry ∷ entries) = with_entries (with_entry so_far entry) entries
+with_entries so_far (entry ∷ entries) = with_entries (with_line so_far entry) entries

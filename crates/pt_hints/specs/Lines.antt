@@ -8,9 +8,9 @@ before_first b [] = (b ∷ []) ∷ []
 before_first b (line ∷ lines) = (b ∷ line) ∷ lines
 
 -- the lines of a text, each with its line feed; a rest without one is the last
-abbrev pub lines_of : List ℕ → List (List ℕ)
-lines_of [] = []
-lines_of (b ∷ bs) = if b == 10 then (b ∷ []) ∷ lines_of bs else before_first b (lines_of bs)
+abbrev pub text_lines : List ℕ → List (List ℕ)
+text_lines [] = []
+text_lines (b ∷ bs) = if b == 10 then (b ∷ []) ∷ text_lines bs else before_first b (text_lines bs)
 
 -- the lines before the first line `log`, and those after it; None if no line is `log`
 abbrev pub at_log : List (List ℕ) → Option (List (List ℕ) × List (List ℕ))

@@ -1,7 +1,7 @@
 //! The log part of a file, block by block.
 
 ghost use Rattle.std.specs.Prelude.{◌≡◌, ℕ, ◌<◌, ◌+◌, ◌^◌, ◌∷◌, [], None, length, take, drop, MatchOption};
-ghost use Rattle.pt_hints.specs.Lines.{Block, at_log, blocks_from, lines_of};
+ghost use Rattle.pt_hints.specs.Lines.{Block, at_log, blocks_from, text_lines};
 ghost use Rattle.pt_hints.specs.Places.{IsFirstBlock, IsLogAt};
 
 use crate::fields::line_len;
@@ -19,7 +19,7 @@ pub struct LogAt {
 /// Where the first line `log` of a file is, if a line is `log`.
 pub fn log_at(bytes: &[u8]) -> Option<LogAt>
     requires { length bytes.now + 1 < 2 ^ 32 }
-    ensures { MatchOption result (at_log (lines_of bytes.now) ≡ None) (λ at. IsLogAt bytes.now at.place at.line) }
+    ensures { MatchOption result (at_log (text_lines bytes.now) ≡ None) (λ at. IsLogAt bytes.now at.place at.line) }
 {
     let mut place = 0;
     let mut line = 1;
@@ -51,11 +51,11 @@ pub struct Cursor<'a> {
 
 impl<'a> Model for Cursor<'a> {
     ghost use Rattle.std.specs.Prelude.{List, ◌+◌, ◌<◌, ◌^◌, length};
-    ghost use Rattle.pt_hints.specs.Lines.{Block, blocks_from, lines_of};
+    ghost use Rattle.pt_hints.specs.Lines.{Block, blocks_from, text_lines};
 
     ghost Value = { List Block };
 
-    ghost view = { λ c. blocks_from c.line (lines_of c.rest.now) };
+    ghost view = { λ c. blocks_from c.line (text_lines c.rest.now) };
 
     ghost invariant = { λ c. c.line + length c.rest.now < 2 ^ 32 };
 }
@@ -64,7 +64,7 @@ impl<'a> Cursor<'a> {
     /// The blocks of a text whose first line has this number.
     pub fn new(rest: &'a [u8], line: u32) -> Cursor<'a>
         requires { line + length rest.now < 2 ^ 32 }
-        ensures { result ≡ blocks_from line (lines_of rest.now) }
+        ensures { result ≡ blocks_from line (text_lines rest.now) }
     {
         Cursor { rest, line }
     }

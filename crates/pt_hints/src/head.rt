@@ -4,7 +4,7 @@ ghost use Rattle.std.specs.Prelude.{◌≡◌, ◌<◌, ◌^◌, ◌++◌, ◌�
 ghost use Rattle.pt_types.specs.Lawful.{IsLawful};
 ghost use Rattle.pt_types.specs.Lookups.{platform_name};
 ghost use Rattle.pt_tables.specs.Log.{turn_line};
-ghost use Rattle.pt_hints.specs.Heads.{IsHead};
+ghost use Rattle.pt_hints.specs.Heads.{IsTurnHead};
 
 use crate::fields::cut;
 use crate::names::platform_named;
@@ -23,7 +23,7 @@ pub(crate) struct Head {
 /// Reads the first line of a turn, without its line feed: `turn,PLATFORM,FIRST,LAST,COUNT`.
 pub(crate) fn read_head(graph: &Graph, line: &[u8]) -> Option<Head>
     requires lawful { IsLawful graph.now }
-    ensures { (p first last count : ℕ) → p < length graph.now.platforms → first < 2 ^ 64 → last < 2 ^ 64 → count < 2 ^ 64 → line.now ++ 10 ∷ [] ≡ turn_line (platform_name graph.now p) first last count → IsSomeAnd result (IsHead p first last count) }
+    ensures { (p first last count : ℕ) → p < length graph.now.platforms → first < 2 ^ 64 → last < 2 ^ 64 → count < 2 ^ 64 → line.now ++ 10 ∷ [] ≡ turn_line (platform_name graph.now p) first last count → IsSomeAnd result (IsTurnHead p first last count) }
 {
     let (_, rest) = cut(line, b',');
     let (platform, rest) = cut(rest, b',');

@@ -59,7 +59,7 @@ pub fn read_hints(graph: &Graph, text: &[u8], hints: &mut Hints) -> Result<bool,
 }
 
 impl Hints {
-    ghost use Rattle.pt_hints.specs.Items.{nothing_yet, tally, with_entry};
+    ghost use Rattle.pt_hints.specs.Items.{nothing_yet, tally, with_line};
     ghost use Rattle.std.specs.Prelude.{◌<◌, ◌≤◌, ◌+◌, ◌^◌, OnOk};
 
     /// No hints; no memory is taken.
@@ -81,7 +81,7 @@ impl Hints {
     /// Adds what a line after the first says.
     pub(crate) fn add(&mut self, entry: Entry) -> Result<(), Memory>
         requires { self.old.claims + 1 < 2 ^ 64 }
-        ensures tally { OnOk result (tally self.new ≡ with_entry (tally self.old) entry) }
+        ensures tally { OnOk result (tally self.new ≡ with_line (tally self.old) entry) }
         ensures claims { self.new.claims ≤ self.old.claims + 1 }
     {
         match entry {

@@ -4,23 +4,23 @@ use Rattle.std.specs.Prelude.{slice_get}
 use Rattle.std.proofs.lemmas.List.{length-take, length-drop}
 use Rattle.std.proofs.lemmas.Option.{get_or_from_slice_get}
 use Rattle.pt_history.specs.Lists.{Rises, RoomyEnds, on_last, pieces}
-use Rattle.pt_history.specs.WorkLists.{AreEnds}
+use Rattle.pt_history.specs.WorkLists.{AreListEnds}
 use Rattle.pt_history.proofs.Cutting.{IsWithin, length-pieces, piece_within, pieces_begin, pieces_extend, pieces_get, rises_begin, rises_extend}
 
 -- an empty list is begun
-pub ends_begin : (old new : RoomyEnds) (n spare : ℕ) → AreEnds old n spare → new.ends ≡ old.ends ++ old.total ∷ [] → new.total ≡ old.total → AreEnds new n spare
+pub ends_begin : (old new : RoomyEnds) (n spare : ℕ) → AreListEnds old n spare → new.ends ≡ old.ends ++ old.total ∷ [] → new.total ≡ old.total → AreListEnds new n spare
 ends_begin old new n spare are is total = record {
   rises = subst (λ es. Rises 0 es n) (sym (is ∙ ap (λ k. old.ends ++ k ∷ []) are.total)) (rises_begin 0 old.ends n are.rises);
   total = total ∙ are.total;
   fits = are.fits;
 }
 
-pub lists_begin : {X : Type 0} (old new : RoomyEnds) (items : List X) (spare : ℕ) → AreEnds old (length items) spare → new.ends ≡ old.ends ++ old.total ∷ [] → pieces 0 new.ends items ≡ pieces 0 old.ends items ++ [] ∷ []
+pub lists_begin : {X : Type 0} (old new : RoomyEnds) (items : List X) (spare : ℕ) → AreListEnds old (length items) spare → new.ends ≡ old.ends ++ old.total ∷ [] → pieces 0 new.ends items ≡ pieces 0 old.ends items ++ [] ∷ []
 lists_begin old new items spare are is = ap (λ es. pieces 0 es items) (is ∙ ap (λ k. old.ends ++ k ∷ []) are.total) ∙ pieces_begin 0 old.ends items are.rises
 
 -- the last list grows
-pub ends_grow : (old new : RoomyEnds) (n more m spare left : ℕ) → AreEnds old n spare → 0 < length old.ends → new.ends ≡ set old.ends (length old.ends - 1) (old.total + more) → new.total ≡ old.total + more
-    → m ≡ n + more → left + more ≡ spare → AreEnds new m left
+pub ends_grow : (old new : RoomyEnds) (n more m spare left : ℕ) → AreListEnds old n spare → 0 < length old.ends → new.ends ≡ set old.ends (length old.ends - 1) (old.total + more) → new.total ≡ old.total + more
+    → m ≡ n + more → left + more ≡ spare → AreListEnds new m left
 ends_grow old new n more m spare left are some is total many room =
     let last : (length old.ends - 1) + 1 ≡ length old.ends = omega (arith, some) in
     let sum : old.total + more ≡ n + more = ap (λ k. k + more) are.total in
@@ -30,7 +30,7 @@ ends_grow old new n more m spare left are some is total many room =
       fits = omega (arith, many, room, are.fits);
     }
 
-pub lists_grow : {X : Type 0} (old new : RoomyEnds) (items more all : List X) (spare : ℕ) → AreEnds old (length items) spare → 0 < length old.ends → new.ends ≡ set old.ends (length old.ends - 1) (old.total + length more)
+pub lists_grow : {X : Type 0} (old new : RoomyEnds) (items more all : List X) (spare : ℕ) → AreListEnds old (length items) spare → 0 < length old.ends → new.ends ≡ set old.ends (length old.ends - 1) (old.total + length more)
     → all ≡ items ++ more → pieces 0 new.ends all ≡ on_last (λ (l : List X). l ++ more) (pieces 0 old.ends items)
 lists_grow old new items more all spare are some is appended =
     let last : (length old.ends - 1) + 1 ≡ length old.ends = omega (arith, some) in
@@ -43,7 +43,7 @@ pub record IsCut {X : Type 0} (ends : List ℕ) (items : List X) (list start end
   pub within : end ≤ length items
   pub is : slice_get (pieces 0 ends items) list ≡ Some (take (end - start) (drop start items))
 
-pub cut_at : {X : Type 0} (ends : RoomyEnds) (items : List X) (spare list start end : ℕ) → AreEnds ends (length items) spare → list < length (pieces 0 ends.ends items) → start ≡ get_or (0 ∷ ends.ends) list 0 → end ≡ get_or ends.ends list 0 → IsCut ends.ends items list start end
+pub cut_at : {X : Type 0} (ends : RoomyEnds) (items : List X) (spare list start end : ℕ) → AreListEnds ends (length items) spare → list < length (pieces 0 ends.ends items) → start ≡ get_or (0 ∷ ends.ends) list 0 → end ≡ get_or ends.ends list 0 → IsCut ends.ends items list start end
 cut_at ends items spare list start end are lt starts stops =
     let inside : list < length ends.ends = omega (arith, lt, length-pieces 0 ends.ends items) in
     let w : IsWithin 0 ends.ends list (length items) = piece_within 0 ends.ends list (length items) inside are.rises in

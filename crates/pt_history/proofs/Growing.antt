@@ -9,7 +9,7 @@ use Rattle.pt_history.specs.Lists.{RoomyLists, on_last}
 use Rattle.pt_history.proofs.LastMember.{at_last, before_last, length-on_last}
 use Rattle.pt_semantics.specs.Turn.{Turn}
 use Rattle.pt_history.specs.declared.head.Head.{Head}
-use Rattle.pt_history.specs.Keeping.{Fits, Lists, turn_at, turns_from}
+use Rattle.pt_history.specs.Keeping.{HasRoomFor, Lists, turn_at, turns_from}
 use Rattle.pt_history.specs.Turns.{claiming, entering, posting, quiet, sending, taking}
 
 -- lists that differ at the last turn alone
@@ -57,7 +57,7 @@ sent_last p messages new hs e is =
     (λ j h eq. ap (λ (l : List OnLink). record (turn_at p j h) { sent = l }) (at_last (λ (l : List OnLink). l ++ messages) p.sent j [] (omega arith)))
 
 -- more items in the last list take their places of the room
-pub fits_extend : {X : Type 0} (turns more_turns items : ℕ) (old new : RoomyLists X) (more : List X) → Fits turns more_turns items old → new.lists ≡ on_last (λ (l : List X). l ++ more) old.lists → new.spare_items + length more ≡ old.spare_items → new.spare_lists ≡ old.spare_lists → Fits turns more_turns (items - length more) new
+pub fits_extend : {X : Type 0} (turns more_turns items : ℕ) (old new : RoomyLists X) (more : List X) → HasRoomFor turns more_turns items old → new.lists ≡ on_last (λ (l : List X). l ++ more) old.lists → new.spare_items + length more ≡ old.spare_items → new.spare_lists ≡ old.spare_lists → HasRoomFor turns more_turns (items - length more) new
 fits_extend {X = X} turns more_turns items old new more fits lists spare_items spare_lists = record {
   lists = ap length lists ∙ length-on_last (λ (l : List X). l ++ more) old.lists ∙ fits.lists;
   turns_fit = omega (arith, spare_lists, fits.turns_fit);

@@ -51,7 +51,7 @@ pub record TellQuiet (lists : Lists) (turns : ℕ) (last before : Bool) : Type 0
   pub of_before : (number : ℕ) → number + 2 ≡ turns → before ≡ are_empty lists number
 
 -- pieces with one list for each turn, and with room for that many more lists and items
-pub record Fits {X : Type 0} (turns more_turns more_items : ℕ) (pieces : RoomyLists X) : Type 0 where
+pub record HasRoomFor {X : Type 0} (turns more_turns more_items : ℕ) (pieces : RoomyLists X) : Type 0 where
   pub lists : length pieces.lists ≡ turns
   pub turns_fit : more_turns ≤ pieces.spare_lists
   pub items_fit : more_items ≤ pieces.spare_items

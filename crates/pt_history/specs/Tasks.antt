@@ -14,14 +14,14 @@ abbrev pub mark_of : Task → Mark
 mark_of task = record { tag = task.tag; number = task.number; actor = task.actor }
 
 -- the claim with these cells
-abbrev pub task_of : Mark → List (Option ℤ) → Task
-task_of mark cells = record { number = mark.number; actor = mark.actor; tag = mark.tag; inputs = ports_in cells; state = state_in cells }
+abbrev pub task_of_cells : Mark → List (Option ℤ) → Task
+task_of_cells mark cells = record { number = mark.number; actor = mark.actor; tag = mark.tag; inputs = ports_in cells; state = state_in cells }
 
 -- the claims with these cells
-abbrev pub tasks_of : List Mark → List (List (Option ℤ)) → List Task
-tasks_of [] cells = []
-tasks_of (m ∷ marks) [] = []
-tasks_of (m ∷ marks) (c ∷ cells) = task_of m c ∷ tasks_of marks cells
+abbrev pub tasks_of_cells : List Mark → List (List (Option ℤ)) → List Task
+tasks_of_cells [] cells = []
+tasks_of_cells (m ∷ marks) [] = []
+tasks_of_cells (m ∷ marks) (c ∷ cells) = task_of_cells m c ∷ tasks_of_cells marks cells
 
 -- the default past the end of a list of tasks
 abbrev pub no_task : Task

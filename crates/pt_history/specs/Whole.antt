@@ -1,7 +1,7 @@
 -- The invariant of a history.
 use Rattle.std.specs.Prelude.{◌+◌, ◌≤◌, length, vec_capacity, vec_len}
 use Rattle.pt_history.specs.declared.history.History.TheInside.{Inside}
-use Rattle.pt_history.specs.Keeping.{Fits, Lists, TellQuiet, turns_from}
+use Rattle.pt_history.specs.Keeping.{HasRoomFor, Lists, TellQuiet, turns_from}
 use Rattle.pt_history.specs.Turns.{RoomyTurns}
 
 -- the five lists of each turn
@@ -15,9 +15,9 @@ roomy_turns h = record { turns = turns_from (lists_of h) 0 h.heads.items; room =
 -- each turn has its five lists, the promised room is allocated, and the two flags say which of the last two turns are quiet
 pub record IsWhole (h : Inside) : Type 0 where
   pub heads : vec_len h.heads + h.room.turns ≤ vec_capacity h.heads
-  pub posted : Fits (length h.heads.items) h.room.turns h.room.posted h.work.posted
-  pub rows : Fits (length h.heads.items) h.room.turns h.room.rows h.rows
-  pub taken : Fits (length h.heads.items) h.room.turns h.room.taken h.taken
-  pub claimed : Fits (length h.heads.items) h.room.turns h.room.claimed h.work.claimed
-  pub sent : Fits (length h.heads.items) h.room.turns h.room.sent h.sent
+  pub posted : HasRoomFor (length h.heads.items) h.room.turns h.room.posted h.work.posted
+  pub rows : HasRoomFor (length h.heads.items) h.room.turns h.room.rows h.rows
+  pub taken : HasRoomFor (length h.heads.items) h.room.turns h.room.taken h.taken
+  pub claimed : HasRoomFor (length h.heads.items) h.room.turns h.room.claimed h.work.claimed
+  pub sent : HasRoomFor (length h.heads.items) h.room.turns h.room.sent h.sent
   pub quiet : TellQuiet (lists_of h) (length h.heads.items) h.last_quiet h.before_quiet

@@ -18,14 +18,14 @@ abbrev pub work_lists : Inside → RoomyWorkLists
 work_lists w = record { claimed = lists_at w.claimed w.work.tasks w.work.spare_tasks; posted = lists_at w.posted w.work.dones w.work.spare_dones }
 
 -- the ends rise to the last of n items, and 32 bits hold each end
-pub record AreEnds (ends : RoomyEnds) (n spare : ℕ) : Type 0 where
+pub record AreListEnds (ends : RoomyEnds) (n spare : ℕ) : Type 0 where
   pub rises : Rises 0 ends.ends n
   pub total : ends.total ≡ n
   pub fits : n + spare < 2 ^ 32
 
 pub record AreWorkLists (w : Inside) : Type 0 where
-  pub claimed : AreEnds w.claimed (length w.work.tasks) w.work.spare_tasks
-  pub posted : AreEnds w.posted (length w.work.dones) w.work.spare_dones
+  pub claimed : AreListEnds w.claimed (length w.work.tasks) w.work.spare_tasks
+  pub posted : AreListEnds w.posted (length w.work.dones) w.work.spare_dones
 
 -- there is no less room
 pub record IsRoomier (old new : RoomyWorkLists) : Type 0 where

@@ -30,15 +30,15 @@ dones_of claims others (s ∷ sources) [] = []
 dones_of claims others (s ∷ sources) (c ∷ cells) = done_of (task_at claims others s) c ∷ dones_of claims others sources cells
 
 -- there are that many claims and others at least
-abbrev pub AreWithin : ℕ → ℕ → List Source → Type 0
-AreWithin claims others [] = Unit {0}
-AreWithin claims others (Claim number ∷ sources) = (number < claims) × AreWithin claims others sources
-AreWithin claims others (Other number ∷ sources) = (number < others) × AreWithin claims others sources
+abbrev pub SourcesAreWithin : ℕ → ℕ → List Source → Type 0
+SourcesAreWithin claims others [] = Unit {0}
+SourcesAreWithin claims others (Claim number ∷ sources) = (number < claims) × SourcesAreWithin claims others sources
+SourcesAreWithin claims others (Other number ∷ sources) = (number < others) × SourcesAreWithin claims others sources
 
 -- a task is stored at a source, where at most one other is new
 pub record IsStored (claims old new : List Task) (task : Task) (source : Source) : Type 0 where
   pub more : List Task
   pub grows : new ≡ old ++ more
   pub few : length more ≤ 1
-  pub within : AreWithin (length claims) (length new) (source ∷ [])
+  pub within : SourcesAreWithin (length claims) (length new) (source ∷ [])
   pub is : task_at claims new source ≡ task

@@ -1,7 +1,7 @@
 //! Claims, stored flat.
 
 ghost use Rattle.std.specs.Prelude.{◌≡◌, ◌+◌, ◌<◌, ◌≤◌, ◌++◌, ◌∷◌, [], OnOk, Some, length, max, option_map, slice_get, true};
-ghost use Rattle.pt_history.specs.Tasks.{mark_of, task_of};
+ghost use Rattle.pt_history.specs.Tasks.{mark_of, task_of_cells};
 
 use crate::cells::{Cells, parts_of};
 use crate::pieces::widened;
@@ -30,11 +30,11 @@ pub(crate) struct Claims {
 
 impl Model for Claims {
     ghost use Rattle.std.specs.Prelude.{◌≡◌, ◌+◌, ◌≤◌, length, vec_len, vec_capacity};
-    ghost use Rattle.pt_history.specs.Tasks.{RoomyTasks, tasks_of};
+    ghost use Rattle.pt_history.specs.Tasks.{RoomyTasks, tasks_of_cells};
 
     ghost Value = { RoomyTasks };
 
-    ghost view = { λ c. record { tasks = tasks_of c.marks.items c.cells.cells; spare = c.spare } };
+    ghost view = { λ c. record { tasks = tasks_of_cells c.marks.items c.cells.cells; spare = c.spare } };
 
     ghost invariant = { λ c. (length c.marks.items ≡ length c.cells.cells) × (vec_len c.marks + c.spare ≤ vec_capacity c.marks) × (c.spare ≤ c.cells.spare) };
 }
@@ -128,7 +128,7 @@ fn same_mark(first: Mark, second: Mark) -> bool
 
 /// The claim with these inputs and this state.
 fn task_of(mark: Mark, cells: &[Option<i64>; 9]) -> Task
-    ensures { result ≡ task_of mark cells.now }
+    ensures { result ≡ task_of_cells mark cells.now }
 {
     let (inputs, state) = parts_of(cells);
     Task {

@@ -2,7 +2,7 @@
 
 ghost use Rattle.std.specs.Prelude.{◌≡◌, ◌+◌, ◌<◌, ◌≤◌, ◌^◌, ◌++◌, ◌∷◌, [], IfSome, OnOk, Some, length, max, option_map, slice_get, vec_len, vec_capacity};
 ghost use Rattle.pt_history.specs.Tasks.{mark_of};
-ghost use Rattle.pt_history.specs.Works.{AreWithin, IsStored, done_of, task_at};
+ghost use Rattle.pt_history.specs.Works.{SourcesAreWithin, IsStored, done_of, task_at};
 
 use crate::cells::{Cells, parts_of};
 use crate::claims::{Claims, Mark, mark_of};
@@ -36,7 +36,7 @@ pub(crate) struct Work {
 
 impl Model for Work {
     ghost use Rattle.std.specs.Prelude.{◌≡◌, ◌+◌, ◌<◌, ◌≤◌, ◌^◌, length, vec_len, vec_capacity};
-    ghost use Rattle.pt_history.specs.Works.{AreWithin, RoomyWork, dones_of};
+    ghost use Rattle.pt_history.specs.Works.{SourcesAreWithin, RoomyWork, dones_of};
     ghost use Rattle.pt_history.specs.WorkWhole.{IsWork};
 
     ghost Value = { RoomyWork };
@@ -214,7 +214,7 @@ fn claim_of(claims: &Claims, task: &Task) -> Option<u32>
 
 /// The task of a result.
 fn task_at(claims: &Claims, others: &[Task], source: Source) -> Task
-    requires { AreWithin (length claims.now.tasks) (length others.now) (source ∷ []) }
+    requires { SourcesAreWithin (length claims.now.tasks) (length others.now) (source ∷ []) }
     ensures { result ≡ task_at claims.now.tasks others.now source }
 {
     match source {
@@ -225,7 +225,7 @@ fn task_at(claims: &Claims, others: &[Task], source: Source) -> Task
 
 /// The task of a result, without its inputs and its state.
 fn mark_at(claims: &Claims, others: &[Task], source: Source) -> Mark
-    requires { AreWithin (length claims.now.tasks) (length others.now) (source ∷ []) }
+    requires { SourcesAreWithin (length claims.now.tasks) (length others.now) (source ∷ []) }
     ensures { result ≡ mark_of (task_at claims.now.tasks others.now source) }
 {
     match source {

@@ -18,7 +18,7 @@ use Rattle.pt_laws.specs.NearClocks.{AreNear}
 use Rattle.pt_air.specs.declared.air.Air.{Air}
 use Rattle.pt_air.specs.Bounds.{KeepsBounds}
 use Rattle.pt_airways.specs.declared.in_air.InAir.{InAir}
-use Rattle.pt_airways.specs.Arrivals.{AirwayView, arrival_of, nothing, put_on}
+use Rattle.pt_airways.specs.Arrivals.{AirwayView, arrival_of, empty_airway, airway_with}
 use Rattle.pt_flights.specs.Skies.{lag_of, put_all, reading_at}
 use Rattle.pt_skies.specs.Sky.{taken_off}
 
@@ -40,7 +40,7 @@ pub record IsInTime (g : Graph) (air : Air) (link : Link) (sent : List Message) 
   pub arrives : (m : InAir) (t : Tag) (v : ℤ) → IsIn m a.on_way → m.message ≡ Event t v → m.arrives ≤ due_on g air link t
   pub latest : (t : Tag) (v : ℤ) → Each (λ z. ComesAfter z (Event t v)) sent → a.latest ≤ due_on g air link t
 
-pub nothing_in_time : (g : Graph) (air : Air) (link : Link) → IsInTime g air link [] nothing
+pub nothing_in_time : (g : Graph) (air : Air) (link : Link) → IsInTime g air link [] empty_airway
 nothing_in_time g air link = record {
   arrives = λ m t v mem e. absurd mem;
   latest = λ t v h. omega arith;
@@ -81,7 +81,7 @@ module _ (g : Graph) (air : Air) (link : Link) (now : ℕ) (transits : List ℕ)
   abbrev pub CanArrive : Message → Type 0
   CanArrive m = (t : Tag) (v : ℤ) → m ≡ Event t v → now + link.delay ≤ due_on g air link t
 
-  put_event : (sent : List Message) (t : Tag) (v : ℤ) (a : AirwayView) → Each (λ z. ComesAfter z (Event t v)) sent → now + link.delay ≤ due_on g air link t → IsInTime g air link sent a → IsInTime g air link (sent ++ Event t v ∷ []) (put_on now transits link.delay (Event t v) a)
+  put_event : (sent : List Message) (t : Tag) (v : ℤ) (a : AirwayView) → Each (λ z. ComesAfter z (Event t v)) sent → now + link.delay ≤ due_on g air link t → IsInTime g air link sent a → IsInTime g air link (sent ++ Event t v ∷ []) (airway_with now transits link.delay (Event t v) a)
   put_event sent t v a after can h = record {
     arrives = λ m u w mem e.
         ⊎_elim
@@ -118,7 +118,7 @@ module _ (g : Graph) (air : Air) (link : Link) (now : ℕ) (transits : List ℕ)
       tail [] ys u w h = h
       tail (x ∷ xs) ys u w h = tail xs ys u w h.1
 
-  put_end : (sent : List Message) (a : AirwayView) → IsInTime g air link sent a → IsInTime g air link (sent ++ End ∷ []) (put_on now transits link.delay End a)
+  put_end : (sent : List Message) (a : AirwayView) → IsInTime g air link sent a → IsInTime g air link (sent ++ End ∷ []) (airway_with now transits link.delay End a)
   put_end sent a h = record {
     arrives = λ m u w mem e.
         ⊎_elim
@@ -142,9 +142,9 @@ module _ (g : Graph) (air : Air) (link : Link) (now : ℕ) (transits : List ℕ)
   put_in_time sent [] a order can h = subst (λ z. IsInTime g air link z a) (sym (append-nil sent)) h
   put_in_time sent (Event t v ∷ ms) a order can h =
       subst (λ z. IsInTime g air link z (put_all now transits link.delay (Event t v ∷ ms) a)) (append_assoc sent (Event t v ∷ []) ms)
-      (put_in_time (sent ++ Event t v ∷ []) ms (put_on now transits link.delay (Event t v) a) (subst InOrder (sym (append_assoc sent (Event t v ∷ []) ms)) order) (λ m mem. can m (inr mem))
+      (put_in_time (sent ++ Event t v ∷ []) ms (airway_with now transits link.delay (Event t v) a) (subst InOrder (sym (append_assoc sent (Event t v ∷ []) ms)) order) (λ m mem. can m (inr mem))
       (put_event sent t v a (all_before sent (Event t v) ms order) (can (Event t v) (inl refl) t v refl) h))
   put_in_time sent (End ∷ ms) a order can h =
       subst (λ z. IsInTime g air link z (put_all now transits link.delay (End ∷ ms) a)) (append_assoc sent (End ∷ []) ms)
-      (put_in_time (sent ++ End ∷ []) ms (put_on now transits link.delay End a) (subst InOrder (sym (append_assoc sent (End ∷ []) ms)) order) (λ m mem. can m (inr mem))
+      (put_in_time (sent ++ End ∷ []) ms (airway_with now transits link.delay End a) (subst InOrder (sym (append_assoc sent (End ∷ []) ms)) order) (λ m mem. can m (inr mem))
       (put_end sent a h))

@@ -9,7 +9,7 @@ use Rattle.pt_semantics.specs.Lists.{Each}
 use Rattle.pt_semantics.specs.Orderly.{ComesAfter, FitsStep, InOrder as Ordered}
 use Rattle.pt_links.specs.declared.rule.Bounds.{Bounds}
 use Rattle.pt_links.specs.declared.rule.Log.{Log}
-use Rattle.pt_links.specs.Line.{log, Fits, InOrder, IsOrderlyBy}
+use Rattle.pt_links.specs.Line.{log, LineFits, LineInOrder, IsOrderlyBy}
 
 at_end : (l : List Log) (a b : Log) (j : ℕ) → get_elem? l j ≢ some b → get_elem? (l ++ a ∷ []) j ≡ some b → j ≡ length l
 at_end [] a b zero n e = refl
@@ -37,7 +37,7 @@ front : (limits : Option Bounds) (xs ys : List Message) → IsOrderlyBy limits (
 front None xs ys h = tt
 front (Some b) xs ys h = (order_front xs ys h.0, each_front (FitsStep b.until b.actors b.level) xs ys h.1)
 
-pub begins : InOrder [] (log true true None [] [] ∷ [])
+pub begins : LineInOrder [] (log true true None [] [] ∷ [])
 begins = record {
   writer = 0;
   reader = 0;
@@ -46,10 +46,10 @@ begins = record {
   taken = [];
   split = refl;
   orderly = tt;
-  fits = all_set (Fits 0 0 None [] []) (log true true None [] [] ∷ []) 0 (log true true None [] []) ((λ _. (refl, refl, refl)), λ _. (refl, refl, refl)) (λ j u other e. absurd (other (at_end [] _ u j (λ x. some-ne-none u (sym x)) e)));
+  fits = all_set (LineFits 0 0 None [] []) (log true true None [] [] ∷ []) 0 (log true true None [] []) ((λ _. (refl, refl, refl)), λ _. (refl, refl, refl)) (λ j u other e. absurd (other (at_end [] _ u j (λ x. some-ne-none u (sym x)) e)));
 }
 
-pub sends : (n port : ℕ) (v : Log) (x : Message) → v.sends ≡ true → IsOrderlyBy v.limits (v.sent ++ x ∷ []) → Pushes InOrder n port v x (λ w. w ≡ log v.sends v.takes v.limits (v.sent ++ x ∷ []) v.taken)
+pub sends : (n port : ℕ) (v : Log) (x : Message) → v.sends ≡ true → IsOrderlyBy v.limits (v.sent ++ x ∷ []) → Pushes LineInOrder n port v x (λ w. w ≡ log v.sends v.takes v.limits (v.sent ++ x ∷ []) v.taken)
 sends n port v x may good items views _ h at =
     let w : Log = log v.sends v.takes v.limits (v.sent ++ x ∷ []) v.taken in
     let mine = h.fits port v at in
@@ -63,13 +63,13 @@ sends n port v x may good items views _ h at =
         taken = h.taken;
         split = ap (λ l. l ++ x ∷ []) h.split ∙ append_assoc h.taken items (x ∷ []);
         orderly = subst (λ (l : Option Bounds). IsOrderlyBy l sent) (mine.0 may).2 (subst (λ (ms : List Message). IsOrderlyBy v.limits (ms ++ x ∷ [])) (mine.0 may).1 good);
-        fits = all_set (Fits h.writer h.reader h.limits sent h.taken) views port w ((λ _. ((mine.0 may).0, ap (λ l. l ++ x ∷ []) (mine.0 may).1, (mine.0 may).2)), mine.1)
+        fits = all_set (LineFits h.writer h.reader h.limits sent h.taken) views port w ((λ _. ((mine.0 may).0, ap (λ l. l ++ x ∷ []) (mine.0 may).1, (mine.0 may).2)), mine.1)
             (λ j u other e. ((λ p. absurd (other (((h.fits j u e).0 p).0 ∙ sym (mine.0 may).0))), (h.fits j u e).1));
       },
       refl,
     )
 
-pub gets : (port : ℕ) (v : Log) → v.takes ≡ true → Pops InOrder port v (λ x w. (w ≡ log v.sends v.takes v.limits v.sent (v.taken ++ x ∷ [])) × IsOrderlyBy v.limits (v.taken ++ x ∷ []))
+pub gets : (port : ℕ) (v : Log) → v.takes ≡ true → Pops LineInOrder port v (λ x w. (w ≡ log v.sends v.takes v.limits v.sent (v.taken ++ x ∷ [])) × IsOrderlyBy v.limits (v.taken ++ x ∷ []))
 gets port v may x items views h at =
     let w : Log = log v.sends v.takes v.limits v.sent (v.taken ++ x ∷ []) in
     let mine = h.fits port v at in
@@ -84,7 +84,7 @@ gets port v may x items views h at =
         taken = got;
         split = parts;
         orderly = h.orderly;
-        fits = all_set (Fits h.writer h.reader h.limits h.sent got) views port w (mine.0, λ _. ((mine.1 may).0, ap (λ l. l ++ x ∷ []) (mine.1 may).1, (mine.1 may).2))
+        fits = all_set (LineFits h.writer h.reader h.limits h.sent got) views port w (mine.0, λ _. ((mine.1 may).0, ap (λ l. l ++ x ∷ []) (mine.1 may).1, (mine.1 may).2))
             (λ j u other e. ((h.fits j u e).0, λ p. absurd (other (((h.fits j u e).1 p).0 ∙ sym (mine.1 may).0))));
       },
       (
@@ -93,7 +93,7 @@ gets port v may x items views h at =
       ),
     )
 
-pub forks : (b : Bounds) (port : ℕ) (v : Log) → v.sends ≡ true → v.takes ≡ true → v.sent ≡ [] → Forks InOrder port v (log true false (Some b) v.sent []) (log false true (Some b) [] v.taken)
+pub forks : (b : Bounds) (port : ℕ) (v : Log) → v.sends ≡ true → v.takes ≡ true → v.sent ≡ [] → Forks LineInOrder port v (log true false (Some b) v.sent []) (log false true (Some b) [] v.taken)
 forks b port v can may none items views h at =
     let l : Log = log true false (Some b) v.sent [] in
     let r : Log = log false true (Some b) [] v.taken in
@@ -114,14 +114,14 @@ forks b port v can may none items views h at =
           (λ (is : r ≡ u). ((λ p. absurd (true≢false (sym (ap (λ (y : Log). y.sends) is ∙ p)))), λ p. (at_end vs r u j (λ x. (old j u x).1 p) e, ap (λ (y : Log). y.taken) (sym is) ∙ (mine.1 may).1, ap (λ (y : Log). y.limits) (sym is)))) (at_snoc vs r u j e);
     }
 
-pub merges : (port : ℕ) (v : Log) (other : ℕ) (u : Log) → v.sends ≡ true → u.takes ≡ true → Merges InOrder port v other u (log true true v.limits v.sent u.taken) (log false false None [] [])
+pub merges : (port : ℕ) (v : Log) (other : ℕ) (u : Log) → v.sends ≡ true → u.takes ≡ true → Merges LineInOrder port v other u (log true true v.limits v.sent u.taken) (log false false None [] [])
 merges port v other u a b items views h at two at' =
     let both : Log = log true true v.limits v.sent u.taken in
     let mine = h.fits port v at in
     let vs : List Log = set views port both in
     let was : get_elem? views other ≡ some u = ⊎_elim (λ x. absurd (two x.0)) (λ x. x.1) (at_set views port other both u at') in
     let theirs = (h.fits other u was).1 b in
-    let Now : ℕ → Log → Type 0 = λ j y. j ≢ other → Fits h.writer port h.limits h.sent h.taken j y in
+    let Now : ℕ → Log → Type 0 = λ j y. j ≢ other → LineFits h.writer port h.limits h.sent h.taken j y in
     let now : All Now vs = all_set Now views port both (λ _. ((λ _. mine.0 a), λ _. (refl, theirs.1, (mine.0 a).2))) (λ j y _ e apart. ((h.fits j y e).0, λ p. absurd (apart (((h.fits j y e).1 p).0 ∙ sym theirs.0)))) in
     record {
       writer = h.writer;
@@ -131,13 +131,13 @@ merges port v other u a b items views h at two at' =
       taken = h.taken;
       split = h.split;
       orderly = h.orderly;
-      fits = all_set (Fits h.writer port h.limits h.sent h.taken) vs other (log false false None [] []) ((λ p. absurd (true≢false (sym p))), λ p. absurd (true≢false (sym p))) (λ j y apart e. now j y e apart);
+      fits = all_set (LineFits h.writer port h.limits h.sent h.taken) vs other (log false false None [] []) ((λ p. absurd (true≢false (sym p))), λ p. absurd (true≢false (sym p))) (λ j y apart e. now j y e apart);
     }
 
-pub totals : (port : ℕ) (v : Log) → v.sends ≡ true → v.takes ≡ true → Learns InOrder port v (λ items. v.sent ≡ v.taken ++ items)
+pub totals : (port : ℕ) (v : Log) → v.sends ≡ true → v.takes ≡ true → Learns LineInOrder port v (λ items. v.sent ≡ v.taken ++ items)
 totals port v a b items views h at = let mine = h.fits port v at in (mine.0 a).1 ∙ h.split ∙ ap (λ l. l ++ items) (sym (mine.1 b).1)
 
-pub full : (port : ℕ) (v : Log) → v.sends ≡ true → Learns InOrder port v (λ items. length items ≤ length v.sent)
+pub full : (port : ℕ) (v : Log) → v.sends ≡ true → Learns LineInOrder port v (λ items. length items ≤ length v.sent)
 full port v may items views h at =
     let e : v.sent ≡ h.taken ++ items = ((h.fits port v at).0 may).1 ∙ h.split in
     let n : length v.sent ≡ length (h.taken ++ items) = ap length e in omega (arith, length-append h.taken items)

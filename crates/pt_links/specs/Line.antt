@@ -17,10 +17,10 @@ abbrev pub IsOrderlyBy : Option Bounds → List Message → Type 0
 IsOrderlyBy None ms = Unit {0}
 IsOrderlyBy (Some b) ms = Ordered ms × Each (FitsStep b.until b.actors b.level) ms
 
-abbrev pub Fits : ℕ → ℕ → Option Bounds → List Message → List Message → ℕ → Log → Type 0
-Fits writer reader limits sent taken port v = (v.sends ≡ true → (port ≡ writer) × (v.sent ≡ sent) × (v.limits ≡ limits)) × (v.takes ≡ true → (port ≡ reader) × (v.taken ≡ taken) × (v.limits ≡ limits))
+abbrev pub LineFits : ℕ → ℕ → Option Bounds → List Message → List Message → ℕ → Log → Type 0
+LineFits writer reader limits sent taken port v = (v.sends ≡ true → (port ≡ writer) × (v.sent ≡ sent) × (v.limits ≡ limits)) × (v.takes ≡ true → (port ≡ reader) × (v.taken ≡ taken) × (v.limits ≡ limits))
 
-pub record InOrder (items : List Message) (views : List Log) : Type 0 where
+pub record LineInOrder (items : List Message) (views : List Log) : Type 0 where
   pub writer : ℕ
   pub reader : ℕ
   pub limits : Option Bounds
@@ -28,4 +28,4 @@ pub record InOrder (items : List Message) (views : List Log) : Type 0 where
   pub taken : List Message
   pub split : sent ≡ taken ++ items
   pub orderly : IsOrderlyBy limits sent
-  pub fits : (port : ℕ) (v : Log) → get_elem? views port ≡ some v → Fits writer reader limits sent taken port v
+  pub fits : (port : ℕ) (v : Log) → get_elem? views port ≡ some v → LineFits writer reader limits sent taken port v

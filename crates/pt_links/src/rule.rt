@@ -37,9 +37,9 @@ pub struct InOrder;
 
 impl Protocol<Message, Log> for InOrder {
     ghost use Rattle.std.specs.Prelude.{true, [], None};
-    ghost use Rattle.pt_links.specs.Line.{log, InOrder};
+    ghost use Rattle.pt_links.specs.Line.{log, LineInOrder};
 
-    ghost holds = { InOrder };
+    ghost holds = { LineInOrder };
 
     ghost first = { log true true None [] [] };
 }

@@ -2,9 +2,9 @@
 use Rattle.std.proofs.Common.{◌≡◌, ℕ, zero, suc, ◌<◌, ◌==◌, Bool, true, false, List, [], ◌∷◌, ◌++◌, None, Some, length, slice_get, take, if◌then◌else◌, arith, refl, sym, ap, ◌∙◌}
 use Rattle.pt_types.specs.declared.firing.ActorFiring.{ActorFiring}
 use Rattle.pt_semantics.proofs.Lookups.{none_some, same_some}
-use Rattle.pt_made.specs.Summary.{actuations, if_out, last_of}
+use Rattle.pt_made.specs.Summary.{actuations, if_out, last_firing}
 
-pub last_push : (xs : List ActorFiring) (x : ActorFiring) → last_of (xs ++ x ∷ []) ≡ Some x
+pub last_push : (xs : List ActorFiring) (x : ActorFiring) → last_firing (xs ++ x ∷ []) ≡ Some x
 last_push [] x = refl
 last_push (y ∷ []) x = refl
 last_push (y ∷ z ∷ xs) x = last_push (z ∷ xs) x

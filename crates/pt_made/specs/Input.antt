@@ -53,28 +53,28 @@ abbrev pub actors : List Actor
 actors = at_p0 ++ (at_p1 ++ (at_p2 ++ at_p3))
 
 -- a wire from output 0 of an actor to an input of another
-abbrev pub wire : ℕ → ℕ → ℕ → Wire
-wire from to input = record { from = from; output = 0; to = to; input = input }
+abbrev pub made_wire : ℕ → ℕ → ℕ → Wire
+made_wire from to input = record { from = from; output = 0; to = to; input = input }
 
 -- the wires, platform by platform
-abbrev pub wires : List Wire
-wires =
+abbrev pub made_wires : List Wire
+made_wires =
     -- s0 to d0, d0 to w0
-    wire 0 1 0 ∷ wire 1 2 0
+    made_wire 0 1 0 ∷ made_wire 1 2 0
     -- r1 and s1 to a1, a1 to d1, d1 to w1
-    ∷ wire 3 5 0 ∷ wire 4 5 1 ∷ wire 5 6 0 ∷ wire 6 7 0
+    ∷ made_wire 3 5 0 ∷ made_wire 4 5 1 ∷ made_wire 5 6 0 ∷ made_wire 6 7 0
     -- r2 and s2 to a2, a2 to d2, d2 to w2
-    ∷ wire 8 10 0 ∷ wire 9 10 1 ∷ wire 10 11 0 ∷ wire 11 12 0
+    ∷ made_wire 8 10 0 ∷ made_wire 9 10 1 ∷ made_wire 10 11 0 ∷ made_wire 11 12 0
     -- r3 and s3 to a3, a3 to t, t to out
-    ∷ wire 13 15 0 ∷ wire 14 15 1 ∷ wire 15 16 0 ∷ wire 16 17 0 ∷ []
+    ∷ made_wire 13 15 0 ∷ made_wire 14 15 1 ∷ made_wire 15 16 0 ∷ made_wire 16 17 0 ∷ []
 
 -- a link from a sender to a receiver, with a delay of 40 microseconds
 abbrev pub link : ℕ → ℕ → Link
 link from to = record { from = from; to = to; delay = 40 }
 
 -- w0 to r1, w1 to r2, w2 to r3
-abbrev pub links : List Link
-links = link 2 3 ∷ link 7 8 ∷ link 12 13 ∷ []
+abbrev pub made_links : List Link
+made_links = link 2 3 ∷ link 7 8 ∷ link 12 13 ∷ []
 
 -- the number of rows of each sensor
 abbrev pub row_count : ℕ → ℕ
@@ -91,8 +91,8 @@ made_graph n = record {
   clock_error = 5;
   platforms = platforms;
   actors = actors;
-  wires = wires;
-  links = links;
+  wires = made_wires;
+  links = made_links;
   clock_errors = [];
 }
 

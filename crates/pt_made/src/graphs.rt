@@ -130,7 +130,7 @@ fn at_p3(alloc: Global) -> Result<Vec<Actor>, AllocError>
 
 /// A wire from output 0 of an actor to an input of another.
 fn wire(from: u32, to: u32, input: u32) -> Wire
-    ensures { result ≡ made.wire from to input }
+    ensures { result ≡ made.made_wire from to input }
 {
     Wire {
         from,
@@ -142,7 +142,7 @@ fn wire(from: u32, to: u32, input: u32) -> Wire
 
 /// The wires, platform by platform.
 fn wires(alloc: Global) -> Result<Vec<Wire>, AllocError>
-    ensures { IfOk result (λ wires. wires.items ≡ made.wires) }
+    ensures { IfOk result (λ wires. wires.items ≡ made.made_wires) }
 {
     Ok(vec![in alloc;
         wire(0, 1, 0),
@@ -175,7 +175,7 @@ fn link(from: u32, to: u32) -> Link
 
 /// The links.
 fn links(alloc: Global) -> Result<Vec<Link>, AllocError>
-    ensures { IfOk result (λ links. links.items ≡ made.links) }
+    ensures { IfOk result (λ links. links.items ≡ made.made_links) }
 {
     Ok(vec![in alloc; link(2, 3), link(7, 8), link(12, 13)]?)
 }

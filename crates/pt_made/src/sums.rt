@@ -36,14 +36,14 @@ pub fn summary(
 
 /// Appends a line: a word, which ends with a space, and a number.
 fn push_line(summary: &mut String, word: &str, value: u64) -> Result<(), AllocError>
-    ensures { OnOk result (string_bytes summary.new ≡ string_bytes summary.old ++ text.line word.now (decimal value)) }
+    ensures { OnOk result (string_bytes summary.new ≡ string_bytes summary.old ++ text.summary_line word.now (decimal value)) }
 {
     write!(summary, "{word}{value}\n")
 }
 
 /// Appends the line of the last firing of `out`.
 fn push_last(summary: &mut String, firing: Option<ActorFiring>) -> Result<(), AllocError>
-    ensures { OnOk result (string_bytes summary.new ≡ string_bytes summary.old ++ text.line (codes "last out ") (text.firing_text firing)) }
+    ensures { OnOk result (string_bytes summary.new ≡ string_bytes summary.old ++ text.summary_line (codes "last out ") (text.firing_text firing)) }
 {
     let Some(firing) = firing else {
         return summary.push_str("last out -\n");
@@ -56,7 +56,7 @@ fn push_last(summary: &mut String, firing: Option<ActorFiring>) -> Result<(), Al
 /// How often `out` fired, and its last firing.
 fn count_actuations(firings: &Firings) -> (usize, Option<ActorFiring>)
     ensures count { result.0 ≡ length (text.actuations firings.now) }
-    ensures last { result.1 ≡ text.last_of (text.actuations firings.now) }
+    ensures last { result.1 ≡ text.last_firing (text.actuations firings.now) }
 {
     let mut count = 0;
     let mut last = None;

@@ -15,21 +15,21 @@ use Rattle.pt_semantics.specs.Meaning.{IsFirst, NotAfter, at_time, added, waitin
 use Rattle.pt_meaning.specs.declared.early.Early.{Early}
 use Rattle.pt_semantics.specs.Firing.{any_present}
 use Rattle.pt_meaning.specs.declared.place.Place.{Place}
-use Rattle.pt_meaning.specs.Waiting.{IsPlaced}
-use Rattle.pt_meaning.specs.Opening.{start_of}
-use Rattle.pt_meaning.specs.Early.{moment_of, moment_cmp, place_of_early, early_waits, is_at, AreEarly, Heads, IsEarly, IsOrderly, NotAtHead, NotLater, Rising}
+use Rattle.pt_meaning.specs.Waiting.{IsPlaceIn}
+use Rattle.pt_meaning.specs.Opening.{start_event}
+use Rattle.pt_meaning.specs.Early.{event_moment, event_moment_cmp, place_of_early, early_waits, is_event_at, AreEarly, Heads, IsEarly, IsFiringOrder, NotAtHead, NotLater, EventsRise}
 use Rattle.pt_meaning.proofs.Emitting.{each_at}
 
 -- the first of those left is taken
-pub heads_on : (t : Tag) (a : ℕ) (events : List Early) (next n : ℕ) (e : Early) (rest : List Early) → drop next events ≡ e ∷ rest → n ≡ next + 1 → is_at t a e ≡ true → Heads t a e.value (drop next events) (drop n events)
+pub heads_on : (t : Tag) (a : ℕ) (events : List Early) (next n : ℕ) (e : Early) (rest : List Early) → drop next events ≡ e ∷ rest → n ≡ next + 1 → is_event_at t a e ≡ true → Heads t a e.value (drop next events) (drop n events)
 heads_on t a events next n e rest h m at =
     let others : rest ≡ drop n events = ap (drop 1) (sym h) ∙ drop-drop 1 next events ∙ ap (λ k. drop k events) (sym m) in
     record { event = e; is = h ∙ ap (λ r. e ∷ r) others; at = at; value_is = refl }
 
-off : (t u : Tag) (a b p : ℕ) (e : Early) → is_at t a e ≡ true → (b == a && same_tag t u) ≡ false → (e.moment.actor == b && p == 0 && same_tag (at_time e.moment.time) u) ≡ false
+off : (t u : Tag) (a b p : ℕ) (e : Early) → is_event_at t a e ≡ true → (b == a && same_tag t u) ≡ false → (e.moment.actor == b && p == 0 && same_tag (at_time e.moment.time) u) ≡ false
 off t u a b p e at other = grind (arith, nat_tests, common_steps)
 
-on : (t : Tag) (a p : ℕ) (e : Early) → is_at t a e ≡ true → (e.moment.actor == a && p == 0 && same_tag (at_time e.moment.time) t) ≡ (p == 0)
+on : (t : Tag) (a p : ℕ) (e : Early) → is_event_at t a e ≡ true → (e.moment.actor == a && p == 0 && same_tag (at_time e.moment.time) t) ≡ (p == 0)
 on t a p e at = grind (arith, nat_tests, common_steps)
 
 pub others_on : (t u : Tag) (a b p : ℕ) (v : ℤ) (old new : List Early) → Heads t a v old new → (b == a && same_tag t u) ≡ false → early_waits new b p u ≡ early_waits old b p u
@@ -49,9 +49,9 @@ here_on t a p v first old new heads =
     ∙ ap (or_else (when (p == 0) first))
     (sym (ap (λ xs. early_waits xs a p t) heads.is ∙ ap (λ c. or_else (when c (Some heads.event.value)) (early_waits new a p t)) (on t a p heads.event heads.at)))
 
-pub orderly_on : (rank : ℕ → ℕ) (actors : ℕ) (t : Tag) (a : ℕ) (v : ℤ) (old new : List Early) → Heads t a v old new → IsOrderly rank actors old → IsOrderly rank actors new
+pub orderly_on : (rank : ℕ → ℕ) (actors : ℕ) (t : Tag) (a : ℕ) (v : ℤ) (old new : List Early) → Heads t a v old new → IsFiringOrder rank actors old → IsFiringOrder rank actors new
 orderly_on rank actors t a v old new heads orderly =
-    let is = subst (IsOrderly rank actors) heads.is orderly in
+    let is = subst (IsFiringOrder rank actors) heads.is orderly in
     record { placed = is.placed.1; rising = is.rising.1 }
 
 -- the value of the first event
@@ -61,21 +61,21 @@ own_test e = grind (arith, nat_tests, common_steps)
 pub own_value : (e : Early) (rest : List Early) → early_waits (e ∷ rest) e.moment.actor 0 (at_time e.moment.time) ≡ Some e.value
 own_value e rest = ap (λ c. or_else (when c (Some e.value)) (early_waits rest e.moment.actor 0 (at_time e.moment.time))) (own_test e)
 
-apart : (t : Tag) (a : ℕ) (e : Early) → is_at t a e ≡ false → (e.moment.actor == a && same_tag t (at_time e.moment.time)) ≡ false
+apart : (t : Tag) (a : ℕ) (e : Early) → is_event_at t a e ≡ false → (e.moment.actor == a && same_tag t (at_time e.moment.time)) ≡ false
 apart t a e h = grind (arith, nat_tests, common_steps)
 
-at_is : (t : Tag) (a : ℕ) (e : Early) → is_at t a e ≡ true → (e.moment.actor ≡ a) × (e.moment.time ≡ t.time) × (t.step ≡ 0)
+at_is : (t : Tag) (a : ℕ) (e : Early) → is_event_at t a e ≡ true → (e.moment.actor ≡ a) × (e.moment.time ≡ t.time) × (t.step ≡ 0)
 at_is t a e h = (grind (arith, nat_tests, common_steps), grind (arith, nat_tests, common_steps), grind (arith, nat_tests, common_steps))
 
-is_then : (t : Tag) (a : ℕ) (e : Early) → e.moment.actor ≡ a → e.moment.time ≡ t.time → t.step ≡ 0 → is_at t a e ≡ true
+is_then : (t : Tag) (a : ℕ) (e : Early) → e.moment.actor ≡ a → e.moment.time ≡ t.time → t.step ≡ 0 → is_event_at t a e ≡ true
 is_then t a e x y z = grind (arith, nat_tests, common_steps)
 
 -- where the first event isn't of the tag and actor that come first, none after it is
 off_later : (rank : ℕ → ℕ) (t : Tag) (a : ℕ) (e f : Early) → e.moment.rank ≡ rank e.moment.actor → f.moment.rank ≡ rank f.moment.actor → NotLater e f → NotAfter rank t a (at_time e.moment.time) e.moment.actor
-    → is_at t a e ≡ false → is_at t a f ≡ false
-off_later rank t a e f ranked ranked_f later after other = by (is_at t a f) refl
+    → is_event_at t a e ≡ false → is_event_at t a f ≡ false
+off_later rank t a e f ranked ranked_f later after other = by (is_event_at t a f) refl
   where
-    by : (b : Bool) → is_at t a f ≡ b → is_at t a f ≡ false
+    by : (b : Bool) → is_event_at t a f ≡ b → is_event_at t a f ≡ false
     by false h = h
     by true h =
         let m = at_is t a f h in
@@ -87,24 +87,24 @@ off_later rank t a e f ranked ranked_f later after other = by (is_at t a f) refl
         let low : e.moment.actor ≤ f.moment.actor = l1.1 (omega (arith, stands, ranked, n2.0)) in
         let high : a ≤ e.moment.actor = n2.1 (omega (arith, stands, ranked, l1.0)) in
         let actor : e.moment.actor ≡ a = omega (arith, low, high, m.0) in
-        let hit : is_at t a e ≡ true = is_then t a e actor time m.2 in
+        let hit : is_event_at t a e ≡ true = is_then t a e actor time m.2 in
         absurd (cc (hit, other))
 
 all_off : (rank : ℕ → ℕ) (actors : ℕ) (t : Tag) (a : ℕ) (e : Early) (fs : List Early) → e.moment.rank ≡ rank e.moment.actor → AreEarly rank actors fs → Each (NotLater e) fs
-    → NotAfter rank t a (at_time e.moment.time) e.moment.actor → is_at t a e ≡ false → Each (λ f. is_at t a f ≡ false) fs
+    → NotAfter rank t a (at_time e.moment.time) e.moment.actor → is_event_at t a e ≡ false → Each (λ f. is_event_at t a f ≡ false) fs
 all_off rank actors t a e [] ranked placed later after other = tt
 all_off rank actors t a e (f ∷ fs) ranked placed later after other =
     (off_later rank t a e f ranked placed.0.rank_is later.0 after other, all_off rank actors t a e fs ranked placed.1 later.1 after other)
 
-off_here : (t : Tag) (a p : ℕ) (f : Early) → is_at t a f ≡ false → (f.moment.actor == a && p == 0 && same_tag (at_time f.moment.time) t) ≡ false
+off_here : (t : Tag) (a p : ℕ) (f : Early) → is_event_at t a f ≡ false → (f.moment.actor == a && p == 0 && same_tag (at_time f.moment.time) t) ≡ false
 off_here t a p f h = grind (arith, nat_tests, common_steps)
 
-none_of : (t : Tag) (a p : ℕ) (xs : List Early) → Each (λ f. is_at t a f ≡ false) xs → early_waits xs a p t ≡ None
+none_of : (t : Tag) (a p : ℕ) (xs : List Early) → Each (λ f. is_event_at t a f ≡ false) xs → early_waits xs a p t ≡ None
 none_of t a p [] each = refl
 none_of t a p (f ∷ xs) each = ap (λ c. or_else (when c (Some f.value)) (early_waits xs a p t)) (off_here t a p f each.0) ∙ none_of t a p xs each.1
 
 -- after all events of the tag and actor that come first were taken, none is left
-pub none_left : (rank : ℕ → ℕ) (actors : ℕ) (t : Tag) (a : ℕ) (all xs : List Early) → IsFirst rank (early_waits all) a t → IsOrderly rank actors xs
+pub none_left : (rank : ℕ → ℕ) (actors : ℕ) (t : Tag) (a : ℕ) (all xs : List Early) → IsFirst rank (early_waits all) a t → IsFiringOrder rank actors xs
     → ((b p : ℕ) (u : Tag) → (b == a && same_tag t u) ≡ false → early_waits xs b p u ≡ early_waits all b p u) → NotAtHead t a xs → (p : ℕ) → early_waits xs a p t ≡ None
 none_left rank actors t a all [] first orderly others front p = refl
 none_left rank actors t a all (e ∷ xs) first orderly others front p =
@@ -151,7 +151,7 @@ each_from : (P : Early → Type 0) (xs : List Early) → ((k : ℕ) → k < leng
 each_from P [] h = tt
 each_from P (x ∷ xs) h = (h zero (omega arith), each_from P xs (λ k low. h (suc k) (omega (arith, low))))
 
-not_later : (e f : Early) → is_lt (moment_cmp (moment_of f) (moment_of e)) ≡ false → NotLater e f
+not_later : (e f : Early) → is_lt (event_moment_cmp (event_moment f) (event_moment e)) ≡ false → NotLater e f
 not_later e f h = grind (arith, nat_tests, common_steps)
 
 trans : (x y z : Early) → NotLater x y → NotLater y z → NotLater x z
@@ -172,7 +172,7 @@ each_later : (x y : Early) (zs : List Early) → NotLater x y → Each (NotLater
 each_later x y [] h each = tt
 each_later x y (z ∷ zs) h each = (trans x y z h each.0, each_later x y zs h each.1)
 
-rising_from : (xs : List Early) → ((k : ℕ) → suc k < length xs → NotLater (get_or xs k no_early) (get_or xs (suc k) no_early)) → Rising xs
+rising_from : (xs : List Early) → ((k : ℕ) → suc k < length xs → NotLater (get_or xs k no_early) (get_or xs (suc k) no_early)) → EventsRise xs
 rising_from [] h = tt
 rising_from (x ∷ []) h = (tt, tt)
 rising_from (x ∷ y ∷ zs) h =
@@ -180,16 +180,16 @@ rising_from (x ∷ y ∷ zs) h =
     let one : NotLater x y = h zero (omega arith) in
     ((one, each_later x y zs one rest.0), rest)
 
-pub rising_sorted : (xs : List Early) → IsSortedByKey moment_of moment_cmp xs → Rising xs
+pub rising_sorted : (xs : List Early) → IsSortedByKey event_moment event_moment_cmp xs → EventsRise xs
 rising_sorted xs sorted = rising_from xs (λ k low.
     let next : k + 1 ≡ suc k = omega arith in
     not_later (get_or xs k no_early) (get_or xs (suc k) no_early)
-    (subst (λ n. is_lt (moment_cmp (moment_of (get_or xs n no_early)) (moment_of (get_or xs k no_early))) ≡ false) next (sorted k no_early (omega arith) (omega (arith, low)))))
+    (subst (λ n. is_lt (event_moment_cmp (event_moment (get_or xs n no_early)) (event_moment (get_or xs k no_early))) ≡ false) next (sorted k no_early (omega arith) (omega (arith, low)))))
 
 pub each_permuted : (P : Early → Type 0) (xs ys : List Early) → IsPermutation xs ys → Each P xs → Each P ys
 each_permuted P xs ys perm each = each_from P ys (λ k low. All-permutation P xs ys perm (λ i d h. each_at P xs i d each h) k no_early low)
 
-off_tie : (t : Tag) (a p r : ℕ) (e : Early) → (e.moment.actor ≡ a → e.moment.rank ≡ r) → ties (λ x y. is_lt (moment_cmp (moment_of x) (moment_of y))) (record { moment = record { time = t.time; rank = r; actor = a }; value = pos 0 }) e ≡ false
+off_tie : (t : Tag) (a p r : ℕ) (e : Early) → (e.moment.actor ≡ a → e.moment.rank ≡ r) → ties (λ x y. is_lt (event_moment_cmp (event_moment x) (event_moment y))) (record { moment = record { time = t.time; rank = r; actor = a }; value = pos 0 }) e ≡ false
     → (e.moment.actor == a && p == 0 && same_tag (at_time e.moment.time) t) ≡ false
 off_tie t a p r e same h = grind (arith, nat_tests, common_steps)
 
@@ -197,22 +197,22 @@ skip_by : (c : Bool) (x rest found : Option ℤ) (v : ℤ) → (c ≡ false → 
 skip_by true x rest found v h e = ap (or_else x) e
 skip_by false x rest found v h e = e ∙ sym (ap (λ z. or_else z rest) (h refl))
 
-kept_when : (c : Bool) (e : Early) (es : List Early) (a p : ℕ) (t : Tag) → early_waits (cond c (e ∷ es) es) a p t ≡ cond c (or_else (start_of e.moment.actor e.moment.time e.value a p t) (early_waits es a p t)) (early_waits es a p t)
+kept_when : (c : Bool) (e : Early) (es : List Early) (a p : ℕ) (t : Tag) → early_waits (cond c (e ∷ es) es) a p t ≡ cond c (or_else (start_event e.moment.actor e.moment.time e.value a p t) (early_waits es a p t)) (early_waits es a p t)
 kept_when true e es a p t = refl
 kept_when false e es a p t = refl
 
 only_ties : (rank : ℕ → ℕ) (actors : ℕ) (a p : ℕ) (t : Tag) (xs : List Early) → AreEarly rank actors xs
-    → early_waits (filter (ties (λ x y. is_lt (moment_cmp (moment_of x) (moment_of y))) (record { moment = record { time = t.time; rank = rank a; actor = a }; value = pos 0 })) xs) a p t ≡ early_waits xs a p t
+    → early_waits (filter (ties (λ x y. is_lt (event_moment_cmp (event_moment x) (event_moment y))) (record { moment = record { time = t.time; rank = rank a; actor = a }; value = pos 0 })) xs) a p t ≡ early_waits xs a p t
 only_ties rank actors a p t [] each = refl
 only_ties rank actors a p t (e ∷ xs) each =
     let x0 : Early = record { moment = record { time = t.time; rank = rank a; actor = a }; value = pos 0 } in
-    kept_when (ties (λ x y. is_lt (moment_cmp (moment_of x) (moment_of y))) x0 e) e (filter (ties (λ x y. is_lt (moment_cmp (moment_of x) (moment_of y))) x0) xs) a p t
-    ∙ skip_by (ties (λ x y. is_lt (moment_cmp (moment_of x) (moment_of y))) x0 e) (start_of e.moment.actor e.moment.time e.value a p t) (early_waits xs a p t) _ e.value
+    kept_when (ties (λ x y. is_lt (event_moment_cmp (event_moment x) (event_moment y))) x0 e) e (filter (ties (λ x y. is_lt (event_moment_cmp (event_moment x) (event_moment y))) x0) xs) a p t
+    ∙ skip_by (ties (λ x y. is_lt (event_moment_cmp (event_moment x) (event_moment y))) x0 e) (start_event e.moment.actor e.moment.time e.value a p t) (early_waits xs a p t) _ e.value
     (λ h. ap (λ c. when c (Some e.value)) (off_tie t a p (rank a) e (λ is. each.0.rank_is ∙ ap rank is) h))
     (only_ties rank actors a p t xs each.1)
 
 -- sorted events are the same ones
-pub same_sorted : (rank : ℕ → ℕ) (actors : ℕ) (xs ys : List Early) → AreEarly rank actors xs → IsPermutation xs ys → IsStableByKey moment_of moment_cmp xs ys → early_waits ys ≡ early_waits xs
+pub same_sorted : (rank : ℕ → ℕ) (actors : ℕ) (xs ys : List Early) → AreEarly rank actors xs → IsPermutation xs ys → IsStableByKey event_moment event_moment_cmp xs ys → early_waits ys ≡ early_waits xs
 same_sorted rank actors xs ys each perm stable = λ i a p t. at a p t i
   where
     at : (a p : ℕ) (t : Tag) → early_waits ys a p t ≡ early_waits xs a p t
@@ -230,14 +230,14 @@ one_alone None = refl
 one_alone (Some v) = refl
 
 -- one event more
-pub early_push : (xs : List Early) (e : Early) → early_waits (xs ++ e ∷ []) ≡ added (early_waits xs) (start_of e.moment.actor e.moment.time e.value)
+pub early_push : (xs : List Early) (e : Early) → early_waits (xs ++ e ∷ []) ≡ added (early_waits xs) (start_event e.moment.actor e.moment.time e.value)
 early_push xs e = λ i a p t. at xs a p t i
   where
-    at : (xs : List Early) (a p : ℕ) (t : Tag) → early_waits (xs ++ e ∷ []) a p t ≡ added (early_waits xs) (start_of e.moment.actor e.moment.time e.value) a p t
-    at [] a p t = one_alone (start_of e.moment.actor e.moment.time e.value a p t)
+    at : (xs : List Early) (a p : ℕ) (t : Tag) → early_waits (xs ++ e ∷ []) a p t ≡ added (early_waits xs) (start_event e.moment.actor e.moment.time e.value) a p t
+    at [] a p t = one_alone (start_event e.moment.actor e.moment.time e.value a p t)
     at (x ∷ xs) a p t =
-        ap (or_else (start_of x.moment.actor x.moment.time x.value a p t)) (at xs a p t)
-        ∙ or_assoc (start_of x.moment.actor x.moment.time x.value a p t) (early_waits xs a p t) (start_of e.moment.actor e.moment.time e.value a p t)
+        ap (or_else (start_event x.moment.actor x.moment.time x.value a p t)) (at xs a p t)
+        ∙ or_assoc (start_event x.moment.actor x.moment.time x.value a p t) (early_waits xs a p t) (start_event e.moment.actor e.moment.time e.value a p t)
 
 pub early_push_placed : (rank : ℕ → ℕ) (actors : ℕ) (xs : List Early) (e : Early) → AreEarly rank actors xs → IsEarly rank actors e → AreEarly rank actors (xs ++ e ∷ [])
 early_push_placed rank actors [] e each one = (one, tt)
@@ -277,9 +277,9 @@ after_all rank actors e b p u v (f ∷ xs) ranked placed later is =
 same_moment : (e : Early) → NotLater e e
 same_moment e = (omega arith, λ h. (omega arith, λ k. omega arith))
 
-pub early_first : (rank : ℕ → ℕ) (actors : ℕ) (xs : List Early) (e : Early) (rest : List Early) (place : Place) → xs ≡ e ∷ rest → place ≡ place_of_early e → IsOrderly rank actors xs → IsFirst rank (early_waits xs) place.actor place.tag
+pub early_first : (rank : ℕ → ℕ) (actors : ℕ) (xs : List Early) (e : Early) (rest : List Early) (place : Place) → xs ≡ e ∷ rest → place ≡ place_of_early e → IsFiringOrder rank actors xs → IsFirst rank (early_waits xs) place.actor place.tag
 early_first rank actors xs e rest place is place_is orderly =
-    let o = subst (IsOrderly rank actors) is orderly in
+    let o = subst (IsFiringOrder rank actors) is orderly in
     subst (λ (x : Place). IsFirst rank (early_waits xs) x.actor x.tag) (sym place_is)
     (subst (λ ys. IsFirst rank (early_waits ys) e.moment.actor (at_time e.moment.time)) (sym is)
     (λ b p u v h. after_all rank actors e b p u v (e ∷ rest) o.placed.0.rank_is o.placed (same_moment e, o.rising.0) h))
@@ -293,7 +293,7 @@ early_present xs e rest place is place_is =
     (subst (λ ys. any_present (waiting (early_waits ys) e.moment.actor (at_time e.moment.time)) ≡ true) (sym is)
     (any_first (λ p. early_waits (e ∷ rest) e.moment.actor p (at_time e.moment.time)) e.value (own_value e rest)))
 
-pub early_placed : (rank : ℕ → ℕ) (actors steps : ℕ) (xs : List Early) (e : Early) (rest : List Early) (place : Place) → xs ≡ e ∷ rest → place ≡ place_of_early e → IsOrderly rank actors xs → IsPlaced rank actors steps place
+pub early_placed : (rank : ℕ → ℕ) (actors steps : ℕ) (xs : List Early) (e : Early) (rest : List Early) (place : Place) → xs ≡ e ∷ rest → place ≡ place_of_early e → IsFiringOrder rank actors xs → IsPlaceIn rank actors steps place
 early_placed rank actors steps xs e rest place is place_is orderly =
-    let o = subst (IsOrderly rank actors) is orderly in
-    subst (IsPlaced rank actors steps) (sym place_is) (record { rank_is = o.placed.0.rank_is; actor = o.placed.0.actor; port = omega arith; step = omega arith })
+    let o = subst (IsFiringOrder rank actors) is orderly in
+    subst (IsPlaceIn rank actors steps) (sym place_is) (record { rank_is = o.placed.0.rank_is; actor = o.placed.0.actor; port = omega arith; step = omega arith })

@@ -13,10 +13,10 @@ use Rattle.pt_types.specs.Lookups.{kind_of}
 use Rattle.pt_semantics.specs.Firing.{any_present}
 use Rattle.pt_semantics.specs.Meaning.{Values, World, ActorFiring, IsFirst, Fires, Steps, Runs, added, going, without, waiting, put_state, leaves_actor, after_firing}
 use Rattle.pt_meaning.specs.Emission.{IsUsable, AddsOneStep}
-use Rattle.pt_meaning.specs.Running.{states_in, state_at_start, firing_of}
+use Rattle.pt_meaning.specs.Running.{states_from, state_at_start, actor_firing}
 
 pub fires_by : (g : Graph) (rank : ℕ → ℕ) (w : World) (a : ℕ) (t : Tag) → IsFirst rank w.waits a t → any_present (waiting w.waits a t) ≡ true
-    → Fires g rank w (firing_of g w.states a t (waiting w.waits a t))
+    → Fires g rank w (actor_firing g w.states a t (waiting w.waits a t))
 fires_by g rank w a t first present = record { first = first; inputs = refl; present = present; before = refl; after = refl; outputs = refl }
 
 -- edges that leave another actor carry nothing
@@ -81,7 +81,7 @@ starts_at [] a = refl
 starts_at (x ∷ actors) zero = refl
 starts_at (x ∷ actors) (suc a) = starts_at actors a
 
-pub states_start : (g : Graph) → states_in (map state_at_start g.actors) ≡ (λ a. first_state (kind_of g a))
+pub states_start : (g : Graph) → states_from (map state_at_start g.actors) ≡ (λ a. first_state (kind_of g a))
 states_start g = λ i a. starts_at g.actors a i
 
 -- one firing more

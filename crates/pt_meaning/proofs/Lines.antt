@@ -14,9 +14,9 @@ use Rattle.pt_types.specs.Ports.{when}
 use Rattle.pt_semantics.specs.Lists.{or_else, Each}
 use Rattle.pt_meaning.specs.declared.place.Place.{Place}
 use Rattle.pt_meaning.specs.declared.line.Sent.{Sent}
-use Rattle.pt_meaning.specs.Line.{begins_with, in_line, AreAfter, AreBefore, IsRising}
+use Rattle.pt_meaning.specs.Line.{begins_with, in_line, AreAfter, AreBefore, IsSortedLine}
 use Rattle.pt_meaning.specs.Waiting.{place_cmp}
-use Rattle.pt_meaning.specs.Front.{Enters, IsLeast, Leaves, NoneInFront, is_of}
+use Rattle.pt_meaning.specs.Front.{Enters, IsLeastPlace, TakesOne, NoneInFront, is_place_of}
 use Rattle.pt_meaning.proofs.Places.{one_place, same_self}
 
 pub place_total : IsTotalOrder place_cmp
@@ -50,7 +50,7 @@ module _ (R : Place → Place → Ordering) (o : IsTotalOrder R) where
   each_back x (e ∷ es) h = (back_from_less x e.place h.0, each_back x es h.1)
 
   -- the first event left
-  pub without_first : (x : Sent) (es : List Sent) → IsRising R (x ∷ es) → (q : Place) → in_line R es q ≡ cond (is_eq (R x.place q)) None (in_line R (x ∷ es) q)
+  pub without_first : (x : Sent) (es : List Sent) → IsSortedLine R (x ∷ es) → (q : Place) → in_line R es q ≡ cond (is_eq (R x.place q)) None (in_line R (x ∷ es) q)
   without_first x es rising q = by (is_eq (R x.place q)) refl
     where
       by : (b : Bool) → is_eq (R x.place q) ≡ b → in_line R es q ≡ cond b None (cond b (Some x.value) (in_line R es q))
@@ -73,7 +73,7 @@ module _ (R : Place → Place → Ordering) (o : IsTotalOrder R) where
   eq_not_gt Greater h = absurd cc
 
   -- no event is before the first
-  pub first_is_least : (x : Sent) (es : List Sent) → IsRising R (x ∷ es) → (q : Place) → IsSome (in_line R (x ∷ es) q) → is_gt (R x.place q) ≡ false
+  pub first_is_least : (x : Sent) (es : List Sent) → IsSortedLine R (x ∷ es) → (q : Place) → IsSome (in_line R (x ∷ es) q) → is_gt (R x.place q) ≡ false
   first_is_least x es rising q some = by (is_eq (R x.place q)) refl some
     where
       by : (b : Bool) → is_eq (R x.place q) ≡ b → IsSome (cond b (Some x.value) (in_line R es q)) → is_gt (R x.place q) ≡ false
@@ -81,7 +81,7 @@ module _ (R : Place → Place → Ordering) (o : IsTotalOrder R) where
       by false same some = after_first x.place es q rising.0 some
 
   -- where the last event is before a place, all are
-  pub all_before : (es : List Sent) (p : Place) (last : Sent) (k : ℕ) → length es ≡ suc k → IsRising R es → last ≡ get_or es k last → R last.place p ≡ Less → AreBefore R p es
+  pub all_before : (es : List Sent) (p : Place) (last : Sent) (k : ℕ) → length es ≡ suc k → IsSortedLine R es → last ≡ get_or es k last → R last.place p ≡ Less → AreBefore R p es
   all_before [] p last k len rising is before = tt
   all_before (x ∷ []) p last zero len rising is before = (subst (λ (e : Sent). R e.place p ≡ Less) is before, tt)
   all_before (x ∷ []) p last (suc k) len rising is before = absurd (omega (arith, len))
@@ -91,7 +91,7 @@ module _ (R : Place → Place → Ordering) (o : IsTotalOrder R) where
       (o.trans x.place y.place p rising.0.0 rest.0, rest)
 
   -- where the first event is after a place, all are
-  pub all_after : (es : List Sent) (p : Place) (first : Sent) → IsRising R es → first ≡ get_or es 0 first → R p first.place ≡ Less → AreAfter R p es
+  pub all_after : (es : List Sent) (p : Place) (first : Sent) → IsSortedLine R es → first ≡ get_or es 0 first → R p first.place ≡ Less → AreAfter R p es
   all_after [] p first rising is after = tt
   all_after (x ∷ es) p first rising is after =
       let here : R p x.place ≡ Less = subst (λ (e : Sent). R p e.place ≡ Less) is after in
@@ -102,7 +102,7 @@ module _ (R : Place → Place → Ordering) (o : IsTotalOrder R) where
       rest (y ∷ ys) h = (back_from_less p y.place (o.trans p x.place y.place (subst (λ (e : Sent). R p e.place ≡ Less) is after) h.0), rest ys h.1)
 
   -- the parts of a line that rises do
-  pub rising_front : (xs ys : List Sent) → IsRising R (xs ++ ys) → IsRising R xs
+  pub rising_front : (xs ys : List Sent) → IsSortedLine R (xs ++ ys) → IsSortedLine R xs
   rising_front [] ys h = tt
   rising_front (x ∷ xs) ys h = (each_front xs ys h.0, rising_front xs ys h.1)
     where
@@ -110,12 +110,12 @@ module _ (R : Place → Place → Ordering) (o : IsTotalOrder R) where
       each_front [] ys h = tt
       each_front (e ∷ xs) ys h = (h.0, each_front xs ys h.1)
 
-  pub rising_back : (xs ys : List Sent) → IsRising R (xs ++ ys) → IsRising R ys
+  pub rising_back : (xs ys : List Sent) → IsSortedLine R (xs ++ ys) → IsSortedLine R ys
   rising_back [] ys h = h
   rising_back (x ∷ xs) ys h = rising_back xs ys h.1
 
   -- where the events of the second part are before a place, so are all
-  pub both_before : (xs : List Sent) (ys : List Sent) (p : Place) → 0 < length ys → IsRising R (xs ++ ys) → AreBefore R p ys → AreBefore R p (xs ++ ys)
+  pub both_before : (xs : List Sent) (ys : List Sent) (p : Place) → 0 < length ys → IsSortedLine R (xs ++ ys) → AreBefore R p ys → AreBefore R p (xs ++ ys)
   both_before [] ys p some rising before = before
   both_before (x ∷ xs) ys p some rising before =
       let rest = both_before xs ys p some rising.1 before in
@@ -167,7 +167,7 @@ module _ (R : Place → Place → Ordering) (o : IsTotalOrder R) where
   each_between P (x ∷ xs) ys e each here = (each.0, each_between P xs ys e each.1 here)
 
   -- and the line still rises
-  pub rising_between : (xs ys : List Sent) (p : Place) (v : ℤ) → AreBefore R p xs → AreAfter R p ys → IsRising R (xs ++ ys) → IsRising R (xs ++ record { place = p; value = v } ∷ ys)
+  pub rising_between : (xs ys : List Sent) (p : Place) (v : ℤ) → AreBefore R p xs → AreAfter R p ys → IsSortedLine R (xs ++ ys) → IsSortedLine R (xs ++ record { place = p; value = v } ∷ ys)
   rising_between [] ys p v before after rising = (ahead ys p after, rising)
   rising_between (x ∷ xs) ys p v before after rising = (
     each_between (λ (f : Sent). R x.place f.place ≡ Less) xs ys (record { place = p; value = v }) rising.0 before.0,
@@ -178,24 +178,24 @@ module _ (R : Place → Place → Ordering) (o : IsTotalOrder R) where
   pub enters_last : (es : List Sent) (p : Place) (v : ℤ) (q : Place) → in_line R (es ++ record { place = p; value = v } ∷ []) q ≡ or_else (in_line R es q) (when (is_eq (R p q)) (Some v))
   enters_last es p v q = enters_between es [] p v tt q ∙ ap (λ xs. or_else (in_line R xs q) (when (is_eq (R p q)) (Some v))) (append-nil es)
 
-  pub rising_last : (es : List Sent) (p : Place) (v : ℤ) → AreBefore R p es → IsRising R es → IsRising R (es ++ record { place = p; value = v } ∷ [])
-  rising_last es p v before rising = rising_between es [] p v before tt (subst (IsRising R) (sym (append-nil es)) rising)
+  pub rising_last : (es : List Sent) (p : Place) (v : ℤ) → AreBefore R p es → IsSortedLine R es → IsSortedLine R (es ++ record { place = p; value = v } ∷ [])
+  rising_last es p v before rising = rising_between es [] p v before tt (subst (IsSortedLine R) (sym (append-nil es)) rising)
 
   -- the first event is the least
-  pub least_of : (x : Sent) (es : List Sent) → IsRising R (x ∷ es) → IsSome (in_line R (x ∷ es) x.place) × ((q : Place) → IsSome (in_line R (x ∷ es) q) → is_gt (R x.place q) ≡ false)
+  pub least_of : (x : Sent) (es : List Sent) → IsSortedLine R (x ∷ es) → IsSome (in_line R (x ∷ es) x.place) × ((q : Place) → IsSome (in_line R (x ∷ es) q) → is_gt (R x.place q) ≡ false)
   least_of x es rising = (rw (tied_itself o x.place) refl, first_is_least x es rising)
 
-pub least_in : (es : List Sent) (r : Option Place) → MatchOption r (es ≡ []) (λ place. (sent : Sent) × (rest : List Sent) × (es ≡ sent ∷ rest) × (place ≡ sent.place)) → IsRising place_cmp es
-    → MatchOption r ((q : Place) → in_line place_cmp es q ≡ None) (λ place. IsLeast (in_line place_cmp es) place)
+pub least_in : (es : List Sent) (r : Option Place) → MatchOption r (es ≡ []) (λ place. (sent : Sent) × (rest : List Sent) × (es ≡ sent ∷ rest) × (place ≡ sent.place)) → IsSortedLine place_cmp es
+    → MatchOption r ((q : Place) → in_line place_cmp es q ≡ None) (λ place. IsLeastPlace (in_line place_cmp es) place)
 least_in es None none rising = λ q. ap (λ zs. in_line place_cmp zs q) none
 least_in es (Some place) first rising =
-    let least = least_of place_cmp place_total first.0 first.1 (subst (IsRising place_cmp) first.2 rising) in
-    let here : IsLeast (in_line place_cmp es) first.0.place = subst (λ zs. IsLeast (in_line place_cmp zs) first.0.place) (sym first.2) (record { there = least.0; least = least.1 }) in
-    subst (IsLeast (in_line place_cmp es)) (sym first.3) here
+    let least = least_of place_cmp place_total first.0 first.1 (subst (IsSortedLine place_cmp) first.2 rising) in
+    let here : IsLeastPlace (in_line place_cmp es) first.0.place = subst (λ zs. IsLeastPlace (in_line place_cmp zs) first.0.place) (sym first.2) (record { there = least.0; least = least.1 }) in
+    subst (IsLeastPlace (in_line place_cmp es)) (sym first.3) here
 
-pub begins_at : (t : Tag) (a : ℕ) (es : List Sent) (first : Sent) → 0 < length es → first ≡ get_or es 0 first → is_of t a first.place ≡ begins_with t a es
+pub begins_at : (t : Tag) (a : ℕ) (es : List Sent) (first : Sent) → 0 < length es → first ≡ get_or es 0 first → is_place_of t a first.place ≡ begins_with t a es
 begins_at t a [] first some is = absurd (omega (arith, some))
-begins_at t a (x ∷ es) first some is = ap (λ (e : Sent). is_of t a e.place) is
+begins_at t a (x ∷ es) first some is = ap (λ (e : Sent). is_place_of t a e.place) is
 
 pub begins_none : (t : Tag) (a : ℕ) (es : List Sent) → length es ≡ 0 → false ≡ begins_with t a es
 begins_none t a [] none = refl
@@ -210,7 +210,7 @@ pub begins_back : (t : Tag) (a : ℕ) (xs ys : List Sent) → length xs ≡ 0 �
 begins_back t a [] ys none = refl
 begins_back t a (x ∷ xs) ys none = absurd (omega (arith, none))
 
-pub none_in_front : (t : Tag) (a : ℕ) (es : List Sent) → IsRising place_cmp es → begins_with t a es ≡ false → NoneInFront t a (in_line place_cmp es)
+pub none_in_front : (t : Tag) (a : ℕ) (es : List Sent) → IsSortedLine place_cmp es → begins_with t a es ≡ false → NoneInFront t a (in_line place_cmp es)
 none_in_front t a [] rising other = inl (λ q. refl)
 none_in_front t a (x ∷ es) rising other =
     let least = least_of place_cmp place_total x es rising in
@@ -234,8 +234,8 @@ of_is : (t : Tag) (a b : ℕ) (u : Tag) → (b == a && same_tag t u) ≡ true �
 of_is t a b u h = (grind (arith, nat_tests, common_steps), grind (arith, nat_tests, common_steps), grind (arith, nat_tests, common_steps))
 
 -- the first event leaves
-pub leaves_first : (t : Tag) (a : ℕ) (x : Sent) (es : List Sent) → IsRising place_cmp (x ∷ es) → is_of t a x.place ≡ true
-    → Leaves t a x.place.port x.value (in_line place_cmp (x ∷ es)) (in_line place_cmp es)
+pub leaves_first : (t : Tag) (a : ℕ) (x : Sent) (es : List Sent) → IsSortedLine place_cmp (x ∷ es) → is_place_of t a x.place ≡ true
+    → TakesOne t a x.place.port x.value (in_line place_cmp (x ∷ es)) (in_line place_cmp es)
 leaves_first t a x es rising is =
     let of = of_is t a x.place.actor x.place.tag is in
     record {

@@ -5,8 +5,8 @@ use Rattle.std.proofs.lemmas.Bool.{cases_lt}
 use Rattle.pt_tags.specs.declared.tag.Tag.{Tag}
 use Rattle.pt_types.specs.declared.firing.ActorFiring.{ActorFiring}
 use Rattle.pt_meaning.specs.declared.firings.Mark.{Mark}
-use Rattle.pt_meaning.specs.Flat.{cells_of, filled, firing_from, no_cells, no_tag, places_from, values_in, StandsAt}
-use Rattle.pt_meaning.specs.Marks.{firing_at, firings_from, start_at, end_from, AreWithin, IsWhole}
+use Rattle.pt_meaning.specs.Flat.{cells_of_firing, with_cells, firing_from, empty_cells, no_tag, cell_numbers_from, cell_values, StandsAt}
+use Rattle.pt_meaning.specs.Marks.{firing_of_mark, firings_from, values_start_at, end_from, MarksAreWithin, MarksFit}
 use Rattle.pt_meaning.proofs.Filling.{same_firing, same_many}
 
 -- what lies between two places stays as it is when more is appended
@@ -18,11 +18,11 @@ between start last xs more h = by (cases_lt start (length xs))
     by (inr high) = let none : last - start ≡ 0 = omega (arith, h, high) in rw none refl
 
 one_stays : (tags more_tags : List Tag) (places more_places : List ℕ) (values more_values : List ℤ) (start : ℕ) (m : Mark) → m.moment < length tags → m.end ≤ length places → m.end ≤ length values
-    → firing_at (tags ++ more_tags) (places ++ more_places) (values ++ more_values) start m ≡ firing_at tags places values start m
+    → firing_of_mark (tags ++ more_tags) (places ++ more_places) (values ++ more_values) start m ≡ firing_of_mark tags places values start m
 one_stays tags more_tags places more_places values more_values start m moment p v = λ i.
-    firing_from m.actor (get_or_append_left tags more_tags no_tag m.moment moment i) (filled no_cells (between start m.end places more_places p i) (between start m.end values more_values v i))
+    firing_from m.actor (get_or_append_left tags more_tags no_tag m.moment moment i) (with_cells empty_cells (between start m.end places more_places p i) (between start m.end values more_values v i))
 
-pub all_stay : (tags more_tags : List Tag) (places more_places : List ℕ) (values more_values : List ℤ) (start : ℕ) (marks : List Mark) → AreWithin (length tags) (length places) marks → length places ≡ length values
+pub all_stay : (tags more_tags : List Tag) (places more_places : List ℕ) (values more_values : List ℤ) (start : ℕ) (marks : List Mark) → MarksAreWithin (length tags) (length places) marks → length places ≡ length values
     → firings_from (tags ++ more_tags) (places ++ more_places) (values ++ more_values) start marks ≡ firings_from tags places values start marks
 all_stay tags more_tags places more_places values more_values start [] within same = refl
 all_stay tags more_tags places more_places values more_values start (m ∷ marks) within same =
@@ -30,15 +30,15 @@ all_stay tags more_tags places more_places values more_values start (m ∷ marks
     (all_stay tags more_tags places more_places values more_values m.end marks within.2 same)
 
 pub one_more : (tags : List Tag) (places : List ℕ) (values : List ℤ) (start : ℕ) (marks : List Mark) (m : Mark)
-    → firings_from tags places values start (marks ++ m ∷ []) ≡ firings_from tags places values start marks ++ firing_at tags places values (end_from start marks) m ∷ []
+    → firings_from tags places values start (marks ++ m ∷ []) ≡ firings_from tags places values start marks ++ firing_of_mark tags places values (end_from start marks) m ∷ []
 one_more tags places values start [] m = refl
-one_more tags places values start (k ∷ marks) m = ap (λ xs. firing_at tags places values start k ∷ xs) (one_more tags places values k.end marks m)
+one_more tags places values start (k ∷ marks) m = ap (λ xs. firing_of_mark tags places values start k ∷ xs) (one_more tags places values k.end marks m)
 
 end_more : (start : ℕ) (marks : List Mark) (m : Mark) → end_from start (marks ++ m ∷ []) ≡ m.end
 end_more start [] m = refl
 end_more start (k ∷ marks) m = end_more k.end marks m
 
-within_more : (tags n more_tags k : ℕ) (marks : List Mark) (m : Mark) → tags ≤ more_tags → n ≤ k → m.moment < more_tags → m.end ≤ k → AreWithin tags n marks → AreWithin more_tags k (marks ++ m ∷ [])
+within_more : (tags n more_tags k : ℕ) (marks : List Mark) (m : Mark) → tags ≤ more_tags → n ≤ k → m.moment < more_tags → m.end ≤ k → MarksAreWithin tags n marks → MarksAreWithin more_tags k (marks ++ m ∷ [])
 within_more tags n more_tags k [] m t p a b within = (a, b, tt)
 within_more tags n more_tags k (x ∷ marks) m t p a b within = (omega (arith, within.0, t), omega (arith, within.1, p), within_more tags n more_tags k marks m t p a b within.2)
 
@@ -48,31 +48,31 @@ appended xs more start last s l =
     ap (take (last - start)) (drop_at xs more start (sym s)) ∙ take_all (last - start) more (omega (arith, s, l, length-append xs more))
 
 -- a firing joins the list
-pub joins : (tags new_tags : List Tag) (places : List ℕ) (values : List ℤ) (marks : List Mark) (m : Mark) (x : ActorFiring) → IsWhole tags places values marks
+pub joins : (tags new_tags : List Tag) (places : List ℕ) (values : List ℤ) (marks : List Mark) (m : Mark) (x : ActorFiring) → MarksFit tags places values marks
     → length x.inputs ≡ 8 → length x.outputs ≡ 8 → m.actor ≡ x.actor → StandsAt m.moment x.tag tags new_tags
-    → m.end ≡ length (places ++ places_from 0 (cells_of x))
-    → firings_from new_tags (places ++ places_from 0 (cells_of x)) (values ++ values_in (cells_of x)) 0 (marks ++ m ∷ []) ≡ firings_from tags places values 0 marks ++ x ∷ []
+    → m.end ≡ length (places ++ cell_numbers_from 0 (cells_of_firing x))
+    → firings_from new_tags (places ++ cell_numbers_from 0 (cells_of_firing x)) (values ++ cell_values (cells_of_firing x)) 0 (marks ++ m ∷ []) ≡ firings_from tags places values 0 marks ++ x ∷ []
 joins tags new_tags places values marks m x whole inputs outputs actor stands last =
-    one_more new_tags (places ++ places_from 0 (cells_of x)) (values ++ values_in (cells_of x)) 0 marks m
+    one_more new_tags (places ++ cell_numbers_from 0 (cells_of_firing x)) (values ++ cell_values (cells_of_firing x)) 0 marks m
     ∙ ap₂ (λ xs y. xs ++ y ∷ [])
-    (ap (λ ts. firings_from ts (places ++ places_from 0 (cells_of x)) (values ++ values_in (cells_of x)) 0 marks) stands.grows
-    ∙ all_stay tags stands.more places (places_from 0 (cells_of x)) values (values_in (cells_of x)) 0 marks whole.within whole.same)
-    ((λ i. firing_from (actor i) (stands.is i) (filled no_cells (new_places i) (new_values i))) ∙ same_firing x inputs outputs)
+    (ap (λ ts. firings_from ts (places ++ cell_numbers_from 0 (cells_of_firing x)) (values ++ cell_values (cells_of_firing x)) 0 marks) stands.grows
+    ∙ all_stay tags stands.more places (cell_numbers_from 0 (cells_of_firing x)) values (cell_values (cells_of_firing x)) 0 marks whole.within whole.same)
+    ((λ i. firing_from (actor i) (stands.is i) (with_cells empty_cells (new_places i) (new_values i))) ∙ same_firing x inputs outputs)
   where
-    new_places : take (m.end - end_from 0 marks) (drop (end_from 0 marks) (places ++ places_from 0 (cells_of x))) ≡ places_from 0 (cells_of x)
-    new_places = appended places (places_from 0 (cells_of x)) (end_from 0 marks) m.end whole.last last
+    new_places : take (m.end - end_from 0 marks) (drop (end_from 0 marks) (places ++ cell_numbers_from 0 (cells_of_firing x))) ≡ cell_numbers_from 0 (cells_of_firing x)
+    new_places = appended places (cell_numbers_from 0 (cells_of_firing x)) (end_from 0 marks) m.end whole.last last
 
-    new_values : take (m.end - end_from 0 marks) (drop (end_from 0 marks) (values ++ values_in (cells_of x))) ≡ values_in (cells_of x)
-    new_values = appended values (values_in (cells_of x)) (end_from 0 marks) m.end (whole.last ∙ whole.same)
-        (last ∙ length-append places (places_from 0 (cells_of x)) ∙ ap₂ (λ a b. a + b) whole.same (same_many 0 (cells_of x)) ∙ sym (length-append values (values_in (cells_of x))))
+    new_values : take (m.end - end_from 0 marks) (drop (end_from 0 marks) (values ++ cell_values (cells_of_firing x))) ≡ cell_values (cells_of_firing x)
+    new_values = appended values (cell_values (cells_of_firing x)) (end_from 0 marks) m.end (whole.last ∙ whole.same)
+        (last ∙ length-append places (cell_numbers_from 0 (cells_of_firing x)) ∙ ap₂ (λ a b. a + b) whole.same (same_many 0 (cells_of_firing x)) ∙ sym (length-append values (cell_values (cells_of_firing x))))
 
-pub stays_whole : (tags new_tags : List Tag) (places : List ℕ) (values : List ℤ) (marks : List Mark) (m : Mark) (x : ActorFiring) → IsWhole tags places values marks
-    → StandsAt m.moment x.tag tags new_tags → m.end ≡ length (places ++ places_from 0 (cells_of x))
-    → IsWhole new_tags (places ++ places_from 0 (cells_of x)) (values ++ values_in (cells_of x)) (marks ++ m ∷ [])
+pub stays_whole : (tags new_tags : List Tag) (places : List ℕ) (values : List ℤ) (marks : List Mark) (m : Mark) (x : ActorFiring) → MarksFit tags places values marks
+    → StandsAt m.moment x.tag tags new_tags → m.end ≡ length (places ++ cell_numbers_from 0 (cells_of_firing x))
+    → MarksFit new_tags (places ++ cell_numbers_from 0 (cells_of_firing x)) (values ++ cell_values (cells_of_firing x)) (marks ++ m ∷ [])
 stays_whole tags new_tags places values marks m x whole stands last = record {
-  within = within_more (length tags) (length places) (length new_tags) (length (places ++ places_from 0 (cells_of x))) marks m
-      (omega (arith, ap length stands.grows, length-append tags stands.more)) (omega (arith, length-append places (places_from 0 (cells_of x)))) stands.within (omega (arith, last)) whole.within;
-  same = length-append places (places_from 0 (cells_of x)) ∙ ap₂ (λ a b. a + b) whole.same (same_many 0 (cells_of x)) ∙ sym (length-append values (values_in (cells_of x)));
+  within = within_more (length tags) (length places) (length new_tags) (length (places ++ cell_numbers_from 0 (cells_of_firing x))) marks m
+      (omega (arith, ap length stands.grows, length-append tags stands.more)) (omega (arith, length-append places (cell_numbers_from 0 (cells_of_firing x)))) stands.within (omega (arith, last)) whole.within;
+  same = length-append places (cell_numbers_from 0 (cells_of_firing x)) ∙ ap₂ (λ a b. a + b) whole.same (same_many 0 (cells_of_firing x)) ∙ sym (length-append values (cell_values (cells_of_firing x)));
   last = end_more 0 marks m ∙ last;
 }
 
@@ -82,7 +82,7 @@ length_firings tags places values start (m ∷ marks) = ap suc (length_firings t
 
 -- the firing of a number is that of its mark
 pub get_at : (tags : List Tag) (places : List ℕ) (values : List ℤ) (start : ℕ) (marks : List Mark) (i : ℕ) (d : Mark) → i < length marks
-    → slice_get (firings_from tags places values start marks) i ≡ Some (firing_at tags places values (start_at start marks i) (slice_index_or marks i d))
+    → slice_get (firings_from tags places values start marks) i ≡ Some (firing_of_mark tags places values (values_start_at start marks i) (slice_index_or marks i d))
 get_at tags places values start [] i d h = absurd (omega arith)
 get_at tags places values start (m ∷ marks) zero d h = refl
 get_at tags places values start (m ∷ marks) (suc i) d h = get_at tags places values m.end marks i d (omega arith)
@@ -92,17 +92,17 @@ get_past tags places values start [] i h = refl
 get_past tags places values start (m ∷ marks) zero h = absurd (omega arith)
 get_past tags places values start (m ∷ marks) (suc i) h = get_past tags places values m.end marks i (omega arith)
 
-pub within_at : (tags n : ℕ) (marks : List Mark) (i : ℕ) (d : Mark) → i < length marks → AreWithin tags n marks → (slice_index_or marks i d).end ≤ n
+pub within_at : (tags n : ℕ) (marks : List Mark) (i : ℕ) (d : Mark) → i < length marks → MarksAreWithin tags n marks → (slice_index_or marks i d).end ≤ n
 within_at tags n [] i d h within = absurd (omega arith)
 within_at tags n (m ∷ marks) zero d h within = within.1
 within_at tags n (m ∷ marks) (suc i) d h within = within_at tags n marks i d (omega arith) within.2
 
-pub start_is : (start : ℕ) (marks : List Mark) (k : ℕ) (d : Mark) → k < length marks → start_at start marks (suc k) ≡ (slice_index_or marks k d).end
+pub start_is : (start : ℕ) (marks : List Mark) (k : ℕ) (d : Mark) → k < length marks → values_start_at start marks (suc k) ≡ (slice_index_or marks k d).end
 start_is start [] k d h = absurd (omega arith)
 start_is start (m ∷ marks) zero d h = refl
 start_is start (m ∷ marks) (suc k) d h = start_is m.end marks k d (omega arith)
 
-pub start_past : (start : ℕ) (marks : List Mark) (k : ℕ) → length marks ≤ k → start_at start marks (suc k) ≡ 0
+pub start_past : (start : ℕ) (marks : List Mark) (k : ℕ) → length marks ≤ k → values_start_at start marks (suc k) ≡ 0
 start_past start [] k h = refl
 start_past start (m ∷ marks) zero h = absurd (omega arith)
 start_past start (m ∷ marks) (suc k) h = start_past m.end marks k (omega arith)
@@ -112,13 +112,13 @@ no_mark = record { actor = 0; moment = 0; end = 0 }
 
 -- what is read at a mark is the firing of its number
 pub read_at : (tags : List Tag) (places : List ℕ) (values : List ℤ) (marks : List Mark) (i : ℕ) (mark : Mark) (start : ℕ) (tag : Tag) (cells : List (Option ℤ)) (x : ActorFiring) → i < length marks
-    → mark ≡ slice_index_or marks i mark → start ≡ start_at 0 marks i → tag ≡ slice_index_or tags mark.moment no_tag
-    → cells ≡ filled no_cells (take (mark.end - start) (drop start places)) (take (mark.end - start) (drop start values)) → x ≡ firing_from mark.actor tag cells
+    → mark ≡ slice_index_or marks i mark → start ≡ values_start_at 0 marks i → tag ≡ slice_index_or tags mark.moment no_tag
+    → cells ≡ with_cells empty_cells (take (mark.end - start) (drop start places)) (take (mark.end - start) (drop start values)) → x ≡ firing_from mark.actor tag cells
     → Some x ≡ slice_get (firings_from tags places values 0 marks) i
 read_at tags places values marks i mark start tag cells x h mark_is start_is tag_is cells_are is =
     ap Some (is
-    ∙ ap₂ (firing_from mark.actor) tag_is (cells_are ∙ ap (λ s. filled no_cells (take (mark.end - s) (drop s places)) (take (mark.end - s) (drop s values))) start_is)
-    ∙ ap (firing_at tags places values (start_at 0 marks i)) (mark_is ∙ get_or_default marks i mark no_mark h))
+    ∙ ap₂ (firing_from mark.actor) tag_is (cells_are ∙ ap (λ s. with_cells empty_cells (take (mark.end - s) (drop s places)) (take (mark.end - s) (drop s values))) start_is)
+    ∙ ap (firing_of_mark tags places values (values_start_at 0 marks i)) (mark_is ∙ get_or_default marks i mark no_mark h))
     ∙ sym (get_at tags places values 0 marks i no_mark h)
 
 pub actor_at : (tags : List Tag) (places : List ℕ) (values : List ℤ) (marks : List Mark) (i : ℕ) (mark : Mark) → i < length marks → mark ≡ slice_index_or marks i mark

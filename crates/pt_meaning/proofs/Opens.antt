@@ -17,17 +17,17 @@ use Rattle.pt_semantics.specs.Meaning.{Values, added, at_time, start_at, row_at,
 use Rattle.pt_sensors.specs.declared.sensor_rows.SensorRows.{SensorRows}
 use Rattle.pt_meaning.specs.declared.place.Place.{Place}
 use Rattle.pt_meaning.specs.Waiting.{value_at}
-use Rattle.pt_meaning.specs.Opening.{start_of, start_one, starts_below, rows_of_actor, rows_from_sensors}
+use Rattle.pt_meaning.specs.Opening.{start_event, start_one, starts_below, rows_of_actor, rows_from_sensors}
 use Rattle.pt_sensors.specs.Listed.{rows_for}
 
 flip : (p : ℕ) → (0 == p) ≡ (p == 0)
 flip p = grind (arith, nat_tests)
 
 -- an event that is put at input 0
-pub begin_value : (place : Place) (actor time : ℕ) (v : ℤ) → place.tag ≡ at_time time → place.actor ≡ actor → place.port ≡ 0 → value_at place v ≡ start_of actor time v
+pub begin_value : (place : Place) (actor time : ℕ) (v : ℤ) → place.tag ≡ at_time time → place.actor ≡ actor → place.port ≡ 0 → value_at place v ≡ start_event actor time v
 begin_value place actor time v tag is port = λ i a p t. at a p t i
   where
-    at : (a p : ℕ) (t : Tag) → value_at place v a p t ≡ start_of actor time v a p t
+    at : (a p : ℕ) (t : Tag) → value_at place v a p t ≡ start_event actor time v a p t
     at a p t =
         ap (λ (q : Tag). when (place.actor == a && place.port == p && same_tag q t) (Some v)) tag
         ∙ ap₂ (λ x y. when (x == a && y == p && same_tag (at_time time) t) (Some v)) is port
@@ -44,7 +44,7 @@ two_tests true time c v h = rw h refl
 two_tests false time c v h = refl
 
 -- an actor that begins by itself within the horizon
-pub start_within : (g : Graph) (actor start period : ℕ) → start ≤ g.until → start_of actor start (pos 0) ≡ start_one g actor (Every start period)
+pub start_within : (g : Graph) (actor start period : ℕ) → start ≤ g.until → start_event actor start (pos 0) ≡ start_one g actor (Every start period)
 start_within g actor start period within = λ i a p t. two_tests (actor == a && p == 0) (nat_lt start (suc g.until)) (same_tag (at_time start) t) (pos 0) (lt-ltb start (suc g.until) (omega arith)) i
 
 -- one that doesn't

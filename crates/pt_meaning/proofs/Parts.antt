@@ -6,8 +6,8 @@ use Rattle.pt_semantics.specs.Firing.{any_present}
 use Rattle.pt_semantics.specs.Lists.{or_else}
 use Rattle.pt_semantics.specs.Meaning.{Values, IsFirst, added, waiting}
 use Rattle.pt_meaning.specs.declared.place.Place.{Place}
-use Rattle.pt_meaning.specs.Waiting.{place_of, waits_in, IsPlaced, IsSound}
-use Rattle.pt_meaning.specs.Front.{IsLeast}
+use Rattle.pt_meaning.specs.Waiting.{place_of, waits_in, IsPlaceIn, EventsArePlaced}
+use Rattle.pt_meaning.specs.Front.{IsLeastPlace}
 use Rattle.pt_meaning.proofs.Places.{up_to}
 use Rattle.pt_meaning.proofs.Taking.{its_place, at_eight}
 
@@ -15,16 +15,16 @@ use Rattle.pt_meaning.proofs.Taking.{its_place, at_eight}
 abbrev pub either_of : (Place → Option ℤ) → (Place → Option ℤ) → Place → Option ℤ
 either_of near far q = or_else (near q) (far q)
 
-pub if_some : (all : Place → Option ℤ) {Q : Place → Type 0} (r : Option Place) → MatchOption r ((q : Place) → all q ≡ None) (IsLeast all) → ((x : Place) → IsLeast all x → Q x) → IfSome r Q
+pub if_some : (all : Place → Option ℤ) {Q : Place → Type 0} (r : Option Place) → MatchOption r ((q : Place) → all q ≡ None) (IsLeastPlace all) → ((x : Place) → IsLeastPlace all x → Q x) → IfSome r Q
 if_some all None h to = tt
 if_some all (Some x) h to = to x h
 
-pub if_none : (all : Place → Option ℤ) {Q : Type 0} (r : Option Place) → MatchOption r ((q : Place) → all q ≡ None) (IsLeast all) → (((q : Place) → all q ≡ None) → Q) → IfNone r Q
+pub if_none : (all : Place → Option ℤ) {Q : Type 0} (r : Option Place) → MatchOption r ((q : Place) → all q ≡ None) (IsLeastPlace all) → (((q : Place) → all q ≡ None) → Q) → IfNone r Q
 if_none all None h to = to h
 if_none all (Some x) h to = tt
 
 -- the least of sound events is the first
-pub least_first : (rank : ℕ → ℕ) (actors steps : ℕ) (all : Place → Option ℤ) (x : Place) → IsLeast all x → IsSound rank actors steps all → IsFirst rank (waits_in rank all) x.actor x.tag
+pub least_first : (rank : ℕ → ℕ) (actors steps : ℕ) (all : Place → Option ℤ) (x : Place) → IsLeastPlace all x → EventsArePlaced rank actors steps all → IsFirst rank (waits_in rank all) x.actor x.tag
 least_first rank actors steps all x least sound b p u v is =
     let up = up_to x (place_of rank b p u) (least.least (place_of rank b p u) (subst IsSome (sym is) refl)) in
     let here = sound x least.there in
@@ -37,7 +37,7 @@ any_at (None ∷ xs) zero h = absurd cc
 any_at (None ∷ xs) (suc p) h = any_at xs p h
 
 -- and is at an input of its actor
-pub least_present : (rank : ℕ → ℕ) (actors steps : ℕ) (all : Place → Option ℤ) (x : Place) → IsLeast all x → IsSound rank actors steps all → any_present (waiting (waits_in rank all) x.actor x.tag) ≡ true
+pub least_present : (rank : ℕ → ℕ) (actors steps : ℕ) (all : Place → Option ℤ) (x : Place) → IsLeastPlace all x → EventsArePlaced rank actors steps all → any_present (waiting (waits_in rank all) x.actor x.tag) ≡ true
 least_present rank actors steps all x least sound =
     let here = sound x least.there in
     let stands : x ≡ place_of rank x.actor x.port x.tag = its_place rank x x.actor x.port x.tag here.rank_is refl refl refl in
@@ -58,19 +58,19 @@ some_of P None y near far h = far h
 some_of P (Some v) y near far h = near refl
 
 module _ (near far : Place → Option ℤ) where
-  pub sound_near : (rank : ℕ → ℕ) (actors steps : ℕ) → IsSound rank actors steps (either_of near far) → IsSound rank actors steps near
+  pub sound_near : (rank : ℕ → ℕ) (actors steps : ℕ) → EventsArePlaced rank actors steps (either_of near far) → EventsArePlaced rank actors steps near
   sound_near rank actors steps sound x h = sound x (some_near (near x) (far x) h)
 
-  pub sound_far : (rank : ℕ → ℕ) (actors steps : ℕ) → IsSound rank actors steps (either_of near far) → IsSound rank actors steps far
+  pub sound_far : (rank : ℕ → ℕ) (actors steps : ℕ) → EventsArePlaced rank actors steps (either_of near far) → EventsArePlaced rank actors steps far
   sound_far rank actors steps sound x h = sound x (some_far (near x) (far x) h)
 
-  pub sound_both : (rank : ℕ → ℕ) (actors steps : ℕ) → IsSound rank actors steps near → IsSound rank actors steps far → IsSound rank actors steps (either_of near far)
-  sound_both rank actors steps n f x h = some_of (IsPlaced rank actors steps x) (near x) (far x) (n x) (f x) h
+  pub sound_both : (rank : ℕ → ℕ) (actors steps : ℕ) → EventsArePlaced rank actors steps near → EventsArePlaced rank actors steps far → EventsArePlaced rank actors steps (either_of near far)
+  sound_both rank actors steps n f x h = some_of (IsPlaceIn rank actors steps x) (near x) (far x) (n x) (f x) h
 
-  pub within_near : (rank : ℕ → ℕ) (actors steps : ℕ) (x : Place) → IsLeast near x → IsSound rank actors steps (either_of near far) → IsPlaced rank actors steps x
+  pub within_near : (rank : ℕ → ℕ) (actors steps : ℕ) (x : Place) → IsLeastPlace near x → EventsArePlaced rank actors steps (either_of near far) → IsPlaceIn rank actors steps x
   within_near rank actors steps x least sound = sound x (some_near (near x) (far x) least.there)
 
-  pub within_far : (rank : ℕ → ℕ) (actors steps : ℕ) (x : Place) → IsLeast far x → IsSound rank actors steps (either_of near far) → IsPlaced rank actors steps x
+  pub within_far : (rank : ℕ → ℕ) (actors steps : ℕ) (x : Place) → IsLeastPlace far x → EventsArePlaced rank actors steps (either_of near far) → IsPlaceIn rank actors steps x
   within_far rank actors steps x least sound = sound x (some_far (near x) (far x) least.there)
 
 or_with_none : (x : Option ℤ) → or_else x None ≡ x

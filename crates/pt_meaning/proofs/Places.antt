@@ -11,7 +11,7 @@ use Rattle.pt_semantics.specs.Meaning.{added}
 use Rattle.pt_meaning.specs.declared.place.Place.{Place}
 use Rattle.pt_meaning.specs.Both.{IsUpTo}
 use Rattle.pt_meaning.specs.Front.{Enters, Replaces}
-use Rattle.pt_meaning.specs.Waiting.{place_cmp, place_of, waits_in, value_at, IsPlaced, IsSound}
+use Rattle.pt_meaning.specs.Waiting.{place_cmp, place_of, waits_in, value_at, IsPlaceIn, EventsArePlaced}
 
 pub up_to : (x y : Place) → is_gt (place_cmp x y) ≡ false → IsUpTo x y
 up_to x y h = grind (arith, nat_tests, common_steps)
@@ -66,17 +66,17 @@ waits_add rank place value old new ranked enters = λ i a p t. at a p t i
         let q : Place = place_of rank a p t in
         enters q ∙ ap (λ b. or_else (old q) (when b (Some value))) (same_place place q (λ e. ranked ∙ ap rank e))
 
-sound_by : (rank : ℕ → ℕ) (actors steps : ℕ) (place x : Place) (b : Bool) (old : Option ℤ) (value : ℤ) → (b ≡ true → place ≡ x) → IsPlaced rank actors steps place
-    → (IsSome old → IsPlaced rank actors steps x) → IsSome (or_else old (when b (Some value))) → IsPlaced rank actors steps x
+sound_by : (rank : ℕ → ℕ) (actors steps : ℕ) (place x : Place) (b : Bool) (old : Option ℤ) (value : ℤ) → (b ≡ true → place ≡ x) → IsPlaceIn rank actors steps place
+    → (IsSome old → IsPlaceIn rank actors steps x) → IsSome (or_else old (when b (Some value))) → IsPlaceIn rank actors steps x
 sound_by rank actors steps place x b (Some v) value same one was h = was refl
-sound_by rank actors steps place x true None value same one was h = subst (IsPlaced rank actors steps) (same refl) one
+sound_by rank actors steps place x true None value same one was h = subst (IsPlaceIn rank actors steps) (same refl) one
 sound_by rank actors steps place x false None value same one was h = absurd cc
 
-pub sound_add : (rank : ℕ → ℕ) (actors steps : ℕ) (place : Place) (value : ℤ) (old new : Place → Option ℤ) → IsPlaced rank actors steps place
-    → Enters place value old new → IsSound rank actors steps old → IsSound rank actors steps new
+pub sound_add : (rank : ℕ → ℕ) (actors steps : ℕ) (place : Place) (value : ℤ) (old new : Place → Option ℤ) → IsPlaceIn rank actors steps place
+    → Enters place value old new → EventsArePlaced rank actors steps old → EventsArePlaced rank actors steps new
 sound_add rank actors steps place value old new placed enters was x h =
     sound_by rank actors steps place x (is_eq (place_cmp place x)) (old x) value (one_place place x) placed (was x) (subst IsSome (enters x) h)
 
 -- the bound on steps may grow
-pub sound_more : (rank : ℕ → ℕ) (actors steps more : ℕ) (events : Place → Option ℤ) → steps ≤ more → IsSound rank actors steps events → IsSound rank actors more events
+pub sound_more : (rank : ℕ → ℕ) (actors steps more : ℕ) (events : Place → Option ℤ) → steps ≤ more → EventsArePlaced rank actors steps events → EventsArePlaced rank actors more events
 sound_more rank actors steps more events grows sound x h = let at = sound x h in record { rank_is = at.rank_is; actor = at.actor; port = at.port; step = omega (arith, at.step, grows) }

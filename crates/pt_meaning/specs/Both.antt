@@ -3,18 +3,18 @@ use Rattle.std.specs.Prelude.{ℕ, ◌≤◌, List, Option, None, Some, ℤ, sli
 use Rattle.pt_semantics.specs.Meaning.{Values, added}
 use Rattle.pt_meaning.specs.declared.place.Place.{Place}
 use Rattle.pt_meaning.specs.declared.world.Waiting.{Waiting}
-use Rattle.pt_meaning.specs.Early.{early_waits, left, IsOrderly}
-use Rattle.pt_meaning.specs.Waiting.{waits_in, IsSound}
-use Rattle.pt_meaning.specs.Held.{held}
+use Rattle.pt_meaning.specs.Early.{early_waits, left, IsFiringOrder}
+use Rattle.pt_meaning.specs.Waiting.{waits_in, EventsArePlaced}
+use Rattle.pt_meaning.specs.Held.{pending_value}
 
 -- the value that waits at each input and tag, in either part; if both have one, the early one
 abbrev pub all_waits : (ℕ → ℕ) → Waiting → Values
-all_waits rank w = added (early_waits (left w.early)) (waits_in rank (held w.late))
+all_waits rank w = added (early_waits (left w.early)) (waits_in rank (pending_value w.late))
 
 -- the events of both parts are sound
 pub record AreSound (rank : ℕ → ℕ) (actors steps : ℕ) (w : Waiting) : Type 0 where
-  pub early : IsOrderly rank actors (left w.early)
-  pub late : IsSound rank actors steps (held w.late)
+  pub early : IsFiringOrder rank actors (left w.early)
+  pub late : EventsArePlaced rank actors steps (pending_value w.late)
 
 -- place x does not come after place y, by tag, rank and actor
 abbrev pub IsUpTo : Place → Place → Type 0

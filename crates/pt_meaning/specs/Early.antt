@@ -9,20 +9,20 @@ use Rattle.pt_meaning.specs.declared.place.Place.{Place}
 use Rattle.pt_meaning.specs.declared.early.Moment.{Moment}
 use Rattle.pt_meaning.specs.declared.early.Early.{Early}
 use Rattle.pt_meaning.specs.declared.early.EarlyList.{EarlyList}
-use Rattle.pt_meaning.specs.Opening.{start_of}
+use Rattle.pt_meaning.specs.Opening.{start_event}
 
 -- when an event fires
-abbrev pub moment_of : Early → Moment
-moment_of e = e.moment
+abbrev pub event_moment : Early → Moment
+event_moment e = e.moment
 
 -- the order of moments: by time, rank and actor
-abbrev pub moment_cmp : Moment → Moment → Ordering
-moment_cmp x y = ordering_then (nat_cmp x.time y.time) (ordering_then (nat_cmp x.rank y.rank) (nat_cmp x.actor y.actor))
+abbrev pub event_moment_cmp : Moment → Moment → Ordering
+event_moment_cmp x y = ordering_then (nat_cmp x.time y.time) (ordering_then (nat_cmp x.rank y.rank) (nat_cmp x.actor y.actor))
 
 -- the value that waits at each input and tag; if several events are at one, the first
 abbrev pub early_waits : List Early → Values
 early_waits [] a p t = None
-early_waits (e ∷ events) a p t = added (start_of e.moment.actor e.moment.time e.value) (early_waits events) a p t
+early_waits (e ∷ events) a p t = added (start_event e.moment.actor e.moment.time e.value) (early_waits events) a p t
 
 -- the events not taken yet
 abbrev pub left : EarlyList → List Early
@@ -46,27 +46,27 @@ abbrev pub NotLater : Early → Early → Type 0
 NotLater e f = (e.moment.time ≤ f.moment.time) × (f.moment.time ≤ e.moment.time → (e.moment.rank ≤ f.moment.rank) × (f.moment.rank ≤ e.moment.rank → e.moment.actor ≤ f.moment.actor))
 
 -- events in the order in which they fire
-abbrev pub Rising : List Early → Type 0
-Rising [] = Unit {0}
-Rising (e ∷ events) = Each (NotLater e) events × Rising events
+abbrev pub EventsRise : List Early → Type 0
+EventsRise [] = Unit {0}
+EventsRise (e ∷ events) = Each (NotLater e) events × EventsRise events
 
 -- the events are such, and in the order in which they fire
-pub record IsOrderly (rank : ℕ → ℕ) (actors : ℕ) (events : List Early) : Type 0 where
+pub record IsFiringOrder (rank : ℕ → ℕ) (actors : ℕ) (events : List Early) : Type 0 where
   pub placed : AreEarly rank actors events
-  pub rising : Rising events
+  pub rising : EventsRise events
 
 -- an event is of this tag and actor
-abbrev pub is_at : Tag → ℕ → Early → Bool
-is_at t a e = e.moment.actor == a && e.moment.time == t.time && t.step == 0
+abbrev pub is_event_at : Tag → ℕ → Early → Bool
+is_event_at t a e = e.moment.actor == a && e.moment.time == t.time && t.step == 0
 
 -- the first of the old events is of this tag and actor and has this value, and the new events are the rest
 pub record Heads (t : Tag) (a : ℕ) (value : ℤ) (old new : List Early) : Type 0 where
   pub event : Early
   pub is : old ≡ event ∷ new
-  pub at : is_at t a event ≡ true
+  pub at : is_event_at t a event ≡ true
   pub value_is : event.value ≡ value
 
 -- the first event, if there is one, isn't of this tag and actor
 abbrev pub NotAtHead : Tag → ℕ → List Early → Type 0
 NotAtHead t a [] = Unit {0}
-NotAtHead t a (e ∷ events) = is_at t a e ≡ false
+NotAtHead t a (e ∷ events) = is_event_at t a e ≡ false

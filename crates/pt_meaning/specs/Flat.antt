@@ -5,16 +5,16 @@ use Rattle.pt_tags.specs.declared.tag.Tag.{Tag}
 use Rattle.pt_types.specs.declared.firing.ActorFiring.{ActorFiring}
 
 -- a state as a cell: None for 0
-abbrev pub nonzero : ℤ → Option ℤ
-nonzero q = if int_eq q (pos 0) then None else Some q
+abbrev pub state_cell : ℤ → Option ℤ
+state_cell q = if int_eq q (pos 0) then None else Some q
 
 -- the cells of a firing: its inputs, its outputs, and its states before and after
-abbrev pub cells_of : ActorFiring → List (Option ℤ)
-cells_of x = x.inputs ++ (x.outputs ++ (nonzero x.before ∷ nonzero x.after ∷ []))
+abbrev pub cells_of_firing : ActorFiring → List (Option ℤ)
+cells_of_firing x = x.inputs ++ (x.outputs ++ (state_cell x.before ∷ state_cell x.after ∷ []))
 
 -- the 18 cells of a firing, without values
-abbrev pub no_cells : List (Option ℤ)
-no_cells = None ∷ None ∷ None ∷ None ∷ None ∷ None ∷ None ∷ None ∷ None ∷ None ∷ None ∷ None ∷ None ∷ None ∷ None ∷ None ∷ None ∷ None ∷ []
+abbrev pub empty_cells : List (Option ℤ)
+empty_cells = None ∷ None ∷ None ∷ None ∷ None ∷ None ∷ None ∷ None ∷ None ∷ None ∷ None ∷ None ∷ None ∷ None ∷ None ∷ None ∷ None ∷ None ∷ []
 
 -- the firing with these cells
 abbrev pub firing_from : ℕ → Tag → List (Option ℤ) → ActorFiring
@@ -28,22 +28,22 @@ firing_from actor tag cells = record {
 }
 
 -- the numbers of the cells that have a value; the first cell has number k
-abbrev pub places_from : ℕ → List (Option ℤ) → List ℕ
-places_from k [] = []
-places_from k (None ∷ cells) = places_from (k + 1) cells
-places_from k (Some v ∷ cells) = k ∷ places_from (k + 1) cells
+abbrev pub cell_numbers_from : ℕ → List (Option ℤ) → List ℕ
+cell_numbers_from k [] = []
+cell_numbers_from k (None ∷ cells) = cell_numbers_from (k + 1) cells
+cell_numbers_from k (Some v ∷ cells) = k ∷ cell_numbers_from (k + 1) cells
 
 -- the values of the cells that have one
-abbrev pub values_in : List (Option ℤ) → List ℤ
-values_in [] = []
-values_in (None ∷ cells) = values_in cells
-values_in (Some v ∷ cells) = v ∷ values_in cells
+abbrev pub cell_values : List (Option ℤ) → List ℤ
+cell_values [] = []
+cell_values (None ∷ cells) = cell_values cells
+cell_values (Some v ∷ cells) = v ∷ cell_values cells
 
 -- the cells, after these values are written at these cell numbers
-abbrev pub filled : List (Option ℤ) → List ℕ → List ℤ → List (Option ℤ)
-filled cells [] values = cells
-filled cells (p ∷ places) [] = cells
-filled cells (p ∷ places) (v ∷ values) = filled (slice_set cells p (Some v)) places values
+abbrev pub with_cells : List (Option ℤ) → List ℕ → List ℤ → List (Option ℤ)
+with_cells cells [] values = cells
+with_cells cells (p ∷ places) [] = cells
+with_cells cells (p ∷ places) (v ∷ values) = with_cells (slice_set cells p (Some v)) places values
 
 -- the default past the end of a list of tags
 abbrev pub no_tag : Tag

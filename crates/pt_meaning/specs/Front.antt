@@ -17,7 +17,7 @@ abbrev pub Enters : Place → ℤ → (Place → Option ℤ) → (Place → Opti
 Enters place value old new = (q : Place) → new q ≡ or_else (old q) (when (is_eq (place_cmp place q)) (Some value))
 
 -- an event of this tag and actor, with this input and value, was there; now all but this one is
-pub record Leaves (t : Tag) (actor port : ℕ) (value : ℤ) (old new : Place → Option ℤ) : Type 0 where
+pub record TakesOne (t : Tag) (actor port : ℕ) (value : ℤ) (old new : Place → Option ℤ) : Type 0 where
   pub place : Place
   pub tag : place.tag ≡ t
   pub actor_is : place.actor ≡ actor
@@ -26,14 +26,14 @@ pub record Leaves (t : Tag) (actor port : ℕ) (value : ℤ) (old new : Place �
   pub others : (q : Place) → new q ≡ cond (is_eq (place_cmp place q)) None (old q)
 
 -- a place is of this tag and actor
-abbrev pub is_of : Tag → ℕ → Place → Bool
-is_of t actor x = x.actor == actor && same_tag t x.tag
+abbrev pub is_place_of : Tag → ℕ → Place → Bool
+is_place_of t actor x = x.actor == actor && same_tag t x.tag
 
 -- an event is at the place, and none is before it
-pub record IsLeast (held : Place → Option ℤ) (place : Place) : Type 0 where
+pub record IsLeastPlace (held : Place → Option ℤ) (place : Place) : Type 0 where
   pub there : IsSome (held place)
   pub least : (q : Place) → IsSome (held q) → is_gt (place_cmp place q) ≡ false
 
 -- there is no event, or the first one isn't of this tag and actor
 abbrev pub NoneInFront : Tag → ℕ → (Place → Option ℤ) → Type 0
-NoneInFront t actor held = ((q : Place) → held q ≡ None) ⊎ ((first : Place) × IsLeast held first × (is_of t actor first ≡ false))
+NoneInFront t actor held = ((q : Place) → held q ≡ None) ⊎ ((first : Place) × IsLeastPlace held first × (is_place_of t actor first ≡ false))

@@ -8,5 +8,5 @@ use Rattle.pt_meaning.specs.Line.{in_line}
 use Rattle.pt_meaning.specs.Waiting.{place_cmp}
 
 -- the value that waits at a place, in the line or else in the map
-abbrev pub held : Pending → Place → Option ℤ
-held pending q = or_else (in_line place_cmp pending.line q) (tree.get place_cmp pending.later.events q)
+abbrev pub pending_value : Pending → Place → Option ℤ
+pending_value pending q = or_else (in_line place_cmp pending.line q) (tree.get place_cmp pending.later.events q)

@@ -5,7 +5,7 @@ use Rattle.std.specs.declared.cmp.Ordering.TheVariants.{Less, Greater}
 use Rattle.std.specs.Ordering.{is_eq}
 use Rattle.pt_tags.specs.declared.tag.Tag.{Tag}
 use Rattle.pt_semantics.specs.Lists.{Each}
-use Rattle.pt_meaning.specs.Front.{is_of}
+use Rattle.pt_meaning.specs.Front.{is_place_of}
 use Rattle.pt_meaning.specs.declared.place.Place.{Place}
 use Rattle.pt_meaning.specs.declared.line.Sent.{Sent}
 
@@ -17,12 +17,12 @@ in_line cmp (e ∷ events) q = cond (is_eq (cmp e.place q)) (Some e.value) (in_l
 -- the first event is of this tag and actor
 abbrev pub begins_with : Tag → ℕ → List Sent → Bool
 begins_with t actor [] = false
-begins_with t actor (e ∷ events) = is_of t actor e.place
+begins_with t actor (e ∷ events) = is_place_of t actor e.place
 
 -- each event is before those after it
-abbrev pub IsRising : (Place → Place → Ordering) → List Sent → Type 0
-IsRising cmp [] = Unit {0}
-IsRising cmp (e ∷ events) = Each (λ (f : Sent). cmp e.place f.place ≡ Less) events × IsRising cmp events
+abbrev pub IsSortedLine : (Place → Place → Ordering) → List Sent → Type 0
+IsSortedLine cmp [] = Unit {0}
+IsSortedLine cmp (e ∷ events) = Each (λ (f : Sent). cmp e.place f.place ≡ Less) events × IsSortedLine cmp events
 
 -- the events are before the place
 abbrev pub AreBefore : (Place → Place → Ordering) → Place → List Sent → Type 0

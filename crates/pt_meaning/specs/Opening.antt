@@ -11,8 +11,8 @@ use Rattle.pt_sensors.specs.declared.sensor_rows.SensorRows.{SensorRows}
 use Rattle.pt_sensors.specs.Listed.{rows_for}
 
 -- one event at input 0 of an actor, at step 0 of a time
-abbrev pub start_of : ℕ → ℕ → ℤ → Values
-start_of actor time value a p t = when (actor == a && p == 0 && same_tag (at_time time) t) (Some value)
+abbrev pub start_event : ℕ → ℕ → ℤ → Values
+start_event actor time value a p t = when (actor == a && p == 0 && same_tag (at_time time) t) (Some value)
 
 -- the starting event of an actor of this kind, if the kind has one
 abbrev pub start_one : Graph → ℕ → Kind → Values

@@ -17,12 +17,12 @@ use Rattle.pt_meaning.specs.Waiting.{rank_in}
 use Rattle.pt_meaning.specs.Emission.{IsUsable}
 
 -- the state of each actor, from a list of states
-abbrev pub states_in : List ℤ → ℕ → ℤ
-states_in states a = slice_index_or states a (pos 0)
+abbrev pub states_from : List ℤ → ℕ → ℤ
+states_from states a = slice_index_or states a (pos 0)
 
 -- the world represented by the events that wait and a list of states
 abbrev pub world_in : List ℕ → Waiting → List ℤ → World
-world_in ranks waiting states = record { waits = all_waits (rank_in ranks) waiting; states = states_in states }
+world_in ranks waiting states = record { waits = all_waits (rank_in ranks) waiting; states = states_from states }
 
 -- a graph with fewer than 2^32 actors, lawful kinds, and edges that lead to its actors' ports
 pub record IsRunnable (g : Graph) : Type 0 where
@@ -35,8 +35,8 @@ unfoldable pub state_at_start : Actor → ℤ
 state_at_start a = first_state a.kind
 
 -- the firing of an actor at a tag, in these states and with these inputs
-abbrev pub firing_of : Graph → (ℕ → ℤ) → ℕ → Tag → List (Option ℤ) → ActorFiring
-firing_of g states a t inputs = record {
+abbrev pub actor_firing : Graph → (ℕ → ℤ) → ℕ → Tag → List (Option ℤ) → ActorFiring
+actor_firing g states a t inputs = record {
   actor = a;
   tag = t;
   inputs = inputs;

@@ -25,15 +25,15 @@ abbrev pub value_at : Place → ℤ → Values
 value_at place value a p t = when (place.actor == a && place.port == p && same_tag place.tag t) (Some value)
 
 -- a place has its actor's rank, one of that many actors, one of eight ports, and a step of at most `steps`
-pub record IsPlaced (rank : ℕ → ℕ) (actors steps : ℕ) (x : Place) : Type 0 where
+pub record IsPlaceIn (rank : ℕ → ℕ) (actors steps : ℕ) (x : Place) : Type 0 where
   pub rank_is : x.rank ≡ rank x.actor
   pub actor : x.actor < actors
   pub port : x.port < 8
   pub step : x.tag.step ≤ steps
 
 -- each event is at such a place
-abbrev pub IsSound : (ℕ → ℕ) → ℕ → ℕ → (Place → Option ℤ) → Type 0
-IsSound rank actors steps held = (x : Place) → IsSome (held x) → IsPlaced rank actors steps x
+abbrev pub EventsArePlaced : (ℕ → ℕ) → ℕ → ℕ → (Place → Option ℤ) → Type 0
+EventsArePlaced rank actors steps held = (x : Place) → IsSome (held x) → IsPlaceIn rank actors steps x
 
 -- the rank of each actor, from a list of ranks
 abbrev pub rank_in : List ℕ → ℕ → ℕ

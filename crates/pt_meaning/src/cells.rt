@@ -1,7 +1,7 @@
 //! The cells of a firing: eight inputs, eight outputs, and the states before and after it, in this order.
 
 ghost use Rattle.std.specs.Prelude.{◌≡◌, ◌≤◌, ◌+◌, ◌-◌, ◌++◌, ◌∷◌, [], OnOk, length, take, drop, Some, slice_set};
-ghost use Rattle.pt_meaning.specs.Flat.{cells_of, filled, firing_from, no_cells, nonzero, places_from, values_in};
+ghost use Rattle.pt_meaning.specs.Flat.{cells_of_firing, with_cells, firing_from, empty_cells, state_cell, cell_numbers_from, cell_values};
 
 use pt_tags::{Memory, Tag};
 use pt_types::{ActorFiring, Ports};
@@ -12,8 +12,8 @@ pub(crate) fn push_firing(
     values: &mut Vec<i64>,
     firing: &ActorFiring,
 ) -> Result<(), Memory>
-    ensures places { OnOk result (places.new.items ≡ places.old.items ++ places_from 0 (cells_of firing.now)) }
-    ensures values { OnOk result (values.new.items ≡ values.old.items ++ values_in (cells_of firing.now)) }
+    ensures places { OnOk result (places.new.items ≡ places.old.items ++ cell_numbers_from 0 (cells_of_firing firing.now)) }
+    ensures values { OnOk result (values.new.items ≡ values.old.items ++ cell_values (cells_of_firing firing.now)) }
     ensures ports { (length firing.now.inputs ≡ 8) × (length firing.now.outputs ≡ 8) }
 {
     let inputs = firing.inputs.values();
@@ -26,7 +26,7 @@ pub(crate) fn push_firing(
 
 /// A state, or `None` for 0.
 fn nonzero(state: i64) -> Option<i64>
-    ensures { result ≡ nonzero state }
+    ensures { result ≡ state_cell state }
 {
     if state == 0 { None } else { Some(state) }
 }
@@ -39,8 +39,8 @@ fn push_cells(
     cells: &[Option<i64>],
 ) -> Result<(), Memory>
     requires { from + length cells.now ≤ 24 }
-    ensures places { OnOk result (places.new.items ≡ places.old.items ++ places_from from cells.now) }
-    ensures values { OnOk result (values.new.items ≡ values.old.items ++ values_in cells.now) }
+    ensures places { OnOk result (places.new.items ≡ places.old.items ++ cell_numbers_from from cells.now) }
+    ensures values { OnOk result (values.new.items ≡ values.old.items ++ cell_values cells.now) }
 {
     for (number, cell) in cells.iter().enumerate() {
         push_cell(places, values, from + number as u8, *cell)?;
@@ -55,8 +55,8 @@ fn push_cell(
     place: u8,
     cell: Option<i64>,
 ) -> Result<(), Memory>
-    ensures places { OnOk result (places.new.items ≡ places.old.items ++ places_from place (cell ∷ [])) }
-    ensures values { OnOk result (values.new.items ≡ values.old.items ++ values_in (cell ∷ [])) }
+    ensures places { OnOk result (places.new.items ≡ places.old.items ++ cell_numbers_from place (cell ∷ [])) }
+    ensures values { OnOk result (values.new.items ≡ values.old.items ++ cell_values (cell ∷ [])) }
 {
     let Some(value) = cell else {
         return Ok(());
@@ -76,7 +76,7 @@ pub(crate) fn cells_between(
 ) -> [Option<i64>; 18]
     requires places { end ≤ length places.now }
     requires values { end ≤ length values.now }
-    ensures { result ≡ filled no_cells (take (end - start) (drop start places.now)) (take (end - start) (drop start values.now)) }
+    ensures { result ≡ with_cells empty_cells (take (end - start) (drop start places.now)) (take (end - start) (drop start values.now)) }
 {
     let mut cells = [None; 18];
     for number in start..end {

@@ -6,7 +6,7 @@ ghost use Rattle.pt_types.specs.Ports.{eight, only};
 ghost use Rattle.pt_semantics.specs.Lists.{or_else};
 ghost use Rattle.pt_meaning.specs.declared.early.Early.{Early};
 ghost use Rattle.pt_semantics.specs.Meaning.{IsFirst, waiting, without};
-ghost use Rattle.pt_meaning.specs.Early.{moment_of, moment_cmp, early_waits, is_at, left, place_of_early, AreEarly, Heads, IsOrderly, NotAtHead};
+ghost use Rattle.pt_meaning.specs.Early.{event_moment, event_moment_cmp, early_waits, is_event_at, left, place_of_early, AreEarly, Heads, IsFiringOrder, NotAtHead};
 
 use crate::place::Place;
 use pt_tags::{Memory, Tag};
@@ -35,8 +35,8 @@ pub struct EarlyList {
 
 /// Sorts events into the order in which they fire; those of one moment keep their order.
 fn sort(events: &mut Vec<Early>) -> Result<(), Memory>
-    ensures sorted { OnOk result (IsSortedByKey moment_of moment_cmp events.new.items) }
-    ensures stable { OnOk result (IsStableByKey moment_of moment_cmp events.old.items events.new.items) }
+    ensures sorted { OnOk result (IsSortedByKey event_moment event_moment_cmp events.new.items) }
+    ensures stable { OnOk result (IsStableByKey event_moment event_moment_cmp events.old.items events.new.items) }
     ensures permutation { IsPermutation events.old.items events.new.items }
 {
     events.sort_by_key(|event| event.moment)?;
@@ -47,7 +47,7 @@ impl EarlyList {
     /// Sorts these events. If several are of one moment, the first counts.
     pub fn new(events: Vec<Early>) -> Result<EarlyList, Memory>
         ensures waits { IfOk result (λ list. (rank : ℕ → ℕ) (actors : ℕ) → AreEarly rank actors events.items → early_waits (left list) ≡ early_waits events.items) }
-        ensures orderly { IfOk result (λ list. (rank : ℕ → ℕ) (actors : ℕ) → AreEarly rank actors events.items → IsOrderly rank actors (left list)) }
+        ensures orderly { IfOk result (λ list. (rank : ℕ → ℕ) (actors : ℕ) → AreEarly rank actors events.items → IsFiringOrder rank actors (left list)) }
     {
         let mut events = events;
         sort(&mut events)?;
@@ -96,9 +96,9 @@ impl EarlyList {
 
     /// Takes an actor's events of a tag, which must be the first, and returns the value at its input 0.
     pub fn take(&mut self, tag: Tag, actor: u32) -> Option<i64>
-        ensures inputs { (rank : ℕ → ℕ) (actors : ℕ) → IsOrderly rank actors (left self.old) → IsFirst rank (early_waits (left self.old)) actor tag → eight (only 0 result) ≡ waiting (early_waits (left self.old)) actor tag }
-        ensures waits { (rank : ℕ → ℕ) (actors : ℕ) → IsOrderly rank actors (left self.old) → IsFirst rank (early_waits (left self.old)) actor tag → early_waits (left self.new) ≡ without (early_waits (left self.old)) actor tag }
-        ensures orderly { (rank : ℕ → ℕ) (actors : ℕ) → IsOrderly rank actors (left self.old) → IsOrderly rank actors (left self.new) }
+        ensures inputs { (rank : ℕ → ℕ) (actors : ℕ) → IsFiringOrder rank actors (left self.old) → IsFirst rank (early_waits (left self.old)) actor tag → eight (only 0 result) ≡ waiting (early_waits (left self.old)) actor tag }
+        ensures waits { (rank : ℕ → ℕ) (actors : ℕ) → IsFiringOrder rank actors (left self.old) → IsFirst rank (early_waits (left self.old)) actor tag → early_waits (left self.new) ≡ without (early_waits (left self.old)) actor tag }
+        ensures orderly { (rank : ℕ → ℕ) (actors : ℕ) → IsFiringOrder rank actors (left self.old) → IsFiringOrder rank actors (left self.new) }
     {
         let mut first = None;
         while let Some(value) = self.take_first(tag, actor) {
@@ -120,7 +120,7 @@ fn kept(first: Option<i64>, value: i64) -> Option<i64>
 
 /// Whether an event is of this tag and actor.
 fn is_at(tag: Tag, actor: u32, event: &Early) -> bool
-    ensures { result ≡ is_at tag actor event.now }
+    ensures { result ≡ is_event_at tag actor event.now }
 {
     event.moment.actor == actor && event.moment.time == tag.time && tag.step == 0
 }

@@ -5,8 +5,8 @@ ghost use Rattle.pt_tags.specs.Tags.{plus};
 ghost use Rattle.pt_types.specs.declared.graph.Graph.{Graph};
 ghost use Rattle.pt_semantics.specs.Lists.{Each};
 ghost use Rattle.pt_semantics.specs.Meaning.{added, going, leaves_actor};
-ghost use Rattle.pt_meaning.specs.Waiting.{waits_in, rank_in, IsSound};
-ghost use Rattle.pt_meaning.specs.Held.{held};
+ghost use Rattle.pt_meaning.specs.Waiting.{waits_in, rank_in, EventsArePlaced};
+ghost use Rattle.pt_meaning.specs.Held.{pending_value};
 ghost use Rattle.pt_meaning.specs.Emission.{IsUsable, AddsOneStep};
 
 use crate::pending::Pending;
@@ -46,10 +46,10 @@ fn emit_along(
     outputs: &Ports,
 ) -> Result<(), Memory>
     requires step { tag.step + edge.weight.step < 2 ^ 64 }
-    ensures waits { OnOk result ((g : Graph) → g.until ≡ until → waits_in (rank_in ranks.now) (held pending.new)
-        ≡ added (waits_in (rank_in ranks.now) (held pending.old)) (going g (edge ∷ []) (leaves_actor actor) tag outputs.now)) }
+    ensures waits { OnOk result ((g : Graph) → g.until ≡ until → waits_in (rank_in ranks.now) (pending_value pending.new)
+        ≡ added (waits_in (rank_in ranks.now) (pending_value pending.old)) (going g (edge ∷ []) (leaves_actor actor) tag outputs.now)) }
     ensures sound { OnOk result ((actors steps : ℕ) → IsUsable actors edge → tag.step + 1 ≤ steps
-        → IsSound (rank_in ranks.now) actors steps (held pending.old) → IsSound (rank_in ranks.now) actors steps (held pending.new)) }
+        → EventsArePlaced (rank_in ranks.now) actors steps (pending_value pending.old) → EventsArePlaced (rank_in ranks.now) actors steps (pending_value pending.new)) }
 {
     if edge.from != actor {
         return Ok(());
@@ -81,10 +81,10 @@ pub fn emit(
 ) -> Result<(), Memory>
     requires step { tag.step + 1 < 2 ^ 64 }
     requires edges { Each AddsOneStep edges.now }
-    ensures waits { OnOk result ((g : Graph) → g.until ≡ until → waits_in (rank_in ranks.now) (held pending.new)
-        ≡ added (waits_in (rank_in ranks.now) (held pending.old)) (going g edges.now (leaves_actor actor) tag outputs.now)) }
+    ensures waits { OnOk result ((g : Graph) → g.until ≡ until → waits_in (rank_in ranks.now) (pending_value pending.new)
+        ≡ added (waits_in (rank_in ranks.now) (pending_value pending.old)) (going g edges.now (leaves_actor actor) tag outputs.now)) }
     ensures sound { OnOk result ((actors steps : ℕ) → Each (IsUsable actors) edges.now → tag.step + 1 ≤ steps
-        → IsSound (rank_in ranks.now) actors steps (held pending.old) → IsSound (rank_in ranks.now) actors steps (held pending.new)) }
+        → EventsArePlaced (rank_in ranks.now) actors steps (pending_value pending.old) → EventsArePlaced (rank_in ranks.now) actors steps (pending_value pending.new)) }
 {
     for edge in edges {
         emit_along(pending, ranks, until, actor, *edge, tag, outputs)?;

@@ -10,7 +10,7 @@ ghost use Rattle.pt_semantics.specs.Firing.{any_present, fired};
 ghost use Rattle.pt_meaning.specs.Waiting.{rank_in};
 ghost use Rattle.pt_meaning.specs.Both.{all_waits, AreSound};
 ghost use Rattle.pt_sensors.specs.Listed.{rows_for, IsOfActors};
-ghost use Rattle.pt_meaning.specs.Running.{world_in, states_in, state_at_start, firing_of, IsRunnable};
+ghost use Rattle.pt_meaning.specs.Running.{world_in, states_from, state_at_start, actor_firing, IsRunnable};
 
 use crate::emission::emit;
 use crate::opening::opening;
@@ -91,7 +91,7 @@ fn fire(graph: &Graph, states: &[i64], firing: &mut ActorFiring)
     requires runnable { IsRunnable graph.now }
     requires actor { firing.old.actor < length graph.now.actors }
     requires states { length states.now ≡ length graph.now.actors }
-    ensures { firing.new ≡ firing_of graph.now (states_in states.now) firing.old.actor firing.old.tag firing.old.inputs }
+    ensures { firing.new ≡ actor_firing graph.now (states_from states.now) firing.old.actor firing.old.tag firing.old.inputs }
 {
     let before = states[firing.actor as usize];
     let kind = &graph.actors.as_slice()[firing.actor as usize].kind;
@@ -104,7 +104,7 @@ fn fire(graph: &Graph, states: &[i64], firing: &mut ActorFiring)
 /// Sets the state of an actor.
 fn set_state(states: &mut Vec<i64>, actor: u32, value: i64)
     requires { actor < length states.old.items }
-    ensures after { states_in states.new.items ≡ put_state (states_in states.old.items) actor value }
+    ensures after { states_from states.new.items ≡ put_state (states_from states.old.items) actor value }
     ensures len { length states.new.items ≡ length states.old.items }
 {
     states[actor as usize] = value;

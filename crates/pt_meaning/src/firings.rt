@@ -1,7 +1,7 @@
 //! A compact list of firings.
 
 ghost use Rattle.std.specs.Prelude.{◌≡◌, ◌++◌, ◌∷◌, [], IfOk, length, option_map, slice_get};
-ghost use Rattle.pt_meaning.specs.Marks.{start_at};
+ghost use Rattle.pt_meaning.specs.Marks.{values_start_at};
 
 use crate::cells::{cells_between, firing_from, push_firing};
 use crate::moments::{moment_of, number, tag_at};
@@ -30,13 +30,13 @@ pub struct Firings {
 impl Model for Firings {
     ghost use Rattle.std.specs.Prelude.{List};
     ghost use Rattle.pt_types.specs.declared.firing.ActorFiring.{ActorFiring};
-    ghost use Rattle.pt_meaning.specs.Marks.{firings_from, IsWhole};
+    ghost use Rattle.pt_meaning.specs.Marks.{firings_from, MarksFit};
 
     ghost Value = { List ActorFiring };
 
     ghost view = { λ f. firings_from f.tags.items f.places.items f.values.items 0 f.marks.items };
 
-    ghost invariant = { λ f. IsWhole f.tags.items f.places.items f.values.items f.marks.items };
+    ghost invariant = { λ f. MarksFit f.tags.items f.places.items f.values.items f.marks.items };
 }
 
 impl Firings {
@@ -119,7 +119,7 @@ impl Firings {
 
 /// The index at which the values of a firing begin.
 fn start_at(marks: &[Mark], number: usize) -> u32
-    ensures { result ≡ start_at 0 marks.now number }
+    ensures { result ≡ values_start_at 0 marks.now number }
 {
     if number == 0 {
         return 0;

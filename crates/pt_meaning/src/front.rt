@@ -5,8 +5,8 @@ ghost use Rattle.pt_types.specs.Ports.{at_port, eight};
 ghost use Rattle.pt_semantics.specs.Lists.{or_else};
 ghost use Rattle.pt_semantics.specs.Meaning.{IsFirst, without};
 ghost use Rattle.pt_meaning.specs.declared.place.Place.{Place};
-ghost use Rattle.pt_meaning.specs.Waiting.{waits_in, IsSound};
-ghost use Rattle.pt_meaning.specs.Front.{Leaves, NoneInFront};
+ghost use Rattle.pt_meaning.specs.Waiting.{waits_in, EventsArePlaced};
+ghost use Rattle.pt_meaning.specs.Front.{TakesOne, NoneInFront};
 
 use pt_tags::Tag;
 use pt_types::Ports;
@@ -21,7 +21,7 @@ pub trait Front {
 
     /// Takes the first event if it is of this tag and actor, and returns its input and value.
     fn take_first(&mut self, tag: Tag, actor: u32) -> Option<(u32, i64)>
-        ensures some { IfSome result (λ taken. Leaves tag actor taken.0 taken.1 (held self.old) (held self.new)) }
+        ensures some { IfSome result (λ taken. TakesOne tag actor taken.0 taken.1 (held self.old) (held self.new)) }
         ensures fewer { IfSome result (λ _. count self.new < count self.old) }
         ensures none { IfNone result (NoneInFront tag actor (held self.old) × (held self.new ≡ held self.old)) };
 }
@@ -29,9 +29,9 @@ pub trait Front {
 /// Takes an actor's events of a tag, which must be the first, and writes their values at its inputs.
 pub fn take_all<F: Front>(front: &mut F, tag: Tag, actor: u32, inputs: &mut Ports)
     requires { length inputs.old ≡ 8 }
-    ensures inputs { (rank : ℕ → ℕ) (actors steps : ℕ) → IsSound rank actors steps (F.held front.old) → IsFirst rank (waits_in rank (F.held front.old)) actor tag → inputs.new ≡ eight (λ p. or_else (waits_in rank (F.held front.old) actor p tag) (at_port inputs.old p)) }
-    ensures waits { (rank : ℕ → ℕ) (actors steps : ℕ) → IsSound rank actors steps (F.held front.old) → IsFirst rank (waits_in rank (F.held front.old)) actor tag → waits_in rank (F.held front.new) ≡ without (waits_in rank (F.held front.old)) actor tag }
-    ensures sound { (rank : ℕ → ℕ) (actors steps : ℕ) → IsSound rank actors steps (F.held front.old) → IsSound rank actors steps (F.held front.new) }
+    ensures inputs { (rank : ℕ → ℕ) (actors steps : ℕ) → EventsArePlaced rank actors steps (F.held front.old) → IsFirst rank (waits_in rank (F.held front.old)) actor tag → inputs.new ≡ eight (λ p. or_else (waits_in rank (F.held front.old) actor p tag) (at_port inputs.old p)) }
+    ensures waits { (rank : ℕ → ℕ) (actors steps : ℕ) → EventsArePlaced rank actors steps (F.held front.old) → IsFirst rank (waits_in rank (F.held front.old)) actor tag → waits_in rank (F.held front.new) ≡ without (waits_in rank (F.held front.old)) actor tag }
+    ensures sound { (rank : ℕ → ℕ) (actors steps : ℕ) → EventsArePlaced rank actors steps (F.held front.old) → EventsArePlaced rank actors steps (F.held front.new) }
     ensures len { length inputs.new ≡ 8 }
 {
     while let Some((port, value)) = front.take_first(tag, actor) {

@@ -2,7 +2,7 @@
 
 ghost use Rattle.std.specs.Prelude.{◌≡◌, ◌++◌, ◌∷◌, [], List, IfOk, IsTrue, IsSome, MatchOption};
 ghost use Rattle.pt_meaning.specs.declared.line.Sent.{Sent};
-ghost use Rattle.pt_meaning.specs.Line.{begins_with, in_line, AreAfter, AreBefore, IsRising};
+ghost use Rattle.pt_meaning.specs.Line.{begins_with, in_line, AreAfter, AreBefore, IsSortedLine};
 ghost use Rattle.pt_meaning.specs.Waiting.{place_cmp};
 
 use crate::line::Sent;
@@ -38,7 +38,7 @@ pub(crate) fn begins_with(events: &VecDeque<Sent>, tag: Tag, actor: u32) -> bool
 /// Whether all of these events, which are in order, are before a place.
 #[inline(always)]
 pub(crate) fn ends_before(events: &VecDeque<Sent>, place: Place) -> bool
-    ensures { IsTrue result → IsRising place_cmp events.now.items → AreBefore place_cmp place events.now.items }
+    ensures { IsTrue result → IsSortedLine place_cmp events.now.items → AreBefore place_cmp place events.now.items }
 {
     match events.back() {
         Some(last) => last.place < place,
@@ -48,7 +48,7 @@ pub(crate) fn ends_before(events: &VecDeque<Sent>, place: Place) -> bool
 
 /// Whether all of these events, which are in order, are after a place.
 pub(crate) fn begins_after(events: &VecDeque<Sent>, place: Place) -> bool
-    ensures { IsTrue result → IsRising place_cmp events.now.items → AreAfter place_cmp place events.now.items }
+    ensures { IsTrue result → IsSortedLine place_cmp events.now.items → AreAfter place_cmp place events.now.items }
 {
     match events.front() {
         Some(first) => place < first.place,
@@ -69,7 +69,7 @@ pub(crate) fn ends_at(events: &VecDeque<Sent>, place: Place) -> bool
 /// Whether a place is between the events of two parts of a line.
 #[inline(always)]
 fn fits(before: &VecDeque<Sent>, after: &VecDeque<Sent>, place: Place) -> bool
-    ensures { IsTrue result → IsRising place_cmp (before.now.items ++ after.now.items) → AreBefore place_cmp place before.now.items × AreAfter place_cmp place after.now.items }
+    ensures { IsTrue result → IsSortedLine place_cmp (before.now.items ++ after.now.items) → AreBefore place_cmp place before.now.items × AreAfter place_cmp place after.now.items }
 {
     ends_before(before, place) && begins_after(after, place)
 }
@@ -82,7 +82,7 @@ pub(crate) fn reach(
     place: Place,
 ) -> Result<bool, Memory>
     ensures same { before.new.items ++ after.new.items ≡ before.old.items ++ after.old.items }
-    ensures there { IfOk result (λ there. IsTrue there → IsRising place_cmp (before.new.items ++ after.new.items) → AreBefore place_cmp place before.new.items × AreAfter place_cmp place after.new.items) }
+    ensures there { IfOk result (λ there. IsTrue there → IsSortedLine place_cmp (before.new.items ++ after.new.items) → AreBefore place_cmp place before.new.items × AreAfter place_cmp place after.new.items) }
 {
     if fits(before, after, place) {
         return Ok(true);

@@ -3,7 +3,7 @@
 ghost use Rattle.std.specs.Prelude.{◌≡◌, ℕ, MatchOption, OnOk, IsTrue, None};
 ghost use Rattle.std.specs.BTreeMap as tree;
 ghost use Rattle.pt_meaning.specs.declared.place.Place.{Place};
-ghost use Rattle.pt_meaning.specs.Front.{Enters, IsLeast, Replaces};
+ghost use Rattle.pt_meaning.specs.Front.{Enters, IsLeastPlace, Replaces};
 ghost use Rattle.pt_meaning.specs.Waiting.{place_cmp};
 
 use crate::front::Front;
@@ -30,7 +30,7 @@ impl Later {
 
     /// The place of the first event.
     pub fn first(&self) -> Option<Place>
-        ensures { MatchOption result ((q : Place) → tree.get place_cmp self.now.events q ≡ None) (λ place. IsLeast (tree.get place_cmp self.now.events) place) }
+        ensures { MatchOption result ((q : Place) → tree.get place_cmp self.now.events q ≡ None) (λ place. IsLeastPlace (tree.get place_cmp self.now.events) place) }
     {
         match self.events.first_key_value() {
             Some((place, _)) => Some(*place),

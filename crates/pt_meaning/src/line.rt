@@ -3,8 +3,8 @@
 ghost use Rattle.std.specs.Prelude.{◌≡◌, ◌++◌, ◌∷◌, [], List, IfOk, IsTrue, MatchBool, MatchOption, None, length};
 ghost use Rattle.pt_meaning.specs.declared.place.Place.{Place};
 ghost use Rattle.pt_meaning.specs.declared.line.Sent.{Sent};
-ghost use Rattle.pt_meaning.specs.Front.{Enters, IsLeast};
-ghost use Rattle.pt_meaning.specs.Line.{begins_with, in_line, AreBefore, IsRising};
+ghost use Rattle.pt_meaning.specs.Front.{Enters, IsLeastPlace};
+ghost use Rattle.pt_meaning.specs.Line.{begins_with, in_line, AreBefore, IsSortedLine};
 ghost use Rattle.pt_meaning.specs.Waiting.{place_cmp};
 
 use crate::front::Front;
@@ -35,14 +35,14 @@ pub struct Line {
 impl Model for Line {
     ghost use Rattle.std.specs.Prelude.{List, ◌++◌};
     ghost use Rattle.pt_meaning.specs.declared.line.Sent.{Sent};
-    ghost use Rattle.pt_meaning.specs.Line.{IsRising};
+    ghost use Rattle.pt_meaning.specs.Line.{IsSortedLine};
     ghost use Rattle.pt_meaning.specs.Waiting.{place_cmp};
 
     ghost Value = { List Sent };
 
     ghost view = { λ line. line.before.items ++ line.after.items };
 
-    ghost invariant = { λ line. IsRising place_cmp (line.before.items ++ line.after.items) };
+    ghost invariant = { λ line. IsSortedLine place_cmp (line.before.items ++ line.after.items) };
 }
 
 impl Line {
@@ -59,7 +59,7 @@ impl Line {
     /// The place of the first event.
     #[inline(always)]
     pub fn first(&self) -> Option<Place>
-        ensures { MatchOption result ((q : Place) → in_line place_cmp self.now q ≡ None) (λ place. IsLeast (in_line place_cmp self.now) place) }
+        ensures { MatchOption result ((q : Place) → in_line place_cmp self.now q ≡ None) (λ place. IsLeastPlace (in_line place_cmp self.now) place) }
     {
         self.head()
     }
@@ -68,7 +68,7 @@ impl Line {
     #[inline(always)]
     fn head(&self) -> Option<Place>
         ensures first { MatchOption result (self.now ≡ []) (λ place. (sent : Sent) × (rest : List Sent) × (self.now ≡ sent ∷ rest) × (place ≡ sent.place)) }
-        ensures rising { IsRising place_cmp self.now }
+        ensures rising { IsSortedLine place_cmp self.now }
     {
         if self.before.is_empty() {
             place_at_front(&self.after)
@@ -103,7 +103,7 @@ impl Line {
     #[inline(always)]
     fn is_first_of(&self, tag: Tag, actor: u32) -> bool
         ensures is { result ≡ begins_with tag actor self.now }
-        ensures rising { IsRising place_cmp self.now }
+        ensures rising { IsSortedLine place_cmp self.now }
     {
         if self.before.is_empty() {
             begins_with(&self.after, tag, actor)

@@ -5,8 +5,8 @@ ghost use Rattle.pt_types.specs.declared.graph.Graph.{Graph};
 ghost use Rattle.pt_semantics.specs.Lists.{Each};
 ghost use Rattle.pt_semantics.specs.Meaning.{added, opening, rows_until};
 ghost use Rattle.pt_meaning.specs.Waiting.{rank_in};
-ghost use Rattle.pt_meaning.specs.Early.{early_waits, left, AreEarly, IsOrderly};
-ghost use Rattle.pt_meaning.specs.Opening.{start_of, start_one, starts_below, rows_of_actor, rows_from_sensors};
+ghost use Rattle.pt_meaning.specs.Early.{early_waits, left, AreEarly, IsFiringOrder};
+ghost use Rattle.pt_meaning.specs.Opening.{start_event, start_one, starts_below, rows_of_actor, rows_from_sensors};
 ghost use Rattle.pt_sensors.specs.Listed.{rows_for, IsOfActors};
 
 use crate::early::{Early, EarlyList, Moment};
@@ -24,7 +24,7 @@ fn begin(
     time: u64,
     value: i64,
 ) -> Result<(), Memory>
-    ensures waits { OnOk result (early_waits events.new.items ≡ added (early_waits events.old.items) (start_of actor time value)) }
+    ensures waits { OnOk result (early_waits events.new.items ≡ added (early_waits events.old.items) (start_event actor time value)) }
     ensures sound { OnOk result ((actors : ℕ) → actor < actors → AreEarly (rank_in ranks.now) actors events.old.items → AreEarly (rank_in ranks.now) actors events.new.items) }
 {
     let moment = Moment {
@@ -133,7 +133,7 @@ pub fn opening(
     requires actors { length graph.now.actors < 2 ^ 32 }
     requires sensors { Each (IsOfActors (length graph.now.actors)) sensors.now }
     ensures waits { IfOk result (λ list. early_waits (left list) ≡ opening graph.now (λ a. rows_until graph.now.until (rows_for sensors.now a))) }
-    ensures sound { IfOk result (λ list. IsOrderly (rank_in ranks.now) (length graph.now.actors) (left list)) }
+    ensures sound { IfOk result (λ list. IsFiringOrder (rank_in ranks.now) (length graph.now.actors) (left list)) }
 {
     let mut events = Vec::new(alloc);
     starts(&mut events, ranks, graph)?;

@@ -5,9 +5,9 @@ ghost use Rattle.pt_tags.specs.declared.tag.Tag.{Tag};
 ghost use Rattle.pt_types.specs.Ports.{eight, nothing};
 ghost use Rattle.pt_semantics.specs.Meaning.{IsFirst, added, waiting, without};
 ghost use Rattle.pt_semantics.specs.Firing.{any_present};
-ghost use Rattle.pt_meaning.specs.Waiting.{waits_in, value_at, IsPlaced, IsSound};
+ghost use Rattle.pt_meaning.specs.Waiting.{waits_in, value_at, IsPlaceIn, EventsArePlaced};
 ghost use Rattle.pt_meaning.specs.Front.{Enters};
-ghost use Rattle.pt_meaning.specs.Held.{held};
+ghost use Rattle.pt_meaning.specs.Held.{pending_value};
 
 use crate::front::take_all;
 use crate::later::Later;
@@ -28,8 +28,8 @@ pub struct Pending {
 impl Pending {
     /// No events.
     pub fn new(alloc: Global) -> Pending
-        ensures empty { (rank : ℕ → ℕ) → waits_in rank (held result) ≡ (λ a p t. None) }
-        ensures sound { (rank : ℕ → ℕ) (actors steps : ℕ) → IsSound rank actors steps (held result) }
+        ensures empty { (rank : ℕ → ℕ) → waits_in rank (pending_value result) ≡ (λ a p t. None) }
+        ensures sound { (rank : ℕ → ℕ) (actors steps : ℕ) → EventsArePlaced rank actors steps (pending_value result) }
     {
         Pending {
             line: Line::new(alloc),
@@ -40,10 +40,10 @@ impl Pending {
     /// The place of the first event.
     #[inline(always)]
     pub fn first(&self) -> Option<Place>
-        ensures first { IfSome result (λ next. (rank : ℕ → ℕ) (actors steps : ℕ) → IsSound rank actors steps (held self.now) → IsFirst rank (waits_in rank (held self.now)) next.actor next.tag) }
-        ensures present { IfSome result (λ next. (rank : ℕ → ℕ) (actors steps : ℕ) → IsSound rank actors steps (held self.now) → any_present (waiting (waits_in rank (held self.now)) next.actor next.tag) ≡ true) }
-        ensures within { IfSome result (λ next. (rank : ℕ → ℕ) (actors steps : ℕ) → IsSound rank actors steps (held self.now) → IsPlaced rank actors steps next) }
-        ensures empty { IfNone result ((rank : ℕ → ℕ) (a p : ℕ) (t : Tag) → waits_in rank (held self.now) a p t ≡ None) }
+        ensures first { IfSome result (λ next. (rank : ℕ → ℕ) (actors steps : ℕ) → EventsArePlaced rank actors steps (pending_value self.now) → IsFirst rank (waits_in rank (pending_value self.now)) next.actor next.tag) }
+        ensures present { IfSome result (λ next. (rank : ℕ → ℕ) (actors steps : ℕ) → EventsArePlaced rank actors steps (pending_value self.now) → any_present (waiting (waits_in rank (pending_value self.now)) next.actor next.tag) ≡ true) }
+        ensures within { IfSome result (λ next. (rank : ℕ → ℕ) (actors steps : ℕ) → EventsArePlaced rank actors steps (pending_value self.now) → IsPlaceIn rank actors steps next) }
+        ensures empty { IfNone result ((rank : ℕ → ℕ) (a p : ℕ) (t : Tag) → waits_in rank (pending_value self.now) a p t ≡ None) }
     {
         let Some(near) = self.line.first() else {
             return self.later.first();
@@ -56,15 +56,15 @@ impl Pending {
 
     /// Adds an event, unless one waits at its place.
     pub fn add(&mut self, place: Place, value: i64) -> Result<(), Memory>
-        ensures waits { OnOk result ((rank : ℕ → ℕ) → place.rank ≡ rank place.actor → waits_in rank (held self.new) ≡ added (waits_in rank (held self.old)) (value_at place value)) }
-        ensures sound { OnOk result ((rank : ℕ → ℕ) (actors steps : ℕ) → IsPlaced rank actors steps place → IsSound rank actors steps (held self.old) → IsSound rank actors steps (held self.new)) }
+        ensures waits { OnOk result ((rank : ℕ → ℕ) → place.rank ≡ rank place.actor → waits_in rank (pending_value self.new) ≡ added (waits_in rank (pending_value self.old)) (value_at place value)) }
+        ensures sound { OnOk result ((rank : ℕ → ℕ) (actors steps : ℕ) → IsPlaceIn rank actors steps place → EventsArePlaced rank actors steps (pending_value self.old) → EventsArePlaced rank actors steps (pending_value self.new)) }
     {
         self.enter(place, value)
     }
 
     /// Puts an event where it belongs, unless one waits at its place.
     fn enter(&mut self, place: Place, value: i64) -> Result<(), Memory>
-        ensures { OnOk result (Enters place value (held self.old) (held self.new)) }
+        ensures { OnOk result (Enters place value (pending_value self.old) (pending_value self.new)) }
     {
         if self.later.is_after(place) && self.line.enter(place, value)? {
             return Ok(());
@@ -75,9 +75,9 @@ impl Pending {
     /// Takes an actor's events of a tag, which must be the first, and writes their values at its inputs, which had none.
     pub fn take(&mut self, tag: Tag, actor: u32, inputs: &mut Ports)
         requires { inputs.old ≡ eight nothing }
-        ensures inputs { (rank : ℕ → ℕ) (actors steps : ℕ) → IsSound rank actors steps (held self.old) → IsFirst rank (waits_in rank (held self.old)) actor tag → inputs.new ≡ waiting (waits_in rank (held self.old)) actor tag }
-        ensures waits { (rank : ℕ → ℕ) (actors steps : ℕ) → IsSound rank actors steps (held self.old) → IsFirst rank (waits_in rank (held self.old)) actor tag → waits_in rank (held self.new) ≡ without (waits_in rank (held self.old)) actor tag }
-        ensures sound { (rank : ℕ → ℕ) (actors steps : ℕ) → IsSound rank actors steps (held self.old) → IsSound rank actors steps (held self.new) }
+        ensures inputs { (rank : ℕ → ℕ) (actors steps : ℕ) → EventsArePlaced rank actors steps (pending_value self.old) → IsFirst rank (waits_in rank (pending_value self.old)) actor tag → inputs.new ≡ waiting (waits_in rank (pending_value self.old)) actor tag }
+        ensures waits { (rank : ℕ → ℕ) (actors steps : ℕ) → EventsArePlaced rank actors steps (pending_value self.old) → IsFirst rank (waits_in rank (pending_value self.old)) actor tag → waits_in rank (pending_value self.new) ≡ without (waits_in rank (pending_value self.old)) actor tag }
+        ensures sound { (rank : ℕ → ℕ) (actors steps : ℕ) → EventsArePlaced rank actors steps (pending_value self.old) → EventsArePlaced rank actors steps (pending_value self.new) }
     {
         take_all(&mut self.later, tag, actor, inputs);
         take_all(&mut self.line, tag, actor, inputs);

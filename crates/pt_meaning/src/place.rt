@@ -2,7 +2,7 @@
 
 ghost use Rattle.std.specs.Prelude.{◌≡◌, ◌⊎◌};
 ghost use Rattle.pt_meaning.specs.Both.{IsUpTo};
-ghost use Rattle.pt_meaning.specs.Front.{is_of};
+ghost use Rattle.pt_meaning.specs.Front.{is_place_of};
 
 use pt_tags::Tag;
 
@@ -17,7 +17,7 @@ pub struct Place {
 
 /// Whether a place is of this tag and actor.
 pub(crate) fn is_of(tag: Tag, actor: u32, place: &Place) -> bool
-    ensures { result ≡ is_of tag actor place.now }
+    ensures { result ≡ is_place_of tag actor place.now }
 {
     place.actor == actor && tag == place.tag
 }

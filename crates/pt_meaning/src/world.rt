@@ -5,7 +5,7 @@ ghost use Rattle.pt_tags.specs.declared.tag.Tag.{Tag};
 ghost use Rattle.pt_types.specs.Ports.{eight, nothing};
 ghost use Rattle.pt_semantics.specs.Firing.{any_present};
 ghost use Rattle.pt_semantics.specs.Meaning.{IsFirst, waiting, without};
-ghost use Rattle.pt_meaning.specs.Waiting.{IsPlaced};
+ghost use Rattle.pt_meaning.specs.Waiting.{IsPlaceIn};
 ghost use Rattle.pt_meaning.specs.Both.{all_waits, with_first, AreSound};
 
 use crate::early::EarlyList;
@@ -27,7 +27,7 @@ impl Waiting {
     pub fn first(&self) -> Option<Place>
         ensures first { IfSome result (λ next. (rank : ℕ → ℕ) (actors steps : ℕ) → AreSound rank actors steps self.now → IsFirst rank (all_waits rank self.now) next.actor next.tag) }
         ensures present { IfSome result (λ next. (rank : ℕ → ℕ) (actors steps : ℕ) → AreSound rank actors steps self.now → any_present (waiting (all_waits rank self.now) next.actor next.tag) ≡ true) }
-        ensures within { IfSome result (λ next. (rank : ℕ → ℕ) (actors steps : ℕ) → AreSound rank actors steps self.now → IsPlaced rank actors steps next) }
+        ensures within { IfSome result (λ next. (rank : ℕ → ℕ) (actors steps : ℕ) → AreSound rank actors steps self.now → IsPlaceIn rank actors steps next) }
         ensures empty { IfNone result ((rank : ℕ → ℕ) (a p : ℕ) (t : Tag) → all_waits rank self.now a p t ≡ None) }
     {
         let Some(early) = self.early.first() else {

@@ -16,7 +16,7 @@ use Rattle.pt_offsets.specs.declared.fault.OffsetFault.{OffsetFault}
 use Rattle.pt_offsets.specs.declared.fault.OffsetFault.TheVariants.{Infeasible, Memory}
 use Rattle.pt_offsets.specs.Faults.{CauseOfOffset, Names}
 use Rattle.pt_offsets.specs.Margins.{HasActorOffset, IsActorOffset, IsInfeasible, SendsInTime, unit_at}
-use Rattle.pt_offsets.specs.Timings.{InTime, IsLate}
+use Rattle.pt_offsets.specs.Timings.{CanSendInTime, SendsLate}
 use Rattle.pt_offsets.proofs.Small.{past_kind}
 use Rattle.pt_offsets.proofs.Sources.{first_unit, offset_is_unit}
 
@@ -35,7 +35,7 @@ less_in_time : (x y : ℤ) (slack : ℕ) → x ≤ℤ y → (y +ℤ pos 1) ≤�
 less_in_time x y slack h k = omega (arith, ints)
 
 -- an actor that was found in time is
-pub sends_in_time : (g : Graph) (a : ℕ) (k : Kind) (found : Option ℤ) → k ≡ kind_of g a → HasActorOffset g a found → InTime k found → SendsInTime g a
+pub sends_in_time : (g : Graph) (a : ℕ) (k : Kind) (found : Option ℤ) → k ≡ kind_of g a → HasActorOffset g a found → CanSendInTime k found → SendsInTime g a
 sends_in_time g a k None same has timely slack o kind is = absurd (has 0 is.some.0 is.some.1 is.some.2 (subst (Feeds g is.some.0 is.some.1 is.some.2) (sym (first_unit g a)) is.some.3))
 sends_in_time g a k (Some y) same has timely slack o kind is =
     less_in_time o y slack (has.greatest 0 o (subst (λ (u : Part). HasOffset g u (Some o)) (sym (first_unit g a)) is)) (timely slack y (same ∙ kind) refl)
@@ -49,7 +49,7 @@ one_unit g a slack k o lawful kind is =
     subst (λ (u : Part). HasOffset g u (Some o)) (ap (unit_at a) first ∙ first_unit g a) is
 
 -- an actor that was found late is infeasible
-pub names : (g : Graph) (a : ℕ) (k : Kind) (found : Option ℤ) (fault : OffsetFault) → IsLawful g → k ≡ kind_of g a → HasActorOffset g a found → IsLate a k found fault → Names fault g a
+pub names : (g : Graph) (a : ℕ) (k : Kind) (found : Option ℤ) (fault : OffsetFault) → IsLawful g → k ≡ kind_of g a → HasActorOffset g a found → SendsLate a k found fault → Names fault g a
 names g a k found Memory lawful same has late = late
 names g a k found (Infeasible send o slack) lawful same has late =
     let kind : kind_of g a ≡ Send slack = sym same ∙ late.1 in

@@ -9,7 +9,7 @@ use Rattle.pt_types.specs.declared.graph.Link.{Link}
 use Rattle.pt_types.specs.declared.graph.PairError.{PairError}
 use Rattle.pt_types.specs.declared.kind.Kind.{Kind}
 use Rattle.pt_types.specs.declared.kind.Kind.TheVariants.{Lanes, Receive, Send, Sensor}
-use Rattle.pt_types.specs.Groups.{error_between, groups_of, held, is_of}
+use Rattle.pt_types.specs.Groups.{error_between, groups_of, held, is_pair_of}
 use Rattle.pt_types.specs.Kinds.{is_among, is_time, kind_is_lawful}
 use Rattle.pt_types.specs.Names.{is_file}
 use Rattle.pt_types.specs.Lawful.{IsLawful, link_is_lawful, pair_is_lawful}
@@ -30,11 +30,11 @@ time_small : (t : ℕ) → is_time t ≡ true → t ≤ 1000000000000000
 time_small t h = leb-true t 1000000000000000 h
 
 -- the error that a pair states, found in either way
-error_found : (p q error : ℕ) (pairs : List PairError) → unwrap_or (option_map (λ (e : PairError). e.error) (find (is_of p q) pairs)) error ≡ unwrap_or (first_of (of_pair p q) pairs) error
+error_found : (p q error : ℕ) (pairs : List PairError) → unwrap_or (option_map (λ (e : PairError). e.error) (find (is_pair_of p q) pairs)) error ≡ unwrap_or (first_of (of_pair p q) pairs) error
 error_found p q error [] = refl
-error_found p q error (e ∷ pairs) = by_test (is_of p q e) (error_found p q error pairs)
+error_found p q error (e ∷ pairs) = by_test (is_pair_of p q e) (error_found p q error pairs)
   where
-    by_test : (b : Bool) → unwrap_or (option_map (λ (x : PairError). x.error) (find (is_of p q) pairs)) error ≡ unwrap_or (first_of (of_pair p q) pairs) error → unwrap_or (option_map (λ (x : PairError). x.error) (cond b (Some e) (find (is_of p q) pairs))) error ≡ unwrap_or (or_else (when b (Some e.error)) (first_of (of_pair p q) pairs)) error
+    by_test : (b : Bool) → unwrap_or (option_map (λ (x : PairError). x.error) (find (is_pair_of p q) pairs)) error ≡ unwrap_or (first_of (of_pair p q) pairs) error → unwrap_or (option_map (λ (x : PairError). x.error) (cond b (Some e) (find (is_pair_of p q) pairs))) error ≡ unwrap_or (or_else (when b (Some e.error)) (first_of (of_pair p q) pairs)) error
     by_test true h = refl
     by_test false h = h
 
@@ -54,7 +54,7 @@ stated_small : (n p q error : ℕ) (pairs : List PairError) (o : Option ℕ) →
 stated_small n p q error pairs None is h small = small
 stated_small n p q error pairs (Some x) is h small =
     let one = first_of_found (of_pair p q) pairs x is in
-    let here = when_found (is_of p q one.0) (Some one.0.error) x one.2 in
+    let here = when_found (is_pair_of p q one.0) (Some one.0.error) x one.2 in
     let same : one.0.error ≡ x = same_some one.0.error x here.1 in
     let le : one.0.error ≤ 1000000000000000 = pair_small n one.0 (all_in (pair_is_lawful n) pairs one.0 h one.1) in
     omega arith

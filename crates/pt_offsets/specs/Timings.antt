@@ -46,10 +46,10 @@ abbrev pub AreTimings : Graph → List Timing → Type 0
 AreTimings g timings = (a : ℕ) → IsTiming g a (timing_at timings a)
 
 -- if the kind is a sender and there is an offset, it can send in time
-abbrev pub InTime : Kind → Option ℤ → Type 0
-InTime kind offset = (slack : ℕ) (o : ℤ) → kind ≡ Send slack → offset ≡ Some o → (o +ℤ pos 1) ≤ℤ pos slack
+abbrev pub CanSendInTime : Kind → Option ℤ → Type 0
+CanSendInTime kind offset = (slack : ℕ) (o : ℤ) → kind ≡ Send slack → offset ≡ Some o → (o +ℤ pos 1) ≤ℤ pos slack
 
 -- it is a sender that can't send in time, and the fault names it
-abbrev pub IsLate : ℕ → Kind → Option ℤ → OffsetFault → Type 0
-IsLate a kind offset Memory = ⊥
-IsLate a kind offset (Infeasible send o slack) = (send ≡ a) × (kind ≡ Send slack) × (offset ≡ Some o) × (pos slack <ℤ (o +ℤ pos 1))
+abbrev pub SendsLate : ℕ → Kind → Option ℤ → OffsetFault → Type 0
+SendsLate a kind offset Memory = ⊥
+SendsLate a kind offset (Infeasible send o slack) = (send ≡ a) × (kind ≡ Send slack) × (offset ≡ Some o) × (pos slack <ℤ (o +ℤ pos 1))

@@ -10,7 +10,7 @@ ghost use Rattle.pt_semantics.specs.Offsets.{HasOffset, IsFeasible};
 ghost use Rattle.pt_causality.specs.Delays.{AreLeast, AreSmall, least_of};
 ghost use Rattle.pt_offsets.specs.Faults.{CauseOfOffset, Names};
 ghost use Rattle.pt_offsets.specs.Margins.{HasActorOffset, HasMargin, SendsInTime};
-ghost use Rattle.pt_offsets.specs.Timings.{AreTimings, InTime, IsLate, timing_at, actor_offset_of, bound_in, margin_in, offset_of};
+ghost use Rattle.pt_offsets.specs.Timings.{AreTimings, CanSendInTime, SendsLate, timing_at, actor_offset_of, bound_in, margin_in, offset_of};
 
 use crate::fault::OffsetFault;
 use crate::table::{Offsets, Timing};
@@ -78,7 +78,7 @@ fn offset_at(timings: &[Timing], number: u32) -> Option<i64>
 /// Checks that an actor can send in time, if it is a sender.
 fn admit(number: u32, kind: &Kind, offset: Option<i64>) -> Result<(), OffsetFault>
     requires { kind_is_lawful kind.now ≡ true }
-    ensures { MatchResult result (λ _. InTime kind.now offset) (IsLate number kind.now offset) }
+    ensures { MatchResult result (λ _. CanSendInTime kind.now offset) (SendsLate number kind.now offset) }
 {
     match kind {
         Kind::Send { slack } => admit_sender(number, *slack, offset),
@@ -89,7 +89,7 @@ fn admit(number: u32, kind: &Kind, offset: Option<i64>) -> Result<(), OffsetFaul
 /// Checks that a sender can send in time.
 fn admit_sender(send: u32, slack: u64, offset: Option<i64>) -> Result<(), OffsetFault>
     requires { slack < 2 ^ 62 }
-    ensures { MatchResult result (λ _. InTime (Send slack) offset) (IsLate send (Send slack) offset) }
+    ensures { MatchResult result (λ _. CanSendInTime (Send slack) offset) (SendsLate send (Send slack) offset) }
 {
     match offset {
         Some(offset) if offset >= slack as i64 => Err(OffsetFault::Infeasible {

@@ -7,7 +7,7 @@ use Rattle.pt_turn.specs.declared.fault.TurnFault.{TurnFault}
 use Rattle.pt_turn.specs.Platforms.{PlatformView}
 use Rattle.pt_io.specs.Told.{TellsOneMore}
 use Rattle.pt_links.specs.Ends.{SentBy, TakenBy}
-use Rattle.pt_pool.specs.Answers.{Answers, StationRefused, answer_of}
+use Rattle.pt_pool.specs.Answers.{AnswersVisit, StationRefused, answer_of}
 use Rattle.pt_pool.specs.Station.{StationView, WasVisited}
 
 -- a list that was lent as a slice and came back
@@ -21,6 +21,6 @@ pub refused_is : (old : StationView) (r : ℕ) (told : Option (List ℕ)) (q : P
 refused_is old r told q outs ins handed now one e o i t = record { reading = r; told = one; marked = refl; platform = e; ends = (o, i); tasks = t }
 
 pub visited_is : (old : StationView) (r most : ℕ) (dones : List Done) (told : Option (List ℕ)) (q : PlatformView) (outs : List (ℕ × SentBy)) (ins : List (ℕ × TakenBy)) (handed now : List Task) → TellsOneMore old.told r told → WasVisited r most dones old.platform q old.outs outs old.ins ins handed now
-    → (fault : Option TurnFault) → fault ≡ q.fault → Answers (answer_of fault) most dones old (view q told outs ins old.marked) handed now
+    → (fault : Option TurnFault) → fault ≡ q.fault → AnswersVisit (answer_of fault) most dones old (view q told outs ins old.marked) handed now
 visited_is old r most dones told q outs ins handed now one w None e = (sym e, refl, record { reading = r; told = one; was = w })
 visited_is old r most dones told q outs ins handed now one w (Some fault) e = (sym e, refl, record { reading = r; told = one; was = w })

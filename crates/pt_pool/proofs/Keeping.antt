@@ -33,9 +33,9 @@ use Rattle.pt_io.proofs.Stepping.{ahead_more, handed_more}
 use Rattle.pt_links.specs.declared.rule.Bounds.{Bounds}
 use Rattle.pt_links.specs.Ends.{LinkId, SentBy, TakenBy}
 use Rattle.pt_links.specs.Line.{IsOrderlyBy}
-use Rattle.pt_pool.specs.Ends.{AreEnds, AreNamed, End, end_in, end_out, leaves, reaches}
+use Rattle.pt_pool.specs.Ends.{AreEnds, AreNamed, End, end_in, end_out, leaves, receiving_platform}
 use Rattle.pt_pool.specs.Lanes.{Put, Took}
-use Rattle.pt_pool.specs.Station.{AreRead, Fits, IsOfRun, WasVisited}
+use Rattle.pt_pool.specs.Station.{AreRead, BelongTogether, IsOfRun, WasVisited}
 use Rattle.pt_pool.proofs.Lanes.{get_map, got_map, same_some}
 use Rattle.std.proofs.lemmas.Option.{slice_get_within}
 
@@ -141,7 +141,7 @@ module _ (r most : ℕ) (dones : List Done) (old new : PlatformView) (outs outs'
   taken_now = taken_after old.turns w.mid.turns new.turns w.made.turn w.put.sent w.made.turns w.put.gone.turns
 
   -- an end took what was taken before, what the turn took and what the turn left
-  all_taken_at : Fits old outs ins → old.fault ≡ None → (i : ℕ) (f : ℕ × TakenBy) → slice_get ins' i ≡ Some f → f.1.taken ≡ on_link f.0 (messages_of new.turns) ++ on_link f.0 w.made.taken.rest
+  all_taken_at : BelongTogether old outs ins → old.fault ≡ None → (i : ℕ) (f : ℕ × TakenBy) → slice_get ins' i ≡ Some f → f.1.taken ≡ on_link f.0 (messages_of new.turns) ++ on_link f.0 w.made.taken.rest
   all_taken_at fits none i f at =
       let b = in_before ins ins' i f w.took.ends at in
       let n : b.0.0 ≡ f.0 = ap (λ (z : End). z.number) b.2 in
@@ -153,10 +153,10 @@ module _ (r most : ℕ) (dones : List Done) (old new : PlatformView) (outs outs'
       ∙ on_append b.0.0 (messages_of new.turns) w.made.taken.rest
       ∙ ap (λ (l : ℕ). on_link l (messages_of new.turns) ++ on_link l w.made.taken.rest) n
 
-  pub fits_still : Fits old outs ins → old.fault ≡ None → Fits new outs' ins'
+  pub fits_still : BelongTogether old outs ins → old.fault ≡ None → BelongTogether new outs' ins'
   fits_still fits none = record {
     outs_are = subst (λ (p : Parts). AreEnds p leaves new.number (map end_out outs')) (sym plan_stays) (subst (λ (n : ℕ). AreEnds old.plan leaves n (map end_out outs')) (sym number_stays) (subst (AreEnds old.plan leaves old.number) (sym w.put.put.ends) fits.outs_are));
-    ins_are = subst (λ (p : Parts). AreEnds p reaches new.number (map end_in ins')) (sym plan_stays) (subst (λ (n : ℕ). AreEnds old.plan reaches n (map end_in ins')) (sym number_stays) (subst (AreEnds old.plan reaches old.number) (sym w.took.ends) fits.ins_are));
+    ins_are = subst (λ (p : Parts). AreEnds p receiving_platform new.number (map end_in ins')) (sym plan_stays) (subst (λ (n : ℕ). AreEnds old.plan receiving_platform n (map end_in ins')) (sym number_stays) (subst (AreEnds old.plan receiving_platform old.number) (sym w.took.ends) fits.ins_are));
     sent = λ i f at.
         let b = out_before outs outs' i f w.put.put.ends at in
         let n : b.0.0 ≡ f.0 = ap (λ (z : End). z.number) b.2 in

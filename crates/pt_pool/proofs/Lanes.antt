@@ -11,7 +11,7 @@ use Rattle.pt_turn.proofs.Coming.{on_append}
 use Rattle.pt_turn.proofs.Leaving.{on_other}
 use Rattle.pt_visits.specs.Pipes.{put_on}
 use Rattle.pt_visits.proofs.Sent.{on_put, on_put_elsewhere}
-use Rattle.pt_pool.specs.Ends.{Apart, End}
+use Rattle.pt_pool.specs.Ends.{NumbersDiffer, End}
 use Rattle.pt_pool.specs.Lanes.{EndByEnd}
 
 pub same_some : {A : Type 0} (x y : A) → Some x ≡ Some y → x ≡ y
@@ -76,7 +76,7 @@ module _ {X : Type 0} (way : ℕ → X → X → List Message → Type 0) (end_o
   no_lane xs = record { ends = refl; below = λ i e f lt. absurd (omega (arith, lt)); above = λ i le. refl; members = λ m h. absurd h }
 
   -- the list has no message yet on the link of the next end
-  pub none_yet : (k : ℕ) (old now : List (ℕ × X)) (ms : List OnLink) (e : ℕ × X) → Apart (map end_of old) → EndByEnd way end_of k old now ms → slice_get old k ≡ Some e → on_link e.0 ms ≡ []
+  pub none_yet : (k : ℕ) (old now : List (ℕ × X)) (ms : List OnLink) (e : ℕ × X) → NumbersDiffer (map end_of old) → EndByEnd way end_of k old now ms → slice_get old k ≡ Some e → on_link e.0 ms ≡ []
   none_yet k old now ms e apart h at = none_on e.0 ms (λ m inside same.
       let w = h.members m inside in
       apart_from w.0 w.2 w.1 w.3 (w.4 ∙ same))
@@ -87,7 +87,7 @@ module _ {X : Type 0} (way : ℕ → X → X → List Message → Type 0) (end_o
           omega (arith, lt, q)
 
   -- one end more
-  pub one_lane : (k : ℕ) (old now : List (ℕ × X)) (ms : List OnLink) (e f : ℕ × X) (more : List Message) → Apart (map end_of old) → EndByEnd way end_of k old now ms → slice_get now k ≡ Some e → f.0 ≡ e.0 → end_of f ≡ end_of e → way e.0 e.1 f.1 more
+  pub one_lane : (k : ℕ) (old now : List (ℕ × X)) (ms : List OnLink) (e f : ℕ × X) (more : List Message) → NumbersDiffer (map end_of old) → EndByEnd way end_of k old now ms → slice_get now k ≡ Some e → f.0 ≡ e.0 → end_of f ≡ end_of e → way e.0 e.1 f.1 more
       → EndByEnd way end_of (k + 1) old (set now k f) (ms ++ map (put_on e.0) more)
   one_lane k old now ms e f more apart h at num same w =
       let was : slice_get old k ≡ Some e = sym (h.above k (omega arith)) ∙ at in

@@ -10,7 +10,7 @@ use Rattle.pt_semantics.specs.Orderly.{ComesAfter, FitsStep, InOrder}
 use Rattle.pt_semantics.specs.Turn.{Turn}
 use Rattle.pt_history.proofs.LastMember.{length-on_last}
 use Rattle.pt_history.specs.Turns.{sending}
-use Rattle.pt_turn.specs.Gone.{HasGone, last_sent}
+use Rattle.pt_turn.specs.Gone.{FirstHasGone, last_sent}
 use Rattle.pt_turn.specs.Platforms.{PlatformView}
 use Rattle.pt_turn.proofs.Coming.{on_append}
 use Rattle.pt_links.specs.declared.rule.Bounds.{Bounds}
@@ -19,8 +19,8 @@ use Rattle.pt_links.specs.Line.{IsOrderlyBy}
 use Rattle.pt_visits.specs.Pipes.{put_on}
 use Rattle.pt_visits.specs.Visited.{HasSent}
 use Rattle.pt_visits.proofs.Sent.{last_sent_more, on_put, sent_both, sent_none, sent_one}
-use Rattle.pt_pool.specs.Ends.{Apart, end_out}
-use Rattle.pt_pool.specs.Lanes.{ArePut, IsPut, EndByEnd, Put}
+use Rattle.pt_pool.specs.Ends.{NumbersDiffer, end_out}
+use Rattle.pt_pool.specs.Lanes.{ArePut, WentOut, EndByEnd, Put}
 use Rattle.pt_pool.proofs.Lanes.{get_here, no_lane, none_yet, one_lane}
 
 each_front : {X : Type 0} (P : X → Type 0) (xs ys : List X) → Each P (xs ++ ys) → Each P xs
@@ -87,7 +87,7 @@ module _ (n k : ℕ) (old mid : PlatformView) (out between : SentBy) (h : PutsOn
       first [] e = cc
       first (x ∷ ms) e = (ms, cc)
 
-  pub puts_one : (new : PlatformView) (after : SentBy) (m : Message) → Some m ≡ slice_get (on_link n mid.outbox) 0 → (after.link ≡ between.link) × (after.limits ≡ between.limits) → after.sent ≡ between.sent ++ m ∷ [] → HasGone mid new n → PutsOn n (k + 1) old new out after
+  pub puts_one : (new : PlatformView) (after : SentBy) (m : Message) → Some m ≡ slice_get (on_link n mid.outbox) 0 → (after.link ≡ between.link) × (after.limits ≡ between.limits) → after.sent ≡ between.sent ++ m ∷ [] → FirstHasGone mid new n → PutsOn n (k + 1) old new out after
   puts_one new after m e same one g =
       let both : Some m ≡ Some g.message = e ∙ ap (λ (z : List Message). slice_get z 0) g.first in
       let m_is : m ≡ g.message = cc in
@@ -100,7 +100,7 @@ module _ (n k : ℕ) (old mid : PlatformView) (out between : SentBy) (h : PutsOn
         count = omega (arith, count, h.count);
       }
 
-  pub when_empty : k ≤ 64 → None ≡ slice_get (on_link n mid.outbox) 0 → IsPut n old mid out between
+  pub when_empty : k ≤ 64 → None ≡ slice_get (on_link n mid.outbox) 0 → WentOut n old mid out between
   when_empty le none = record {
     messages = h.ms;
     gone = h.gone;
@@ -111,14 +111,14 @@ module _ (n k : ℕ) (old mid : PlatformView) (out between : SentBy) (h : PutsOn
       nothing [] e = refl
       nothing (m ∷ ms) e = cc
 
-  pub when_full : (after : SentBy) → k ≤ 64 → (after.link ≡ between.link) × (after.limits ≡ between.limits) → after.sent ≡ between.sent → 64 ≤ length between.sent → IsPut n old mid out after
+  pub when_full : (after : SentBy) → k ≤ 64 → (after.link ≡ between.link) × (after.limits ≡ between.limits) → after.sent ≡ between.sent → 64 ≤ length between.sent → WentOut n old mid out after
   when_full after le same is full = record {
     messages = h.ms;
     gone = h.gone;
     put = record { stays = (same.0 ∙ h.stays.0, same.1 ∙ h.stays.1); sent = is ∙ h.sent; few = omega (arith, h.count); until = inr (inr (subst (λ (z : List Message). 64 ≤ length z) (sym is) full)) };
   }
 
-  pub when_many : k ≡ 64 → IsPut n old mid out between
+  pub when_many : k ≡ 64 → WentOut n old mid out between
   when_many all = record {
     messages = h.ms;
     gone = h.gone;
@@ -143,7 +143,7 @@ module _ (k : ℕ) (old mid : PlatformView) (outs between : List (ℕ × SentBy)
       let same : length mid.turns ≡ length old.turns = ap length h.gone.turns ∙ length-on_last (sending h.sent) old.turns in
       omega (arith, same, some)
 
-  module _ (D : ℕ × SentBy) (apart : Apart (map end_out outs)) (lt : k < length between) where
+  module _ (D : ℕ × SentBy) (apart : NumbersDiffer (map end_out outs)) (lt : k < length between) where
     abbrev e : ℕ × SentBy
     e = get_or between k D
 
@@ -168,7 +168,7 @@ module _ (k : ℕ) (old mid : PlatformView) (outs between : List (ℕ × SentBy)
     pub to_orderly : ((i : ℕ) (d : ℕ × SentBy) → slice_get outs i ≡ Some d → IsOrderlyBy d.1.limits (d.1.sent ++ on_link d.0 old.outbox)) → IsOrderlyBy e.1.limits (e.1.sent ++ on_link e.0 mid.outbox)
     to_orderly each = subst (λ (z : List Message). IsOrderlyBy e.1.limits (e.1.sent ++ z)) (sym outbox_is) (each k e was)
 
-    pub to_next : (new : PlatformView) (after : SentBy) → IsPut e.0 mid new e.1 after → PutsTo (k + 1) old new outs (set between k (e.0, after))
+    pub to_next : (new : PlatformView) (after : SentBy) → WentOut e.0 mid new e.1 after → PutsTo (k + 1) old new outs (set between k (e.0, after))
     to_next new after p = record {
       sent = h.sent ++ map (put_on e.0) p.messages;
       gone = sent_both old mid new h.sent (map (put_on e.0) p.messages) h.gone p.gone;

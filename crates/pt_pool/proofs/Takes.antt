@@ -6,7 +6,7 @@ use Rattle.pt_types.specs.declared.firing.OnLink.{OnLink}
 use Rattle.pt_links.specs.Ends.{TakenBy}
 use Rattle.pt_links.specs.Line.{IsOrderlyBy}
 use Rattle.pt_visits.specs.Pipes.{put_on}
-use Rattle.pt_pool.specs.Ends.{Apart, end_in}
+use Rattle.pt_pool.specs.Ends.{NumbersDiffer, end_in}
 use Rattle.pt_pool.specs.Lanes.{EndByEnd, Took}
 use Rattle.pt_pool.proofs.Lanes.{get_here, one_lane}
 
@@ -50,7 +50,7 @@ in_number : (e : ℕ × TakenBy) → (end_in e).number ≡ e.0
 in_number e = refl
 
 -- one end more
-pub takes_next : (k : ℕ) (old now : List (ℕ × TakenBy)) (ms all : List OnLink) (D : ℕ × TakenBy) (after : TakenBy) (more : List Message) → k < length now → Apart (map end_in old) → EndByEnd Took end_in k old now ms → Took (get_or now k D).0 (get_or now k D).1 after more → all ≡ ms ++ map (put_on (get_or now k D).0) more → EndByEnd Took end_in (k + 1) old (set now k ((get_or now k D).0, after)) all
+pub takes_next : (k : ℕ) (old now : List (ℕ × TakenBy)) (ms all : List OnLink) (D : ℕ × TakenBy) (after : TakenBy) (more : List Message) → k < length now → NumbersDiffer (map end_in old) → EndByEnd Took end_in k old now ms → Took (get_or now k D).0 (get_or now k D).1 after more → all ≡ ms ++ map (put_on (get_or now k D).0) more → EndByEnd Took end_in (k + 1) old (set now k ((get_or now k D).0, after)) all
 takes_next k old now ms all D after more lt apart h t is =
     let e = get_or now k D in
     subst (EndByEnd Took end_in (k + 1) old (set now k (e.0, after))) (sym is)

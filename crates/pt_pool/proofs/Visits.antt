@@ -26,7 +26,7 @@ use Rattle.pt_turn.specs.Turned.{IsTurned, MayCome, is_late}
 use Rattle.pt_visits.proofs.Visits.{MakesTurn, without_room}
 use Rattle.pt_pool.specs.Ends.{End, end_in, end_out, limits_at, limits_of}
 use Rattle.pt_pool.specs.Lanes.{ArePut, AreTaken, Took}
-use Rattle.pt_pool.specs.Station.{Fits, WasVisited}
+use Rattle.pt_pool.specs.Station.{BelongTogether, WasVisited}
 use Rattle.pt_pool.proofs.Lanes.{get_map, got_map}
 
 -- what is orderly by the bounds of a plan's link
@@ -51,7 +51,7 @@ pair_at ins ins' given i e h at =
     let f = got_map end_in ins' i (end_in e) (ap (λ (z : List End). slice_get z i) h.ends ∙ get_map end_in ins i e at) in
     record { i = i; e = e; f = f.0; at = at; now = f.1; number = refl; took = h.below i e f.0 (slice_get_within ins i e at) at f.1 }
 
-pub pair_of : (v : PlatformView) (outs : List (ℕ × SentBy)) (ins ins' : List (ℕ × TakenBy)) (given : List OnLink) (l : ℕ) (link : Link) → Fits v outs ins → AreTaken ins ins' given → slice_get v.plan.graph.links l ≡ Some link → platform_of v.plan.graph link.to ≡ v.number → Pair ins ins' given l
+pub pair_of : (v : PlatformView) (outs : List (ℕ × SentBy)) (ins ins' : List (ℕ × TakenBy)) (given : List OnLink) (l : ℕ) (link : Link) → BelongTogether v outs ins → AreTaken ins ins' given → slice_get v.plan.graph.links l ≡ Some link → platform_of v.plan.graph link.to ≡ v.number → Pair ins ins' given l
 pair_of v outs ins ins' given l link fits h at home =
     let x = fits.ins_are.each l link at home in
     let e = got_map end_in ins x.0 x.1 x.2 in
@@ -60,7 +60,7 @@ pair_of v outs ins ins' given l link fits h at home =
     record { i = p.i; e = p.e; f = p.f; at = p.at; now = p.now; number = p.number ∙ num; took = p.took }
 
 -- what was taken may come
-pub may_come : (v : PlatformView) (outs : List (ℕ × SentBy)) (ins ins' : List (ℕ × TakenBy)) (given : List OnLink) → Fits v outs ins → v.fault ≡ None → AreTaken ins ins' given → MayCome v.plan.graph (level_at v) v.number (state_at v) given
+pub may_come : (v : PlatformView) (outs : List (ℕ × SentBy)) (ins ins' : List (ℕ × TakenBy)) (given : List OnLink) → BelongTogether v outs ins → v.fault ≡ None → AreTaken ins ins' given → MayCome v.plan.graph (level_at v) v.number (state_at v) given
 may_come v outs ins ins' given fits none h = record {
   links = λ m inside.
       let w = h.members m inside in
@@ -75,7 +75,7 @@ may_come v outs ins ins' given fits none h = record {
 }
 
 -- what is pending after the turn may be sent
-pub may_go_out : OutgoingOrderlyAfter → (v mid : PlatformView) (outs : List (ℕ × SentBy)) (ins : List (ℕ × TakenBy)) (r most : ℕ) (dones : List Done) (given : List OnLink) → Fits v outs ins → IsRunning v → LegalOnTime v.plan.graph (level_at v) v.number (opened v.plan.graph v.number (rows_at v)) v.turns (state_at v)
+pub may_go_out : OutgoingOrderlyAfter → (v mid : PlatformView) (outs : List (ℕ × SentBy)) (ins : List (ℕ × TakenBy)) (r most : ℕ) (dones : List Done) (given : List OnLink) → BelongTogether v outs ins → IsRunning v → LegalOnTime v.plan.graph (level_at v) v.number (opened v.plan.graph v.number (rows_at v)) v.turns (state_at v)
     → (made : IsTurned v mid r most dones given) → (i : ℕ) (e : ℕ × SentBy) → slice_get outs i ≡ Some e → IsOrderlyBy e.1.limits (e.1.sent ++ on_link e.0 mid.outbox)
 may_go_out theorem v mid outs ins r most dones given fits runs legal made i e at =
     let g = v.plan.graph in

@@ -18,10 +18,10 @@ pub record StationRefused (old new : StationView) (handed now : List Task) : Typ
   pub ends : (new.outs ≡ old.outs) × (new.ins ≡ old.ins)
   pub tasks : now ≡ handed
 
-abbrev pub Answers : Result (Unit {0}) VisitFault → ℕ → List Done → StationView → StationView → List Task → List Task → Type 0
-Answers (Ok x) most dones old new handed now = (new.platform.fault ≡ None) × (new.marked ≡ old.marked) × StationVisited most dones old new handed now
-Answers (Err (Turn fault)) most dones old new handed now = (new.platform.fault ≡ Some fault) × (new.marked ≡ old.marked) × StationVisited most dones old new handed now
-Answers (Err Memory) most dones old new handed now = StationRefused old new handed now
+abbrev pub AnswersVisit : Result (Unit {0}) VisitFault → ℕ → List Done → StationView → StationView → List Task → List Task → Type 0
+AnswersVisit (Ok x) most dones old new handed now = (new.platform.fault ≡ None) × (new.marked ≡ old.marked) × StationVisited most dones old new handed now
+AnswersVisit (Err (Turn fault)) most dones old new handed now = (new.platform.fault ≡ Some fault) × (new.marked ≡ old.marked) × StationVisited most dones old new handed now
+AnswersVisit (Err Memory) most dones old new handed now = StationRefused old new handed now
 
 -- the result of a visit, from the fault of its turn
 abbrev pub answer_of : Option TurnFault → Result (Unit {0}) VisitFault

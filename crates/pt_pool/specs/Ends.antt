@@ -34,19 +34,19 @@ abbrev pub limits_at : Parts → ℕ → Option Bounds
 limits_at plan l = option_map (limits_of plan) (slice_get plan.graph.links l)
 
 -- no two ends have the same number
-abbrev pub Apart : List End → Type 0
-Apart ends = (i j : ℕ) (a b : End) → slice_get ends i ≡ Some a → slice_get ends j ≡ Some b → a.number ≡ b.number → i ≡ j
+abbrev pub NumbersDiffer : List End → Type 0
+NumbersDiffer ends = (i j : ℕ) (a b : End) → slice_get ends i ≡ Some a → slice_get ends j ≡ Some b → a.number ≡ b.number → i ≡ j
 
 -- the platform that a link leaves, and the one that it reaches
 abbrev pub leaves : Graph → Link → ℕ
 leaves g link = platform_of g link.from
 
-abbrev pub reaches : Graph → Link → ℕ
-reaches g link = platform_of g link.to
+abbrev pub receiving_platform : Graph → Link → ℕ
+receiving_platform g link = platform_of g link.to
 
 -- the ends are those of the links of this platform on this side, each once
 pub record AreEnds (plan : Parts) (side : Graph → Link → ℕ) (number : ℕ) (ends : List End) : Type 0 where
-  pub apart : Apart ends
+  pub apart : NumbersDiffer ends
   pub own : (i : ℕ) (e : End) → slice_get ends i ≡ Some e → (link : Link) × (slice_get plan.graph.links e.number ≡ Some link) × (side plan.graph link ≡ number)
   pub limits : (i : ℕ) (e : End) → slice_get ends i ≡ Some e → e.limits ≡ limits_at plan e.number
   pub each : (l : ℕ) (link : Link) → slice_get plan.graph.links l ≡ Some link → side plan.graph link ≡ number → (i : ℕ) × (e : End) × (slice_get ends i ≡ Some e) × (e.number ≡ l)
@@ -68,5 +68,5 @@ abbrev pub TakenBegin : List Turn → List (ℕ × TakenBy) → Type 0
 TakenBegin turns ins = (i : ℕ) (e : ℕ × TakenBy) → slice_get ins i ≡ Some e → (rest : List Message) × (e.1.taken ≡ on_link e.0 (messages_of turns) ++ rest)
 
 -- each end took orderly messages
-abbrev pub AreOrderly : List (ℕ × TakenBy) → Type 0
-AreOrderly ins = (i : ℕ) (e : ℕ × TakenBy) → slice_get ins i ≡ Some e → IsOrderlyBy e.1.limits e.1.taken
+abbrev pub TookOrderly : List (ℕ × TakenBy) → Type 0
+TookOrderly ins = (i : ℕ) (e : ℕ × TakenBy) → slice_get ins i ≡ Some e → IsOrderlyBy e.1.limits e.1.taken

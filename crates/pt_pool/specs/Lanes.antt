@@ -43,7 +43,7 @@ pub record ArePut (old new : PlatformView) (outs puts : List (ℕ × SentBy)) : 
   pub put : EndByEnd (Put (λ l. on_link l old.outbox)) end_out (length outs) outs puts sent
 
 -- messages from the front of link n's outbox went out of a platform and through the link's end
-pub record IsPut (n : ℕ) (old new : PlatformView) (out after : SentBy) : Type 0 where
+pub record WentOut (n : ℕ) (old new : PlatformView) (out after : SentBy) : Type 0 where
   pub messages : List Message
   pub gone : HasSent old new (map (put_on n) messages)
   pub put : Put (λ l. on_link l old.outbox) n out after messages

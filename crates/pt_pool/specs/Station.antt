@@ -13,7 +13,7 @@ use Rattle.pt_turn.specs.Platforms.{PlatformView, rows_at}
 use Rattle.pt_turn.specs.Turned.{IsTurned, StaysThere}
 use Rattle.pt_io.specs.Told.{AreAsAhead, HandedOut, TellsOneMore}
 use Rattle.pt_links.specs.Ends.{LinkId, SentBy, TakenBy}
-use Rattle.pt_pool.specs.Ends.{AreEnds, AreNamed, AreOrderly, SentAre, TakenAre, TakenBegin, end_in, end_out, leaves, reaches}
+use Rattle.pt_pool.specs.Ends.{AreEnds, AreNamed, TookOrderly, SentAre, TakenAre, TakenBegin, end_in, end_out, leaves, receiving_platform}
 use Rattle.pt_pool.specs.Lanes.{ArePut, AreTaken}
 
 -- its platform, the readings that its clock reports, the ends of its links, and whether a visit gave up for want of memory
@@ -25,29 +25,29 @@ pub record StationView : Type 0 where
   pub marked : Bool
 
 -- a platform and the ends of its links belong together
-pub record Fits (p : PlatformView) (outs : List (ℕ × SentBy)) (ins : List (ℕ × TakenBy)) : Type 0 where
+pub record BelongTogether (p : PlatformView) (outs : List (ℕ × SentBy)) (ins : List (ℕ × TakenBy)) : Type 0 where
   pub outs_are : AreEnds p.plan leaves p.number (map end_out outs)
-  pub ins_are : AreEnds p.plan reaches p.number (map end_in ins)
+  pub ins_are : AreEnds p.plan receiving_platform p.number (map end_in ins)
   pub sent : SentAre p.turns outs
   pub taken : p.fault ≡ None → TakenAre p.turns ins
   pub begins : TakenBegin p.turns ins
-  pub orderly : AreOrderly ins
+  pub orderly : TookOrderly ins
 
 -- the turns were made at the readings that a clock handed out since `began`
 abbrev pub AreRead : Option (ℕ → ℕ) → Option (List ℕ) → Option (List ℕ) → List Turn → Type 0
 AreRead ahead began told turns = (readings : List ℕ) × HandedOut began told readings × AreAsAhead ahead began told readings × IsReadBy turns readings
 
 -- the graph of a plan; one without actors where there is none
-abbrev pub graph_of : Option Parts → Graph
-graph_of None = record { until = 0; clock_error = 0; platforms = []; actors = []; wires = []; links = []; clock_errors = [] }
-graph_of (Some plan) = plan.graph
+abbrev pub plan_graph : Option Parts → Graph
+plan_graph None = record { until = 0; clock_error = 0; platforms = []; actors = []; wires = []; links = []; clock_errors = [] }
+plan_graph (Some plan) = plan.graph
 
 -- these are the parts of a station of a run
 pub record IsOfRun (plan : Option Parts) (rows : ℕ → List Row) (link : ℕ → LinkId) (began : Option (List ℕ)) (fixed ahead : Option (ℕ → ℕ)) (told : Option (List ℕ)) (p : PlatformView) (outs : List (ℕ × SentBy)) (ins : List (ℕ × TakenBy)) (marked : Bool) : Type 0 where
   pub plan_is : plan ≡ Some p.plan
   pub opened : (a : ℕ) → platform_of p.plan.graph a ≡ p.number → rows_at p a ≡ rows a
   pub number : p.number < length p.plan.graph.platforms
-  pub fits : Fits p outs ins
+  pub fits : BelongTogether p outs ins
   pub outs_named : AreNamed link (map end_out outs)
   pub ins_named : AreNamed link (map end_in ins)
   pub ahead_is : ahead ≡ fixed

@@ -5,8 +5,8 @@ ghost use Rattle.pt_semantics.specs.Closing.{on_link};
 ghost use Rattle.pt_turn.specs.Gone.{last_sent};
 ghost use Rattle.pt_links.specs.Line.{IsOrderlyBy};
 ghost use Rattle.pt_links.specs.Ends.{SentBy};
-ghost use Rattle.pt_pool.specs.Ends.{Apart, end_out};
-ghost use Rattle.pt_pool.specs.Lanes.{ArePut, IsPut};
+ghost use Rattle.pt_pool.specs.Ends.{NumbersDiffer, end_out};
+ghost use Rattle.pt_pool.specs.Lanes.{ArePut, WentOut};
 
 use crate::taking::MOST;
 use pt_links::Outlet;
@@ -18,7 +18,7 @@ fn put_link<R: Wait>(rt: &R, platform: &mut Platform, link: u32, outlet: &mut Ou
     requires begun { 0 < length platform.old.turns }
     requires nothing_sent { on_link link (last_sent platform.old.turns) ≡ [] }
     requires orderly { IsOrderlyBy outlet.old.limits (outlet.old.sent ++ on_link link platform.old.outbox) }
-    ensures { IsPut link platform.old platform.new outlet.old outlet.new }
+    ensures { WentOut link platform.old platform.new outlet.old outlet.new }
 {
     for _k in 0..MOST {
         let Some(message) = platform.outgoing(link) else {
@@ -35,7 +35,7 @@ fn put_link<R: Wait>(rt: &R, platform: &mut Platform, link: u32, outlet: &mut Ou
 pub(crate) fn put_all<R: Wait>(rt: &R, platform: &mut Platform, outlets: &mut [(u32, Outlet)])
     requires begun { 0 < length platform.old.turns }
     requires nothing_sent { last_sent platform.old.turns ≡ [] }
-    requires apart { Apart (map end_out outlets.old) }
+    requires apart { NumbersDiffer (map end_out outlets.old) }
     requires orderly { (i : ℕ) (e : ℕ × SentBy) → slice_get outlets.old i ≡ Some e → IsOrderlyBy e.1.limits (e.1.sent ++ on_link e.0 platform.old.outbox) }
     ensures { ArePut platform.old platform.new outlets.old outlets.new }
 {

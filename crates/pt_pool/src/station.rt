@@ -2,8 +2,8 @@
 
 ghost use Rattle.std.specs.Prelude.{◌≡◌, ◌<◌, ◌≤◌, [], None, Some, length, false, true};
 ghost use Rattle.pt_post.specs.Posted.{AreDone};
-ghost use Rattle.pt_pool.specs.Station.{IsOfRun, graph_of};
-ghost use Rattle.pt_pool.specs.Answers.{Answers, StationRefused, answer_of};
+ghost use Rattle.pt_pool.specs.Station.{IsOfRun, plan_graph};
+ghost use Rattle.pt_pool.specs.Answers.{AnswersVisit, StationRefused, answer_of};
 
 use crate::run::Run;
 use crate::visiting::visit_platform;
@@ -88,7 +88,7 @@ impl<J: Run, C: Clock> Station<J, C> {
     /// Its platform, which belongs to the run's plan.
     pub fn platform(&self) -> &Platform
         ensures platform { result.now ≡ self.now.platform }
-        ensures below { result.now.number < length (graph_of J.plan).platforms }
+        ensures below { result.now.number < length (plan_graph J.plan).platforms }
         ensures plan { J.plan ≡ Some result.now.plan }
     {
         &self.platform
@@ -137,7 +137,7 @@ impl<J: Run, C: Clock> Station<J, C> {
         requires most { (1 ≤ most) × (most ≤ 64) }
         requires done { AreDone self.old.platform.plan.graph done.now }
         ensures number { self.new.platform.number ≡ self.old.platform.number }
-        ensures answer { Answers result most done.now self.old self.new tasks.old.tasks tasks.new.tasks }
+        ensures answer { AnswersVisit result most done.now self.old self.new tasks.old.tasks tasks.new.tasks }
     {
         let marked = self.marked;
         let _ = self.platform.fault();

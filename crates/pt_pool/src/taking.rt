@@ -3,7 +3,7 @@
 ghost use Rattle.std.specs.Prelude.{◌≡◌, ◌+◌, ◌*◌, ◌≤◌, ◌++◌, ℕ, List, [], length, map, vec_len, vec_capacity};
 ghost use Rattle.pt_tags.specs.declared.message.Message.{Message as Sent};
 ghost use Rattle.pt_visits.specs.Pipes.{put_on};
-ghost use Rattle.pt_pool.specs.Ends.{Apart, end_in};
+ghost use Rattle.pt_pool.specs.Ends.{NumbersDiffer, end_in};
 ghost use Rattle.pt_pool.specs.Lanes.{AreTaken, Took};
 
 use pt_links::Inlet;
@@ -31,7 +31,7 @@ fn take_link<R: Wait>(rt: &R, link: u32, inlet: &mut Inlet, given: &mut Vec<OnLi
 pub(crate) fn take_all<R: Wait>(rt: &R, inlets: &mut [(u32, Inlet)], given: &mut Vec<OnLink>)
     requires empty { given.old.items ≡ [] }
     requires room { 64 * length inlets.old ≤ vec_capacity given.old }
-    requires apart { Apart (map end_in inlets.old) }
+    requires apart { NumbersDiffer (map end_in inlets.old) }
     ensures room { vec_len given.new ≤ 64 * length inlets.old }
     ensures taken { AreTaken inlets.old inlets.new given.new.items }
 {

@@ -3,7 +3,7 @@
 ghost use Rattle.std.specs.Prelude.{◌≡◌, ◌≤◌, None, OnErr, OnOk};
 ghost use Rattle.pt_post.specs.Posted.{AreDone};
 ghost use Rattle.pt_turn.specs.Platforms.{PlatformView};
-ghost use Rattle.pt_pool.specs.Station.{Fits, WasVisited};
+ghost use Rattle.pt_pool.specs.Station.{BelongTogether, WasVisited};
 
 use crate::putting::put_all;
 use crate::taking::{MOST, take_all};
@@ -30,7 +30,7 @@ pub(crate) fn visit_platform<R: Wait>(
     tasks: &mut Tasks,
 ) -> Result<(), Memory>
     requires no_fault { platform.old.fault ≡ None }
-    requires fits { Fits platform.old outlets.old inlets.old }
+    requires fits { BelongTogether platform.old outlets.old inlets.old }
     requires most { (1 ≤ most) × (most ≤ 64) }
     requires done { AreDone platform.old.plan.graph done.now }
     ensures visited { OnOk result (WasVisited reading most done.now platform.old platform.new outlets.old outlets.new inlets.old inlets.new tasks.old.tasks tasks.new.tasks) }

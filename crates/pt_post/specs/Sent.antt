@@ -27,8 +27,8 @@ abbrev pub SumsFit : Graph → ℕ → Tag → Type 0
 SumsFit g a t = (e : Edge) → IsIn e (wires g) → e.from ≡ a → Fits (plus t e.weight)
 
 -- a task is the open claim of its unit
-abbrev pub IsClaimed : Graph → Fields → Task → Type 0
-IsClaimed g f task = busy_in f.open_claims.items (unit_of g task) ≡ Some task
+abbrev pub IsOpenClaim : Graph → Fields → Task → Type 0
+IsOpenClaim g f task = busy_in f.open_claims.items (unit_of g task) ≡ Some task
 
 -- no event waits where the outputs of a result go
 abbrev pub FindsNothing : Graph → Fields → Done → Type 0

@@ -7,7 +7,7 @@ ghost use Rattle.pt_semantics.specs.Wired.{IsWired};
 ghost use Rattle.pt_state.specs.State.{state_of, busy_in, IsSound};
 ghost use Rattle.pt_causality.specs.Branches.{AreBranches};
 ghost use Rattle.pt_post.specs.Room.{leaving_open};
-ghost use Rattle.pt_post.specs.Sent.{FindsNothing, IsClaimed, SumsFit};
+ghost use Rattle.pt_post.specs.Sent.{FindsNothing, IsOpenClaim, SumsFit};
 
 use crate::emit::emit;
 use crate::outbox::send;
@@ -25,12 +25,12 @@ pub fn post(fields: &mut Fields, graph: &Graph, branches: &Branches, done: &Done
     requires wired { IsWired graph.now }
     requires branches { AreBranches graph.now branches.now }
     requires links { length graph.now.links < 2 ^ 32 }
-    requires fits { IsClaimed graph.now fields.old done.now.task → SumsFit graph.now done.now.task.actor done.now.task.tag }
+    requires fits { IsOpenClaim graph.now fields.old done.now.task → SumsFit graph.now done.now.task.actor done.now.task.tag }
     requires events { leaving_open graph.now (busy_in fields.old.open_claims.items) graph.now.wires ≤ fields.old.queue.spare }
     requires messages { length graph.now.links ≤ fields.old.outbox.spare }
-    requires absent { IsClaimed graph.now fields.old done.now.task → FindsNothing graph.now fields.old done.now }
+    requires absent { IsOpenClaim graph.now fields.old done.now.task → FindsNothing graph.now fields.old done.now }
     ensures sound { IsSound graph.now fields.new }
-    ensures claimed { (result ≡ true) ↔ IsClaimed graph.now fields.old done.now.task }
+    ensures claimed { (result ≡ true) ↔ IsOpenClaim graph.now fields.old done.now.task }
     ensures posted { result ≡ true → (taken : Sequence OnLink) → state_of fields.new taken ≡ after_post graph.now (state_of fields.old taken) done.now }
     ensures passed { result ≡ false → fields.new ≡ fields.old }
     ensures events { fields.old.queue.spare + leaving_open graph.now (busy_in fields.new.open_claims.items) graph.now.wires ≤ fields.new.queue.spare + leaving_open graph.now (busy_in fields.old.open_claims.items) graph.now.wires }

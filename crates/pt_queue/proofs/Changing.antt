@@ -14,7 +14,7 @@ use Rattle.pt_queue.specs.declared.groups.Groups.{Groups}
 use Rattle.pt_queue.specs.declared.waiting.Waiting.{Waiting}
 use Rattle.pt_queue.specs.Groups.{AreGroups}
 use Rattle.pt_queue.specs.Events.{IsPlaced, IsRising}
-use Rattle.pt_queue.specs.Lines.{AreKept, IsInLine, all_of, line_at, settled}
+use Rattle.pt_queue.specs.Lines.{AreKept, IsInLine, all_of, line_at, with_events}
 use Rattle.pt_queue.specs.Listed.{AreKnown, AreListed, AreTags, FitsIn, tag_of}
 use Rattle.pt_queue.specs.Scans.{is_at, is_of, least_from, sooner, sooner_if, unit_in}
 use Rattle.pt_queue.proofs.Following.{least_after, least_kept}
@@ -47,8 +47,8 @@ none_known g table events ws capacity lawful are none empty room = record {
 }
 
 -- room for all listed units
-pub known_fit : (table : List Groups) (lines : List (List Event)) (loose : List Event) (ws : List Waiting) (capacity : ℕ) → AreKept table lines loose → AreKnown table (all_of (settled lines loose)) ws capacity → Each (λ (w : Waiting). FitsIn capacity w.unit) ws
-known_fit table lines loose ws capacity k known = all_fit table (all_of (settled lines loose)) ws capacity known.few known.room (placed_settled table lines loose k) known.units
+pub known_fit : (table : List Groups) (lines : List (List Event)) (loose : List Event) (ws : List Waiting) (capacity : ℕ) → AreKept table lines loose → AreKnown table (all_of (with_events lines loose)) ws capacity → Each (λ (w : Waiting). FitsIn capacity w.unit) ws
+known_fit table lines loose ws capacity k known = all_fit table (all_of (with_events lines loose)) ws capacity known.few known.room (placed_settled table lines loose k) known.units
 
 -- the tags by unit have that room too
 pub roomy : (table : List Groups) (events : List Event) (ws : List Waiting) (tags : List (Option Tag)) (capacity : ℕ) → AreKnown table events ws capacity → AreTags table ws tags → AreKnown table events ws (length tags)
@@ -72,15 +72,15 @@ module _ (table : List Groups) (u : Part) (t : Tag) (lines left : List (List Eve
   pub left_kept : AreKept table left rest
   left_kept = subst (λ ls. AreKept table ls rest) (sym in_lines) (subst (AreKept table (map (filter (λ (e : Event). not (is_at table u t e))) lines)) (sym others) (filtered_kept table (λ (e : Event). not (is_at table u t e)) lines loose kept))
 
-  pub left_known : (ws vs : List Waiting) (capacity more : ℕ) (o : Option Tag) → AreKnown table (all_of (settled lines loose)) ws capacity → IsRising vs → o ≡ least_from table u None (all_of left ++ rest) → ((x : Part) → tag_of vs x ≡ (if same_part u x then o else tag_of ws x)) → capacity ≤ more → AreKnown table (all_of (settled left rest)) vs more
+  pub left_known : (ws vs : List Waiting) (capacity more : ℕ) (o : Option Tag) → AreKnown table (all_of (with_events lines loose)) ws capacity → IsRising vs → o ≡ least_from table u None (all_of left ++ rest) → ((x : Part) → tag_of vs x ≡ (if same_part u x then o else tag_of ws x)) → capacity ≤ more → AreKnown table (all_of (with_events left rest)) vs more
   left_known ws vs capacity more o known rises is tags l = record {
-    units = listed_less table (all_of (settled lines loose)) (all_of (settled left rest)) ws vs u o known.units rises (is ∙ sym (least_kept table u left rest left_kept)) tags (λ v ne.
-        ap₂ (λ ls es. least_from table v None (all_of (settled ls es))) in_lines others ∙ least_after table u t lines loose kept v ne);
+    units = listed_less table (all_of (with_events lines loose)) (all_of (with_events left rest)) ws vs u o known.units rises (is ∙ sym (least_kept table u left rest left_kept)) tags (λ v ne.
+        ap₂ (λ ls es. least_from table v None (all_of (with_events ls es))) in_lines others ∙ least_after table u t lines loose kept v ne);
     room = let room = known.room in omega (arith, room, l);
     few = known.few;
   }
 
-  pub left_fits : (ws : List Waiting) (capacity : ℕ) (o : Option Tag) → AreKnown table (all_of (settled lines loose)) ws capacity → o ≡ least_from table u None (all_of left ++ rest) → IsSome o → FitsIn capacity u
+  pub left_fits : (ws : List Waiting) (capacity : ℕ) (o : Option Tag) → AreKnown table (all_of (with_events lines loose)) ws capacity → o ≡ least_from table u None (all_of left ++ rest) → IsSome o → FitsIn capacity u
   left_fits ws capacity None known is h = absurd (false≢true h)
   left_fits ws capacity (Some s) known is h =
       let e = least_found table (all_of left ++ rest) u s (sym is) in

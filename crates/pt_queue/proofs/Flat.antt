@@ -12,7 +12,7 @@ use Rattle.pt_semantics.proofs.Tags.{same_tag-true}
 use Rattle.pt_semantics.proofs.Lookups.{first_of-append, or_else_none, or_else_assoc, Each-append}
 use Rattle.pt_queue.specs.declared.groups.Groups.{Groups}
 use Rattle.pt_queue.specs.Events.{waiting_in, value_in, IsPlaced}
-use Rattle.pt_queue.specs.Lines.{AreInLines, AreKept, IsInLine, all_of, joined_by, line_at, line_of, settled}
+use Rattle.pt_queue.specs.Lines.{AreInLines, AreKept, IsInLine, all_of, joined_by, line_at, line_of_event, with_events}
 use Rattle.pt_queue.proofs.Rising.{each_push}
 
 -- what waits in a list and then another
@@ -31,7 +31,7 @@ elsewhere e a p t ne = ⊎_elim
 not_in_line : (table : List Groups) (line : List Event) (n a p : ℕ) (t : Tag) → Each (IsInLine table n) line → 8 * a + p ≢ n → waiting_in line a p t ≡ None
 not_in_line table [] n a p t h ne = refl
 not_in_line table (e ∷ es) n a p t h ne =
-    let own : line_of e ≡ n = h.0.line in
+    let own : line_of_event e ≡ n = h.0.line in
     ap (λ o. or_else o (waiting_in es a p t)) (elsewhere e a p t (λ x y. ne (omega (arith, x, y, own)))) ∙ not_in_line table es n a p t h.1 ne
 
 next_from : (table : List Groups) (k : ℕ) (line : List Event) (lines : List (List Event)) → ((n : ℕ) → Each (IsInLine table (k + n)) (line_at (line ∷ lines) n)) → (n : ℕ) → Each (IsInLine table (suc k + n)) (line_at lines n)
@@ -93,52 +93,52 @@ cases_place : (n i : ℕ) → (n ≡ i) ⊎ (n ≢ i)
 cases_place n i = grind arith
 
 -- after an event joined its line
-pub line_joined : (lines : List (List Event)) (e : Event) (n : ℕ) → line_of e < length lines → (n ≡ line_of e → line_at (joined_by lines e) n ≡ line_at lines n ++ e ∷ []) × (n ≢ line_of e → line_at (joined_by lines e) n ≡ line_at lines n)
+pub line_joined : (lines : List (List Event)) (e : Event) (n : ℕ) → line_of_event e < length lines → (n ≡ line_of_event e → line_at (joined_by lines e) n ≡ line_at lines n ++ e ∷ []) × (n ≢ line_of_event e → line_at (joined_by lines e) n ≡ line_at lines n)
 line_joined lines e n l = (
-  (λ x. ap (line_at (joined_by lines e)) x ∙ get_or-set_same lines (line_of e) (line_at lines (line_of e) ++ e ∷ []) [] l ∙ ap (λ m. line_at lines m ++ e ∷ []) (sym x)),
-  (λ ne. get_or-set_other lines (line_of e) n (line_at lines (line_of e) ++ e ∷ []) [] ne),
+  (λ x. ap (line_at (joined_by lines e)) x ∙ get_or-set_same lines (line_of_event e) (line_at lines (line_of_event e) ++ e ∷ []) [] l ∙ ap (λ m. line_at lines m ++ e ∷ []) (sym x)),
+  (λ ne. get_or-set_other lines (line_of_event e) n (line_at lines (line_of_event e) ++ e ∷ []) [] ne),
 )
 
-pub joined_in_lines : (table : List Groups) (lines : List (List Event)) (e : Event) → AreInLines table lines → IsPlaced table e → line_of e < length lines → AreInLines table (joined_by lines e)
+pub joined_in_lines : (table : List Groups) (lines : List (List Event)) (e : Event) → AreInLines table lines → IsPlaced table e → line_of_event e < length lines → AreInLines table (joined_by lines e)
 joined_in_lines table lines e h placed l n = ⊎_elim
-    (λ (x : n ≡ line_of e). subst (Each (IsInLine table n)) (sym ((line_joined lines e n l).0 x)) (each_push (IsInLine table n) (line_at lines n) e (h n) (record { line = sym x; placed = placed })))
-    (λ (ne : n ≢ line_of e). subst (Each (IsInLine table n)) (sym ((line_joined lines e n l).1 ne)) (h n))
-    (cases_place n (line_of e))
+    (λ (x : n ≡ line_of_event e). subst (Each (IsInLine table n)) (sym ((line_joined lines e n l).0 x)) (each_push (IsInLine table n) (line_at lines n) e (h n) (record { line = sym x; placed = placed })))
+    (λ (ne : n ≢ line_of_event e). subst (Each (IsInLine table n)) (sym ((line_joined lines e n l).1 ne)) (h n))
+    (cases_place n (line_of_event e))
 
-pub joined_waits : (table : List Groups) (lines : List (List Event)) (e : Event) (a p : ℕ) (t : Tag) → AreInLines table lines → IsPlaced table e → line_of e < length lines → waiting_in (all_of (joined_by lines e)) a p t ≡ or_else (waiting_in (all_of lines) a p t) (value_in e a p t)
+pub joined_waits : (table : List Groups) (lines : List (List Event)) (e : Event) (a p : ℕ) (t : Tag) → AreInLines table lines → IsPlaced table e → line_of_event e < length lines → waiting_in (all_of (joined_by lines e)) a p t ≡ or_else (waiting_in (all_of lines) a p t) (value_in e a p t)
 joined_waits table lines e a p t h placed l = ⊎_elim
-    (λ (x : 8 * a + p ≡ line_of e).
+    (λ (x : 8 * a + p ≡ line_of_event e).
     lines_wait table (joined_by lines e) a p t (joined_in_lines table lines e h placed l)
     ∙ ap (λ (line : List Event). waiting_in line a p t) ((line_joined lines e (8 * a + p) l).0 x)
     ∙ waiting_append (line_at lines (8 * a + p)) (e ∷ []) a p t
     ∙ ap₂ or_else (sym (lines_wait table lines a p t h)) (or_else_none (value_in e a p t)))
-    (λ (ne : 8 * a + p ≢ line_of e).
+    (λ (ne : 8 * a + p ≢ line_of_event e).
     lines_wait table (joined_by lines e) a p t (joined_in_lines table lines e h placed l)
     ∙ ap (λ (line : List Event). waiting_in line a p t) ((line_joined lines e (8 * a + p) l).1 ne)
     ∙ sym (lines_wait table lines a p t h)
     ∙ sym (ap (or_else (waiting_in (all_of lines) a p t)) (elsewhere e a p t (λ x y. ne (omega (arith, x, y)))) ∙ or_else_none (waiting_in (all_of lines) a p t)))
-    (cases_place (8 * a + p) (line_of e))
+    (cases_place (8 * a + p) (line_of_event e))
 
 -- there is a line for each event that is placed
-pub has_line : (table : List Groups) (lines : List (List Event)) (e : Event) → length lines ≡ 8 * length table → IsPlaced table e → line_of e < length lines
+pub has_line : (table : List Groups) (lines : List (List Event)) (e : Event) → length lines ≡ 8 * length table → IsPlaced table e → line_of_event e < length lines
 has_line table lines e count placed = let a : e.actor < length table = placed.actor in let p : e.port < 8 = placed.port in omega (arith, count, a, p)
 
 pub joined_kept : (table : List Groups) (lines : List (List Event)) (e : Event) (loose : List Event) → AreKept table lines (e ∷ loose) → AreKept table (joined_by lines e) loose
 joined_kept table lines e loose k = record {
-  count = length-set lines (line_of e) (line_at lines (line_of e) ++ e ∷ []) ∙ k.count;
+  count = length-set lines (line_of_event e) (line_at lines (line_of_event e) ++ e ∷ []) ∙ k.count;
   in_lines = joined_in_lines table lines e k.in_lines k.placed.0 (has_line table lines e k.count k.placed.0);
   placed = k.placed.1;
 }
 
 pub line_kept : (table : List Groups) (lines : List (List Event)) (e : Event) (loose : List Event) → AreKept table lines loose → IsPlaced table e → AreKept table (joined_by lines e) loose
 line_kept table lines e loose k placed = record {
-  count = length-set lines (line_of e) (line_at lines (line_of e) ++ e ∷ []) ∙ k.count;
+  count = length-set lines (line_of_event e) (line_at lines (line_of_event e) ++ e ∷ []) ∙ k.count;
   in_lines = joined_in_lines table lines e k.in_lines placed (has_line table lines e k.count placed);
   placed = k.placed;
 }
 
 -- loose events wait as they do in their lines
-pub settled_waits : (table : List Groups) (lines : List (List Event)) (loose : List Event) (a p : ℕ) (t : Tag) → AreKept table lines loose → waiting_in (all_of (settled lines loose)) a p t ≡ waiting_in (all_of lines ++ loose) a p t
+pub settled_waits : (table : List Groups) (lines : List (List Event)) (loose : List Event) (a p : ℕ) (t : Tag) → AreKept table lines loose → waiting_in (all_of (with_events lines loose)) a p t ≡ waiting_in (all_of lines ++ loose) a p t
 settled_waits table lines [] a p t k = ap (λ xs. waiting_in xs a p t) (sym (append-nil (all_of lines)))
 settled_waits table lines (e ∷ es) a p t k =
     settled_waits table (joined_by lines e) es a p t (joined_kept table lines e es k)
@@ -147,14 +147,14 @@ settled_waits table lines (e ∷ es) a p t k =
     ∙ or_else_assoc (waiting_in (all_of lines) a p t) (value_in e a p t) (waiting_in es a p t)
     ∙ sym (waiting_append (all_of lines) (e ∷ es) a p t)
 
-pub all_wait : (table : List Groups) (lines : List (List Event)) (loose : List Event) → AreKept table lines loose → waiting_in (all_of (settled lines loose)) ≡ waiting_in (all_of lines ++ loose)
+pub all_wait : (table : List Groups) (lines : List (List Event)) (loose : List Event) → AreKept table lines loose → waiting_in (all_of (with_events lines loose)) ≡ waiting_in (all_of lines ++ loose)
 all_wait table lines loose k = λ i a p t. settled_waits table lines loose a p t k i
 
-pub settled_kept : (table : List Groups) (lines : List (List Event)) (loose : List Event) → AreKept table lines loose → AreKept table (settled lines loose) []
+pub settled_kept : (table : List Groups) (lines : List (List Event)) (loose : List Event) → AreKept table lines loose → AreKept table (with_events lines loose) []
 settled_kept table lines [] k = k
 settled_kept table lines (e ∷ es) k = settled_kept table (joined_by lines e) es (joined_kept table lines e es k)
 
-pub settled_push : (lines : List (List Event)) (loose : List Event) (e : Event) → settled lines (loose ++ e ∷ []) ≡ joined_by (settled lines loose) e
+pub settled_push : (lines : List (List Event)) (loose : List Event) (e : Event) → with_events lines (loose ++ e ∷ []) ≡ joined_by (with_events lines loose) e
 settled_push lines [] e = refl
 settled_push lines (x ∷ xs) e = settled_push (joined_by lines x) xs e
 
@@ -162,10 +162,10 @@ pub loose_pushed : (table : List Groups) (lines : List (List Event)) (loose : Li
 loose_pushed table lines loose e k placed = record { count = k.count; in_lines = k.in_lines; placed = each_push (IsPlaced table) loose e k.placed placed }
 
 -- what waits after one event more, where none did
-pub waits_loose : (table : List Groups) (lines : List (List Event)) (loose : List Event) (e : Event) → AreKept table lines loose → IsPlaced table e → waiting_in (all_of (settled lines (loose ++ e ∷ []))) ≡ added (waiting_in (all_of (settled lines loose))) (value_in e)
+pub waits_loose : (table : List Groups) (lines : List (List Event)) (loose : List Event) (e : Event) → AreKept table lines loose → IsPlaced table e → waiting_in (all_of (with_events lines (loose ++ e ∷ []))) ≡ added (waiting_in (all_of (with_events lines loose))) (value_in e)
 waits_loose table lines loose e k placed = λ i a p t. (
     ap (λ ls. waiting_in (all_of ls) a p t) (settled_push lines loose e)
-    ∙ joined_waits table (settled lines loose) e a p t (settled_kept table lines loose k).in_lines placed (has_line table (settled lines loose) e (settled_kept table lines loose k).count placed)
+    ∙ joined_waits table (with_events lines loose) e a p t (settled_kept table lines loose k).in_lines placed (has_line table (with_events lines loose) e (settled_kept table lines loose k).count placed)
     ) i
 
 other_order : (x v l : Option ℤ) → (v ≡ None) ⊎ (or_else x l ≡ None) → or_else (or_else x v) l ≡ or_else (or_else x l) v
@@ -175,7 +175,7 @@ other_order None None (Some l) h = refl
 other_order None (Some v) None h = refl
 other_order None (Some v) (Some l) h = ⊎_elim (λ (n : Some v ≡ None). absurd (cc)) (λ (n : Some l ≡ None). absurd (cc)) h
 
-pub waits_joined : (table : List Groups) (lines : List (List Event)) (loose : List Event) (e : Event) → AreKept table lines loose → IsPlaced table e → waiting_in (all_of (settled lines loose)) e.actor e.port e.tag ≡ None → waiting_in (all_of (settled (joined_by lines e) loose)) ≡ added (waiting_in (all_of (settled lines loose))) (value_in e)
+pub waits_joined : (table : List Groups) (lines : List (List Event)) (loose : List Event) (e : Event) → AreKept table lines loose → IsPlaced table e → waiting_in (all_of (with_events lines loose)) e.actor e.port e.tag ≡ None → waiting_in (all_of (with_events (joined_by lines e) loose)) ≡ added (waiting_in (all_of (with_events lines loose))) (value_in e)
 waits_joined table lines loose e k placed absent = λ i a p t. (
     settled_waits table (joined_by lines e) loose a p t (line_kept table lines e loose k placed)
     ∙ waiting_append (all_of (joined_by lines e)) loose a p t
@@ -192,10 +192,10 @@ waits_joined table lines loose e k placed absent = λ i a p t. (
         let actor : e.actor ≡ a = eqb-true e.actor a ports.0 in
         let port : e.port ≡ p = eqb-true e.port p ports.1 in
         let tag : e.tag ≡ t = same_tag-true e.tag t two.1 in
-        let none : waiting_in (all_of (settled lines loose)) a p t ≡ None = subst (λ z. waiting_in (all_of (settled lines loose)) a p z ≡ None) tag (subst (λ z. waiting_in (all_of (settled lines loose)) a z e.tag ≡ None) port (subst (λ z. waiting_in (all_of (settled lines loose)) z e.port e.tag ≡ None) actor absent)) in
+        let none : waiting_in (all_of (with_events lines loose)) a p t ≡ None = subst (λ z. waiting_in (all_of (with_events lines loose)) a p z ≡ None) tag (subst (λ z. waiting_in (all_of (with_events lines loose)) a z e.tag ≡ None) port (subst (λ z. waiting_in (all_of (with_events lines loose)) z e.port e.tag ≡ None) actor absent)) in
         inr (sym (waiting_append (all_of lines) loose a p t) ∙ sym (settled_waits table lines loose a p t k) ∙ none))
         (λ (away : (e.actor == a && e.port == p && same_tag e.tag t) ≡ false). inl (ap (λ c. when c (Some e.value)) away))
         (cases_Bool (e.actor == a && e.port == p && same_tag e.tag t))
 
-pub joined_length : (lines : List (List Event)) (e : Event) (es : List Event) → Each (λ (x : Event). line_of x < length lines) es → Each (λ (x : Event). line_of x < length (joined_by lines e)) es
-joined_length lines e es h = subst (λ n. Each (λ (x : Event). line_of x < n) es) (sym (length-set lines (line_of e) (line_at lines (line_of e) ++ e ∷ []))) h
+pub joined_length : (lines : List (List Event)) (e : Event) (es : List Event) → Each (λ (x : Event). line_of_event x < length lines) es → Each (λ (x : Event). line_of_event x < length (joined_by lines e)) es
+joined_length lines e es h = subst (λ n. Each (λ (x : Event). line_of_event x < n) es) (sym (length-set lines (line_of_event e) (line_at lines (line_of_event e) ++ e ∷ []))) h

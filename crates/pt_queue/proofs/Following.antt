@@ -12,7 +12,7 @@ use Rattle.pt_semantics.proofs.Lookups.{Each-from, Each-in, same_part-true}
 use Rattle.pt_semantics.proofs.Tags.{cases_tags, tag_lt-from}
 use Rattle.pt_queue.specs.declared.groups.Groups.{Groups}
 use Rattle.pt_queue.specs.Events.{IsPlaced}
-use Rattle.pt_queue.specs.Lines.{AreKept, all_of, joined_by, line_at, line_of, settled}
+use Rattle.pt_queue.specs.Lines.{AreKept, all_of, joined_by, line_at, line_of_event, with_events}
 use Rattle.pt_queue.specs.Scans.{is_at, is_of, least_from, sooner, sooner_if, unit_in}
 use Rattle.pt_queue.proofs.Flat.{has_line, joined_length, settled_kept, settled_push}
 use Rattle.pt_queue.proofs.Removing.{filtered_kept, parts_filtered}
@@ -72,34 +72,34 @@ least_joined_at table u best (line ∷ lines) (suc n) e l =
     ∙ least_joined_at table u (least_from table u best line) lines n e (omega (arith, l))
     ∙ ap (λ o. sooner_if (is_of table u e) o e.tag) (sym (least_append table u best line (all_of lines)))
 
-pub least_settled : (table : List Groups) (u : Part) (best : Option Tag) (lines : List (List Event)) (loose : List Event) → Each (λ (e : Event). line_of e < length lines) loose → least_from table u best (all_of (settled lines loose)) ≡ least_from table u best (all_of lines ++ loose)
+pub least_settled : (table : List Groups) (u : Part) (best : Option Tag) (lines : List (List Event)) (loose : List Event) → Each (λ (e : Event). line_of_event e < length lines) loose → least_from table u best (all_of (with_events lines loose)) ≡ least_from table u best (all_of lines ++ loose)
 least_settled table u best lines [] h = ap (least_from table u best) (sym (append-nil (all_of lines)))
 least_settled table u best lines (e ∷ es) h =
     least_settled table u best (joined_by lines e) es (joined_length lines e es h.1)
     ∙ least_append table u best (all_of (joined_by lines e)) es
-    ∙ ap (λ o. least_from table u o es) (least_joined_at table u best lines (line_of e) e h.0)
+    ∙ ap (λ o. least_from table u o es) (least_joined_at table u best lines (line_of_event e) e h.0)
     ∙ sym (least_append table u best (all_of lines) (e ∷ es))
 
-pub have_lines : (table : List Groups) (lines : List (List Event)) (loose : List Event) → AreKept table lines loose → Each (λ (e : Event). line_of e < length lines) loose
-have_lines table lines loose k = Each-from (λ (e : Event). line_of e < length lines) loose (λ e m. has_line table lines e k.count (Each-in (IsPlaced table) loose k.placed e m))
+pub have_lines : (table : List Groups) (lines : List (List Event)) (loose : List Event) → AreKept table lines loose → Each (λ (e : Event). line_of_event e < length lines) loose
+have_lines table lines loose k = Each-from (λ (e : Event). line_of_event e < length lines) loose (λ e m. has_line table lines e k.count (Each-in (IsPlaced table) loose k.placed e m))
 
 -- the least tags of a queue's events
-pub least_kept : (table : List Groups) (u : Part) (lines : List (List Event)) (loose : List Event) → AreKept table lines loose → least_from table u None (all_of (settled lines loose)) ≡ least_from table u None (all_of lines ++ loose)
+pub least_kept : (table : List Groups) (u : Part) (lines : List (List Event)) (loose : List Event) → AreKept table lines loose → least_from table u None (all_of (with_events lines loose)) ≡ least_from table u None (all_of lines ++ loose)
 least_kept table u lines loose k = least_settled table u None lines loose (have_lines table lines loose k)
 
 -- after one event more
-pub least_joined : (table : List Groups) (lines : List (List Event)) (loose : List Event) (e : Event) → AreKept table lines loose → IsPlaced table e → AreKept table (joined_by lines e) loose → (u : Part) → least_from table u None (all_of (settled (joined_by lines e) loose)) ≡ sooner_if (is_of table u e) (least_from table u None (all_of (settled lines loose))) e.tag
+pub least_joined : (table : List Groups) (lines : List (List Event)) (loose : List Event) (e : Event) → AreKept table lines loose → IsPlaced table e → AreKept table (joined_by lines e) loose → (u : Part) → least_from table u None (all_of (with_events (joined_by lines e) loose)) ≡ sooner_if (is_of table u e) (least_from table u None (all_of (with_events lines loose))) e.tag
 least_joined table lines loose e k placed new u =
     least_kept table u (joined_by lines e) loose new
     ∙ least_append table u None (all_of (joined_by lines e)) loose
-    ∙ ap (λ o. least_from table u o loose) (least_joined_at table u None lines (line_of e) e (has_line table lines e k.count placed))
+    ∙ ap (λ o. least_from table u o loose) (least_joined_at table u None lines (line_of_event e) e (has_line table lines e k.count placed))
     ∙ least_pushed table u (least_from table u None (all_of lines)) e loose
     ∙ ap (λ o. sooner_if (is_of table u e) o e.tag) (sym (least_kept table u lines loose k ∙ least_append table u None (all_of lines) loose))
 
-pub least_loose : (table : List Groups) (lines : List (List Event)) (loose : List Event) (e : Event) → AreKept table lines loose → IsPlaced table e → (u : Part) → least_from table u None (all_of (settled lines (loose ++ e ∷ []))) ≡ sooner_if (is_of table u e) (least_from table u None (all_of (settled lines loose))) e.tag
+pub least_loose : (table : List Groups) (lines : List (List Event)) (loose : List Event) (e : Event) → AreKept table lines loose → IsPlaced table e → (u : Part) → least_from table u None (all_of (with_events lines (loose ++ e ∷ []))) ≡ sooner_if (is_of table u e) (least_from table u None (all_of (with_events lines loose))) e.tag
 least_loose table lines loose e k placed u =
     ap (λ ls. least_from table u None (all_of ls)) (settled_push lines loose e)
-    ∙ least_joined_at table u None (settled lines loose) (line_of e) e (has_line table (settled lines loose) e (settled_kept table lines loose k).count placed)
+    ∙ least_joined_at table u None (with_events lines loose) (line_of_event e) e (has_line table (with_events lines loose) e (settled_kept table lines loose k).count placed)
 
 -- after those of another unit were removed
 least_left : (table : List Groups) (v u : Part) (t : Tag) (best : Option Tag) (xs : List Event) → same_part v u ≡ false → least_from table u best (filter (λ (e : Event). not (is_at table v t e)) xs) ≡ least_from table u best xs
@@ -118,7 +118,7 @@ least_left table v u t best (x ∷ xs) h = ⊎_elim
     other gone = subst (λ z. same_part z u ≡ false) (sym (same_part-true (unit_in table x) v (and_parts (is_of table v x) (same_tag t x.tag) gone).0)) h
 
 pub least_after : (table : List Groups) (v : Part) (t : Tag) (lines : List (List Event)) (loose : List Event) → AreKept table lines loose → (u : Part) → same_part v u ≡ false →
-    least_from table u None (all_of (settled (map (filter (λ (e : Event). not (is_at table v t e))) lines) (filter (λ (e : Event). not (is_at table v t e)) loose))) ≡ least_from table u None (all_of (settled lines loose))
+    least_from table u None (all_of (with_events (map (filter (λ (e : Event). not (is_at table v t e))) lines) (filter (λ (e : Event). not (is_at table v t e)) loose))) ≡ least_from table u None (all_of (with_events lines loose))
 least_after table v t lines loose k u ne =
     least_kept table u (map (filter (λ (e : Event). not (is_at table v t e))) lines) (filter (λ (e : Event). not (is_at table v t e)) loose) (filtered_kept table (λ (e : Event). not (is_at table v t e)) lines loose k)
     ∙ ap (least_from table u None) (parts_filtered (λ (e : Event). not (is_at table v t e)) lines loose)

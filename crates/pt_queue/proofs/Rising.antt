@@ -6,7 +6,7 @@ use Rattle.pt_types.specs.declared.firing.Event.{Event}
 use Rattle.pt_types.specs.Ports.{when}
 use Rattle.pt_semantics.specs.Lists.{Each, or_else}
 use Rattle.pt_semantics.proofs.Lookups.{none_some, same_some}
-use Rattle.pt_queue.specs.Lines.{InOrder, first, value_on}
+use Rattle.pt_queue.specs.Lines.{TagsRise, first, value_on}
 
 cond_each : (P : Event → Type 0) (b : Bool) (e : Event) (ys : List Event) → P e → Each P ys → Each P (cond b (e ∷ ys) ys)
 cond_each P true e ys h k = (h, k)
@@ -16,11 +16,11 @@ pub each_filter : (P : Event → Type 0) (test : Event → Bool) (xs : List Even
 each_filter P test [] h = tt
 each_filter P test (e ∷ xs) h = cond_each P (test e) e (filter test xs) h.0 (each_filter P test xs h.1)
 
-cond_order : (b : Bool) (e : Event) (ys : List Event) → Each (λ (x : Event). Before e.tag x.tag) ys → InOrder ys → InOrder (cond b (e ∷ ys) ys)
+cond_order : (b : Bool) (e : Event) (ys : List Event) → Each (λ (x : Event). Before e.tag x.tag) ys → TagsRise ys → TagsRise (cond b (e ∷ ys) ys)
 cond_order true e ys h k = (h, k)
 cond_order false e ys h k = k
 
-pub in_order_filter : (test : Event → Bool) (xs : List Event) → InOrder xs → InOrder (filter test xs)
+pub in_order_filter : (test : Event → Bool) (xs : List Event) → TagsRise xs → TagsRise (filter test xs)
 in_order_filter test [] h = tt
 in_order_filter test (e ∷ xs) h = cond_order (test e) e (filter test xs) (each_filter (λ (x : Event). Before e.tag x.tag) test xs h.0) (in_order_filter test xs h.1)
 
@@ -28,7 +28,7 @@ pub each_push : (P : Event → Type 0) (xs : List Event) (e : Event) → Each P 
 each_push P [] e h k = (k, tt)
 each_push P (x ∷ xs) e h k = (h.0, each_push P xs e h.1 k)
 
-pub in_order_push : (xs : List Event) (e : Event) → InOrder xs → Each (λ (x : Event). Before x.tag e.tag) xs → InOrder (xs ++ e ∷ [])
+pub in_order_push : (xs : List Event) (e : Event) → TagsRise xs → Each (λ (x : Event). Before x.tag e.tag) xs → TagsRise (xs ++ e ∷ [])
 in_order_push [] e h k = (tt, tt)
 in_order_push (x ∷ xs) e h k = (each_push (λ (y : Event). Before x.tag y.tag) xs e h.0 k.0, in_order_push xs e h.1 k.1)
 
@@ -52,7 +52,7 @@ same : (t u : Tag) → same_tag t u ≡ true → t ≡ u
 same t u h = let time : t.time ≡ u.time = grind arith in let step : t.step ≡ u.step = grind arith in λ i. record { time = time i; step = step i }
 
 -- the first event has the tag: the others are left
-pub first_taken : (t : Tag) (xs : List Event) (e : Event) → InOrder xs → Some e ≡ first xs → same_tag e.tag t ≡ true → filter (λ (x : Event). not (same_tag t x.tag)) xs ≡ drop 1 xs
+pub first_taken : (t : Tag) (xs : List Event) (e : Event) → TagsRise xs → Some e ≡ first xs → same_tag e.tag t ≡ true → filter (λ (x : Event). not (same_tag t x.tag)) xs ≡ drop 1 xs
 first_taken t [] e h is k = absurd (none_some e (sym is))
 first_taken t (x ∷ xs) e h is k =
     let here : x ≡ e = sym (same_some e x is) in
@@ -71,13 +71,13 @@ pub ahead : (t u : Tag) → tag_lt t u ≡ true → Before t u
 ahead t u h = grind arith
 
 -- the first event has a greater tag: all are left
-pub none_taken : (t : Tag) (xs : List Event) (e : Event) → InOrder xs → Some e ≡ first xs → Before t e.tag → filter (λ (x : Event). not (same_tag t x.tag)) xs ≡ xs
+pub none_taken : (t : Tag) (xs : List Event) (e : Event) → TagsRise xs → Some e ≡ first xs → Before t e.tag → filter (λ (x : Event). not (same_tag t x.tag)) xs ≡ xs
 none_taken t [] e h is b = absurd (none_some e (sym is))
 none_taken t (x ∷ xs) e h is b =
     let before : Before t x.tag = subst (λ (y : Event). Before t y.tag) (same_some e x is) b in
     all_kept t (x ∷ xs) (before, each_later t x.tag xs before h.0)
 
-pub not_before : (t : Tag) (xs : List Event) (e : Event) → InOrder xs → Some e ≡ first xs → same_tag e.tag t ≡ false → tag_lt e.tag t ≡ false → filter (λ (x : Event). not (same_tag t x.tag)) xs ≡ xs
+pub not_before : (t : Tag) (xs : List Event) (e : Event) → TagsRise xs → Some e ≡ first xs → same_tag e.tag t ≡ false → tag_lt e.tag t ≡ false → filter (λ (x : Event). not (same_tag t x.tag)) xs ≡ xs
 not_before t xs e h is ne nl = none_taken t xs e h is (after t e.tag ne nl)
 
 not_there : (t u : Tag) → Before t u → same_tag u t ≡ false
@@ -87,14 +87,14 @@ no_value_in : (t : Tag) (xs : List Event) → Each (λ (x : Event). Before t x.t
 no_value_in t [] h = refl
 no_value_in t (x ∷ xs) h = no_value_in t xs h.1 ∙ sym (ap (λ b. or_else (when b (Some x.value)) (value_on xs t)) (not_there t x.tag h.0))
 
-pub no_value : (t : Tag) (xs : List Event) (e : Event) → InOrder xs → Some e ≡ first xs → tag_lt t e.tag ≡ true → None ≡ value_on xs t
+pub no_value : (t : Tag) (xs : List Event) (e : Event) → TagsRise xs → Some e ≡ first xs → tag_lt t e.tag ≡ true → None ≡ value_on xs t
 no_value t [] e h is b = refl
 no_value t (x ∷ xs) e h is b =
     let before : Before t x.tag = subst (λ (y : Event). Before t y.tag) (same_some e x is) (ahead t e.tag b) in
     no_value_in t (x ∷ xs) (before, each_later t x.tag xs before h.0)
 
 -- the last event comes before a tag, and so do all
-pub all_before : (t : Tag) (xs : List Event) (n : ℕ) (last : Event) → InOrder xs → length xs ≡ suc n → last ≡ get_or xs n last → Before last.tag t → Each (λ (x : Event). Before x.tag t) xs
+pub all_before : (t : Tag) (xs : List Event) (n : ℕ) (last : Event) → TagsRise xs → length xs ≡ suc n → last ≡ get_or xs n last → Before last.tag t → Each (λ (x : Event). Before x.tag t) xs
 all_before t [] n last h len is b = tt
 all_before t (x ∷ []) zero last h len is b = (subst (λ (y : Event). Before y.tag t) is b, tt)
 all_before t (x ∷ []) (suc n) last h len is b = absurd (omega arith)

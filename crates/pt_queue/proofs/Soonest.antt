@@ -13,7 +13,7 @@ use Rattle.pt_semantics.proofs.Lookups.{none_some, same_some}
 use Rattle.pt_queue.specs.declared.groups.Groups.{Groups}
 use Rattle.pt_queue.specs.Groups.{group_in}
 use Rattle.pt_queue.specs.Events.{waiting_in}
-use Rattle.pt_queue.specs.Lines.{AreInLines, InOrder, IsInLine, all_of, first, line_at, value_on}
+use Rattle.pt_queue.specs.Lines.{AreInLines, TagsRise, IsInLine, all_of, first, line_at, value_on}
 use Rattle.pt_queue.specs.Scans.{is_of, least_from, sooner, sooner_if, unit_in}
 
 -- an event in the line of an input waits there
@@ -60,7 +60,7 @@ each_up b t [] up h = tt
 each_up b t (x ∷ xs) up h = (up_to b t x.tag up h.0, each_up b t xs up h.1)
 
 -- the first event has the least tag of its line
-least_first : (table : List Groups) (u : Part) (best : Option Tag) (e : Event) (es : List Event) → InOrder (e ∷ es) → least_from table u (sooner best e.tag) es ≡ sooner best e.tag
+least_first : (table : List Groups) (u : Part) (best : Option Tag) (e : Event) (es : List Event) → TagsRise (e ∷ es) → least_from table u (sooner best e.tag) es ≡ sooner best e.tag
 least_first table u None e es h = least_later table u e.tag es (each_up e.tag e.tag es (omega arith) h.0)
 least_first table u (Some b) e es h = by (tag_lt e.tag b) refl
   where
@@ -83,7 +83,7 @@ pub least_empty : (table : List Groups) (u : Part) (best : Option Tag) (line : L
 least_empty table u best [] h = refl
 least_empty table u best (x ∷ line) h = absurd (none_some x h)
 
-pub least_line : (table : List Groups) (u : Part) (p : ℕ) (best : Option Tag) (line : List Event) (e : Event) → p < 8 → Each (IsInLine table (8 * u.actor + p)) line → InOrder line → (group_in table u.actor p == u.group) ≡ true → Some e ≡ first line → sooner best e.tag ≡ least_from table u best line
+pub least_line : (table : List Groups) (u : Part) (p : ℕ) (best : Option Tag) (line : List Event) (e : Event) → p < 8 → Each (IsInLine table (8 * u.actor + p)) line → TagsRise line → (group_in table u.actor p == u.group) ≡ true → Some e ≡ first line → sooner best e.tag ≡ least_from table u best line
 least_line table u p best [] e l h order eq is = absurd (none_some e (sym is))
 least_line table u p best (x ∷ line) e l h order eq is =
     let here : e ≡ x = same_some e x is in

@@ -16,14 +16,14 @@ use Rattle.pt_types.specs.Lookups.{kind_of}
 use Rattle.pt_semantics.specs.Units.{groups}
 use Rattle.pt_types.specs.Groups.{cell_of, input_group}
 use Rattle.pt_queue.specs.declared.groups.Groups.{Groups}
-use Rattle.pt_queue.specs.Groups.{groups_of, groups_at, group_in, one_unit, AreGroups}
+use Rattle.pt_queue.specs.Groups.{kind_groups, groups_at, group_in, one_unit, AreGroups}
 
-at_map : (actors : List Actor) (i : ℕ) → slice_index_or (map (λ (a : Actor). groups_of a.kind) actors) i one_unit ≡ groups_of (slice_index_or actors i no_actor).kind
+at_map : (actors : List Actor) (i : ℕ) → slice_index_or (map (λ (a : Actor). kind_groups a.kind) actors) i one_unit ≡ kind_groups (slice_index_or actors i no_actor).kind
 at_map [] i = refl
 at_map (a ∷ actors) zero = refl
 at_map (a ∷ actors) (suc i) = at_map actors i
 
-input_at : (k : Kind) (p : ℕ) → p < 8 → slice_index_or (groups_of k).inputs p 0 ≡ input_group k p
+input_at : (k : Kind) (p : ℕ) → p < 8 → slice_index_or (kind_groups k).inputs p 0 ≡ input_group k p
 input_at k zero l = refl
 input_at k (suc zero) l = refl
 input_at k (suc (suc zero)) l = refl
@@ -35,14 +35,14 @@ input_at k (suc (suc (suc (suc (suc (suc (suc zero))))))) l = refl
 input_at k (suc (suc (suc (suc (suc (suc (suc (suc p)))))))) l = absurd (omega arith)
 
 -- the groups of each actor in turn are the graph's
-pub table_is : (g : Graph) (table : List Groups) → table ≡ map (λ (a : Actor). groups_of a.kind) g.actors → AreGroups g table
+pub table_is : (g : Graph) (table : List Groups) → table ≡ map (λ (a : Actor). kind_groups a.kind) g.actors → AreGroups g table
 table_is g table h = record {
-  len = ap length h ∙ length-map g.actors (λ (a : Actor). groups_of a.kind);
+  len = ap length h ∙ length-map g.actors (λ (a : Actor). kind_groups a.kind);
   inputs = λ a p l. ap (λ (x : Groups). slice_index_or x.inputs p 0) (at a) ∙ input_at (kind_of g a) p l;
   counts = λ a. ap (λ (x : Groups). x.count) (at a);
 }
   where
-    at : (a : ℕ) → groups_at table a ≡ groups_of (kind_of g a)
+    at : (a : ℕ) → groups_at table a ≡ kind_groups (kind_of g a)
     at a = ap (λ (xs : List Groups). slice_index_or xs a one_unit) h ∙ at_map g.actors a
 
 cells_few : (k : Kind) → kind_is_lawful k ≡ true → groups k ≤ 8

@@ -8,8 +8,8 @@ use Rattle.pt_types.specs.Groups.{input_group}
 use Rattle.pt_queue.specs.declared.groups.Groups.{Groups}
 
 -- the groups of an actor of this kind
-abbrev pub groups_of : Kind → Groups
-groups_of k = record {
+abbrev pub kind_groups : Kind → Groups
+kind_groups k = record {
   inputs = input_group k 0 ∷ input_group k 1 ∷ input_group k 2 ∷ input_group k 3 ∷ input_group k 4 ∷ input_group k 5 ∷ input_group k 6 ∷ input_group k 7 ∷ [];
   count = groups k;
 }

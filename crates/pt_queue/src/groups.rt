@@ -4,7 +4,7 @@ ghost use Rattle.std.specs.Prelude.{◌≡◌, ◌≤◌, IfOk};
 ghost use Rattle.pt_types.specs.Lawful.{IsLawful};
 ghost use Rattle.pt_semantics.specs.Units.{groups};
 ghost use Rattle.pt_types.specs.Groups.{input_group};
-ghost use Rattle.pt_queue.specs.Groups.{groups_of, groups_at, group_in, AreGroups};
+ghost use Rattle.pt_queue.specs.Groups.{kind_groups, groups_at, group_in, AreGroups};
 
 use pt_types::{Graph, Kind};
 use std::alloc::{AllocError, Global};
@@ -40,7 +40,7 @@ fn count(kind: &Kind) -> u32
 /// How the inputs of an actor of this kind are grouped.
 fn groups_of(kind: &Kind) -> Groups
     requires few { groups kind.now ≤ 8 }
-    ensures { result ≡ groups_of kind.now }
+    ensures { result ≡ kind_groups kind.now }
 {
     Groups {
         inputs: [

@@ -3,7 +3,7 @@
 ghost use Rattle.std.specs.Prelude.{◌≡◌, ◌==◌, [], ◌∷◌, ◌++◌, true, length, not, filter, if◌then◌else◌};
 ghost use Rattle.pt_tags.specs.Tags.{same_tag, Before};
 ghost use Rattle.pt_semantics.specs.Lists.{Each};
-ghost use Rattle.pt_queue.specs.Lines.{InOrder, first, value_on};
+ghost use Rattle.pt_queue.specs.Lines.{TagsRise, first, value_on};
 
 use pt_tags::Tag;
 use pt_types::Event;
@@ -20,13 +20,13 @@ pub struct Line {
 impl Model for Line {
     ghost use Rattle.std.specs.Prelude.{List};
     ghost use Rattle.pt_types.specs.declared.firing.Event.{Event};
-    ghost use Rattle.pt_queue.specs.Lines.{InOrder};
+    ghost use Rattle.pt_queue.specs.Lines.{TagsRise};
 
     ghost Value = { List Event };
 
     ghost view = { λ l. l.events.items };
 
-    ghost invariant = { λ l. InOrder l.events.items };
+    ghost invariant = { λ l. TagsRise l.events.items };
 }
 
 impl Line {
@@ -42,7 +42,7 @@ impl Line {
     /// The event with the least tag.
     pub fn first(&self) -> Option<Event>
         ensures first { result ≡ first self.now }
-        ensures in_order { InOrder self.now }
+        ensures in_order { TagsRise self.now }
     {
         self.events.front().copied()
     }
@@ -109,7 +109,7 @@ fn value_among(events: &VecDeque<Event>, tag: Tag) -> Option<i64>
 
 /// Whether a tag is greater than those of all events: `true` without events.
 fn comes_last(events: &VecDeque<Event>, tag: Tag) -> bool
-    requires { InOrder events.now.items }
+    requires { TagsRise events.now.items }
     ensures { result ≡ true → Each (λ e. Before e.tag tag) events.now.items }
 {
     match events.back() {

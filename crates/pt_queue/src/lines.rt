@@ -2,7 +2,7 @@
 
 ghost use Rattle.std.specs.Prelude.{◌≡◌, ℕ, ◌+◌, ◌*◌, ◌<◌, ◌≤◌, ◌==◌, [], not, filter, IfOk, length, replicate, slice_index_or, slice_set, if◌then◌else◌};
 ghost use Rattle.pt_tags.specs.Tags.{same_tag};
-ghost use Rattle.pt_queue.specs.Lines.{InOrder, first, joined_by, line_at, line_of, value_on};
+ghost use Rattle.pt_queue.specs.Lines.{TagsRise, first, joined_by, line_at, line_of_event, value_on};
 
 use crate::line::Line;
 use pt_tags::Tag;
@@ -65,7 +65,7 @@ impl Lines {
     /// The event with the least tag in a line.
     pub fn first(&self, line: usize) -> Option<Event>
         ensures first { result ≡ first (line_at self.now line) }
-        ensures in_order { InOrder (line_at self.now line) }
+        ensures in_order { TagsRise (line_at self.now line) }
     {
         match self.lines.get(line) {
             None => None,
@@ -97,7 +97,7 @@ impl Lines {
     /// Appends an event to its line, and returns whether it did. It does only if its tag is the greatest there and there is
     /// room. Allocates nothing.
     pub fn push(&mut self, line: usize, event: Event) -> bool
-        requires line { line ≡ line_of event }
+        requires line { line ≡ line_of_event event }
         requires there { line < length self.old }
         ensures { self.new ≡ (if result then joined_by self.old event else self.old) }
     {

@@ -4,7 +4,7 @@ ghost use Rattle.std.specs.Prelude.{◌≡◌, ◌≤◌, ◌<◌, List, length,
 ghost use Rattle.std.specs.VecDeque.{deque_len, deque_capacity};
 ghost use Rattle.pt_semantics.specs.Lists.{Each};
 ghost use Rattle.pt_queue.specs.declared.groups.Groups.{Groups};
-ghost use Rattle.pt_queue.specs.Lines.{AreKept, first, joined_by, line_of, settled};
+ghost use Rattle.pt_queue.specs.Lines.{AreKept, first, joined_by, line_of_event, with_events};
 
 use crate::lines::{Lines, line_number};
 use pt_types::Event;
@@ -12,8 +12,8 @@ use std::collections::VecDeque;
 
 /// Moves loose events into their lines, in order, up to the first that does not fit.
 pub fn settle(lines: &mut Lines, loose: &mut VecDeque<Event>)
-    requires { Each (λ e. line_of e < length lines.old) loose.old.items }
-    ensures settled { settled lines.new loose.new.items ≡ settled lines.old loose.old.items }
+    requires { Each (λ e. line_of_event e < length lines.old) loose.old.items }
+    ensures with_events { with_events lines.new loose.new.items ≡ with_events lines.old loose.old.items }
     ensures kept { (table : List Groups) → AreKept table lines.old loose.old.items → AreKept table lines.new loose.new.items }
     ensures len { deque_len loose.new ≤ deque_len loose.old }
     ensures capacity { deque_capacity loose.new ≡ deque_capacity loose.old }
@@ -38,7 +38,7 @@ fn first(loose: &VecDeque<Event>) -> Option<Event>
 
 /// Appends an event to its line, growing it if there is memory, and returns whether it did.
 fn settle_one(lines: &mut Lines, event: Event) -> bool
-    requires { line_of event < length lines.old }
+    requires { line_of_event event < length lines.old }
     ensures { lines.new ≡ (if result then joined_by lines.old event else lines.old) }
 {
     let line = line_number(event.actor, event.port);

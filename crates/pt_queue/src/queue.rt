@@ -56,14 +56,14 @@ impl Model for Queue {
     ghost use Rattle.std.specs.Prelude.{◌+◌, ◌≤◌, vec_capacity};
     ghost use Rattle.std.specs.VecDeque.{deque_len, deque_capacity};
     ghost use Rattle.pt_queue.specs.Events.{Queued};
-    ghost use Rattle.pt_queue.specs.Lines.{AreKept, all_of, settled};
+    ghost use Rattle.pt_queue.specs.Lines.{AreKept, all_of, with_events};
     ghost use Rattle.pt_queue.specs.Listed.{AreKnown, AreTags};
 
     ghost Value = { Queued };
 
-    ghost view = { λ q. record { groups = q.groups.items; events = all_of (settled q.lines q.loose.items); spare = q.spare } };
+    ghost view = { λ q. record { groups = q.groups.items; events = all_of (with_events q.lines q.loose.items); spare = q.spare } };
 
-    ghost invariant = { λ q. AreKept q.groups.items q.lines q.loose.items × (q.spare + deque_len q.loose ≤ deque_capacity q.loose) × AreKnown q.groups.items (all_of (settled q.lines q.loose.items)) q.waiting.items (vec_capacity q.waiting) × AreTags q.groups.items q.waiting.items q.tags };
+    ghost invariant = { λ q. AreKept q.groups.items q.lines q.loose.items × (q.spare + deque_len q.loose ≤ deque_capacity q.loose) × AreKnown q.groups.items (all_of (with_events q.lines q.loose.items)) q.waiting.items (vec_capacity q.waiting) × AreTags q.groups.items q.waiting.items q.tags };
 }
 
 impl Queue {

@@ -12,7 +12,7 @@ use Rattle.pt_history.proofs.LastMember.{length-on_last}
 use Rattle.pt_history.specs.Turns.{sending}
 use Rattle.pt_semantics.specs.Closing.{on_link}
 use Rattle.pt_semantics.proofs.Lookups.{none_some, same_some}
-use Rattle.pt_turn.specs.Gone.{HasGone, last_sent}
+use Rattle.pt_turn.specs.Gone.{FirstHasGone, last_sent}
 use Rattle.pt_turn.specs.Platforms.{PlatformView}
 use Rattle.pt_turn.proofs.Coming.{on_append}
 use Rattle.pt_turn.proofs.Leaving.{on_other, on_own}
@@ -139,7 +139,7 @@ link_there v l m only few first = elim (slice_get_cases v.plan.graph.links l).1 
 ]
 
 -- the next message on its link went
-pub went_one : (old new : PlatformView) (m : OnLink) → HasGone old new m.link → slice_get (on_link m.link old.outbox) 0 ≡ Some m.message → HasSent old new (m ∷ [])
+pub went_one : (old new : PlatformView) (m : OnLink) → FirstHasGone old new m.link → slice_get (on_link m.link old.outbox) 0 ≡ Some m.message → HasSent old new (m ∷ [])
 went_one old new m h first =
     let message : h.message ≡ m.message = same_some h.message m.message (sym (ap (λ (z : List Message). slice_get z 0) h.first) ∙ first) in
     let same : put_on m.link h.message ≡ m = λ i. record { link = m.link; message = message i } in

@@ -4,7 +4,7 @@ use Rattle.pt_semantics.specs.Kept.{kept_with}
 use Rattle.pt_semantics.specs.Platform.{State}
 use Rattle.pt_semantics.specs.Turn.{IsLast, IsTurn, Turn}
 use Rattle.pt_turn.specs.Platforms.{PlatformView, level_at, state_at}
-use Rattle.pt_turn.specs.Turned.{Ends, StaysThere, is_late}
+use Rattle.pt_turn.specs.Turned.{FaultsIfLast, StaysThere, is_late}
 use Rattle.pt_hints.specs.declared.hints.Hints.{Hints}
 use Rattle.pt_retell.specs.Following.{CanFollow}
 use Rattle.pt_hints.specs.Hints.{AreHints}
@@ -21,7 +21,7 @@ pub record HasRetold (hints : Hints) (old new : PlatformView) : Type 0 where
   pub told : AreHints old.number turn hints
   pub counts : (1 ≤ turn.count) × (turn.count ≡ 1 → turn.first ≡ turn.last)
   pub is : IsTurn old.plan.graph (level_at old) old.number (state_at old) turn (is_late new.fault) (state_at new)
-  pub last : Ends new.fault (IsLast old.plan.graph (state_at old) turn.last (is_late new.fault) is.ready)
+  pub last : FaultsIfLast new.fault (IsLast old.plan.graph (state_at old) turn.last (is_late new.fault) is.ready)
   pub kept : new.turns ≡ kept_with old.turns (at_last turn)
   pub stays : StaysThere old new
 

@@ -23,7 +23,7 @@ use Rattle.pt_turn.specs.declared.fault.TurnFault.TheVariants.{Late, Long}
 use Rattle.pt_turn.specs.Platforms.{PlatformView, state_at}
 use Rattle.pt_turn.specs.Turned.{is_late}
 use Rattle.pt_together.specs.Asked.{HaveNoFault}
-use Rattle.pt_rounds.specs.Passing.{HavePassed, IsLong, Stands, WasVisited}
+use Rattle.pt_rounds.specs.Passing.{HavePassed, IsLong, IsBeforeRound, WasVisitedInRound}
 use Rattle.pt_together.specs.Shown.{AreThere, is_fault}
 use Rattle.pt_together.proofs.Changed.{set_here}
 use Rattle.pt_together.proofs.Passing.{IsNoisy, closed_still, is_new, is_old, no_fault_before, noisy_by, noisy_now, noisy_still}
@@ -37,7 +37,7 @@ fault_is None e = inl refl
 fault_is (Some (Late actor tag reading limit)) e = absurd (false≢true (sym e))
 fault_is (Some Long) e = inr (refl, refl)
 
-module _ (plan : Parts) (rows : ℕ → List Row) (count c : ℕ) (olds : List PlatformView) (old_pipes : List (List Message)) (old_results : List (List Done)) (s : Stands plan rows count c olds old_pipes old_results) where
+module _ (plan : Parts) (rows : ℕ → List Row) (count c : ℕ) (olds : List PlatformView) (old_pipes : List (List Message)) (old_results : List (List Done)) (s : IsBeforeRound plan rows count c olds old_pipes old_results) where
   pub none_passed : HavePassed plan rows c s.together 0 olds old_pipes old_results true
   none_passed = record {
     made = [];
@@ -97,7 +97,7 @@ module _ (plan : Parts) (rows : ℕ → List Row) (count c : ℕ) (olds : List P
       }
 
       module _ (w : PlatformView) (dones next : List Done) (piped : List (List Message)) (still after : Bool) (small : c < 2 ^ 64) (hand : slice_get results n ≡ Some dones) (going : IsFinished v.plan.graph v.number (state_at v) → ⊥)
-          (was : WasVisited c dones next v w pipes piped still) (if_quiet : after ≡ true → (quiet ≡ true) × (still ≡ true)) (if_not : after ≡ false → (quiet ≡ false) ⊎ (still ≡ false)) where
+          (was : WasVisitedInRound c dones next v w pipes piped still) (if_quiet : after ≡ true → (quiet ≡ true) × (still ≡ true)) (if_not : after ≡ false → (quiet ≡ false) ⊎ (still ≡ false)) where
         shows : Shows plan rows c n h.together w was.visited.turn (set platforms n w) piped (set results n next)
         shows = visit_shows plan rows c h.together platforms pipes results s.admitted s.fit (passed_onward (let lt = slice_get_within platforms n v there in omega (arith, lt))) h.shown n v w dones next piped there hand small was.visited
 

@@ -38,7 +38,7 @@ use Rattle.pt_turn.specs.Platforms.{PlatformView, state_at}
 use Rattle.pt_together.specs.Asked.{AreAllFinished, HaveNoFault}
 use Rattle.pt_rounds.specs.Asked.{IsFirstFault, IsLeastOf, NoneIsOpen}
 use Rattle.pt_rounds.specs.HaveRun.{EndsWith, HaveRun, IsLongOn}
-use Rattle.pt_rounds.specs.Passing.{HavePassed, IsLong, Stands}
+use Rattle.pt_rounds.specs.Passing.{HavePassed, IsLong, IsBeforeRound}
 use Rattle.pt_together.specs.Shown.{AreShown, AreThere}
 use Rattle.pt_together.proofs.First.{AreOpened, shown_first}
 use Rattle.pt_together.proofs.Views.{all_finished, each_finished, finished_here, from_view, history, there_of, to_view, view}
@@ -78,7 +78,7 @@ module _ (plan : Parts) (rows : ℕ → List Row) (platforms : List PlatformView
   pub some_open : NoneIsOpen (length platforms) platforms → ⊥
   some_open closed = false≢true (all_closed plan rows (together_at_start plan.graph rows) platforms pipes results shown_here closed 0 (subst (λ n. 0 < n) new.ready.all.count new.some))
 
-  pub stands_first : (b : ℕ) → IsLeastOf (length platforms) platforms b → Stands plan rows 0 b platforms pipes results
+  pub stands_first : (b : ℕ) → IsLeastOf (length platforms) platforms b → IsBeforeRound plan rows 0 b platforms pipes results
   stands_first b least = record {
     admitted = new.admitted;
     fit = new.ready.fit;
@@ -94,7 +94,7 @@ module _ (plan : Parts) (rows : ℕ → List Row) (platforms : List PlatformView
     no_fault = new.ready.fresh.faults;
   }
 
-module _ (plan : Parts) (rows : ℕ → List Row) (count c : ℕ) (olds : List PlatformView) (old_pipes : List (List Message)) (old_results : List (List Done)) (s : Stands plan rows count c olds old_pipes old_results)
+module _ (plan : Parts) (rows : ℕ → List Row) (count c : ℕ) (olds : List PlatformView) (old_pipes : List (List Message)) (old_results : List (List Done)) (s : IsBeforeRound plan rows count c olds old_pipes old_results)
     (platforms : List PlatformView) (pipes : List (List Message)) (results : List (List Done)) (quiet : Bool) (h : HavePassed plan rows c s.together (length olds) platforms pipes results quiet) where
   is_wired : IsWired plan.graph
   is_wired = wired plan.graph s.admitted.lawful
@@ -207,7 +207,7 @@ module _ (plan : Parts) (rows : ℕ → List Row) (count c : ℕ) (olds : List P
       (λ (one : (j : ℕ) × (j < length olds) × ((h.together.at j).closed ≡ (s.together.at j).closed → ⊥)). one.2 (calm.closed one.0))
       (h.no_quiet_round noisy)
 
-  pub stands_next : (b : ℕ) → HaveNoFault platforms → (AreAllFinished platforms → ⊥) → (quiet ≡ true → IsLeastOf (length platforms) platforms b) → (quiet ≡ false → b ≡ c) → Stands plan rows (count + 1) b platforms pipes results
+  pub stands_next : (b : ℕ) → HaveNoFault platforms → (AreAllFinished platforms → ⊥) → (quiet ≡ true → IsLeastOf (length platforms) platforms b) → (quiet ≡ false → b ≡ c) → IsBeforeRound plan rows (count + 1) b platforms pipes results
   stands_next b none going rises stays = record {
     admitted = s.admitted;
     fit = s.fit;

@@ -17,12 +17,12 @@ use Rattle.pt_together.specs.Asked.{HaveNoFault}
 use Rattle.pt_together.specs.Shown.{AreShown}
 
 -- a platform was visited, and `still` says whether it did nothing and did not close
-pub record WasVisited (r : ℕ) (dones results : List Done) (old new : PlatformView) (pipes piped : List (List Message)) (still : Bool) : Type 0 where
+pub record WasVisitedInRound (r : ℕ) (dones results : List Done) (old new : PlatformView) (pipes piped : List (List Message)) (still : Bool) : Type 0 where
   pub visited : IsVisited 64 r dones results old new pipes piped
   pub still_is : (still ≡ true) ↔ ((is_quiet visited.turn ≡ true) × (new.closed ≡ old.closed))
 
 -- the platforms, pipes and results are as in a paced run before a round at reading c, after `count` rounds
-pub record Stands (plan : Parts) (rows : ℕ → List Row) (count c : ℕ) (platforms : List PlatformView) (pipes : List (List Message)) (results : List (List Done)) : Type 0 where
+pub record IsBeforeRound (plan : Parts) (rows : ℕ → List Row) (count c : ℕ) (platforms : List PlatformView) (pipes : List (List Message)) (results : List (List Done)) : Type 0 where
   pub admitted : IsAdmitted plan
   pub fit : FitRows plan.graph rows
   pub rounds : List (List Made)

@@ -5,8 +5,8 @@ ghost use Rattle.pt_types.specs.declared.rows.Row.{Row};
 ghost use Rattle.pt_causality.specs.Ranked.{level_of};
 ghost use Rattle.pt_offsets.specs.Plans.{Parts};
 ghost use Rattle.pt_rounds.specs.HaveRun.{HaveRun};
-ghost use Rattle.pt_together.specs.Asked.{lists_of};
-ghost use Rattle.pt_rounds.specs.Passing.{Stands};
+ghost use Rattle.pt_together.specs.Asked.{result_lists};
+ghost use Rattle.pt_rounds.specs.Passing.{IsBeforeRound};
 
 use crate::asking::{first_fault, next_reading};
 use crate::passing::pass;
@@ -32,8 +32,8 @@ pub fn go_on(
     blocks: &Blocks,
     begins: u64,
 ) -> Result<Option<u32>, Memory>
-    requires begun { (plan : Parts) × (rows : ℕ → List Row) × Stands plan rows 0 begins platforms.old pipes.old (lists_of results.old) }
-    ensures run { IfOk result (λ fault. (plan : Parts) (rows : ℕ → List Row) → Stands plan rows 0 begins platforms.old pipes.old (lists_of results.old) →
+    requires begun { (plan : Parts) × (rows : ℕ → List Row) × IsBeforeRound plan rows 0 begins platforms.old pipes.old (result_lists results.old) }
+    ensures run { IfOk result (λ fault. (plan : Parts) (rows : ℕ → List Row) → IsBeforeRound plan rows 0 begins platforms.old pipes.old (result_lists results.old) →
         HaveRun plan (level_of plan.ranks) rows platforms.new fault) }
 {
     let mut reading = begins;

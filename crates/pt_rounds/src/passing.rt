@@ -7,8 +7,8 @@ ghost use Rattle.pt_post.specs.Posted.{AreDone};
 ghost use Rattle.pt_turn.specs.Platforms.{level_at, state_at};
 ghost use Rattle.pt_turn.specs.Turned.{MayCome};
 ghost use Rattle.pt_visits.specs.Pipes.{arriving};
-ghost use Rattle.pt_together.specs.Asked.{lists_of};
-ghost use Rattle.pt_rounds.specs.Passing.{HavePassed, Stands, WasVisited};
+ghost use Rattle.pt_together.specs.Asked.{result_lists};
+ghost use Rattle.pt_rounds.specs.Passing.{HavePassed, IsBeforeRound, WasVisitedInRound};
 
 use pt_actors::Done;
 use pt_blocks::Blocks;
@@ -35,7 +35,7 @@ fn visit_one(
     requires done { AreDone platform.old.plan.graph results.old.items }
     requires taken { MayCome platform.old.plan.graph (level_at platform.old) platform.old.number (state_at platform.old)
         (arriving platform.old.plan.graph platform.old.number 0 pipes.old) }
-    ensures visited { IfOk result (λ still. WasVisited reading results.old.items results.new.items platform.old platform.new pipes.old pipes.new still) }
+    ensures visited { IfOk result (λ still. WasVisitedInRound reading results.old.items results.new.items platform.old platform.new pipes.old pipes.new still) }
 {
     let closed = platform.closed();
     visit(platform, pipes, results, desk, blocks, reading, MOST)?;
@@ -52,9 +52,9 @@ pub fn pass(
     blocks: &Blocks,
     reading: u64,
 ) -> Result<bool, Memory>
-    requires begun { (plan : Parts) × (rows : ℕ → List Row) × (count : ℕ) × Stands plan rows count reading platforms.old pipes.old (lists_of results.old) }
-    ensures passed { IfOk result (λ quiet. (plan : Parts) (rows : ℕ → List Row) (count : ℕ) (s : Stands plan rows count reading platforms.old pipes.old (lists_of results.old)) →
-        HavePassed plan rows reading s.together (length platforms.old) platforms.new pipes.new (lists_of results.new) quiet) }
+    requires begun { (plan : Parts) × (rows : ℕ → List Row) × (count : ℕ) × IsBeforeRound plan rows count reading platforms.old pipes.old (result_lists results.old) }
+    ensures passed { IfOk result (λ quiet. (plan : Parts) (rows : ℕ → List Row) (count : ℕ) (s : IsBeforeRound plan rows count reading platforms.old pipes.old (result_lists results.old)) →
+        HavePassed plan rows reading s.together (length platforms.old) platforms.new pipes.new (result_lists results.new) quiet) }
 {
     let mut quiet = true;
     for i in 0..platforms.len() {

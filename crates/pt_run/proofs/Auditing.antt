@@ -30,7 +30,7 @@ use Rattle.pt_run.specs.Runs.{RunOver}
 use Rattle.pt_run.specs.Telling.{Tells, TellsBy}
 use Rattle.pt_run.specs.Texts.{AsksFor, AsksInOrder, IsUnplanned, PutBy, fault_in, files_for, left_by}
 use Rattle.pt_run.specs.Words.{paced_run}
-use Rattle.pt_run.specs.Written.{HasNothing, Leaves, nothing}
+use Rattle.pt_run.specs.Written.{HasNothing, Leaves, leaves_nothing}
 use Rattle.pt_run.proofs.Asks.{asked_for_graph, asked_in_order, asks_nothing, memory_asks}
 use Rattle.pt_run.proofs.Ending.{ends_file}
 use Rattle.pt_run.proofs.Told.{of_none, told_file}
@@ -137,12 +137,12 @@ module _ (name log : List ℕ) (tells : Contents) (blocks : List Named) (r : Rea
   by_told : (Fact : Fault → Type 0) → Fact f → Fact fault.Memory → Fact told
   by_told Fact fits memory = ⊎_elim (λ (same : told ≡ f). subst Fact (sym same) fits) (λ (none : told ≡ fault.Memory). subst Fact (sym none) memory) tell
 
-  pub graph_refused : (o : Ending) (w : Writing) → left_by o ≡ nothing → o.fault ≡ Some told → w.written_now ≡ w.written_before → EndsAudit o.fault (left_by o) name log tells blocks r w
+  pub graph_refused : (o : Ending) (w : Writing) → left_by o ≡ leaves_nothing → o.fault ≡ Some told → w.written_now ≡ w.written_before → EndsAudit o.fault (left_by o) name log tells blocks r w
   graph_refused o w none is still =
-      subst (λ left. EndsAudit o.fault left name log tells blocks r w) (sym none) (subst (λ e. EndsAudit e nothing name log tells blocks r w) (sym is)
-      (by_told (λ e. EndsAudit (Some e) nothing name log tells blocks r w) (by_fault f cause) ((refl, refl), still)))
+      subst (λ left. EndsAudit o.fault left name log tells blocks r w) (sym none) (subst (λ e. EndsAudit e leaves_nothing name log tells blocks r w) (sym is)
+      (by_told (λ e. EndsAudit (Some e) leaves_nothing name log tells blocks r w) (by_fault f cause) ((refl, refl), still)))
     where
-      by_fault : (e : Fault) → CauseOfGraph e tells blocks name r → EndsAudit (Some e) nothing name log tells blocks r w
+      by_fault : (e : Fault) → CauseOfGraph e tells blocks name r → EndsAudit (Some e) leaves_nothing name log tells blocks r w
       by_fault (fault.Graph e) k = (refl, (refl, refl), (k, (refl, refl), still))
       by_fault (fault.Read None) k = (refl, (refl, refl), (k, (refl, refl), still))
       by_fault fault.Memory k = ((refl, refl), still)
@@ -202,7 +202,7 @@ module _ (log : List ℕ) (tells : Contents) (g : Graph) (r : Reading) (w : Writ
     over_plan : (Fact : Parts → (ℕ → List Row) → Type 0) → RunOver tells p (Fact p) → PlanWith tells g Fact
     over_plan Fact h = record { plan = p; graph = same; over = h }
 
-    refused : (f : Fault) → w.written_now ≡ w.written_before → CauseOfRefusal f log tells p r → EndsJudged (Some f) nothing log tells g r w
+    refused : (f : Fault) → w.written_now ≡ w.written_before → CauseOfRefusal f log tells p r → EndsJudged (Some f) leaves_nothing log tells g r w
     refused (fault.Unlawful v) still k = ((refl, refl), over_plan (OnLog tells log (λ q rows bytes. IsUnlawful q rows bytes v)) k, still)
     refused fault.ReadLog still k = ((refl, refl), over_plan (λ q rows. LastFails q.graph [] log r) k, still)
     refused (fault.Read (Some actor)) still k = (refl, (refl, refl), ((free, (feasible, subst (λ (z : Graph). SensorUnread Refused tells z actor [] r) same k, (refl, refl))), still))
@@ -225,24 +225,24 @@ module _ (log : List ℕ) (tells : Contents) (g : Graph) (r : Reading) (w : Writ
     pub ends_judged : {X : Type 0} (judged : Result X Fault) (o : Ending) → IfOk judged (λ unit. RunOver tells p (OnLog tells log Accepts p)) → IfErr judged (λ f. CauseOfRefusal f log tells p r) → AnswersAudit judged o w → EndsJudged o.fault (left_by o) log tells g r w
     ends_judged (Ok unit) o lawful cause h = subst (λ left. EndsJudged o.fault left log tells g r w) (sym h.0) (by_outcome o.fault h.1)
       where
-        by_outcome : (e : Option Fault) → PutBy e lawful_line w → EndsJudged e nothing log tells g r w
+        by_outcome : (e : Option Fault) → PutBy e lawful_line w → EndsJudged e leaves_nothing log tells g r w
         by_outcome None put = ((refl, refl), over_plan (OnLog tells log Accepts) lawful, put)
-        by_outcome (Some e) put = subst (λ f. EndsJudged (Some f) nothing log tells g r w) (sym put.0) ((refl, refl), over_plan (OnLog tells log Accepts) lawful, put.1, put.2)
+        by_outcome (Some e) put = subst (λ f. EndsJudged (Some f) leaves_nothing log tells g r w) (sym put.0) ((refl, refl), over_plan (OnLog tells log Accepts) lawful, put.1, put.2)
     ends_judged (Err f) o lawful cause h = subst (λ left. EndsJudged o.fault left log tells g r w) (sym h.0)
         (⊎_elim
-        (λ (is : o.fault ≡ Some f). subst (λ e. EndsJudged e nothing log tells g r w) (sym is) (refused f h.2 cause))
-        (λ (is : o.fault ≡ Some fault.Memory). subst (λ e. EndsJudged e nothing log tells g r w) (sym is) ((refl, refl), h.2))
+        (λ (is : o.fault ≡ Some f). subst (λ e. EndsJudged e leaves_nothing log tells g r w) (sym is) (refused f h.2 cause))
+        (λ (is : o.fault ≡ Some fault.Memory). subst (λ e. EndsJudged e leaves_nothing log tells g r w) (sym is) ((refl, refl), h.2))
         h.1)
 
   -- the graph has no plan
   pub unplanned_audit : (o : Ending) → IsUnplanned g o → w.written_now ≡ w.written_before → EndsJudged o.fault (left_by o) log tells g r w
   unplanned_audit o (none, f, cause, is) still = subst (λ left. EndsJudged o.fault left log tells g r w) (sym none)
       (⊎_elim
-      (λ (it : o.fault ≡ Some (fault_of_plan f)). subst (λ e. EndsJudged e nothing log tells g r w) (sym it) (by_fault f cause))
-      (λ (it : o.fault ≡ Some fault.Memory). subst (λ e. EndsJudged e nothing log tells g r w) (sym it) ((refl, refl), still))
+      (λ (it : o.fault ≡ Some (fault_of_plan f)). subst (λ e. EndsJudged e leaves_nothing log tells g r w) (sym it) (by_fault f cause))
+      (λ (it : o.fault ≡ Some fault.Memory). subst (λ e. EndsJudged e leaves_nothing log tells g r w) (sym it) ((refl, refl), still))
       is)
     where
-      by_fault : (e : PlanFault) → CauseOfPlan e g → EndsJudged (Some (fault_of_plan e)) nothing log tells g r w
+      by_fault : (e : PlanFault) → CauseOfPlan e g → EndsJudged (Some (fault_of_plan e)) leaves_nothing log tells g r w
       by_fault (plan.Cycle actors) k = (refl, (refl, refl), ((k, (refl, refl)), still))
       by_fault (plan.Infeasible send offset slack) k = (refl, (refl, refl), ((k.0, (k.1, (refl, refl))), still))
       by_fault plan.Memory k = ((refl, refl), still)

@@ -20,7 +20,7 @@ use Rattle.pt_run.specs.declared.outcome.Ending.{Ending}
 use Rattle.pt_run.specs.declared.words.Command.{Command}
 use Rattle.pt_run.specs.declared.words.Command.TheVariants.{Run, Check, Meaning, Slacks}
 use Rattle.pt_run.specs.Faults.{fault_of_graph}
-use Rattle.pt_run.specs.Written.{HasNothing, Leaves, Writes, nothing}
+use Rattle.pt_run.specs.Written.{HasNothing, Leaves, Writes, leaves_nothing}
 use Rattle.pt_run.specs.Causes.{CauseOf, CauseOfGraph, CauseOfMeaning, CauseOfRun, CauseOfText, Writing}
 use Rattle.pt_run.specs.Texts.{Answers, EndsBy, EndsOver, PutBy, left_by, left_with}
 
@@ -127,7 +127,7 @@ module _ (tells : Contents) (g : Graph) (left : Leaves) (name : List ℕ) (first
   after_file c fault.Memory h = h
 
 -- where nothing is left, there are no misses and no platforms
-pub has_nothing : (o : Ending) (before now : List ClockView) → left_by o ≡ nothing → HasNothing (left_with o before now)
+pub has_nothing : (o : Ending) (before now : List ClockView) → left_by o ≡ leaves_nothing → HasNothing (left_with o before now)
 has_nothing o before now e = (ap (λ (l : Leaves). l.misses) e, ap (λ (l : Leaves). l.platforms) e)
 
 -- no command's text fails in these ways
@@ -192,7 +192,7 @@ err_at tells r W (Ok text) h = tt
 err_at tells r W (Err f) h = h tells r
 
 -- a text is there before it is written
-never_written : (d : Command) (tells : Contents) (g : Graph) (r : Reading) → CauseOfText d fault.Write nothing tells g [] r → ⊥
+never_written : (d : Command) (tells : Contents) (g : Graph) (r : Reading) → CauseOfText d fault.Write leaves_nothing tells g [] r → ⊥
 never_written (Run workers clock log) tells g r k = k
 never_written Check tells g r k = k.0
 never_written Meaning tells g r k = k.0
@@ -200,19 +200,19 @@ never_written Slacks tells g r k = k.0
 
 -- a question over a graph ends with its answer
 pub ends_answer : (c : Command) (made : Result (String Global) Fault) (o : Ending) (tells : Contents) (g : Graph) (r : Reading) (w : Writing) →
-    IfOk made (λ text. Writes c tells g nothing (string_bytes text)) → IfErr made (λ f. CauseOf c f nothing tells g [] r) → Answers made o w → EndsOver o.fault (left_by o) c tells g r w
+    IfOk made (λ text. Writes c tells g leaves_nothing (string_bytes text)) → IfErr made (λ f. CauseOf c f leaves_nothing tells g [] r) → Answers made o w → EndsOver o.fault (left_by o) c tells g r w
 ends_answer c (Ok text) o tells g r w good bad h = subst (λ left. EndsOver o.fault left c tells g r w) (sym h.0) (by_outcome o.fault h.1)
   where
-    by_outcome : (e : Option Fault) → PutBy e (string_bytes text) w → EndsOver e nothing c tells g r w
+    by_outcome : (e : Option Fault) → PutBy e (string_bytes text) w → EndsOver e leaves_nothing c tells g r w
     by_outcome None put = (string_bytes text, good, put)
-    by_outcome (Some e) put = subst (λ f. EndsOver (Some f) nothing c tells g r w) (sym put.0) (put.1, refl, [], string_bytes text, good, put.2)
+    by_outcome (Some e) put = subst (λ f. EndsOver (Some f) leaves_nothing c tells g r w) (sym put.0) (put.1, refl, [], string_bytes text, good, put.2)
 ends_answer c (Err f) o tells g r w good bad h = subst (λ left. EndsOver o.fault left c tells g r w) (sym h.0)
     (⊎_elim
-    (λ (is : o.fault ≡ Some f). subst (λ e. EndsOver e nothing c tells g r w) (sym is) (by_fault f bad))
-    (λ (is : o.fault ≡ Some fault.Memory). subst (λ e. EndsOver e nothing c tells g r w) (sym is) ((refl, refl), h.2))
+    (λ (is : o.fault ≡ Some f). subst (λ e. EndsOver e leaves_nothing c tells g r w) (sym is) (by_fault f bad))
+    (λ (is : o.fault ≡ Some fault.Memory). subst (λ e. EndsOver e leaves_nothing c tells g r w) (sym is) ((refl, refl), h.2))
     h.1)
   where
-    by_fault : (e : Fault) → CauseOf c e nothing tells g [] r → EndsOver (Some e) nothing c tells g r w
+    by_fault : (e : Fault) → CauseOf c e leaves_nothing tells g [] r → EndsOver (Some e) leaves_nothing c tells g r w
     by_fault fault.Usage k = (k, h.2)
     by_fault (fault.Graph e) k = (k, h.2)
     by_fault (fault.Cycle actors) k = (k, h.2)

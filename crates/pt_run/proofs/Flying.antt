@@ -32,7 +32,7 @@ use Rattle.pt_air.specs.declared.air.Air.{Air}
 use Rattle.pt_air.specs.declared.fault.AirFault.{AirFault}
 use Rattle.pt_air.specs.declared.fault.AirFault.TheVariants as airs
 use Rattle.pt_air.specs.declared.row.AirRow.{AirRow}
-use Rattle.pt_air.specs.AirOf.{after_header, air_of, air_with, rows_of}
+use Rattle.pt_air.specs.AirOf.{air_after_header, air_of, air_with, air_rows_of}
 use Rattle.pt_air.specs.Bounds.{KeepsBounds}
 use Rattle.pt_air.specs.Rows.{◌>>=◌}
 use Rattle.pt_aired.specs.HaveFlown.{HaveFlown}
@@ -46,13 +46,13 @@ use Rattle.pt_run.specs.declared.replay.Stopped.{Stopped}
 use Rattle.pt_run.specs.Auditing.{AsksLast, LastFails, PlanWith}
 use Rattle.pt_run.specs.Causes.{Writing}
 use Rattle.pt_run.specs.Faults.{fault_of_air, fault_of_plan, fault_of_rows}
-use Rattle.pt_run.specs.Flown.{CauseOfNoAir, EndsWith, HasFlown, HasReplayed, IsOfReplay, IsRecorded, NamesRow, StopsInAir, StopsReplay, stop_in}
+use Rattle.pt_run.specs.Flown.{CauseOfNoAir, EndsAsReplayed, FinishedReplay, HasReplayed, IsOfReplay, IsRecorded, NamesRow, StopsInAir, StopsReplay, stop_in}
 use Rattle.pt_run.specs.Headline.{PutsMeaning}
 use Rattle.pt_run.specs.Replaying.{AsksReplayed, EndsReplayed, LeavesReplay, OnAir}
 use Rattle.pt_run.specs.Runs.{IsOutput, IsStop, IsTold, RunOver}
-use Rattle.pt_run.specs.Texts.{IsUnplanned, LeftAll, WroteRun, left_by, of_run}
+use Rattle.pt_run.specs.Texts.{IsUnplanned, LeftAll, WroteRun, left_by, left_by_run}
 use Rattle.pt_run.specs.Words.{paced_run}
-use Rattle.pt_run.specs.Written.{nothing}
+use Rattle.pt_run.specs.Written.{leaves_nothing}
 use Rattle.pt_run.proofs.Asks.{asks_nothing, memory_asks}
 use Rattle.pt_run.proofs.FlownInBounds.{never_late}
 
@@ -72,12 +72,12 @@ cut limit e f bytes =
     ] refl
 
 -- the first bytes of a recording, one more than it may have, say what all of them say
-rows_of-fetched : (g : Graph) (bytes : List ℕ) → rows_of g (take 8388609 bytes) ≡ rows_of g bytes
-unfolding rows_of
-rows_of-fetched g bytes = cut 8388608 (Err airs.TooLong) (λ bs. after_header g (next st.StartRecord (strip_bom bs))) bytes
+air_rows_of-fetched : (g : Graph) (bytes : List ℕ) → air_rows_of g (take 8388609 bytes) ≡ air_rows_of g bytes
+unfolding air_rows_of
+air_rows_of-fetched g bytes = cut 8388608 (Err airs.TooLong) (λ bs. air_after_header g (next st.StartRecord (strip_bom bs))) bytes
 
 pub air_of-fetched : (g : Graph) (bytes : List ℕ) → air_of g (take 8388609 bytes) ≡ air_of g bytes
-air_of-fetched g bytes = ap (λ (rows : Result (List AirRow) AirFault). rows >>= λ rows. Ok (air_with g rows)) (rows_of-fetched g bytes)
+air_of-fetched g bytes = ap (λ (rows : Result (List AirRow) AirFault). rows >>= λ rows. Ok (air_with g rows)) (air_rows_of-fetched g bytes)
 
 pub rows_cause : (air : List ℕ) (tells : Contents) (p : Parts) (g : Graph) (f : RecordedFault) (r : Reading) → g ≡ p.graph → CauseOfRows Refused f tells g [] r → CauseOfNoAir (fault_of_rows f) air tells p r
 rows_cause air tells p g f r same cause = by_fault f (subst (λ (z : Graph). CauseOfRows Refused f tells z [] r) same cause)
@@ -129,13 +129,13 @@ over_air air tells p entries recorded Fact is fact = record {
 
 -- by how the platforms went
 pub flown_ran : (log : Bool) (p : Parts) (rows : ℕ → List Row) (recorded : Air) (platforms : List PlatformView) (went : Option (ℕ × TurnFault)) (result : Result Ran RunFault) → HaveFlown p (level_of p.ranks) rows recorded platforms went →
-    IfOk result (IsOutput went p log platforms) → IfErr result (IsStop went platforms) → IfOk result (λ ran. HasFlown log ran p rows recorded) × IfErr result (λ f. StopsInAir f p rows recorded)
+    IfOk result (IsOutput went p log platforms) → IfErr result (IsStop went platforms) → IfOk result (λ ran. FinishedReplay log ran p rows recorded) × IfErr result (λ f. StopsInAir f p rows recorded)
 flown_ran log p rows recorded platforms went result flown output stopped = (by_output result output, by_stop result stopped)
   where
     at : (ps : List PlatformView) (f : Option (ℕ × TurnFault)) → ps ≡ platforms → went ≡ f → HaveFlown p (level_of p.ranks) rows recorded ps f
     at ps f same is = subst (λ z. HaveFlown p (level_of p.ranks) rows recorded z f) (sym same) (subst (λ z. HaveFlown p (level_of p.ranks) rows recorded platforms z) is flown)
 
-    by_output : (result : Result Ran RunFault) → IfOk result (IsOutput went p log platforms) → IfOk result (λ ran. HasFlown log ran p rows recorded)
+    by_output : (result : Result Ran RunFault) → IfOk result (IsOutput went p log platforms) → IfOk result (λ ran. FinishedReplay log ran p rows recorded)
     by_output (Ok ran) (none, told) = (at ran.platforms.items None told.platforms_are none, subst (λ ps. IsTold p log ps ran) (sym told.platforms_are) told)
     by_output (Err f) h = tt
 
@@ -193,7 +193,7 @@ module _ (air : List ℕ) (tells : Contents) (p : Parts) (entries : List SensorR
   flown_asked stop.Memory before now k of h = subst (λ z. AsksReplayed (Some z) air p.graph before now) (sym of.0) (inr h)
 
 -- what was put is the tables of the meaning, and the log if it is asked for
-puts : (log : Bool) (ran : Ran) (p : Parts) (rows : ℕ → List Row) (recorded : Air) (Put : List ℕ → Type 0) → HasFlown log ran p rows recorded → Put (string_bytes ran.text) → PutsMeaning p rows log ran.platforms.items Put
+puts : (log : Bool) (ran : Ran) (p : Parts) (rows : ℕ → List Row) (recorded : Air) (Put : List ℕ → Type 0) → FinishedReplay log ran p rows recorded → Put (string_bytes ran.text) → PutsMeaning p rows log ran.platforms.items Put
 puts log ran p rows recorded Put (flown, told) put =
     let finished : HaveFinished p rows ran.platforms.items = record { all = flown.all; fit = flown.fit; finished = λ i v at. (flown.ends i v at).1; linked = flown.linked refl } in
     let text = told.text rows finished in
@@ -224,12 +224,12 @@ module _ (air : List ℕ) (log : Bool) (tells : Contents) (g : Graph) (r : Readi
     wrote : (ran : Ran) (o : Ending) → HasReplayed tells air p log ran → WroteRun ran o w → EndsReplayed o.fault (left_by o) air log tells g r w
     wrote ran o run h =
         ⊎_elim
-        (λ all. subst (λ left. EndsReplayed o.fault left air log tells g r w) (sym all.1) (subst (λ f. EndsReplayed f (of_run ran.misses.items ran.platforms.items) air log tells g r w) (sym all.0) (done all.2)))
-        (λ part. subst (λ left. EndsReplayed o.fault left air log tells g r w) (sym part.1) (subst (λ f. EndsReplayed f (of_run [] ran.platforms.items) air log tells g r w) (sym part.0) (part.2, partly part.3)))
+        (λ all. subst (λ left. EndsReplayed o.fault left air log tells g r w) (sym all.1) (subst (λ f. EndsReplayed f (left_by_run ran.misses.items ran.platforms.items) air log tells g r w) (sym all.0) (done all.2)))
+        (λ part. subst (λ left. EndsReplayed o.fault left air log tells g r w) (sym part.1) (subst (λ f. EndsReplayed f (left_by_run [] ran.platforms.items) air log tells g r w) (sym part.0) (part.2, partly part.3)))
         h
       where
-        done : Appends w.written_before w.written_now (string_bytes ran.text) → PlanWith tells g (OnAir tells air (LeavesReplay log None (of_run ran.misses.items ran.platforms.items) w))
-        done put = on_air (HasFlown log ran) (LeavesReplay log None (of_run ran.misses.items ran.platforms.items) w) (λ rows recorded k. record {
+        done : Appends w.written_before w.written_now (string_bytes ran.text) → PlanWith tells g (OnAir tells air (LeavesReplay log None (left_by_run ran.misses.items ran.platforms.items) w))
+        done put = on_air (FinishedReplay log ran) (LeavesReplay log None (left_by_run ran.misses.items ran.platforms.items) w) (λ rows recorded k. record {
           flown = k.0;
           written = λ e. puts log ran p rows recorded (Appends w.written_before w.written_now) k put;
           misses = λ e. k.1.misses;
@@ -239,8 +239,8 @@ module _ (air : List ℕ) (log : Bool) (tells : Contents) (g : Graph) (r : Readi
           breach = tt;
         }) run
 
-        partly : AppendsPart w.written_before w.written_now (string_bytes ran.text) → PlanWith tells g (OnAir tells air (LeavesReplay log (Some fault.Write) (of_run [] ran.platforms.items) w))
-        partly put = on_air (HasFlown log ran) (LeavesReplay log (Some fault.Write) (of_run [] ran.platforms.items) w) (λ rows recorded k. record {
+        partly : AppendsPart w.written_before w.written_now (string_bytes ran.text) → PlanWith tells g (OnAir tells air (LeavesReplay log (Some fault.Write) (left_by_run [] ran.platforms.items) w))
+        partly put = on_air (FinishedReplay log ran) (LeavesReplay log (Some fault.Write) (left_by_run [] ran.platforms.items) w) (λ rows recorded k. record {
           flown = k.0;
           written = λ e. absurd cc;
           misses = λ e. absurd cc;
@@ -251,9 +251,9 @@ module _ (air : List ℕ) (log : Bool) (tells : Contents) (g : Graph) (r : Readi
         }) run
 
     module _ (still : w.written_now ≡ w.written_before) where
-      halted : (f : Fault) (ps : List PlatformView) → StopsReplay f ps air tells p r → EndsReplayed (Some f) (of_run [] ps) air log tells g r w
+      halted : (f : Fault) (ps : List PlatformView) → StopsReplay f ps air tells p r → EndsReplayed (Some f) (left_by_run [] ps) air log tells g r w
       halted (fault.Long (Some platform)) ps k =
-          on_air (λ q rows recorded. HaveFlown q (level_of q.ranks) rows recorded ps (Some (platform, turn.Long))) (LeavesReplay log (Some (fault.Long (Some platform))) (of_run [] ps) w) (λ rows recorded flown. record {
+          on_air (λ q rows recorded. HaveFlown q (level_of q.ranks) rows recorded ps (Some (platform, turn.Long))) (LeavesReplay log (Some (fault.Long (Some platform))) (left_by_run [] ps) w) (λ rows recorded flown. record {
             flown = flown;
             written = λ e. absurd cc;
             misses = λ e. absurd cc;
@@ -264,7 +264,7 @@ module _ (air : List ℕ) (log : Bool) (tells : Contents) (g : Graph) (r : Readi
           }) k
       halted (fault.LateAir platform actor tag reading limit row) ps k =
           on_air (λ q rows recorded. HaveFlown q (level_of q.ranks) rows recorded ps (Some (platform, turn.Late actor tag reading limit)) × (recorded.breach ≡ Some row))
-          (LeavesReplay log (Some (fault.LateAir platform actor tag reading limit row)) (of_run [] ps) w) (λ rows recorded late. record {
+          (LeavesReplay log (Some (fault.LateAir platform actor tag reading limit row)) (left_by_run [] ps) w) (λ rows recorded late. record {
             flown = late.0;
             written = λ e. absurd cc;
             misses = λ e. absurd cc;
@@ -294,11 +294,11 @@ module _ (air : List ℕ) (log : Bool) (tells : Contents) (g : Graph) (r : Readi
       reported : (f : Fault) (ps : List PlatformView) (o : Ending) → StopsReplay f ps air tells p r → LeftAll f ps o → EndsReplayed o.fault (left_by o) air log tells g r w
       reported f ps o k h =
           ⊎_elim
-          (λ is. subst (λ left. EndsReplayed o.fault left air log tells g r w) (sym is.1) (subst (λ e. EndsReplayed e (of_run [] ps) air log tells g r w) (sym is.0) (halted f ps k)))
-          (λ memory. subst (λ left. EndsReplayed o.fault left air log tells g r w) (sym memory.1) (subst (λ e. EndsReplayed e nothing air log tells g r w) (sym memory.0) ((refl, refl), still)))
+          (λ is. subst (λ left. EndsReplayed o.fault left air log tells g r w) (sym is.1) (subst (λ e. EndsReplayed e (left_by_run [] ps) air log tells g r w) (sym is.0) (halted f ps k)))
+          (λ memory. subst (λ left. EndsReplayed o.fault left air log tells g r w) (sym memory.1) (subst (λ e. EndsReplayed e leaves_nothing air log tells g r w) (sym memory.0) ((refl, refl), still)))
           h
 
-    pub ends_replayed : (ran : Result Ran Stopped) (o : Ending) → IfOk ran (HasReplayed tells air p log) → IfErr ran (λ s. StopsReplay s.fault s.platforms.items air tells p r) → EndsWith ran o w → EndsReplayed o.fault (left_by o) air log tells g r w
+    pub ends_replayed : (ran : Result Ran Stopped) (o : Ending) → IfOk ran (HasReplayed tells air p log) → IfErr ran (λ s. StopsReplay s.fault s.platforms.items air tells p r) → EndsAsReplayed ran o w → EndsReplayed o.fault (left_by o) air log tells g r w
     ends_replayed (Ok ran) o run stops h = wrote ran o run h
     ends_replayed (Err s) o run stops h = reported h.1 s.fault s.platforms.items o stops h.0
 
@@ -306,11 +306,11 @@ module _ (air : List ℕ) (log : Bool) (tells : Contents) (g : Graph) (r : Readi
   pub unplanned_replay : (o : Ending) → IsUnplanned g o → w.written_now ≡ w.written_before → EndsReplayed o.fault (left_by o) air log tells g r w
   unplanned_replay o (none, f, cause, is) still = subst (λ left. EndsReplayed o.fault left air log tells g r w) (sym none)
       (⊎_elim
-      (λ (it : o.fault ≡ Some (fault_of_plan f)). subst (λ e. EndsReplayed e nothing air log tells g r w) (sym it) (by_fault f cause))
-      (λ (it : o.fault ≡ Some fault.Memory). subst (λ e. EndsReplayed e nothing air log tells g r w) (sym it) ((refl, refl), still))
+      (λ (it : o.fault ≡ Some (fault_of_plan f)). subst (λ e. EndsReplayed e leaves_nothing air log tells g r w) (sym it) (by_fault f cause))
+      (λ (it : o.fault ≡ Some fault.Memory). subst (λ e. EndsReplayed e leaves_nothing air log tells g r w) (sym it) ((refl, refl), still))
       is)
     where
-      by_fault : (e : PlanFault) → CauseOfPlan e g → EndsReplayed (Some (fault_of_plan e)) nothing air log tells g r w
+      by_fault : (e : PlanFault) → CauseOfPlan e g → EndsReplayed (Some (fault_of_plan e)) leaves_nothing air log tells g r w
       by_fault (plan.Cycle actors) k = (refl, (refl, refl), ((k, (refl, refl)), still))
       by_fault (plan.Infeasible send offset slack) k = (refl, (refl, refl), ((k.0, (k.1, (refl, refl))), still))
       by_fault plan.Memory k = ((refl, refl), still)
@@ -351,10 +351,10 @@ by_memory air g fault.ReadLog before now k = inl (memory_asks paced_run fault.Re
 by_memory air g (fault.Unlawful v) before now k = inl (memory_asks paced_run (fault.Unlawful v) g before now k)
 
 -- nothing more is asked for once the replay ended
-pub replayed_asks : (ran : Result Ran Stopped) (o : Ending) (w : Writing) (air : List ℕ) (g h : Graph) (before now : Option (List (List ℕ))) → h ≡ g → EndsWith ran o w → AsksReplayed (stop_in ran) air h before now → AsksReplayed o.fault air g before now
+pub replayed_asks : (ran : Result Ran Stopped) (o : Ending) (w : Writing) (air : List ℕ) (g h : Graph) (before now : Option (List (List ℕ))) → h ≡ g → EndsAsReplayed ran o w → AsksReplayed (stop_in ran) air h before now → AsksReplayed o.fault air g before now
 replayed_asks ran o w air g h before now same ends asks = by_ran ran ends (subst (λ (z : Graph). AsksReplayed (stop_in ran) air z before now) same asks)
   where
-    by_ran : (j : Result Ran Stopped) → EndsWith j o w → AsksReplayed (stop_in j) air g before now → AsksReplayed o.fault air g before now
+    by_ran : (j : Result Ran Stopped) → EndsAsReplayed j o w → AsksReplayed (stop_in j) air g before now → AsksReplayed o.fault air g before now
     by_ran (Ok ran) a k =
         ⊎_elim
         (λ all. subst (λ e. AsksReplayed e air g before now) (sym all.0) k)

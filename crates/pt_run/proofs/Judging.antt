@@ -11,7 +11,7 @@ use Rattle.pt_causality.specs.Ranked.{rank_of}
 use Rattle.pt_offsets.specs.Plans.{IsAdmitted, Parts}
 use Rattle.pt_confluence.specs.Gathered.{AreTables, HaveFinished}
 use Rattle.pt_turn.specs.Platforms.{PlatformView}
-use Rattle.pt_hints.specs.Lines.{lines_of}
+use Rattle.pt_hints.specs.Lines.{text_lines}
 use Rattle.pt_hints.specs.Places.{IsLogAt}
 use Rattle.pt_hints.proofs.BlockTexts.{concat_lines}
 use Rattle.pt_audit.specs.LawfulLogs.{most_bytes}
@@ -83,8 +83,8 @@ module _ (plan : Parts) (rows : ℕ → List Row) (bytes : List ℕ) (admitted :
       where
         head : IsHead plan rows bytes
         head = record {
-          head = lines_of (take place bytes);
-          rest = lines_of (drop (place + 4) bytes);
+          head = text_lines (take place bytes);
+          rest = text_lines (drop (place + 4) bytes);
           lines = at.lines;
           tables = record { firings = tables.firings; meaning = tables.meaning; written = concat_lines (take place bytes) ∙ tables.written };
         }
@@ -101,7 +101,7 @@ module _ (plan : Parts) (rows : ℕ → List Row) (bytes : List ℕ) (admitted :
     -- the head is that text
     of_head : IsHead plan rows bytes → AreTables plan rows (take place bytes)
     of_head head =
-        let parts = same_some (head.head, head.rest) (lines_of (take place bytes), lines_of (drop (place + 4) bytes)) (sym head.lines ∙ at.lines) in
+        let parts = same_some (head.head, head.rest) (text_lines (take place bytes), text_lines (drop (place + 4) bytes)) (sym head.lines ∙ at.lines) in
         subst (AreTables plan rows) (ap (λ (p : List (List ℕ) × List (List ℕ)). concat p.0) parts ∙ concat_lines (take place bytes)) head.tables
 
     -- or it isn't

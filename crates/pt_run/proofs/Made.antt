@@ -164,9 +164,9 @@ tells_nothing outcome misses n written is none =
 
 -- the number of a `make`
 pub made_number_in : (words : List (String Global)) (order : Option Asked) (n k : ℕ) → option_map in_words order ≡ order_of words → order ≡ Some (Make n k) → n ≤ 100
-made_number_in words order n k says is = by_request (grammar.order_of words) refl (sym says ∙ ap (option_map in_words) is)
+made_number_in words order n k says is = by_request (grammar.request_of_words words) refl (sym says ∙ ap (option_map in_words) is)
   where
-    by_request : (o : Option grammar.Request) → grammar.order_of words ≡ o → option_map order_by o ≡ Some (make n k) → n ≤ 100
+    by_request : (o : Option grammar.Request) → grammar.request_of_words words ≡ o → option_map order_by o ≡ Some (make n k) → n ≤ 100
     by_request None e h = absurd (none_some (make n k) h)
     by_request (Some (grammar.run graph workers clock log)) e h = absurd (other graph workers clock log h)
       where

@@ -11,7 +11,7 @@ use Rattle.pt_causality.specs.Ranked.{level_of, rank_of}
 use Rattle.pt_offsets.specs.Plans.{IsAdmitted, Parts}
 use Rattle.pt_hints.specs.Lines.{Block}
 use Rattle.pt_audit.specs.LawfulLogs.{IsLawfulLog}
-use Rattle.pt_audit.specs.Verdicts.{AreFinished, HasLog, IsFirstUnfinished, IsFirstUnlinked, IsHead, IsVerdict, IsVerdictOn, StopsAt, TellsAll}
+use Rattle.pt_audit.specs.Verdicts.{AllAreFinished, HasLog, IsFirstUnfinished, IsFirstUnlinked, IsHead, IsVerdict, IsVerdictOn, StopsAt, AllBlocksSay}
 use Rattle.pt_audit.specs.declared.verdict.Verdict.{Verdict}
 use Rattle.pt_audit.specs.declared.verdict.Verdict.TheVariants.{TooLong, NoLog, Turn, Unfinished, Unlinked, Table, Fine}
 use Rattle.pt_audit.proofs.FineLogs.{lawful_is_fine}
@@ -33,9 +33,9 @@ module _ (p q : Parts) (rows : ℕ → List Row) (bytes : List ℕ) (one : IsAdm
   verdict_on NoLog blocks k = k
   verdict_on Table blocks k = k
   verdict_on (Turn line) blocks k = by_levels (λ g level. StopsAt g level rows line blocks) k
-  verdict_on (Unfinished i) blocks k = by_levels (λ g level. TellsAll g level rows blocks (λ histories ends. IsFirstUnfinished g i ends)) k
-  verdict_on (Unlinked l) blocks k = by_levels (λ g level. TellsAll g level rows blocks (λ histories ends. AreFinished g ends × IsFirstUnlinked g l histories)) k
-  verdict_on Fine blocks k = by_levels (λ g level. TellsAll g level rows blocks (λ histories ends. AreFinished g ends × AreLinked g histories)) k
+  verdict_on (Unfinished i) blocks k = by_levels (λ g level. AllBlocksSay g level rows blocks (λ histories ends. IsFirstUnfinished g i ends)) k
+  verdict_on (Unlinked l) blocks k = by_levels (λ g level. AllBlocksSay g level rows blocks (λ histories ends. AllAreFinished g ends × IsFirstUnlinked g l histories)) k
+  verdict_on Fine blocks k = by_levels (λ g level. AllBlocksSay g level rows blocks (λ histories ends. AllAreFinished g ends × AreLinked g histories)) k
 
   on_file : (v : Verdict) → HasLog bytes (λ blocks. IsVerdictOn p rows blocks v) → HasLog bytes (λ blocks. IsVerdictOn q rows blocks v)
   on_file v k = record { short = k.short; head = k.head; rest = k.rest; lines = k.lines; fact = verdict_on v _ k.fact }

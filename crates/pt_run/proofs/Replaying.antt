@@ -20,7 +20,7 @@ use Rattle.pt_run.specs.Replaying.{AsksReplay, AsksReplayed, EndsReplay, EndsRep
 use Rattle.pt_run.specs.Telling.{AreOfGraph, Tells, TellsBy}
 use Rattle.pt_run.specs.Texts.{AsksFor, AsksInOrder, EndsBy, EndsOver, files_for, left_by}
 use Rattle.pt_run.specs.Words.{paced_run}
-use Rattle.pt_run.specs.Written.{Leaves, nothing}
+use Rattle.pt_run.specs.Written.{Leaves, leaves_nothing}
 use Rattle.pt_run.proofs.Asks.{asked_for_graph, asked_in_order}
 use Rattle.pt_run.proofs.Auditing.{not_before}
 use Rattle.pt_run.proofs.Ending.{ends_file}
@@ -138,12 +138,12 @@ module _ (name air : List ℕ) (tells : Contents) (blocks : List Named) (r : Rea
   by_told : (Fact : Fault → Type 0) → Fact f → Fact fault.Memory → Fact told
   by_told Fact fits memory = ⊎_elim (λ (same : told ≡ f). subst Fact (sym same) fits) (λ (none : told ≡ fault.Memory). subst Fact (sym none) memory) tell
 
-  pub graph_refused : (log : Bool) (o : Ending) (w : Writing) → left_by o ≡ nothing → o.fault ≡ Some told → w.written_now ≡ w.written_before → EndsReplay o.fault (left_by o) name air log tells blocks r w
+  pub graph_refused : (log : Bool) (o : Ending) (w : Writing) → left_by o ≡ leaves_nothing → o.fault ≡ Some told → w.written_now ≡ w.written_before → EndsReplay o.fault (left_by o) name air log tells blocks r w
   graph_refused log o w none is still =
-      subst (λ left. EndsReplay o.fault left name air log tells blocks r w) (sym none) (subst (λ e. EndsReplay e nothing name air log tells blocks r w) (sym is)
-      (by_told (λ e. EndsReplay (Some e) nothing name air log tells blocks r w) (by_fault f cause) ((refl, refl), still)))
+      subst (λ left. EndsReplay o.fault left name air log tells blocks r w) (sym none) (subst (λ e. EndsReplay e leaves_nothing name air log tells blocks r w) (sym is)
+      (by_told (λ e. EndsReplay (Some e) leaves_nothing name air log tells blocks r w) (by_fault f cause) ((refl, refl), still)))
     where
-      by_fault : (e : Fault) → CauseOfGraph e tells blocks name r → EndsReplay (Some e) nothing name air log tells blocks r w
+      by_fault : (e : Fault) → CauseOfGraph e tells blocks name r → EndsReplay (Some e) leaves_nothing name air log tells blocks r w
       by_fault (fault.Graph e) k = (refl, (refl, refl), (k, (refl, refl), still))
       by_fault (fault.Read None) k = (refl, (refl, refl), (k, (refl, refl), still))
       by_fault fault.Memory k = ((refl, refl), still)

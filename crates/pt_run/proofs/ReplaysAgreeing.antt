@@ -35,7 +35,7 @@ use Rattle.pt_air.specs.AirOf.{air_of}
 use Rattle.pt_skies.specs.Flights.{IsWholeReplay}
 use Rattle.pt_skies.specs.Sky.{Sky}
 use Rattle.pt_skies.proofs.OneReplay.{replays_are_one}
-use Rattle.pt_aired.specs.HaveFlown.{HaveFlown, IsAfter}
+use Rattle.pt_aired.specs.HaveFlown.{HaveFlown, IsAfterReplay}
 use Rattle.pt_run.specs.declared.fault.Fault.{Fault}
 use Rattle.pt_run.specs.Agreeing.{TellsAll}
 use Rattle.pt_run.specs.Causes.{Writing}
@@ -60,7 +60,7 @@ kept_of : (plan : Parts) (rows : ℕ → List Row) (air : Air) (platforms : List
 kept_of plan rows air platforms fault h = record { all = h.all; legal = h.legal; matched = h.matched; linked = h.linked; ends = h.ends }
 
 -- two replays with the same last round: a platform without a fault after one has none after the other
-fine_too : (plan other : Parts) (rows : ℕ → List Row) (level levels : ℕ → ℕ) (air : Air) (platforms others : List PlatformView) (a : IsAfter plan rows level air platforms) (b : IsAfter other rows levels air others) → a.run.made ≡ b.run.made →
+fine_too : (plan other : Parts) (rows : ℕ → List Row) (level levels : ℕ → ℕ) (air : Air) (platforms others : List PlatformView) (a : IsAfterReplay plan rows level air platforms) (b : IsAfterReplay other rows levels air others) → a.run.made ≡ b.run.made →
     (i : ℕ) (v w : PlatformView) → slice_get platforms i ≡ Some v → slice_get others i ≡ Some w → v.fault ≡ None → w.fault ≡ None
 fine_too plan other rows level levels air platforms others a b same i v w at there none =
     (b.faults i w there).1 (subst (λ made. (m : Made) → IsIn m made → m.platform ≡ i → m.fault ≡ false) same ((a.faults i v at).0 none))

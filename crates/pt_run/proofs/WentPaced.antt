@@ -19,7 +19,7 @@ use Rattle.pt_turn.specs.Running.{Shows}
 use Rattle.pt_together.specs.Asked.{EndsAt}
 use Rattle.pt_confluence.specs.Gathered.{AreLegal}
 use Rattle.pt_rounds.specs.HaveRun.{HaveRun}
-use Rattle.pt_run.specs.Runs.{RunsPaced, WentBy, paced_by}
+use Rattle.pt_run.specs.Runs.{RunsPaced, WentBy, paced_clocking}
 use Rattle.pt_run.specs.Went.{IsFaultAt}
 
 -- a platform opens with its own rows alone
@@ -58,7 +58,7 @@ fault_found platforms number n v shown is within indexed fault shows =
     (v, slice_get-get_or platforms n v lt ∙ ap Some (sym indexed), ap (option_map (λ (f : TurnFault). (n, f))) fault, subst (λ o. MatchOption o (Unit {0}) (Shows v.plan.graph v.turns (state_at v))) fault shows)
 
 module _ (workers : ℕ) (plan : Parts) (rows : ℕ → List Row) (platforms : List PlatformView) (are : AreLegal platforms) where
-  went : (stopped : Option ℕ) (fault : Option (ℕ × TurnFault)) (run : HaveRun plan (level_of plan.ranks) rows platforms stopped) → (fault ≡ None → stopped ≡ None) → EndsAt plan.graph platforms fault → RunsPaced plan rows platforms fault → WentBy (paced_by workers) plan rows platforms fault
+  went : (stopped : Option ℕ) (fault : Option (ℕ × TurnFault)) (run : HaveRun plan (level_of plan.ranks) rows platforms stopped) → (fault ≡ None → stopped ≡ None) → EndsAt plan.graph platforms fault → RunsPaced plan rows platforms fault → WentBy (paced_clocking workers) plan rows platforms fault
   went stopped fault run none ends paced = record {
     kept = record { all = run.all; legal = legal_in plan rows platforms run.all are; matched = run.matched; linked = λ e. run.linked (none e); ends = ends };
     readings = record { rounds = run.after; on_schedule = run.on_schedule; none_late = run.none_late };
@@ -66,8 +66,8 @@ module _ (workers : ℕ) (plan : Parts) (rows : ℕ → List Row) (platforms : L
   }
 
   -- the fault of the platform that stopped it
-  pub went_paced : (stopped : Option ℕ) (fault : Option (ℕ × TurnFault)) → HaveRun plan (level_of plan.ranks) rows platforms stopped → IsFaultAt platforms stopped fault → WentBy (paced_by workers) plan rows platforms fault
-  went_paced None fault run is = subst (WentBy (paced_by workers) plan rows platforms) (sym is) (went None None run (λ e. refl) run.ends run)
+  pub went_paced : (stopped : Option ℕ) (fault : Option (ℕ × TurnFault)) → HaveRun plan (level_of plan.ranks) rows platforms stopped → IsFaultAt platforms stopped fault → WentBy (paced_clocking workers) plan rows platforms fault
+  went_paced None fault run is = subst (WentBy (paced_clocking workers) plan rows platforms) (sym is) (went None None run (λ e. refl) run.ends run)
   went_paced (Some number) fault run (v, at, is, shows) =
       let (w, there, long, before) = run.ends in
       let same : w ≡ v = same_some w v (sym there ∙ at) in
@@ -75,7 +75,7 @@ module _ (workers : ℕ) (plan : Parts) (rows : ℕ → List Row) (platforms : L
       let found : fault ≡ Some (number, Long) = is ∙ ap (option_map (λ (f : TurnFault). (number, f))) fault_is in
       let shown : Shows v.plan.graph v.turns (state_at v) Long = subst (λ o. MatchOption o (Unit {0}) (Shows v.plan.graph v.turns (state_at v))) fault_is shows in
       let of_plan : Shows plan.graph v.turns (state_at v) Long = subst (λ (p : Parts). Shows p.graph v.turns (state_at v) Long) (run.all.plans number v at) shown in
-      subst (WentBy (paced_by workers) plan rows platforms) (sym found)
+      subst (WentBy (paced_clocking workers) plan rows platforms) (sym found)
       (went (Some number) (Some (number, Long)) run (λ e. absurd (never number e)) (v, at, fault_is, of_plan, before) (refl, run))
     where
       never : (n : ℕ) → ◌≡◌ {A = Option (ℕ × TurnFault)} (Some (n, Long)) None → ⊥

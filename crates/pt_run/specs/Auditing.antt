@@ -20,7 +20,7 @@ use Rattle.pt_run.specs.Headline.{RunWith}
 use Rattle.pt_run.specs.Runs.{RunOver}
 use Rattle.pt_run.specs.Texts.{AsksFor, AsksInOrder, EndsOver, OrMemory, PutBy, left_by}
 use Rattle.pt_run.specs.Words.{paced_run}
-use Rattle.pt_run.specs.Written.{GraphWith, HasNothing, Leaves, nothing}
+use Rattle.pt_run.specs.Written.{GraphWith, HasNothing, Leaves, leaves_nothing}
 
 -- the line `lawful`
 abbrev pub lawful_line : List ℕ
@@ -135,5 +135,5 @@ CauseOfRefusal _ log tells plan r = ⊥
 
 -- the line `lawful` is put, or the fault is reported
 abbrev pub AnswersAudit : {X : Type 0} → Result X Fault → Ending → Writing → Type 0
-AnswersAudit (Ok unit) o w = (left_by o ≡ nothing) × PutBy o.fault lawful_line w
-AnswersAudit (Err f) o w = (left_by o ≡ nothing) × OrMemory o.fault f × (w.written_now ≡ w.written_before)
+AnswersAudit (Ok unit) o w = (left_by o ≡ leaves_nothing) × PutBy o.fault lawful_line w
+AnswersAudit (Err f) o w = (left_by o ≡ leaves_nothing) × OrMemory o.fault f × (w.written_now ≡ w.written_before)

@@ -35,11 +35,11 @@ AreAsMany Machine before now = length now ≡ length before
 AreAsMany _ before now = now ≡ before
 
 -- the same after a run of a plan: where it has no platforms, and memory did not run out, the clocks are as they were
-abbrev pub AreKept : {C : Type 0} → Result Ran RunFault → ClockChoice → List C → List C → Type 0
-AreKept (Ok ran) clock before now = AreAsMany clock before now
-AreKept (Err (Rows f)) clock before now = now ≡ before
-AreKept (Err Memory) clock before now = Unit {0}
-AreKept (Err f) clock before now = AreAsMany clock before now
+abbrev pub AreBackAfterRun : {C : Type 0} → Result Ran RunFault → ClockChoice → List C → List C → Type 0
+AreBackAfterRun (Ok ran) clock before now = AreAsMany clock before now
+AreBackAfterRun (Err (Rows f)) clock before now = now ≡ before
+AreBackAfterRun (Err Memory) clock before now = Unit {0}
+AreBackAfterRun (Err f) clock before now = AreAsMany clock before now
 
 -- after a command
 abbrev pub AreBackFor : {C : Type 0} → Command → Option Fault → List C → List C → Type 0

@@ -27,7 +27,7 @@ use Rattle.pt_run.specs.Auditing.{LastFails}
 use Rattle.pt_run.specs.Causes.{Writing}
 use Rattle.pt_run.specs.Replaying.{OnAir}
 use Rattle.pt_run.specs.Runs.{IsTold, RunOver}
-use Rattle.pt_run.specs.Texts.{IsOfRun, LeftAll, WroteRun}
+use Rattle.pt_run.specs.Texts.{IsFaultOfRun, LeftAll, WroteRun}
 
 -- the rows of a plan's sensors, none of which is late, and the lags and transits that the file `air` says
 pub record IsRecorded (tells : Contents) (air : List ℕ) (plan : Parts) (entries : List SensorRows) (recorded : Air) : Type 0 where
@@ -51,12 +51,12 @@ CauseOfNoAir fault.Memory air tells plan r = Unit {0}
 CauseOfNoAir _ air tells plan r = ⊥
 
 -- a replay finished with these outputs
-abbrev pub HasFlown : Bool → Ran → Parts → (ℕ → List Row) → Air → Type 0
-HasFlown log ran plan rows recorded = HaveFlown plan (level_of plan.ranks) rows recorded ran.platforms.items None × IsTold plan log ran.platforms.items ran
+abbrev pub FinishedReplay : Bool → Ran → Parts → (ℕ → List Row) → Air → Type 0
+FinishedReplay log ran plan rows recorded = HaveFlown plan (level_of plan.ranks) rows recorded ran.platforms.items None × IsTold plan log ran.platforms.items ran
 
 -- the same over the files
 abbrev pub HasReplayed : Contents → List ℕ → Parts → Bool → Ran → Type 0
-HasReplayed tells air plan log ran = RunOver tells plan (OnAir tells air (HasFlown log ran) plan)
+HasReplayed tells air plan log ran = RunOver tells plan (OnAir tells air (FinishedReplay log ran) plan)
 
 -- why a replay did not finish once it began, and the platforms that it leaves
 abbrev pub StopsInAir : RunFault → Parts → (ℕ → List Row) → Air → Type 0
@@ -73,7 +73,7 @@ NamesRow _ breach = Unit {0}
 -- the fault of a replay, from that of its run, with the platforms that it leaves
 abbrev pub IsOfReplay : RunFault → Option ℕ → Fault → List PlatformView → Type 0
 IsOfReplay (stop.Late platform actor tag reading limit left) breach f platforms = (row : ℕ) × (breach ≡ Some row) × (f ≡ fault.LateAir platform actor tag reading limit row) × (platforms ≡ left.items)
-IsOfReplay e breach f platforms = IsOfRun e f platforms
+IsOfReplay e breach f platforms = IsFaultOfRun e f platforms
 
 -- why a replay did not finish, with the platforms that it leaves, over the files
 abbrev pub StopsReplay : Fault → List PlatformView → List ℕ → Contents → Parts → Reading → Type 0
@@ -88,6 +88,6 @@ stop_in (Ok ran) = None
 stop_in (Err s) = Some s.fault
 
 -- a replay that finished is written, and another one is reported
-abbrev pub EndsWith : Result Ran Stopped → Ending → Writing → Type 0
-EndsWith (Ok ran) o w = WroteRun ran o w
-EndsWith (Err s) o w = LeftAll s.fault s.platforms.items o × (w.written_now ≡ w.written_before)
+abbrev pub EndsAsReplayed : Result Ran Stopped → Ending → Writing → Type 0
+EndsAsReplayed (Ok ran) o w = WroteRun ran o w
+EndsAsReplayed (Err s) o w = LeftAll s.fault s.platforms.items o × (w.written_now ≡ w.written_before)

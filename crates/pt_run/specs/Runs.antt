@@ -52,8 +52,8 @@ RunsPaced plan rows platforms None = HaveRun plan (level_of plan.ranks) rows pla
 RunsPaced plan rows platforms (Some f) = (f.1 ≡ turn.Long) × HaveRun plan (level_of plan.ranks) rows platforms (Some f.0)
 
 -- the paced clock
-abbrev pub paced_by : ℕ → Clocking
-paced_by workers = record { choice = Paced; workers = workers; before = []; now = [] }
+abbrev pub paced_clocking : ℕ → Clocking
+paced_clocking workers = record { choice = Paced; workers = workers; before = []; now = [] }
 
 -- clocks of steps
 abbrev pub steps_by : ℕ → ℕ → ℕ → Clocking

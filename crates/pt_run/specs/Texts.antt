@@ -29,7 +29,7 @@ use Rattle.pt_run.specs.Words.{Order}
 use Rattle.pt_run.specs.Faults.{fault_of_plan, fault_of_rows}
 use Rattle.pt_run.specs.declared.words.Command.{Command}
 use Rattle.pt_run.specs.declared.words.Command.TheVariants.{Check, Slacks}
-use Rattle.pt_run.specs.Written.{GraphWith, HasNothing, Leaves, Writes, Wrote, clocking, nothing}
+use Rattle.pt_run.specs.Written.{GraphWith, HasNothing, Leaves, Writes, Wrote, clocking, leaves_nothing}
 use Rattle.pt_run.specs.Causes.{CauseOf, CauseOfCheck, CauseOfMeaning, CauseOfNoSlacks, IsCause, IsTooLongForAll, Writing}
 
 -- the graph is refused before the files of its sensors are read
@@ -113,8 +113,8 @@ OrMemory outcome f = (outcome ≡ Some f) ⊎ (outcome ≡ Some fault.Memory)
 
 -- how `check`, `meaning` or `slacks` ends: its text is put, or its fault is reported
 abbrev pub Answers : Result (String Global) Fault → Ending → Writing → Type 0
-Answers (Ok text) o w = (left_by o ≡ nothing) × PutBy o.fault (string_bytes text) w
-Answers (Err f) o w = (left_by o ≡ nothing) × OrMemory o.fault f × (w.written_now ≡ w.written_before)
+Answers (Ok text) o w = (left_by o ≡ leaves_nothing) × PutBy o.fault (string_bytes text) w
+Answers (Err f) o w = (left_by o ≡ leaves_nothing) × OrMemory o.fault f × (w.written_now ≡ w.written_before)
 
 -- how a run of a plan ends
 abbrev pub EndsPlan : Option Fault → Leaves → ℕ → ClockChoice → Bool → Contents → Parts → Reading → Writing → Type 0
@@ -131,32 +131,32 @@ EndsPlan (Some (fault.LateRow actor row seen limit)) left workers clock log tell
 EndsPlan (Some f) left workers clock log tells plan r w = ⊥
 
 -- the misses and the platforms of a run that read no clock that was handed in
-abbrev pub of_run : List Miss → List PlatformView → Leaves
-of_run misses platforms = record { misses = misses; platforms = platforms; before = []; now = [] }
+abbrev pub left_by_run : List Miss → List PlatformView → Leaves
+left_by_run misses platforms = record { misses = misses; platforms = platforms; before = []; now = [] }
 
 -- the text of a run that finished was put, all of it or a prefix; if all of it, the outcome has its misses
 abbrev pub WroteRun : Ran → Ending → Writing → Type 0
 WroteRun ran o w =
-    ((o.fault ≡ None) × (left_by o ≡ of_run ran.misses.items ran.platforms.items) × Appends w.written_before w.written_now (string_bytes ran.text))
-    ⊎ ((o.fault ≡ Some fault.Write) × (left_by o ≡ of_run [] ran.platforms.items) × Rose w.before w.now × AppendsPart w.written_before w.written_now (string_bytes ran.text))
+    ((o.fault ≡ None) × (left_by o ≡ left_by_run ran.misses.items ran.platforms.items) × Appends w.written_before w.written_now (string_bytes ran.text))
+    ⊎ ((o.fault ≡ Some fault.Write) × (left_by o ≡ left_by_run [] ran.platforms.items) × Rose w.before w.now × AppendsPart w.written_before w.written_now (string_bytes ran.text))
 
 -- the fault of a call, from that of a run, with the platforms that the run leaves
-abbrev pub IsOfRun : RunFault → Fault → List PlatformView → Type 0
-IsOfRun (stop.Rows e) f platforms = (f ≡ fault_of_rows e) × (platforms ≡ [])
-IsOfRun (stop.Long platform left) f platforms = (f ≡ fault.Long (Some platform)) × (platforms ≡ left.items)
-IsOfRun (stop.Late platform actor tag reading limit left) f platforms = (f ≡ fault.LateMessage platform actor tag reading limit) × (platforms ≡ left.items)
-IsOfRun stop.Memory f platforms = (f ≡ fault.Memory) × (platforms ≡ [])
+abbrev pub IsFaultOfRun : RunFault → Fault → List PlatformView → Type 0
+IsFaultOfRun (stop.Rows e) f platforms = (f ≡ fault_of_rows e) × (platforms ≡ [])
+IsFaultOfRun (stop.Long platform left) f platforms = (f ≡ fault.Long (Some platform)) × (platforms ≡ left.items)
+IsFaultOfRun (stop.Late platform actor tag reading limit left) f platforms = (f ≡ fault.LateMessage platform actor tag reading limit) × (platforms ≡ left.items)
+IsFaultOfRun stop.Memory f platforms = (f ≡ fault.Memory) × (platforms ≡ [])
 
 -- a run that did not finish left these platforms with a fault, or memory ran out
 abbrev pub LeftAll : Fault → List PlatformView → Ending → Type 0
-LeftAll f platforms o = ((o.fault ≡ Some f) × (left_by o ≡ of_run [] platforms)) ⊎ ((o.fault ≡ Some fault.Memory) × (left_by o ≡ nothing))
+LeftAll f platforms o = ((o.fault ≡ Some f) × (left_by o ≡ left_by_run [] platforms)) ⊎ ((o.fault ≡ Some fault.Memory) × (left_by o ≡ leaves_nothing))
 
 -- the end of a run that did not finish
 abbrev pub IsStopped : RunFault → Ending → Type 0
-IsStopped (stop.Rows f) o = OrMemory o.fault (fault_of_rows f) × (left_by o ≡ nothing)
+IsStopped (stop.Rows f) o = OrMemory o.fault (fault_of_rows f) × (left_by o ≡ leaves_nothing)
 IsStopped (stop.Long platform platforms) o = LeftAll (fault.Long (Some platform)) platforms.items o
 IsStopped (stop.Late platform actor tag reading limit platforms) o = LeftAll (fault.LateMessage platform actor tag reading limit) platforms.items o
-IsStopped stop.Memory o = (o.fault ≡ Some fault.Memory) × (left_by o ≡ nothing)
+IsStopped stop.Memory o = (o.fault ≡ Some fault.Memory) × (left_by o ≡ leaves_nothing)
 
 -- the fault of an answer
 abbrev pub fault_in : {X : Type 0} → Result X Fault → Option Fault
@@ -165,7 +165,7 @@ fault_in (Err f) = Some f
 
 -- a graph without a plan was reported, or memory ran out
 abbrev pub IsUnplanned : Graph → Ending → Type 0
-IsUnplanned g o = (left_by o ≡ nothing) × (f : PlanFault) × CauseOfPlan f g × OrMemory o.fault (fault_of_plan f)
+IsUnplanned g o = (left_by o ≡ leaves_nothing) × (f : PlanFault) × CauseOfPlan f g × OrMemory o.fault (fault_of_plan f)
 
 -- the end of a run, finished or not
 abbrev pub HasEnded : Result Ran RunFault → Ending → Writing → Type 0

@@ -40,4 +40,4 @@ refused_as order = order
 
 -- what the words ask for, by the grammar
 abbrev pub order_of : List (String Global) → Option Order
-order_of words = option_map order_by (grammar.order_of words)
+order_of words = option_map order_by (grammar.request_of_words words)

@@ -42,8 +42,8 @@ pub record Leaves : Type 0 where
   pub now : List ClockView
 
 -- no misses, no platforms and no clocks
-abbrev pub nothing : Leaves
-nothing = record { misses = []; platforms = []; before = []; now = [] }
+abbrev pub leaves_nothing : Leaves
+leaves_nothing = record { misses = []; platforms = []; before = []; now = [] }
 
 -- no misses and no platforms
 abbrev pub HasNothing : Leaves → Type 0

@@ -5,7 +5,7 @@ ghost use Rattle.pt_types.specs.Lawful.{IsLawful};
 ghost use Rattle.pt_sensors.specs.Asked.{Contents, Reading};
 ghost use Rattle.pt_run.specs.declared.words.Command.TheVariants.{Check};
 ghost use Rattle.pt_run.specs.Causes.{CauseOf};
-ghost use Rattle.pt_run.specs.Written.{IsChecked, Writes, nothing};
+ghost use Rattle.pt_run.specs.Written.{IsChecked, Writes, leaves_nothing};
 ghost use Rattle.pt_run.specs.Texts.{CheckFails};
 
 use crate::fault::{Fault, fault_of_cycle, fault_of_offset};
@@ -18,8 +18,8 @@ use std::alloc::Global;
 /// The text that `check` writes: the offset and the margin of each actor of a graph.
 pub fn check_answer(alloc: Global, graph: &Graph) -> Result<String, Fault>
     requires { IsLawful graph.now }
-    ensures text { IfOk result (λ text. (tells : Contents) → Writes Check tells graph.now nothing (string_bytes text)) }
-    ensures fault { IfErr result (λ f. (tells : Contents) (r : Reading) → CauseOf Check f nothing tells graph.now [] r) }
+    ensures text { IfOk result (λ text. (tells : Contents) → Writes Check tells graph.now leaves_nothing (string_bytes text)) }
+    ensures fault { IfErr result (λ f. (tells : Contents) (r : Reading) → CauseOf Check f leaves_nothing tells graph.now [] r) }
 {
     match ranks_of(alloc, graph) {
         Ok(_ranks) => check_text(alloc, graph),

@@ -9,7 +9,7 @@ ghost use Rattle.pt_causality.specs.Ranked.{rank_of};
 ghost use Rattle.pt_sensors.specs.Asked.{AsksFiles};
 ghost use Rattle.pt_run.specs.declared.words.Command.TheVariants.{Meaning};
 ghost use Rattle.pt_run.specs.Causes.{CauseOf};
-ghost use Rattle.pt_run.specs.Written.{FitOnAll, IsMeant, IsTables, Writes, nothing};
+ghost use Rattle.pt_run.specs.Written.{FitOnAll, IsMeant, IsTables, Writes, leaves_nothing};
 ghost use Rattle.pt_run.specs.Texts.{AsksFor, MeaningFails, MeaningTablesFail, fault_in};
 
 use crate::fault::{Fault, fault_of_cycle, fault_of_rows};
@@ -28,8 +28,8 @@ pub fn meaning_answer<S: Source>(
     graph: &Graph,
 ) -> Result<String, Fault>
     requires { IsLawful graph.now }
-    ensures text { IfOk result (λ text. Writes Meaning (S.tells source.old) graph.now nothing (string_bytes text)) }
-    ensures fault { IfErr result (λ f. CauseOf Meaning f nothing (S.tells source.old) graph.now []
+    ensures text { IfOk result (λ text. Writes Meaning (S.tells source.old) graph.now leaves_nothing (string_bytes text)) }
+    ensures fault { IfErr result (λ f. CauseOf Meaning f leaves_nothing (S.tells source.old) graph.now []
         (record { asked_before = S.asked source.old; asked_now = S.asked source.new; before = S.faults source.old; now = S.faults source.new })) }
     ensures asks { AsksFor Meaning (fault_in result) graph.now (S.asked source.old) (S.asked source.new) }
 {

@@ -3,7 +3,7 @@
 ghost use Rattle.std.specs.Prelude.{◌≡◌, ◌⊎◌, ◌++◌, [], ◌∷◌, IfOk, None, OnOk, Some, option_map, string_bytes};
 ghost use Rattle.pt_run.specs.declared.fault.Fault.TheVariants.{Memory, Write};
 ghost use Rattle.pt_run.specs.Telling.{Tells};
-ghost use Rattle.pt_run.specs.Notes.{actor_name, at_part, cycle_line, gain_part, infeasible_line, late_air_line, late_line, late_message_line, long_line, names_of, note_line, offset_part, past_part, platform_name, read_line, ring_line, row_part, sender_name, turn_part, unlawful_line, verdict_part};
+ghost use Rattle.pt_run.specs.Notes.{actor_name_in, at_part, cycle_line, gain_part, infeasible_line, late_air_line, late_row_line, late_message_line, long_line, names_of, note_line, offset_part, past_part, platform_name_in, read_line, ring_line, row_part, sender_name_in, turn_part, unlawful_line, verdict_part};
 
 use crate::fault::Fault;
 use pt_air::fault_line as air_line;
@@ -187,7 +187,7 @@ fn push_late(
     seen: u64,
     limit: u64,
 ) -> Result<(), AllocError>
-    ensures { OnOk result (string_bytes line.new ≡ string_bytes line.old ++ late_line name.now row seen limit) }
+    ensures { OnOk result (string_bytes line.new ≡ string_bytes line.old ++ late_row_line name.now row seen limit) }
 {
     write!(line, "late {name} row {row}, seen {seen} past {limit}\n")
 }
@@ -334,7 +334,7 @@ fn push_name(line: &mut String, start: &str, name: &str) -> Result<(), AllocErro
 
 /// The name of an actor of the graph; empty without a graph.
 fn actor_name(graph: Option<&Graph>, actor: u32) -> &str
-    ensures { result.now ≡ actor_name (option_map (λ g. g.now) graph.entry) actor }
+    ensures { result.now ≡ actor_name_in (option_map (λ g. g.now) graph.entry) actor }
 {
     let Some(graph) = graph else {
         return "";
@@ -344,7 +344,7 @@ fn actor_name(graph: Option<&Graph>, actor: u32) -> &str
 
 /// The name of the sender of a link of the graph; empty without a graph, and if the graph has no such link.
 fn sender_name(graph: Option<&Graph>, link: u32) -> &str
-    ensures { result.now ≡ sender_name (option_map (λ g. g.now) graph.entry) link }
+    ensures { result.now ≡ sender_name_in (option_map (λ g. g.now) graph.entry) link }
 {
     let Some(of) = graph else {
         return "";
@@ -357,7 +357,7 @@ fn sender_name(graph: Option<&Graph>, link: u32) -> &str
 
 /// The name of a platform of the graph; empty without a graph.
 fn platform_name(graph: Option<&Graph>, platform: u32) -> &str
-    ensures { result.now ≡ platform_name (option_map (λ g. g.now) graph.entry) platform }
+    ensures { result.now ≡ platform_name_in (option_map (λ g. g.now) graph.entry) platform }
 {
     let Some(graph) = graph else {
         return "";

@@ -1,9 +1,9 @@
 //! How a call ends.
 
 ghost use Rattle.std.specs.Prelude.{◌≡◌, [], None, Some};
-ghost use Rattle.pt_run.specs.Written.{nothing};
+ghost use Rattle.pt_run.specs.Written.{leaves_nothing};
 ghost use Rattle.pt_run.specs.Statuses.{status_of};
-ghost use Rattle.pt_run.specs.Texts.{left_by, of_run};
+ghost use Rattle.pt_run.specs.Texts.{left_by, left_by_run};
 
 use crate::fault::{Fault, status_of};
 use pt_history::Miss;
@@ -39,7 +39,7 @@ impl Ending {
     pub(crate) fn refused(alloc: Global, fault: Fault) -> Ending
         ensures status { result.status ≡ status_of result.fault result.misses }
         ensures fault { result.fault ≡ Some fault }
-        ensures left { left_by result ≡ nothing }
+        ensures left { left_by result ≡ leaves_nothing }
     {
         Ending {
             status: status_of(&fault),
@@ -53,7 +53,7 @@ impl Ending {
     pub(crate) fn stopped(alloc: Global, fault: Fault, platforms: Vec<Platform>) -> Ending
         ensures status { result.status ≡ status_of result.fault result.misses }
         ensures fault { result.fault ≡ Some fault }
-        ensures left { left_by result ≡ of_run [] platforms.items }
+        ensures left { left_by result ≡ left_by_run [] platforms.items }
     {
         Ending {
             status: status_of(&fault),
@@ -67,7 +67,7 @@ impl Ending {
     pub(crate) fn done(misses: Vec<Miss>, platforms: Vec<Platform>) -> Ending
         ensures status { result.status ≡ status_of result.fault result.misses }
         ensures fault { result.fault ≡ None }
-        ensures left { left_by result ≡ of_run misses.items platforms.items }
+        ensures left { left_by result ≡ left_by_run misses.items platforms.items }
     {
         Ending {
             status: if misses.is_empty() { 0 } else { 5 },

@@ -8,7 +8,7 @@ ghost use Rattle.pt_types.specs.declared.rows.Row.{Row};
 ghost use Rattle.pt_offsets.specs.Plans.{Parts};
 ghost use Rattle.pt_sensors.specs.Asked.{AsksFiles};
 ghost use Rattle.pt_turn.specs.All.{AreReady, IsReady};
-ghost use Rattle.pt_run.specs.Clocks.{AreAsMany, AreBackBy, AreKept};
+ghost use Rattle.pt_run.specs.Clocks.{AreAsMany, AreBackBy, AreBackAfterRun};
 ghost use Rattle.pt_run.specs.declared.fault.Fault.TheVariants.{Memory as NoMemory};
 ghost use Rattle.pt_run.specs.declared.words.Command.TheVariants.{Run};
 ghost use Rattle.pt_run.specs.Readings.{read_by};
@@ -88,7 +88,7 @@ fn own_run_of<S: Source, C: Clock + Send, R: Threads + Wait + Sync>(
     ensures ran { IfOk result (HasOutputs (S.tells source.old) (read_with workers clock (tell C.told C.ahead clocks.old.items) (tell C.told C.ahead clocks.new.items)) (arc_value plan.now) log) }
     ensures fault { IfErr result (λ f. CauseOfStop f (S.tells source.old) (read_with workers clock (tell C.told C.ahead clocks.old.items) (tell C.told C.ahead clocks.new.items)) (arc_value plan.now)
         (record { asked_before = S.asked source.old; asked_now = S.asked source.new; before = S.faults source.old; now = S.faults source.new })) }
-    ensures clocks { AreKept result clock clocks.old.items clocks.new.items }
+    ensures clocks { AreBackAfterRun result clock clocks.old.items clocks.new.items }
     ensures asks { AsksFiles (arc_value plan.now).graph (S.asked source.old) (S.asked source.new) }
     ensures keeps { S.tells source.new ≡ S.tells source.old }
     ensures grows { S.faults source.old ≤ S.faults source.new }

@@ -4,7 +4,7 @@ ghost use Rattle.std.specs.Prelude.{◌≡◌, ◌≤◌, ◌<◌, IfErr, IfOk, 
 ghost use Rattle.std.specs.Arc.{arc_value};
 ghost use Rattle.pt_sensors.specs.Asked.{AsksFiles};
 ghost use Rattle.pt_run.specs.Readings.{Clocking};
-ghost use Rattle.pt_run.specs.Runs.{CauseOfStop, HasOpened, HasOutputs, paced_by};
+ghost use Rattle.pt_run.specs.Runs.{CauseOfStop, HasOpened, HasOutputs, paced_clocking};
 
 use crate::finished_run::Ran;
 use crate::went::{go_paced, outputs_of};
@@ -52,8 +52,8 @@ pub fn run_of<S: Source>(
     source: &mut S,
     blocks: &Blocks,
 ) -> Result<Ran, RunFault>
-    ensures ran { IfOk result (HasOutputs (S.tells source.old) (paced_by workers) (arc_value plan.now) log) }
-    ensures fault { IfErr result (λ f. CauseOfStop f (S.tells source.old) (paced_by workers) (arc_value plan.now)
+    ensures ran { IfOk result (HasOutputs (S.tells source.old) (paced_clocking workers) (arc_value plan.now) log) }
+    ensures fault { IfErr result (λ f. CauseOfStop f (S.tells source.old) (paced_clocking workers) (arc_value plan.now)
         (record { asked_before = S.asked source.old; asked_now = S.asked source.new; before = S.faults source.old; now = S.faults source.new })) }
     ensures asks { AsksFiles (arc_value plan.now).graph (S.asked source.old) (S.asked source.new) }
     ensures keeps { S.tells source.new ≡ S.tells source.old }

@@ -8,7 +8,7 @@ ghost use Rattle.pt_offsets.specs.Plans.{IsAdmitted};
 ghost use Rattle.pt_sensors.specs.Listed.{rows_for};
 ghost use Rattle.pt_sensors.specs.Places.{StandInPlace, of_run};
 ghost use Rattle.pt_tables.specs.Misses.{miss_line};
-ghost use Rattle.pt_run.specs.Flown.{CauseOfNoAir, EndsWith, HasFlown, HasReplayed, IsOfReplay, IsRecorded, NamesRow, StopsInAir, StopsReplay, stop_in};
+ghost use Rattle.pt_run.specs.Flown.{CauseOfNoAir, EndsAsReplayed, FinishedReplay, HasReplayed, IsOfReplay, IsRecorded, NamesRow, StopsInAir, StopsReplay, stop_in};
 ghost use Rattle.pt_run.specs.Replaying.{AsksReplay, AsksReplayed, EndsReplay, EndsReplayed};
 ghost use Rattle.pt_run.specs.Statuses.{status_of};
 ghost use Rattle.pt_run.specs.Telling.{Tells, TellsBy};
@@ -182,7 +182,7 @@ fn run_over_air(
     requires places { StandInPlace (arc_value plan.now).graph entries.items }
     requires fit { FitRows (arc_value plan.now).graph (of_run (arc_value plan.now).graph (rows_for entries.items)) }
     requires transits { length air.now.transits ≡ length (arc_value plan.now).graph.links }
-    ensures ran { IfOk result (λ ran. HasFlown log ran (arc_value plan.now) (of_run (arc_value plan.now).graph (rows_for entries.items)) air.now) }
+    ensures ran { IfOk result (λ ran. FinishedReplay log ran (arc_value plan.now) (of_run (arc_value plan.now).graph (rows_for entries.items)) air.now) }
     ensures fault { IfErr result (λ f. StopsInAir f (arc_value plan.now) (of_run (arc_value plan.now).graph (rows_for entries.items)) air.now) }
 {
     let Ok(platforms) = open_all(alloc, plan, entries) else {
@@ -239,7 +239,7 @@ fn end_replay<K: Sink, E: Sink>(
     notes: &mut E,
 ) -> Ending
     ensures status { result.status ≡ status_of result.fault result.misses }
-    ensures ended { EndsWith ran result (record { before = K.faults out.old; now = K.faults out.new; written_before = K.written out.old; written_now = K.written out.new }) }
+    ensures ended { EndsAsReplayed ran result (record { before = K.faults out.old; now = K.faults out.new; written_before = K.written out.old; written_now = K.written out.new }) }
     ensures flushed { result.fault ≡ None → K.flushed out.new }
     ensures notes { IfOk ran (λ ran. string_bytes ran.lines ≡ flat_map (miss_line graph.now) ran.misses.items) → Tells result.fault result.misses (Some graph.now)
         (record { before = E.faults notes.old; now = E.faults notes.new; written_before = E.written notes.old; written_now = E.written notes.new }) }

@@ -9,7 +9,7 @@ ghost use Rattle.pt_run.specs.declared.words.Command.TheVariants.{Run};
 ghost use Rattle.pt_run.specs.Statuses.{status_of};
 ghost use Rattle.pt_tables.specs.Misses.{miss_line};
 ghost use Rattle.pt_run.specs.Telling.{Tells};
-ghost use Rattle.pt_run.specs.Texts.{AsksFor, EndsOver, HasEnded, IsOfRun, IsStopped, IsUnplanned, LeftAll, WroteRun, left_by};
+ghost use Rattle.pt_run.specs.Texts.{AsksFor, EndsOver, HasEnded, IsFaultOfRun, IsStopped, IsUnplanned, LeftAll, WroteRun, left_by};
 
 use crate::fault::{Fault, fault_of_plan, fault_of_rows};
 use crate::notes::{tell, tell_write};
@@ -162,7 +162,7 @@ pub fn leave<E: Sink>(
 
 /// The fault of a call, from that of a run, with the platforms that the run leaves.
 pub fn faults_of(alloc: Global, fault: RunFault) -> (Fault, Vec<Platform>)
-    ensures { IsOfRun fault result.0 result.1.items }
+    ensures { IsFaultOfRun fault result.0 result.1.items }
 {
     match fault {
         RunFault::Rows(fault) => (fault_of_rows(fault), Vec::new(alloc)),

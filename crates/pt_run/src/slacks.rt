@@ -6,7 +6,7 @@ ghost use Rattle.pt_sensors.specs.Asked.{Contents, Reading};
 ghost use Rattle.pt_slacks.specs.Text.{IsSlacked};
 ghost use Rattle.pt_run.specs.declared.words.Command.TheVariants.{Slacks};
 ghost use Rattle.pt_run.specs.Causes.{CauseOf};
-ghost use Rattle.pt_run.specs.Written.{Writes, nothing};
+ghost use Rattle.pt_run.specs.Written.{Writes, leaves_nothing};
 ghost use Rattle.pt_run.specs.Texts.{SlacksFail};
 
 use crate::fault::{Fault, fault_of_cycle, fault_of_slacks};
@@ -19,8 +19,8 @@ use std::alloc::Global;
 /// slacks in the graph are not used.
 pub fn slacks_answer(alloc: Global, graph: &Graph) -> Result<String, Fault>
     requires { IsLawful graph.now }
-    ensures text { IfOk result (λ text. (tells : Contents) → Writes Slacks tells graph.now nothing (string_bytes text)) }
-    ensures fault { IfErr result (λ f. (tells : Contents) (r : Reading) → CauseOf Slacks f nothing tells graph.now [] r) }
+    ensures text { IfOk result (λ text. (tells : Contents) → Writes Slacks tells graph.now leaves_nothing (string_bytes text)) }
+    ensures fault { IfErr result (λ f. (tells : Contents) (r : Reading) → CauseOf Slacks f leaves_nothing tells graph.now [] r) }
 {
     match ranks_of(alloc, graph) {
         Ok(_ranks) => least_text(alloc, graph),

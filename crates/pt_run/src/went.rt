@@ -7,7 +7,7 @@ ghost use Rattle.pt_offsets.specs.Plans.{Parts};
 ghost use Rattle.pt_turn.specs.All.{AreReady, IsReady};
 ghost use Rattle.pt_confluence.specs.Gathered.{AreLegal};
 ghost use Rattle.pt_run.specs.Went.{IsFaultAt};
-ghost use Rattle.pt_run.specs.Runs.{IsOutput, IsStop, WentBy, paced_by};
+ghost use Rattle.pt_run.specs.Runs.{IsOutput, IsStop, WentBy, paced_clocking};
 
 use crate::finished_run::{Ran, told};
 use crate::plan_run::RunFault;
@@ -36,7 +36,7 @@ pub fn go_paced(
 ) -> Result<Went, Memory>
     requires some { 0 < length platforms.items }
     requires ready { IsReady platforms.items }
-    ensures { IfOk result (λ went. (plan : Parts) (rows : ℕ → List Row) → AreReady plan rows platforms.items → WentBy (paced_by workers) plan rows went.platforms.items went.fault) }
+    ensures { IfOk result (λ went. (plan : Parts) (rows : ℕ → List Row) → AreReady plan rows platforms.items → WentBy (paced_clocking workers) plan rows went.platforms.items went.fault) }
 {
     let Rounds { platforms, fault } = paced(alloc, platforms, blocks, workers)?;
     are_legal(platforms.as_slice());

@@ -10,9 +10,9 @@ use Rattle.pt_types.specs.declared.rows.Row.{Row}
 use Rattle.pt_sensors.specs.declared.fault.RowFault.{RowFault}
 use Rattle.pt_sensors.specs.declared.fault.RowFault.TheVariants as fault
 use Rattle.pt_sensors.specs.Numbers.{at_most, limited, number_of, signed}
-use Rattle.pt_sensors.specs.Rows.{Cells, cells, numbers_of, order_fault, or_fault, unless, row_of, is_header, ◌>>=◌}
-use Rattle.pt_sensors.specs.RowsOf.{next, in_front, goes_on, ends, rows_from, rows_of, rows_in, after_header, Gives}
-use Rattle.pt_sensors.specs.Order.{Follows, IsRow, InOrder, AreInOrder}
+use Rattle.pt_sensors.specs.Rows.{Cells, cells, numbers_of, order_fault, or_row_fault, unless, row_of, is_header, ◌>>=◌}
+use Rattle.pt_sensors.specs.RowsOf.{next, row_in_front, goes_on, ends, rows_from, rows_of, rows_in, after_header, GivesRows}
+use Rattle.pt_sensors.specs.Order.{RowFollows, IsRow, RowsInOrder, RowsAreInOrder}
 
 limited-le : (limit : ℕ) (o : Option ℕ) (n : ℕ) → option_and_then (at_most limit) o ≡ Some n → n ≤ limit
 limited-le limit None n h = absurd cc
@@ -32,7 +32,7 @@ numbers_of-bounds c row h =
     let p = parts (limited 1000000000000000 c.0) (limited 10000000000000000 c.1) (signed c.2) row h in
     (limited-le _ (number_of c.0) _ p.0, limited-le _ (number_of c.1) _ p.1)
 
-order_fault-none : (n : ℕ) (before : Option Row) (row : Row) → order_fault n before row ≡ None → (row.time ≤ row.seen) × Follows before row
+order_fault-none : (n : ℕ) (before : Option Row) (row : Row) → order_fault n before row ≡ None → (row.time ≤ row.seen) × RowFollows before row
 order_fault-none n None row h = (grind (arith, nat_tests), tt)
 order_fault-none n (Some before) row h = (grind (arith, nat_tests), (grind (arith, nat_tests), grind (arith, nat_tests)))
 
@@ -46,12 +46,12 @@ ordered n before c found row None numbers order h =
 ordered n before c found row (Some e) numbers order h = absurd cc
 
 numbered : (n : ℕ) (before : Option Row) (c : Cells) (row : Row) (o : Option Row) → numbers_of c ≡ o
-    → (or_fault (fault.Number n) o >>= λ found. unless (order_fault n before found) found) ≡ Ok row → IsRow before row
+    → (or_row_fault (fault.Number n) o >>= λ found. unless (order_fault n before found) found) ≡ Ok row → IsRow before row
 numbered n before c row None is h = absurd cc
 numbered n before c row (Some found) is h = ordered n before c found row (order_fault n before found) is refl h
 
 celled : (n : ℕ) (before : Option Row) (row : Row) (o : Option Cells)
-    → (or_fault (fault.Fields n) o >>= λ c. or_fault (fault.Number n) (numbers_of c) >>= λ found. unless (order_fault n before found) found) ≡ Ok row → IsRow before row
+    → (or_row_fault (fault.Fields n) o >>= λ c. or_row_fault (fault.Number n) (numbers_of c) >>= λ found. unless (order_fault n before found) found) ≡ Ok row → IsRow before row
 celled n before row None h = absurd cc
 celled n before row (Some c) h = numbered n before c row (numbers_of c) refl h
 
@@ -60,10 +60,10 @@ unfolding row_of
 row_of-is_row n before fields row h = celled n before row (cells fields) h
 
 abbrev Bounded : ℕ → Option Row → List Row → Type 0
-Bounded left before rows = (length rows ≤ left) × InOrder before rows
+Bounded left before rows = (length rows ≤ left) × RowsInOrder before rows
 
 put_in_front : (left : ℕ) (before : Option Row) (row : Row) (r : Result (List Row) RowFault) (rows : List Row) → IsRow before row
-    → ((rest : List Row) → r ≡ Ok rest → Bounded left (Some row) rest) → in_front row r ≡ Ok rows → Bounded (suc left) before rows
+    → ((rest : List Row) → r ≡ Ok rest → Bounded left (Some row) rest) → row_in_front row r ≡ Ok rows → Bounded (suc left) before rows
 put_in_front left before row (Err e) rows is rest h = absurd cc
 put_in_front left before row (Ok more) rows is rest h =
     let same : row ∷ more ≡ rows = cc in
@@ -75,7 +75,7 @@ abbrev Rest : ℕ → Type 0
 Rest left = (n : ℕ) (before : Option Row) (s : State) (xs : List ℕ) (rows : List Row) → rows_from left n before s xs ≡ Ok rows → Bounded left before rows
 
 found_row : (left n : ℕ) (before : Option Row) (p : Read) (rows : List Row) (r : Result Row RowFault) → row_of n before p.0 ≡ r → Rest left
-    → (r >>= λ row. in_front row (rows_from left (n + 1) (Some row) p.1 p.2)) ≡ Ok rows → Bounded (suc left) before rows
+    → (r >>= λ row. row_in_front row (rows_from left (n + 1) (Some row) p.1 p.2)) ≡ Ok rows → Bounded (suc left) before rows
 found_row left n before p rows (Err e) is rest h = absurd cc
 found_row left n before p rows (Ok row) is rest h =
     put_in_front left before row (rows_from left (n + 1) (Some row) p.1 p.2) rows (row_of-is_row n before p.0 row is) (rest (n + 1) (Some row) p.1 p.2) h
@@ -101,21 +101,21 @@ unfolding rows_from
 rows_from-in_order zero n before s xs rows h = ended before (next s xs) rows h
 rows_from-in_order (suc left) n before s xs rows h = found left n before (next s xs) rows (rows_from-in_order left) h
 
-headed : (b : Bool) (r : Result (List Row) RowFault) (rows : List Row) → (r ≡ Ok rows → AreInOrder rows) → cond b r (Err fault.Header) ≡ Ok rows → AreInOrder rows
+headed : (b : Bool) (r : Result (List Row) RowFault) (rows : List Row) → (r ≡ Ok rows → RowsAreInOrder rows) → cond b r (Err fault.Header) ≡ Ok rows → RowsAreInOrder rows
 headed true r rows f h = f h
 headed false r rows f h = absurd cc
 
-after_header-in_order : (o : Option Read) (rows : List Row) → after_header o ≡ Ok rows → AreInOrder rows
+after_header-in_order : (o : Option Read) (rows : List Row) → after_header o ≡ Ok rows → RowsAreInOrder rows
 after_header-in_order None rows h = absurd cc
 after_header-in_order (Some p) rows h =
     headed (is_header p.0) (rows_from 100000 1 None p.1 p.2) rows (λ h. let b = rows_from-in_order 100000 1 None p.1 p.2 rows h in record { most = b.0; order = b.1 }) h
 
-not_too_long : (b : Bool) (r : Result (List Row) RowFault) (rows : List Row) → (r ≡ Ok rows → AreInOrder rows) → cond b (Err fault.TooLong) r ≡ Ok rows → AreInOrder rows
+not_too_long : (b : Bool) (r : Result (List Row) RowFault) (rows : List Row) → (r ≡ Ok rows → RowsAreInOrder rows) → cond b (Err fault.TooLong) r ≡ Ok rows → RowsAreInOrder rows
 not_too_long true r rows f h = absurd cc
 not_too_long false r rows f h = f h
 
 -- what is given is in order
-pub in_order : (bytes : List ℕ) (r : Result (List Row) RowFault) → Gives (rows_of bytes) r → IfOk r AreInOrder
+pub in_order : (bytes : List ℕ) (r : Result (List Row) RowFault) → GivesRows (rows_of bytes) r → IfOk r RowsAreInOrder
 unfolding rows_of
 in_order bytes (Err e) h = tt
 in_order bytes (Ok rows) h =

@@ -6,17 +6,17 @@ use Rattle.std.proofs.lemmas.Option.{slice_get-get_or}
 use Rattle.std.proofs.lemmas.Bool.{and_parts}
 use Rattle.std.proofs.lemmas.Bool.Decides.{nat_tests}
 use Rattle.pt_types.specs.declared.rows.Row.{Row}
-use Rattle.pt_sensors.specs.Late.{is_late, late_row}
+use Rattle.pt_sensors.specs.Late.{is_late_row, late_row}
 use Rattle.pt_sensors.specs.Recorded.{IsLateRow}
 
 later : (t b s : ℕ) → nat_lt (t + b) s ≡ true → t + b < s
 later t b s h = grind (arith, nat_tests)
 
-by_place : (rows : List Row) (bound until n : ℕ) (d : Row) (o : Option ℕ) → position (λ (row : Row). is_late bound until row) rows ≡ o → option_map (λ i. i + 1) o ≡ Some n
+by_place : (rows : List Row) (bound until n : ℕ) (d : Row) (o : Option ℕ) → position (λ (row : Row). is_late_row bound until row) rows ≡ o → option_map (λ i. i + 1) o ≡ Some n
     → IsLateRow rows until bound n (slice_index_or rows (n - 1) d).seen ((slice_index_or rows (n - 1) d).time + bound)
 by_place rows bound until n d None at h = absurd cc
 by_place rows bound until n d (Some i) at h =
-    let found = position-Some (λ (row : Row). is_late bound until row) rows i d at in
+    let found = position-Some (λ (row : Row). is_late_row bound until row) rows i d at in
     let next : i + 1 ≡ n = cc in
     let back : n - 1 ≡ i = omega (arith, next) in
     let is_at : n ≡ i + 1 = sym next in
@@ -34,4 +34,4 @@ by_place rows bound until n d (Some i) at h =
 -- what a search for late rows finds
 pub late_found : (rows : List Row) (bound until n : ℕ) (d : Row) → late_row bound until rows ≡ Some n
     → IsLateRow rows until bound n (slice_index_or rows (n - 1) d).seen ((slice_index_or rows (n - 1) d).time + bound)
-late_found rows bound until n d h = by_place rows bound until n d (position (λ (row : Row). is_late bound until row) rows) refl h
+late_found rows bound until n d h = by_place rows bound until n d (position (λ (row : Row). is_late_row bound until row) rows) refl h

@@ -5,8 +5,8 @@ use Rattle.csv.specs.Machine.{Read}
 use Rattle.csv.specs.Reading.{reader_state}
 use Rattle.csv.specs.declared.parser.State.{State}
 use Rattle.csv.specs.declared.reader.Reader.{Reader}
-use Rattle.pt_sensors.specs.Rows.{IsPlain, Finds, left_of, row_of}
-use Rattle.pt_sensors.specs.RowsOf.{next, in_front, goes_on, ends, rows_from}
+use Rattle.pt_sensors.specs.Rows.{IsPlain, Finds, bytes_left, row_of}
+use Rattle.pt_sensors.specs.RowsOf.{next, row_in_front, goes_on, ends, rows_from}
 use Rattle.pt_types.specs.declared.rows.Row.{Row}
 use Rattle.pt_sensors.specs.declared.fault.RowFault.{RowFault}
 use Rattle.pt_sensors.specs.declared.fault.RowFault.TheVariants as fault
@@ -15,21 +15,21 @@ abbrev pub prepend : List Row → Result (List Row) RowFault → Result (List Ro
 prepend front (Ok rows) = Ok (front ++ rows)
 prepend front (Err e) = Err e
 
-prepend-in_front : (front : List Row) (row : Row) (r : Result (List Row) RowFault) → prepend front (in_front row r) ≡ prepend (front ++ row ∷ []) r
-prepend-in_front front row (Ok rows) = ap Ok (sym (append_assoc front (row ∷ []) rows))
-prepend-in_front front row (Err e) = refl
+prepend-row_in_front : (front : List Row) (row : Row) (r : Result (List Row) RowFault) → prepend front (row_in_front row r) ≡ prepend (front ++ row ∷ []) r
+prepend-row_in_front front row (Ok rows) = ap Ok (sym (append_assoc front (row ∷ []) rows))
+prepend-row_in_front front row (Err e) = refl
 
 -- a record was found, and it is a row
 pub record More {R : Type 0} (rem : R → Option (List ℕ)) (reader : Reader R) (left n : ℕ) (row : Row) (front : List Row) (all : Result (List Row) RowFault) : Type 0 where
   pub plain : IsPlain rem reader
-  pub rows : prepend (front ++ row ∷ []) (rows_from left (n + 1) (Some row) (reader_state reader) (left_of rem reader)) ≡ all
+  pub rows : prepend (front ++ row ∷ []) (rows_from left (n + 1) (Some row) (reader_state reader) (bytes_left rem reader)) ≡ all
 
 more_go : {R : Type 0} (rem : R → Option (List ℕ)) (reader : Reader R) (fields : List (List ℕ)) (left n : ℕ) (before : Option Row) (row : Row) (front : List Row) (all : Result (List Row) RowFault)
     (o : Option Read) → Finds rem o true reader fields → row_of n before fields ≡ Ok row
     → prepend front (goes_on n before (λ r. rows_from left (n + 1) (Some r)) o) ≡ all → More rem reader left n row front all
 more_go rem reader fields left n before row front all None f r was = absurd cc
 more_go rem reader fields left n before row front all (Some p) f r was =
-    record { plain = f.2; rows = rw (← prepend-in_front, f.3, f.4) (rw (← f.1, r) at was) }
+    record { plain = f.2; rows = rw (← prepend-row_in_front, f.3, f.4) (rw (← f.1, r) at was) }
 
 pub more : {R : Type 0} (rem : R → Option (List ℕ)) (reader : Reader R) (fields : List (List ℕ)) (left n : ℕ) (before : Option Row) (row : Row) (front : List Row) (all : Result (List Row) RowFault)
     (s : State) (xs : List ℕ) → Finds rem (next s xs) true reader fields → row_of n before fields ≡ Ok row

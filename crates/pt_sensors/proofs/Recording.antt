@@ -10,7 +10,7 @@ use Rattle.pt_sensors.specs.declared.sensor_rows.SensorRows.{SensorRows}
 use Rattle.pt_sensors.specs.declared.fault.RowFault.{RowFault}
 use Rattle.pt_sensors.specs.declared.fault.RowFault.TheVariants as row
 use Rattle.pt_sensors.specs.RowsOf.{rows_of}
-use Rattle.pt_sensors.specs.Order.{AreInOrder}
+use Rattle.pt_sensors.specs.Order.{RowsAreInOrder}
 use Rattle.pt_semantics.specs.Lists.{Each}
 use Rattle.pt_semantics.specs.Rows.{FitRows}
 use Rattle.pt_types.specs.Groups.{no_actor}
@@ -21,9 +21,9 @@ use Rattle.pt_sensors.specs.declared.recorded_fault.LateRows.TheVariants as late
 use Rattle.pt_sensors.specs.declared.recorded_fault.RecordedFault.{RecordedFault}
 use Rattle.pt_sensors.specs.declared.recorded_fault.RecordedFault.TheVariants as fault
 use Rattle.pt_sensors.specs.Asked.{Asks, Contents, ReadFails, Reading, files_before}
-use Rattle.pt_sensors.specs.Recorded.{AllPass, AreRows, CauseOfRows, HaveRows, Passes, RowsOfKind, SensorFails, SensorLate, SensorUnread}
+use Rattle.pt_sensors.specs.Recorded.{AllPass, AreRows, CauseOfRows, HaveRows, RowsPass, RowsOfKind, SensorFails, SensorLate, SensorUnread}
 use Rattle.pt_sensors.specs.Files.{CauseOfActor, CauseOfFile, IsSensorWith}
-use Rattle.pt_sensors.specs.Faults.{fault_of_rows}
+use Rattle.pt_sensors.specs.Faults.{fault_of_sensor}
 use Rattle.pt_sensors.specs.Places.{StandInPlace, of_run}
 use Rattle.pt_sensors.proofs.Fitting.{all_fit}
 use Rattle.pt_sensors.proofs.Asking.{append_none, read_after}
@@ -48,8 +48,8 @@ rows_new xs s a is none = rows_push xs s a ∙ ap₂ (λ front ys. front ++ ys) 
 -- an actor has its rows, and none of them is refused
 pub record HasRows (l : LateRows) (tells : Contents) (g : Graph) (a : ℕ) (rows : List Row) : Type 0 where
   pub kind : RowsOfKind tells (kind_of g a) rows
-  pub passes : Passes l g.until (kind_of g a) rows
-  pub order : AreInOrder rows
+  pub passes : RowsPass l g.until (kind_of g a) rows
+  pub order : RowsAreInOrder rows
 
 -- the entries of the first n actors
 pub record AreFirstRows (l : LateRows) (tells : Contents) (g : Graph) (xs : List SensorRows) (n : ℕ) : Type 0 where
@@ -97,7 +97,7 @@ first_rows_more l tells g xs n s are is within has = record {
 all_rows : (l : LateRows) (tells : Contents) (g : Graph) (xs : List SensorRows) (n : ℕ) → AreFirstRows l tells g xs n → length g.actors ≤ n → (a : ℕ) → HasRows l tells g a (rows_for xs a)
 all_rows l tells g xs n are whole a = by_test (nat_lt a n) refl
   where
-    nobody : (m : LateRows) (rows : List Row) → rows ≡ [] → Passes m g.until no_actor.kind rows
+    nobody : (m : LateRows) (rows : List Row) → rows ≡ [] → RowsPass m g.until no_actor.kind rows
     nobody late.Refused rows none = tt
     nobody late.Taken rows none = tt
 
@@ -109,8 +109,8 @@ all_rows l tells g xs n are whole a = by_test (nat_lt a n) refl
         let none = are.past a le in
         record {
           kind = subst (λ (x : Actor). RowsOfKind tells x.kind (rows_for xs a)) (sym (get_or_past g.actors a no_actor past)) none;
-          passes = subst (λ (x : Actor). Passes l g.until x.kind (rows_for xs a)) (sym (get_or_past g.actors a no_actor past)) (nobody l (rows_for xs a) none);
-          order = subst AreInOrder (sym none) (record { most = omega arith; order = tt });
+          passes = subst (λ (x : Actor). RowsPass l g.until x.kind (rows_for xs a)) (sym (get_or_past g.actors a no_actor past)) (nobody l (rows_for xs a) none);
+          order = subst RowsAreInOrder (sym none) (record { most = omega arith; order = tt });
         }
 
 pub are_rows : (l : LateRows) (tells : Contents) (g : Graph) (xs : List SensorRows) (n : ℕ) → AreFirstRows l tells g xs n → length g.actors ≤ n → AreRows tells g (rows_for xs)
@@ -127,7 +127,7 @@ fit_rows tells g xs n are whole = all_fit tells g (rows_for xs) (λ a. (all_rows
 
 -- a fault of a sensor's file
 pub rows_fail : (tells : Contents) (actor : ℕ) (file : List ℕ) (f : RowFault) (r : Reading) → (f ≢ row.Memory → IfSome (tells file) (λ bytes. rows_of bytes ≡ Err f))
-    → CauseOfFile actor (fault_of_rows actor f) tells file r
+    → CauseOfFile actor (fault_of_sensor actor f) tells file r
 rows_fail tells actor file row.Memory r h = tt
 rows_fail tells actor file row.TooLong r h = (refl, h (λ e. absurd cc))
 rows_fail tells actor file row.Header r h = (refl, h (λ e. absurd cc))

@@ -5,20 +5,20 @@ use Rattle.pt_sensors.specs.declared.fault.RowFault.{RowFault}
 use Rattle.pt_sensors.specs.declared.fault.RowFault.TheVariants as fault
 
 -- the text of a fault
-abbrev pub fault_text : RowFault → List ℕ
-fault_text fault.Memory = codes "memory"
-fault_text fault.TooLong = codes "too long"
-fault_text fault.Header = codes "header"
-fault_text (fault.Fields n) = codes "fields at row " ++ decimal n
-fault_text (fault.Number n) = codes "number at row " ++ decimal n
-fault_text (fault.TimeOrder n) = codes "time order at row " ++ decimal n
-fault_text (fault.SeenOrder n) = codes "seen order at row " ++ decimal n
-fault_text (fault.SeenEarly n) = codes "seen early at row " ++ decimal n
-fault_text fault.TooManyRows = codes "too many rows"
+abbrev pub row_fault_text : RowFault → List ℕ
+row_fault_text fault.Memory = codes "memory"
+row_fault_text fault.TooLong = codes "too long"
+row_fault_text fault.Header = codes "header"
+row_fault_text (fault.Fields n) = codes "fields at row " ++ decimal n
+row_fault_text (fault.Number n) = codes "number at row " ++ decimal n
+row_fault_text (fault.TimeOrder n) = codes "time order at row " ++ decimal n
+row_fault_text (fault.SeenOrder n) = codes "seen order at row " ++ decimal n
+row_fault_text (fault.SeenEarly n) = codes "seen early at row " ++ decimal n
+row_fault_text fault.TooManyRows = codes "too many rows"
 
 -- the line for a fault of a sensor's file
-abbrev pub fault_line : List ℕ → RowFault → List ℕ
-fault_line name e = codes "sensor " ++ name ++ codes ": " ++ fault_text e ++ 10 ∷ []
+abbrev pub sensor_fault_line : List ℕ → RowFault → List ℕ
+sensor_fault_line name e = codes "sensor " ++ name ++ codes ": " ++ row_fault_text e ++ 10 ∷ []
 
 -- the line for a late row
 abbrev pub late_line : List ℕ → ℕ → ℕ → ℕ → List ℕ

@@ -3,23 +3,23 @@ use Rattle.std.specs.Prelude.{◌<◌, ◌≤◌, List, [], ◌∷◌, length, O
 use Rattle.pt_types.specs.declared.rows.Row.{Row}
 
 -- a row is later than the row before it, if there is one, and is not seen earlier
-abbrev pub Follows : Option Row → Row → Type 0
-Follows None row = Unit {0}
-Follows (Some before) row = (before.time < row.time) × (before.seen ≤ row.seen)
+abbrev pub RowFollows : Option Row → Row → Type 0
+RowFollows None row = Unit {0}
+RowFollows (Some before) row = (before.time < row.time) × (before.seen ≤ row.seen)
 
 -- a valid row of a file, after the row before it, if there is one
 pub record IsRow (before : Option Row) (row : Row) : Type 0 where
   pub time : row.time ≤ 1000000000000000
   pub seen : row.seen ≤ 10000000000000000
   pub seen_after : row.time ≤ row.seen
-  pub follows : Follows before row
+  pub follows : RowFollows before row
 
 -- all rows are valid: times rise, the readings at which rows are seen never fall, and no row is seen before its time
-abbrev pub InOrder : Option Row → List Row → Type 0
-InOrder before [] = Unit {0}
-InOrder before (row ∷ rows) = IsRow before row × InOrder (Some row) rows
+abbrev pub RowsInOrder : Option Row → List Row → Type 0
+RowsInOrder before [] = Unit {0}
+RowsInOrder before (row ∷ rows) = IsRow before row × RowsInOrder (Some row) rows
 
 -- the rows of a file
-pub record AreInOrder (rows : List Row) : Type 0 where
+pub record RowsAreInOrder (rows : List Row) : Type 0 where
   pub most : length rows ≤ 100000
-  pub order : InOrder None rows
+  pub order : RowsInOrder None rows

@@ -29,17 +29,17 @@ InTime until (Sensor file bound) rows = late_row bound until rows ≡ None
 InTime until _ rows = Unit {0}
 
 -- if late rows are refused, none of these is late
-abbrev pub Passes : LateRows → ℕ → Kind → List Row → Type 0
-Passes late.Refused until kind rows = InTime until kind rows
-Passes late.Taken until kind rows = Unit {0}
+abbrev pub RowsPass : LateRows → ℕ → Kind → List Row → Type 0
+RowsPass late.Refused until kind rows = InTime until kind rows
+RowsPass late.Taken until kind rows = Unit {0}
 
 -- if late rows are refused, no actor has one
 abbrev pub AllPass : LateRows → Graph → (ℕ → List Row) → Type 0
-AllPass l g rows = (a : ℕ) → Passes l g.until (kind_of g a) (rows a)
+AllPass l g rows = (a : ℕ) → RowsPass l g.until (kind_of g a) (rows a)
 
 -- each of the first n actors has rows that pass
 abbrev pub HaveRows : LateRows → Contents → Graph → ℕ → Type 0
-HaveRows l tells g n = (a : ℕ) → a < n → (rows : List Row) × RowsOfKind tells (kind_of g a) rows × Passes l g.until (kind_of g a) rows
+HaveRows l tells g n = (a : ℕ) → a < n → (rows : List Row) × RowsOfKind tells (kind_of g a) rows × RowsPass l g.until (kind_of g a) rows
 
 -- the actor is the first that gives no rows: a sensor whose file has this fault
 pub record SensorFails (l : LateRows) (tells : Contents) (g : Graph) (actor : ℕ) (f : RowFault) : Type 0 where

@@ -11,21 +11,21 @@ use Rattle.pt_sensors.specs.declared.fault.RowFault.{RowFault}
 use Rattle.pt_sensors.specs.declared.fault.RowFault.TheVariants as fault
 
 -- the bytes that a reader has left
-abbrev pub left_of : {R : Type 0} → (R → Option (List ℕ)) → Reader R → List ℕ
-left_of rem reader = unwrap_or (source_of rem reader) []
+abbrev pub bytes_left : {R : Type 0} → (R → Option (List ℕ)) → Reader R → List ℕ
+bytes_left rem reader = unwrap_or (source_of rem reader) []
 
 -- a reader of known bytes, with the default configuration and no trimming
 pub record IsPlain {R : Type 0} (rem : R → Option (List ℕ)) (reader : Reader R) : Type 0 where
   pub config : reader_config reader ≡ default_config
   pub trim : reader_trim reader ≡ trim.None
   pub ready : Ready reader
-  pub known : source_of rem reader ≡ Some (left_of rem reader)
+  pub known : source_of rem reader ≡ Some (bytes_left rem reader)
 
 -- a read found the next record, or there is none
 abbrev pub Finds : {R : Type 0} → (R → Option (List ℕ)) → Option Read → Bool → Reader R → List (List ℕ) → Type 0
 Finds rem None found reader fields = found ≡ false
 Finds rem (Some p) found reader fields =
-    (found ≡ true) × (fields ≡ p.0) × IsPlain rem reader × (reader_state reader ≡ p.1) × (left_of rem reader ≡ p.2)
+    (found ≡ true) × (fields ≡ p.0) × IsPlain rem reader × (reader_state reader ≡ p.1) × (bytes_left rem reader ≡ p.2)
 
 -- the three fields of a record, if it has three
 abbrev pub Cells : Type 0
@@ -42,9 +42,9 @@ abbrev pub ◌>>=◌ : {A B : Type 0} → Result A RowFault → (A → Result B 
 (Ok x) >>= f = f x
 (Err e) >>= f = Err e
 
-abbrev pub or_fault : {A : Type 0} → RowFault → Option A → Result A RowFault
-or_fault e None = Err e
-or_fault e (Some x) = Ok x
+abbrev pub or_row_fault : {A : Type 0} → RowFault → Option A → Result A RowFault
+or_row_fault e None = Err e
+or_row_fault e (Some x) = Ok x
 
 -- the numbers of a row
 unfoldable pub numbers_of : Cells → Option Row
@@ -70,8 +70,8 @@ unless (Some e) x = Err e
 -- the row of record number n, or its first fault
 unfoldable pub row_of : ℕ → Option Row → List (List ℕ) → Result Row RowFault
 row_of n before fields = do
-  three ← or_fault (fault.Fields n) (cells fields)
-  row ← or_fault (fault.Number n) (numbers_of three)
+  three ← or_row_fault (fault.Fields n) (cells fields)
+  row ← or_row_fault (fault.Number n) (numbers_of three)
   unless (order_fault n before row) row
 
 abbrev pub are_titles : Cells → Bool

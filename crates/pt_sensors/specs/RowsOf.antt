@@ -13,9 +13,9 @@ use Rattle.pt_sensors.specs.declared.fault.RowFault.TheVariants as fault
 abbrev pub next : State → List ℕ → Option Read
 next s xs = next_record default_config s [] [] xs
 
-abbrev pub in_front : Row → Result (List Row) RowFault → Result (List Row) RowFault
-in_front row (Ok rows) = Ok (row ∷ rows)
-in_front row (Err e) = Err e
+abbrev pub row_in_front : Row → Result (List Row) RowFault → Result (List Row) RowFault
+row_in_front row (Ok rows) = Ok (row ∷ rows)
+row_in_front row (Err e) = Err e
 
 -- no record is left, or there are too many
 abbrev pub ends : Option Read → Result (List Row) RowFault
@@ -25,7 +25,7 @@ ends (Some p) = Err fault.TooManyRows
 -- the result from the next record on, if there is one
 abbrev pub goes_on : ℕ → Option Row → (Row → State → List ℕ → Result (List Row) RowFault) → Option Read → Result (List Row) RowFault
 goes_on n before rest None = Ok []
-goes_on n before rest (Some p) = row_of n before p.0 >>= λ row. in_front row (rest row p.1 p.2)
+goes_on n before rest (Some p) = row_of n before p.0 >>= λ row. row_in_front row (rest row p.1 p.2)
 
 -- the result from row n on, if as many more rows may come as the first number says
 unfoldable pub rows_from : ℕ → ℕ → Option Row → State → List ℕ → Result (List Row) RowFault
@@ -45,6 +45,6 @@ unfoldable pub rows_of : List ℕ → Result (List Row) RowFault
 rows_of bytes = if nat_lt 8388608 (length bytes) then Err fault.TooLong else rows_in bytes
 
 -- a reader's result is the one that the definition gives, unless memory ran out
-abbrev pub Gives : {A : Type 0} → Result A RowFault → Result A RowFault → Type 0
-Gives read (Ok x) = read ≡ Ok x
-Gives read (Err e) = e ≢ fault.Memory → read ≡ Err e
+abbrev pub GivesRows : {A : Type 0} → Result A RowFault → Result A RowFault → Type 0
+GivesRows read (Ok x) = read ≡ Ok x
+GivesRows read (Err e) = e ≢ fault.Memory → read ≡ Err e

@@ -2,7 +2,7 @@
 
 ghost use Rattle.std.specs.Prelude.{◌≡◌, ◌<◌, ◌≤◌, ◌+◌, [], ◌∷◌, Ok, None, IfOk, IfErr, IfNone, IfSome, OnOk, length};
 ghost use Rattle.pt_sensors.specs.Late.{late_row};
-ghost use Rattle.pt_sensors.specs.Order.{AreInOrder};
+ghost use Rattle.pt_sensors.specs.Order.{RowsAreInOrder};
 ghost use Rattle.pt_sensors.specs.RowsOf.{rows_of};
 ghost use Rattle.pt_sensors.specs.declared.recorded_fault.LateRows.TheVariants.{Refused};
 ghost use Rattle.pt_sensors.specs.Asked.{Asks, AsksOrNot};
@@ -23,7 +23,7 @@ pub fn rows_of_file<S: Source>(
     name: &str,
 ) -> Result<List<Row>, RecordedFault>
     ensures rows { IfOk result (λ rows. IfSome (S.tells source.old name.now) (λ bytes. rows_of bytes ≡ Ok rows)) }
-    ensures order { IfOk result AreInOrder }
+    ensures order { IfOk result RowsAreInOrder }
     ensures fault { IfErr result (λ f. CauseOfFile actor f (S.tells source.old) name.now
         (record { asked_before = S.asked source.old; asked_now = S.asked source.new; before = S.faults source.old; now = S.faults source.new })) }
     ensures keeps { S.tells source.new ≡ S.tells source.old }

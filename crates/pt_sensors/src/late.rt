@@ -1,7 +1,7 @@
 //! Rows that are seen past their sensor's bound.
 
 ghost use Rattle.std.specs.Prelude.{◌≡◌, ◌+◌, ◌-◌, ◌^◌, ◌<◌, length, is_some, position, min};
-ghost use Rattle.pt_sensors.specs.Late.{is_late, late_row};
+ghost use Rattle.pt_sensors.specs.Late.{is_late_row, late_row};
 ghost use Rattle.pt_types.specs.declared.rows.Row.{Row};
 
 use pt_types::Row;
@@ -23,7 +23,7 @@ pub fn first_late(rows: &[Row], bound: u64, until: u64) -> Option<u32>
 
 /// The index of the first late row, from 0.
 fn late_index(rows: &[Row], bound: u64, until: u64) -> Option<usize>
-    ensures { result ≡ position (λ (row : Row). is_late bound until row) rows.now }
+    ensures { result ≡ position (λ (row : Row). is_late_row bound until row) rows.now }
 {
     rows.iter().position(|row| is_late(row, bound, until))
 }
@@ -37,7 +37,7 @@ fn row_number(index: usize) -> u32
 
 /// Whether a row of the run is seen past its sensor's bound.
 fn is_late(row: &Row, bound: u64, until: u64) -> bool
-    ensures { result ≡ is_late bound until row.now }
+    ensures { result ≡ is_late_row bound until row.now }
 {
     row.time <= until && u128::from(row.seen) > u128::from(row.time) + u128::from(bound)
 }

@@ -1,7 +1,7 @@
 //! The lines that report faults of sensor files and late rows.
 
 ghost use Rattle.std.specs.Prelude.{◌≡◌, ◌++◌, string_bytes, OnOk};
-ghost use Rattle.pt_sensors.specs.Lines.{fault_line, fault_text, late_line};
+ghost use Rattle.pt_sensors.specs.Lines.{sensor_fault_line, row_fault_text, late_line};
 
 use crate::fault::RowFault;
 use std::alloc::AllocError;
@@ -10,9 +10,9 @@ use std::fmt;
 
 impl fmt::Display for RowFault {
     ghost use Rattle.std.specs.Prelude.{Some};
-    ghost use Rattle.pt_sensors.specs.Lines.{fault_text};
+    ghost use Rattle.pt_sensors.specs.Lines.{row_fault_text};
 
-    ghost output = { λ e. Some (fault_text e) };
+    ghost output = { λ e. Some (row_fault_text e) };
 
     fn fmt<W: fmt::Write>(&self, f: &mut fmt::Formatter<W>) -> fmt::Result {
         match *self {
@@ -33,7 +33,7 @@ impl Error for RowFault {}
 
 /// Appends the line for a fault of a sensor's file.
 pub fn fault_line(text: &mut String, name: &str, fault: &RowFault) -> Result<(), AllocError>
-    ensures { OnOk result (string_bytes text.new ≡ string_bytes text.old ++ fault_line name.now fault.now) }
+    ensures { OnOk result (string_bytes text.new ≡ string_bytes text.old ++ sensor_fault_line name.now fault.now) }
 {
     write!(text, "sensor {name}: {fault}\n")
 }

@@ -3,9 +3,9 @@
 ghost use Rattle.std.specs.Prelude.{◌≡◌, Some, None, IfOk, option_map};
 ghost use Rattle.csv.specs.Reading.{reader_state};
 ghost use Rattle.csv.specs.Records.{fields_of};
-ghost use Rattle.pt_sensors.specs.Order.{AreInOrder};
-ghost use Rattle.pt_sensors.specs.Rows.{IsPlain, Finds, left_of, three, cells, are_titles, is_header, numbers_of, order_fault, row_of};
-ghost use Rattle.pt_sensors.specs.RowsOf.{next, rows_from, rows_of, Gives};
+ghost use Rattle.pt_sensors.specs.Order.{RowsAreInOrder};
+ghost use Rattle.pt_sensors.specs.Rows.{IsPlain, Finds, bytes_left, three, cells, are_titles, is_header, numbers_of, order_fault, row_of};
+ghost use Rattle.pt_sensors.specs.RowsOf.{next, rows_from, rows_of, GivesRows};
 
 use crate::fault::RowFault;
 use crate::numbers::{limited, signed};
@@ -25,8 +25,8 @@ pub const MOST_ROWS: u32 = 100_000;
 /// Faults are looked for in the order in which `RowFault` lists them: first those of the file and its header,
 /// then row by row. Times are whole microseconds. (The format is this project's own choice.)
 pub fn read_rows(alloc: Global, bytes: &[u8]) -> Result<List<Row>, RowFault>
-    ensures rows { Gives (rows_of bytes.now) result }
-    ensures order { IfOk result AreInOrder }
+    ensures rows { GivesRows (rows_of bytes.now) result }
+    ensures order { IfOk result RowsAreInOrder }
 {
     read(alloc, bytes)
 }
@@ -34,7 +34,7 @@ pub fn read_rows(alloc: Global, bytes: &[u8]) -> Result<List<Row>, RowFault>
 /// The rows of a sensor file, or its first fault, from the records that csv reads.
 #[tactic(auto, unfolding(crate::specs::RowsOf::rows_of))]
 fn read(alloc: Global, bytes: &[u8]) -> Result<List<Row>, RowFault>
-    ensures { Gives (rows_of bytes.now) result }
+    ensures { GivesRows (rows_of bytes.now) result }
 {
     if bytes.len() > MOST_BYTES {
         return Err(RowFault::TooLong);
@@ -60,7 +60,7 @@ fn read(alloc: Global, bytes: &[u8]) -> Result<List<Row>, RowFault>
 pub fn advance(reader: &mut Reader<&[u8]>, line: &mut ByteRecord) -> Result<bool, Memory>
     requires { IsPlain (λ r. Some r.now) reader.old }
     ensures { IfOk result (λ found. Finds (λ r. Some r.now)
-        (next (reader_state reader.old) (left_of (λ r. Some r.now) reader.old)) found reader.new (fields_of line.new)) }
+        (next (reader_state reader.old) (bytes_left (λ r. Some r.now) reader.old)) found reader.new (fields_of line.new)) }
 {
     match reader.read_byte_record(line) {
         Ok(found) => Ok(found),
@@ -75,7 +75,7 @@ fn rows(
     line: &mut ByteRecord,
 ) -> Result<List<Row>, RowFault>
     requires { IsPlain (λ r. Some r.now) reader.old }
-    ensures { Gives (rows_from 100000 1 None (reader_state reader.old) (left_of (λ r. Some r.now) reader.old)) result }
+    ensures { GivesRows (rows_from 100000 1 None (reader_state reader.old) (bytes_left (λ r. Some r.now) reader.old)) result }
 {
     let mut rows = Vec::new(alloc);
     let mut before = None;

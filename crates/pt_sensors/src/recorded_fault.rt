@@ -1,7 +1,7 @@
 //! Why the rows of the sensors could not be read.
 
 ghost use Rattle.std.specs.Prelude.{◌≡◌};
-ghost use Rattle.pt_sensors.specs.Faults.{fault_of_rows};
+ghost use Rattle.pt_sensors.specs.Faults.{fault_of_sensor};
 
 use crate::RowFault;
 use thiserror::Error;
@@ -45,7 +45,7 @@ pub enum RecordedFault {
 
 /// The fault for a fault of the file of a sensor.
 pub fn fault_of_rows(actor: u32, fault: RowFault) -> RecordedFault
-    ensures { result ≡ fault_of_rows actor fault }
+    ensures { result ≡ fault_of_sensor actor fault }
 {
     match fault {
         RowFault::Memory => RecordedFault::Memory,

@@ -4,10 +4,10 @@ ghost use Rattle.std.specs.Prelude.{◌≡◌, ◌<◌, ◌≤◌, ◌^◌, [], 
 ghost use Rattle.pt_semantics.specs.Lists.{Each};
 ghost use Rattle.pt_types.specs.Lookups.{kind_of};
 ghost use Rattle.pt_semantics.specs.Rows.{FitRows};
-ghost use Rattle.pt_sensors.specs.Order.{AreInOrder};
+ghost use Rattle.pt_sensors.specs.Order.{RowsAreInOrder};
 ghost use Rattle.pt_sensors.specs.Listed.{rows_for, IsOfActors};
 ghost use Rattle.pt_sensors.specs.Asked.{Asks, AsksFiles, AsksOrNot, file_of};
-ghost use Rattle.pt_sensors.specs.Recorded.{AllPass, AreRows, CauseOfRows, Passes, RowsOfKind};
+ghost use Rattle.pt_sensors.specs.Recorded.{AllPass, AreRows, CauseOfRows, RowsPass, RowsOfKind};
 ghost use Rattle.pt_sensors.specs.declared.recorded_fault.LateRows.TheVariants.{Refused};
 ghost use Rattle.pt_sensors.specs.Files.{CauseOfActor};
 ghost use Rattle.pt_sensors.specs.Places.{StandInPlace, of_run};
@@ -30,8 +30,8 @@ fn rows_of_actor<S: Source>(
 ) -> Result<List<Row>, RecordedFault>
     requires { actor < length graph.now.actors }
     ensures rows { IfOk result (λ rows. RowsOfKind (S.tells source.old) (kind_of graph.now actor) rows) }
-    ensures passes { IfOk result (λ rows. Passes late graph.now.until (kind_of graph.now actor) rows) }
-    ensures order { IfOk result AreInOrder }
+    ensures passes { IfOk result (λ rows. RowsPass late graph.now.until (kind_of graph.now actor) rows) }
+    ensures order { IfOk result RowsAreInOrder }
     ensures fault { IfErr result (λ f. CauseOfActor late f (S.tells source.old) graph.now actor
         (record { asked_before = S.asked source.old; asked_now = S.asked source.new; before = S.faults source.old; now = S.faults source.new })) }
     ensures keeps { S.tells source.new ≡ S.tells source.old }

@@ -14,8 +14,8 @@ use Rattle.pt_turn.specs.Turned.{is_late}
 use Rattle.pt_board.specs.Keepers.{BoardView, KeeperView}
 use Rattle.pt_pool.specs.declared.station.VisitFault.{VisitFault}
 use Rattle.pt_pool.specs.declared.station.VisitFault.TheVariants.{Turn, Memory}
-use Rattle.pt_pool.specs.Answers.{Answers}
-use Rattle.pt_pool.specs.Station.{StationView, StationVisited, graph_of}
+use Rattle.pt_pool.specs.Answers.{AnswersVisit}
+use Rattle.pt_pool.specs.Station.{StationView, StationVisited, plan_graph}
 use Rattle.pt_pool.proofs.Keeping.{number_stays}
 use Rattle.pt_sites.specs.Sites.{HaveCollected, HavePlaced, IsSite, SiteAnswers, SiteRefused, SiteVisited}
 use Rattle.pt_sites.proofs.Collects.{Same, done_both, have_same}
@@ -54,27 +54,27 @@ few_placed most was mid old new collected claimed few got counts =
     omega (arith, next, few, n, m)
 
 -- how many claims a visit with an answer made
-pub answer_counts : (result : Result (Unit {0}) VisitFault) (most : ℕ) (dones : List Done) (old new : StationView) (cleared claimed : List Task) → ((e : result ≡ Err Memory) → ⊥) → cleared ≡ [] → Answers result most dones old new cleared claimed → Counts most old new claimed
+pub answer_counts : (result : Result (Unit {0}) VisitFault) (most : ℕ) (dones : List Done) (old new : StationView) (cleared claimed : List Task) → ((e : result ≡ Err Memory) → ⊥) → cleared ≡ [] → AnswersVisit result most dones old new cleared claimed → Counts most old new claimed
 answer_counts (Ok x) most dones old new cleared claimed ne none a = visit_counts most dones old new claimed (subst (λ (z : List Task). StationVisited most dones old new z claimed) none a.2)
 answer_counts (Err (Turn fault)) most dones old new cleared claimed ne none a = visit_counts most dones old new claimed (subst (λ (z : List Task). StationVisited most dones old new z claimed) none a.2)
 answer_counts (Err Memory) most dones old new cleared claimed ne none a = absurd (ne refl)
 
 -- a visit with an answer, from what was done
 pub site_visited : (result : Result (Unit {0}) VisitFault) (most : ℕ) (g : Graph) (old new : StationView) (was mid now : KeeperView) (kept waits collected dones : List Done) (handed left cleared claimed tasks : List Task)
-    → HaveCollected was mid collected → AreDone g collected → dones ≡ kept ++ collected → cleared ≡ [] → Answers result most dones old new cleared claimed → tasks ≡ claimed → HavePlaced tasks (length tasks) mid now handed left → waits ≡ [] → SiteVisited result most g old new was now kept waits handed left
+    → HaveCollected was mid collected → AreDone g collected → dones ≡ kept ++ collected → cleared ≡ [] → AnswersVisit result most dones old new cleared claimed → tasks ≡ claimed → HavePlaced tasks (length tasks) mid now handed left → waits ≡ [] → SiteVisited result most g old new was now kept waits handed left
 site_visited result most g old new was mid now kept waits collected dones handed left cleared claimed tasks got done is none answer same placed nothing = record {
   collected = collected;
   mid = mid;
   got = got;
   done = done;
   claimed = claimed;
-  visited = subst (λ (ds : List Done). Answers result most ds old new [] claimed) is (subst (λ (z : List Task). Answers result most dones old new z claimed) none answer);
+  visited = subst (λ (ds : List Done). AnswersVisit result most ds old new [] claimed) is (subst (λ (z : List Task). AnswersVisit result most dones old new z claimed) none answer);
   placed = subst (λ (z : List Task). HavePlaced z (length z) mid now handed left) same placed;
   none = nothing;
 }
 
 module _ (plan : Option Parts) (table : ℕ → TableId) (board : BoardView) (most : ℕ) (old new : StationView) (was now : KeeperView) (kept waits : List Done) (handed left : List Task) (site : IsSite plan table board old was kept) where
-  after_visit : (result : Result (Unit {0}) VisitFault) → ((dones : List Done) (claimed : List Task) → Answers result most dones old new [] claimed → StationVisited most dones old new [] claimed) → SiteVisited result most (graph_of plan) old new was now kept waits handed left → IsSite plan table board new now waits
+  after_visit : (result : Result (Unit {0}) VisitFault) → ((dones : List Done) (claimed : List Task) → AnswersVisit result most dones old new [] claimed → StationVisited most dones old new [] claimed) → SiteVisited result most (plan_graph plan) old new was now kept waits handed left → IsSite plan table board new now waits
   after_visit result made h =
       let c = visit_counts most (kept ++ h.collected) old new h.claimed (made (kept ++ h.collected) h.claimed h.visited) in
       let s = have_same was h.mid h.collected h.got in
@@ -88,10 +88,10 @@ module _ (plan : Option Parts) (table : ℕ → TableId) (board : BoardView) (mo
         named = tables ∙ site.named ∙ ap table (sym c.number);
         graph = h.placed.graph ∙ s.graph ∙ site.graph;
         few = omega (arith, next, few, before, claims);
-        done = subst (AreDone (graph_of plan)) (sym h.none) tt;
+        done = subst (AreDone (plan_graph plan)) (sym h.none) tt;
       }
 
-  after_refusal : SiteRefused (graph_of plan) old new was now kept waits handed left → IsSite plan table board new now waits
+  after_refusal : SiteRefused (plan_graph plan) old new was now kept waits handed left → IsSite plan table board new now waits
   after_refusal h =
       let s : Same was now = ⊎_elim
       (λ (c : HaveCollected was now h.collected). have_same was now h.collected c)
@@ -106,15 +106,15 @@ module _ (plan : Option Parts) (table : ℕ → TableId) (board : BoardView) (mo
         named = s.table ∙ site.named ∙ ap table (sym number);
         graph = s.graph ∙ site.graph;
         few = omega (arith, claims, before, next);
-        done = subst (AreDone (graph_of plan)) (sym h.waiting) (done_both (graph_of plan) kept h.collected site.done h.done);
+        done = subst (AreDone (plan_graph plan)) (sym h.waiting) (done_both (plan_graph plan) kept h.collected site.done h.done);
       }
 
-  pub site_still : (result : Result (Unit {0}) VisitFault) → SiteAnswers result most (graph_of plan) old new was now kept waits handed left → IsSite plan table board new now waits
+  pub site_still : (result : Result (Unit {0}) VisitFault) → SiteAnswers result most (plan_graph plan) old new was now kept waits handed left → IsSite plan table board new now waits
   site_still (Ok x) h = after_visit (Ok x) (λ dones claimed a. a.2) h
   site_still (Err (Turn fault)) h = after_visit (Err (Turn fault)) (λ dones claimed a. a.2) h
   site_still (Err Memory) h = after_refusal h
 
-  pub number_still : (result : Result (Unit {0}) VisitFault) → SiteAnswers result most (graph_of plan) old new was now kept waits handed left → new.platform.number ≡ old.platform.number
+  pub number_still : (result : Result (Unit {0}) VisitFault) → SiteAnswers result most (plan_graph plan) old new was now kept waits handed left → new.platform.number ≡ old.platform.number
   number_still (Ok x) h = (visit_counts most (kept ++ h.collected) old new h.claimed h.visited.2).number
   number_still (Err (Turn fault)) h = (visit_counts most (kept ++ h.collected) old new h.claimed h.visited.2).number
   number_still (Err Memory) h = ap (λ (v : PlatformView). v.number) h.refused.platform

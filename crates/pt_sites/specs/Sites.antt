@@ -10,8 +10,8 @@ use Rattle.pt_post.specs.Posted.{AreDone}
 use Rattle.pt_board.specs.Keepers.{BoardView, HasCollected, IsAllOut, KeeperView, SawNoneDone, out_at}
 use Rattle.pt_pool.specs.declared.station.VisitFault.{VisitFault}
 use Rattle.pt_pool.specs.declared.station.VisitFault.TheVariants.{Turn, Memory}
-use Rattle.pt_pool.specs.Answers.{Answers, StationRefused}
-use Rattle.pt_pool.specs.Station.{StationView, graph_of}
+use Rattle.pt_pool.specs.Answers.{AnswersVisit, StationRefused}
+use Rattle.pt_pool.specs.Station.{StationView, plan_graph}
 
 -- its station, the keeper of its board, and the results that wait for the next visit
 pub record SiteView : Type 0 where
@@ -24,9 +24,9 @@ pub record SiteView : Type 0 where
 pub record IsSite (plan : Option Parts) (table : ℕ → TableId) (board : BoardView) (station : StationView) (keeper : KeeperView) (results : List Done) : Type 0 where
   pub of_board : keeper.table ≡ board.table
   pub named : keeper.table ≡ table station.platform.number
-  pub graph : keeper.knows.graph ≡ Some (graph_of plan)
+  pub graph : keeper.knows.graph ≡ Some (plan_graph plan)
   pub few : keeper.next ≤ station.platform.claims
-  pub done : AreDone (graph_of plan) results
+  pub done : AreDone (plan_graph plan) results
 
 -- these results were collected, one after another, each from the slot in which its task was out
 abbrev pub Collects : KeeperView → List Done → KeeperView → Type 0
@@ -62,7 +62,7 @@ pub record SiteVisited (result : Result (Unit {0}) VisitFault) (most : ℕ) (g :
   pub got : HaveCollected was mid collected
   pub done : AreDone g collected
   pub claimed : List Task
-  pub visited : Answers result most (kept ++ collected) old new [] claimed
+  pub visited : AnswersVisit result most (kept ++ collected) old new [] claimed
   pub placed : HavePlaced claimed (length claimed) mid now handed left
   pub none : waits ≡ []
 

@@ -4,7 +4,7 @@ ghost use Rattle.std.specs.Prelude.{◌≡◌, ◌+◌, ◌≤◌, ◌<◌, ◌+
 ghost use Rattle.std.specs.Arc.{arc_value};
 ghost use Rattle.pt_post.specs.Posted.{IsDone};
 ghost use Rattle.pt_board.specs.Hands.{HoldsNone};
-ghost use Rattle.pt_pool.specs.Station.{graph_of};
+ghost use Rattle.pt_pool.specs.Station.{plan_graph};
 ghost use Rattle.pt_sites.specs.Sites.{SiteAnswers};
 
 use crate::boards::Boards;
@@ -51,7 +51,7 @@ impl<J: Run, B: Boards, C: Clock> Site<J, B, C> {
         keeper: Keeper,
     ) -> Site<J, B, C>
         requires table { (keeper.table ≡ (arc_value board).table) × (keeper.table ≡ B.table station.platform.number) }
-        requires graph { keeper.knows.graph ≡ Some (graph_of J.plan) }
+        requires graph { keeper.knows.graph ≡ Some (plan_graph J.plan) }
         requires none { keeper.next ≡ 0 }
         ensures { result ≡ record { station = station; keeper = keeper; results = [] } }
     {
@@ -68,7 +68,7 @@ impl<J: Run, B: Boards, C: Clock> Site<J, B, C> {
     /// Its station's platform.
     pub fn platform(&self) -> &Platform
         ensures platform { result.now ≡ self.now.station.platform }
-        ensures below { result.now.number < length (graph_of J.plan).platforms }
+        ensures below { result.now.number < length (plan_graph J.plan).platforms }
         ensures plan { J.plan ≡ Some result.now.plan }
     {
         self.station.platform()
@@ -92,7 +92,7 @@ impl<J: Run, B: Boards, C: Clock> Site<J, B, C> {
     pub fn hand(&mut self) -> Hand
         ensures same { self.new ≡ self.old }
         ensures table { result.table ≡ B.table self.old.station.platform.number }
-        ensures graph { result.knows.graph ≡ Some (graph_of J.plan) }
+        ensures graph { result.knows.graph ≡ Some (plan_graph J.plan) }
         ensures none { HoldsNone result }
     {
         self.board.hand(&mut self.keeper)
@@ -109,7 +109,7 @@ impl<J: Run, B: Boards, C: Clock> Site<J, B, C> {
 
     /// Keeps a result for the next visit. If memory runs out, nothing is changed.
     pub fn keep(&mut self, done: Done) -> Result<(), Memory>
-        requires { IsDone (graph_of J.plan) done }
+        requires { IsDone (plan_graph J.plan) done }
         ensures kept { OnOk result (self.new ≡ record self.old { results = self.old.results ++ done ∷ [] }) }
         ensures unchanged { OnErr result (self.new ≡ self.old) }
     {
@@ -133,7 +133,7 @@ impl<J: Run, B: Boards, C: Clock> Site<J, B, C> {
     ) -> Result<(), VisitFault>
         requires no_fault { self.old.station.platform.fault ≡ None }
         requires most { (1 ≤ most) × (most ≤ 32) }
-        ensures answer { SiteAnswers result most (graph_of J.plan) self.old.station self.new.station self.old.keeper self.new.keeper self.old.results self.new.results tasks.old.tasks tasks.new.tasks }
+        ensures answer { SiteAnswers result most (plan_graph J.plan) self.old.station self.new.station self.old.keeper self.new.keeper self.old.results self.new.results tasks.old.tasks tasks.new.tasks }
         ensures number { self.new.station.platform.number ≡ self.old.station.platform.number }
     {
         visit_over(

@@ -2,7 +2,7 @@
 
 ghost use Rattle.std.specs.Prelude.{◌≡◌, ◌+◌, ◌≤◌, ◌++◌, None, Some, OnErr, OnOk, vec_len, vec_capacity};
 ghost use Rattle.pt_post.specs.Posted.{AreDone};
-ghost use Rattle.pt_pool.specs.Station.{graph_of};
+ghost use Rattle.pt_pool.specs.Station.{plan_graph};
 ghost use Rattle.pt_sites.specs.Sites.{SiteAnswers};
 
 use crate::collecting::{MOST, collect_all};
@@ -42,10 +42,10 @@ pub(crate) fn visit_over<J: Run, C: Clock, R: Wait>(
     requires no_fault { station.old.platform.fault ≡ None }
     requires most { (1 ≤ most) × (most ≤ 32) }
     requires table { keeper.old.table ≡ board.now.table }
-    requires graph { keeper.old.knows.graph ≡ Some (graph_of J.plan) }
-    requires done { AreDone (graph_of J.plan) results.old.items }
+    requires graph { keeper.old.knows.graph ≡ Some (plan_graph J.plan) }
+    requires done { AreDone (plan_graph J.plan) results.old.items }
     requires few { keeper.old.next ≤ station.old.platform.claims }
-    ensures answer { SiteAnswers result most (graph_of J.plan) station.old station.new keeper.old keeper.new results.old.items results.new.items tasks.old.tasks tasks.new.tasks }
+    ensures answer { SiteAnswers result most (plan_graph J.plan) station.old station.new keeper.old keeper.new results.old.items results.new.items tasks.old.tasks tasks.new.tasks }
 {
     let _ = station.platform();
     let Ok(()) = make_room(results, tasks, most) else {

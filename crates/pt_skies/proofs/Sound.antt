@@ -26,7 +26,7 @@ use Rattle.pt_laws.proofs.Onward.{cases_same}
 use Rattle.pt_air.specs.declared.air.Air.{Air}
 use Rattle.pt_airways.specs.Arrivals.{AirwayView, NeverFall}
 use Rattle.pt_flights.specs.Skies.{delay_on, reading_at, transits_on}
-use Rattle.pt_fixed_order.specs.Sound.{GoesOn, SendsNothingElse}
+use Rattle.pt_fixed_order.specs.Sound.{NoneWasLast, SendsNothingElse}
 use Rattle.pt_fixed_order.proofs.Sound.{Own, goes_on_time, one_more_linked, push_last, push_on, sent_push, single_push, takes_own, turn_own}
 use Rattle.pt_visits.proofs.Visits.{turn_to}
 use Rattle.pt_skies.specs.Between.{under_way}
@@ -88,7 +88,7 @@ module _ (g : Graph) (level : ℕ → ℕ) (air : Air) (now : ℕ) (x : Sky) (m 
 
 -- all platforms in a round, after the flights of the first n. A platform that has not flown in it has no fault
 pub record IsSound (g : Graph) (level : ℕ → ℕ) (rows : ℕ → List Row) (n : ℕ) (x : Sky) : Type 0 where
-  pub goes : (p : ℕ) → n ≤ p → GoesOn g level p (opened g p rows) (x.did p) (x.at p)
+  pub goes : (p : ℕ) → n ≤ p → NoneWasLast g level p (opened g p rows) (x.did p) (x.at p)
   pub legal : (p : ℕ) → Legal g level p (opened g p rows) (x.did p) (x.at p)
   pub single : (p : ℕ) → Each IsSingle (x.did p)
   pub own : (p : ℕ) → SendsNothingElse g p (x.at p)
@@ -158,7 +158,7 @@ module _ (g : Graph) (level : ℕ → ℕ) (rows : ℕ → List Row) (wired : Is
     -- so it is after the flight, of the platforms from k on if this one has no fault or is not one of them
     pub sound_flight : (k : ℕ) → n ≤ k → (k ≤ m.platform → m.fault ≡ false) → IsSound g level rows k y
     sound_flight k more fine = record {
-      goes = by_platform (λ p s t. k ≤ p → GoesOn g level p (opened g p rows) t s)
+      goes = by_platform (λ p s t. k ≤ p → NoneWasLast g level p (opened g p rows) t s)
           (λ p ne from. h.goes p (omega (arith, more, from)))
           (λ from. push_on g level m.platform (x.did m.platform) m.turn (opened g m.platform rows) (x.at m.platform) (y.at m.platform) (h.goes m.platform le)
           (on_time g level air now x m y f (not_late g level air now x m y f (fine from))).0 (not_last g level air now x m y f (fine from)));

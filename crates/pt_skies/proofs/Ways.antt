@@ -5,7 +5,7 @@ use Rattle.std.proofs.Math.Seq.{drop-append_seam}
 use Rattle.pt_tags.specs.declared.message.Message.{Message}
 use Rattle.pt_types.specs.declared.graph.Graph.{Graph}
 use Rattle.pt_airways.specs.declared.in_air.InAir.{InAir}
-use Rattle.pt_airways.specs.Arrivals.{AirwayView, NeverFall, arrival_of, put_on, transit_of}
+use Rattle.pt_airways.specs.Arrivals.{AirwayView, NeverFall, arrival_of, airway_with, transit_of}
 use Rattle.pt_airways.proofs.Order.{NeverFall-push, NeverFall-rest}
 use Rattle.pt_visits.specs.Pipes.{leads_to}
 use Rattle.pt_flights.specs.Skies.{came, come_on, put_all}
@@ -19,7 +19,7 @@ carried a = map (λ (m : InAir). m.message) a.on_way
 pub put_carried : (now : ℕ) (transits : List ℕ) (delay : ℕ) (ms : List Message) (a : AirwayView) → carried (put_all now transits delay ms a) ≡ carried a ++ ms
 put_carried now transits delay [] a = sym (append-nil (carried a))
 put_carried now transits delay (m ∷ ms) a =
-    put_carried now transits delay ms (put_on now transits delay m a)
+    put_carried now transits delay ms (airway_with now transits delay m a)
     ∙ ap (λ z. z ++ ms) (map-append (λ (o : InAir). o.message) a.on_way (record { arrives = arrival_of now transits delay m a; message = m } ∷ []))
     ∙ append_assoc (carried a) (m ∷ []) ms
 
@@ -44,7 +44,7 @@ left_carried taken rest a split =
 pub put_falls : (now : ℕ) (transits : List ℕ) (delay : ℕ) (ms : List Message) (a : AirwayView) → NeverFall 0 a.on_way a.latest → NeverFall 0 (put_all now transits delay ms a).on_way (put_all now transits delay ms a).latest
 put_falls now transits delay [] a h = h
 put_falls now transits delay (m ∷ ms) a h =
-    put_falls now transits delay ms (put_on now transits delay m a)
+    put_falls now transits delay ms (airway_with now transits delay m a)
     (NeverFall-push 0 a.on_way a.latest (arrival_of now transits delay m a) m h (later (now + transit_of transits delay a.events m) a.latest))
   where
     later : (a b : ℕ) → b ≤ max a b

@@ -12,7 +12,7 @@ use Rattle.pt_semantics.specs.Turn.{Turn}
 use Rattle.pt_semantics.specs.Visits.{IsVisit, Made, Together}
 use Rattle.pt_air.specs.declared.air.Air.{Air}
 use Rattle.pt_airways.specs.declared.in_air.InAir.{InAir}
-use Rattle.pt_airways.specs.Arrivals.{AirwayView, nothing}
+use Rattle.pt_airways.specs.Arrivals.{AirwayView, empty_airway}
 use Rattle.pt_flights.specs.Skies.{come_on, put_link, reading_at, true_time}
 
 -- all platforms together: their states, their turns one by one, and the messages on their way on each link
@@ -23,7 +23,7 @@ pub record Sky : Type 0 where
 
 -- the platforms before the first turn
 abbrev pub sky_at_start : Graph → (ℕ → List Row) → Sky
-sky_at_start g rows = record { at = λ i. opened g i rows; did = λ i. []; airways = λ l. nothing }
+sky_at_start g rows = record { at = λ i. opened g i rows; did = λ i. []; airways = λ l. empty_airway }
 
 -- all platforms are finished
 abbrev pub AllFinished : Graph → Sky → Type 0

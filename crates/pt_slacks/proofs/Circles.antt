@@ -18,7 +18,7 @@ use Rattle.pt_slacks.specs.declared.hop.Hop.{Hop}
 use Rattle.pt_slacks.specs.Hops.{cost_of, hop_at, hop_of}
 use Rattle.pt_slacks.specs.Needs.{by_hop, needed_by}
 use Rattle.pt_slacks.specs.Rings.{Gains, GainsAlong}
-use Rattle.pt_slacks.specs.Rows.{HasRisen, row_at}
+use Rattle.pt_slacks.specs.Rows.{HasRisen, slack_row_at}
 use Rattle.pt_slacks.specs.Trails.{Raises, Trails}
 use Rattle.pt_slacks.proofs.Admitting.{by_hop_is, has_least, hop_of_link}
 
@@ -61,20 +61,20 @@ same_sum : (a b c : ℕ) → pos c -ℤ pos a ≡ (pos b -ℤ pos a) +ℤ (pos c
 same_sum a b c = omega (arith, ints)
 
 module _ (g : Graph) (least : Part → Part → Option Delay) (hops : List Hop) (lawful : IsLawful g) (are : hops ≡ map (hop_of g) g.links) (all : AreLeast g least) (rows : List (List ℕ)) where
-  gain_step : (k v u : ℕ) → v < length hops → HasRisen (length hops) (row_at rows (k + 1)) (row_at rows ((k + 1) + 1)) u → slice_index (row_at rows ((k + 1) + 1)) u ≡ by_hop hops least (slice_index (row_at rows (k + 1))) (hop_at hops u).from v →
-      Gains g (hop_at hops v).from (hop_at hops u).from (pos (slice_index (row_at rows ((k + 1) + 1)) u) -ℤ pos (slice_index (row_at rows (k + 1)) v))
+  gain_step : (k v u : ℕ) → v < length hops → HasRisen (length hops) (slack_row_at rows (k + 1)) (slack_row_at rows ((k + 1) + 1)) u → slice_index (slack_row_at rows ((k + 1) + 1)) u ≡ by_hop hops least (slice_index (slack_row_at rows (k + 1))) (hop_at hops u).from v →
+      Gains g (hop_at hops v).from (hop_at hops u).from (pos (slice_index (slack_row_at rows ((k + 1) + 1)) u) -ℤ pos (slice_index (slack_row_at rows (k + 1)) v))
   gain_step k v u below rose is =
-      let x = slice_index (row_at rows (k + 1)) v in
-      let y = slice_index (row_at rows ((k + 1) + 1)) u in
+      let x = slice_index (slack_row_at rows (k + 1)) v in
+      let y = slice_index (slack_row_at rows ((k + 1) + 1)) u in
       let hop = hop_of_link g least hops lawful are all v below in
       let goal = hop_of_link g least hops lawful are all u rose.below in
       let a = (hop_at hops u).from in
       let sends = ap (λ (h : Hop). kind_of g h.from) goal.is ∙ goal.joins.sends in
       let here : a < length g.actors = subst (λ (h : Hop). h.from < length g.actors) (sym goal.is) goal.joins.from in
-      let more : slice_index (row_at rows (k + 1)) u < y = rose.more in
+      let more : slice_index (slack_row_at rows (k + 1)) u < y = rose.more in
       let some = gain_by g (unit_at hop.link.to 0) (unit_at a 0) x y (cost_of g hop.link) (least (unit_at hop.link.to 0) (unit_at a 0))
       (has_least g least hops lawful are all hop.link.to a hop.joins.to here)
-      (is ∙ by_hop_is g least hops lawful are all (slice_index (row_at rows (k + 1))) a v hop.link hop.is) (omega (arith, more)) in
+      (is ∙ by_hop_is g least hops lawful are all (slice_index (slack_row_at rows (k + 1))) a v hop.link hop.is) (omega (arith, more)) in
       record {
         number = v;
         link = hop.link;
@@ -93,8 +93,8 @@ module _ (g : Graph) (least : Part → Part → Option Delay) (hops : List Hop) 
     pub is : take_while (λ y. not (y == w)) xs ≡ steps
     pub rest : List ℕ
     pub parts : (steps ++ w ∷ []) ++ rest ≡ xs
-    pub rose : HasRisen (length hops) (row_at rows ((k + 1) + length steps)) (row_at rows (((k + 1) + length steps) + 1)) w
-    pub gains : GainsAlong g (hop_at hops v).from (map (λ y. (hop_at hops y).from) steps) (hop_at hops w).from (pos (slice_index (row_at rows (((k + 1) + length steps) + 1)) w) -ℤ pos (slice_index (row_at rows (k + 1)) v))
+    pub rose : HasRisen (length hops) (slack_row_at rows ((k + 1) + length steps)) (slack_row_at rows (((k + 1) + length steps) + 1)) w
+    pub gains : GainsAlong g (hop_at hops v).from (map (λ y. (hop_at hops y).from) steps) (hop_at hops w).from (pos (slice_index (slack_row_at rows (((k + 1) + length steps) + 1)) w) -ℤ pos (slice_index (slack_row_at rows (k + 1)) v))
 
   pub along_to : (k v : ℕ) (xs : List ℕ) (w : ℕ) → v < length hops → Raises hops least rows k v xs → Trails hops least rows (k + 1) xs → IsIn w xs → AlongTo k v xs w
   along_to k v [] w below raises trails there = absurd there
@@ -108,9 +108,9 @@ module _ (g : Graph) (least : Part → Part → Option Delay) (hops : List Hop) 
         rest = xs;
         parts = ap (λ y. y ∷ xs) (sym same);
         is = take_while-cons (λ y. not (y == w)) x xs ∙ ap (λ b. if not b then x ∷ take_while (λ y. not (y == w)) xs else []) here;
-        rose = subst (λ j. HasRisen (length hops) (row_at rows j) (row_at rows (j + 1)) w) index (subst (HasRisen (length hops) (row_at rows (k + 1)) (row_at rows ((k + 1) + 1))) same trails.0);
-        gains = subst (λ j. Gains g (hop_at hops v).from (hop_at hops w).from (pos (slice_index (row_at rows (j + 1)) w) -ℤ pos (slice_index (row_at rows (k + 1)) v))) index
-            (subst (λ u. Gains g (hop_at hops v).from (hop_at hops u).from (pos (slice_index (row_at rows ((k + 1) + 1)) u) -ℤ pos (slice_index (row_at rows (k + 1)) v))) same (gain_step k v x below trails.0 raises));
+        rose = subst (λ j. HasRisen (length hops) (slack_row_at rows j) (slack_row_at rows (j + 1)) w) index (subst (HasRisen (length hops) (slack_row_at rows (k + 1)) (slack_row_at rows ((k + 1) + 1))) same trails.0);
+        gains = subst (λ j. Gains g (hop_at hops v).from (hop_at hops w).from (pos (slice_index (slack_row_at rows (j + 1)) w) -ℤ pos (slice_index (slack_row_at rows (k + 1)) v))) index
+            (subst (λ u. Gains g (hop_at hops v).from (hop_at hops u).from (pos (slice_index (slack_row_at rows ((k + 1) + 1)) u) -ℤ pos (slice_index (slack_row_at rows (k + 1)) v))) same (gain_step k v x below trails.0 raises));
       })
       (λ (other : (x == w) ≡ false).
       let on : IsIn w xs = ⊎_elim (λ (e : w ≡ x). absurd (eqb-false x w other (sym e))) (λ (r : IsIn w xs). r) there in
@@ -121,13 +121,13 @@ module _ (g : Graph) (least : Part → Part → Option Delay) (hops : List Hop) 
         rest = rest.rest;
         parts = ap (λ ys. x ∷ ys) rest.parts;
         is = take_while-cons (λ y. not (y == w)) x xs ∙ ap (λ b. if not b then x ∷ take_while (λ y. not (y == w)) xs else []) other ∙ ap (λ ys. x ∷ ys) rest.is;
-        rose = subst (λ j. HasRisen (length hops) (row_at rows j) (row_at rows (j + 1)) w) index rest.rose;
-        gains = subst (λ j. GainsAlong g (hop_at hops v).from (map (λ y. (hop_at hops y).from) (x ∷ rest.steps)) (hop_at hops w).from (pos (slice_index (row_at rows (j + 1)) w) -ℤ pos (slice_index (row_at rows (k + 1)) v))) index (
-          pos (slice_index (row_at rows ((k + 1) + 1)) x) -ℤ pos (slice_index (row_at rows (k + 1)) v),
-          pos (slice_index (row_at rows ((((k + 1) + 1) + length rest.steps) + 1)) w) -ℤ pos (slice_index (row_at rows ((k + 1) + 1)) x),
+        rose = subst (λ j. HasRisen (length hops) (slack_row_at rows j) (slack_row_at rows (j + 1)) w) index rest.rose;
+        gains = subst (λ j. GainsAlong g (hop_at hops v).from (map (λ y. (hop_at hops y).from) (x ∷ rest.steps)) (hop_at hops w).from (pos (slice_index (slack_row_at rows (j + 1)) w) -ℤ pos (slice_index (slack_row_at rows (k + 1)) v))) index (
+          pos (slice_index (slack_row_at rows ((k + 1) + 1)) x) -ℤ pos (slice_index (slack_row_at rows (k + 1)) v),
+          pos (slice_index (slack_row_at rows ((((k + 1) + 1) + length rest.steps) + 1)) w) -ℤ pos (slice_index (slack_row_at rows ((k + 1) + 1)) x),
           gain_step k v x below trails.0 raises,
           rest.gains,
-          same_sum (slice_index (row_at rows (k + 1)) v) (slice_index (row_at rows ((k + 1) + 1)) x) (slice_index (row_at rows ((((k + 1) + 1) + length rest.steps) + 1)) w),
+          same_sum (slice_index (slack_row_at rows (k + 1)) v) (slice_index (slack_row_at rows ((k + 1) + 1)) x) (slice_index (slack_row_at rows ((((k + 1) + 1) + length rest.steps) + 1)) w),
         );
       })
       (cases_Bool (x == w))

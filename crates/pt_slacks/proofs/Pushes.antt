@@ -6,7 +6,7 @@ use Rattle.pt_types.specs.declared.graph.Graph.{Graph}
 use Rattle.pt_types.specs.declared.graph.Unit.{Unit as Part}
 use Rattle.pt_offsets.proofs.Maxima.{last_or_before}
 use Rattle.pt_slacks.specs.declared.hop.Hop.{Hop}
-use Rattle.pt_slacks.specs.Rows.{AreBases, AreRows, HasRisen, IsNext, row_at}
+use Rattle.pt_slacks.specs.Rows.{AreBases, AreSlackRows, HasRisen, IsNextRow, slack_row_at}
 
 -- what holds of each number of a list, and of one more
 pub each_more : (P : ℕ → ℕ → Type 0) (xs : List ℕ) (x n : ℕ) → length xs ≡ n → ((v : ℕ) → v < n → P v (slice_index xs v)) → P n x → (v : ℕ) → v < n + 1 → P v (slice_index (xs ++ x ∷ []) v)
@@ -16,27 +16,27 @@ each_more P xs x n len each is v h =
     (λ (here : v ≡ n). subst (P v) (sym (get_or_push xs x 0 v (len ∙ sym here))) (subst (λ m. P m x) (sym here) is))
     (last_or_before n v h)
 
-row_before : (rows : List (List ℕ)) (next : List ℕ) (k : ℕ) → k < length rows → row_at (rows ++ next ∷ []) k ≡ row_at rows k
+row_before : (rows : List (List ℕ)) (next : List ℕ) (k : ℕ) → k < length rows → slack_row_at (rows ++ next ∷ []) k ≡ slack_row_at rows k
 row_before rows next k less = get_or_append_left rows (next ∷ []) [] k less
 
-row_last : (rows : List (List ℕ)) (next : List ℕ) (k : ℕ) → length rows ≡ k → row_at (rows ++ next ∷ []) k ≡ next
+row_last : (rows : List (List ℕ)) (next : List ℕ) (k : ℕ) → length rows ≡ k → slack_row_at (rows ++ next ∷ []) k ≡ next
 row_last rows next k len = get_or_push rows next [] k len
 
 module _ (g : Graph) (least : Part → Part → Option Delay) (hops : List Hop) where
-  next_more : (rows : List (List ℕ)) (next : List ℕ) (m : ℕ) → AreRows g least hops rows m → IsNext hops least (row_at rows m) next → (k : ℕ) → k < m + 1 → IsNext hops least (row_at (rows ++ next ∷ []) k) (row_at (rows ++ next ∷ []) (k + 1))
+  next_more : (rows : List (List ℕ)) (next : List ℕ) (m : ℕ) → AreSlackRows g least hops rows m → IsNextRow hops least (slack_row_at rows m) next → (k : ℕ) → k < m + 1 → IsNextRow hops least (slack_row_at (rows ++ next ∷ []) k) (slack_row_at (rows ++ next ∷ []) (k + 1))
   next_more rows next m are is k h =
       let len : length rows ≡ m + 1 = are.len in
       ⊎_elim
       (λ (less : k < m).
-      subst (λ r. IsNext hops least r (row_at (rows ++ next ∷ []) (k + 1))) (sym (row_before rows next k (omega arith)))
-      (subst (IsNext hops least (row_at rows k)) (sym (row_before rows next (k + 1) (omega arith))) (are.next k less)))
+      subst (λ r. IsNextRow hops least r (slack_row_at (rows ++ next ∷ []) (k + 1))) (sym (row_before rows next k (omega arith)))
+      (subst (IsNextRow hops least (slack_row_at rows k)) (sym (row_before rows next (k + 1) (omega arith))) (are.next k less)))
       (λ (here : k ≡ m).
-      subst (λ r. IsNext hops least r (row_at (rows ++ next ∷ []) (k + 1))) (sym (row_before rows next k (omega arith)))
-      (subst (IsNext hops least (row_at rows k)) (sym (row_last rows next (k + 1) (omega arith))) (subst (λ j. IsNext hops least (row_at rows j) next) (sym here) is)))
+      subst (λ r. IsNextRow hops least r (slack_row_at (rows ++ next ∷ []) (k + 1))) (sym (row_before rows next k (omega arith)))
+      (subst (IsNextRow hops least (slack_row_at rows k)) (sym (row_last rows next (k + 1) (omega arith))) (subst (λ j. IsNextRow hops least (slack_row_at rows j) next) (sym here) is)))
       (last_or_before m k h)
 
   -- one round more
-  pub rows_more : (rows : List (List ℕ)) (next : List ℕ) (m : ℕ) → AreRows g least hops rows m → IsNext hops least (row_at rows m) next → AreRows g least hops (rows ++ next ∷ []) (m + 1)
+  pub rows_more : (rows : List (List ℕ)) (next : List ℕ) (m : ℕ) → AreSlackRows g least hops rows m → IsNextRow hops least (slack_row_at rows m) next → AreSlackRows g least hops (rows ++ next ∷ []) (m + 1)
   rows_more rows next m are is =
       let len : length rows ≡ m + 1 = are.len in
       record {
@@ -45,9 +45,9 @@ module _ (g : Graph) (least : Part → Part → Option Delay) (hops : List Hop) 
         next = next_more rows next m are is;
       }
 
-  pub risen_more : (rows : List (List ℕ)) (next : List ℕ) (n m v : ℕ) → AreRows g least hops rows m → HasRisen n (row_at rows m) next v → (k : ℕ) → m + 1 ≡ k + 1 → HasRisen n (row_at (rows ++ next ∷ []) k) (row_at (rows ++ next ∷ []) (k + 1)) v
+  pub risen_more : (rows : List (List ℕ)) (next : List ℕ) (n m v : ℕ) → AreSlackRows g least hops rows m → HasRisen n (slack_row_at rows m) next v → (k : ℕ) → m + 1 ≡ k + 1 → HasRisen n (slack_row_at (rows ++ next ∷ []) k) (slack_row_at (rows ++ next ∷ []) (k + 1)) v
   risen_more rows next n m v are risen k same =
       let len : length rows ≡ m + 1 = are.len in
       let here : m ≡ k = omega arith in
-      subst (λ r. HasRisen n r (row_at (rows ++ next ∷ []) (k + 1)) v) (sym (row_before rows next k (omega arith)))
-      (subst (λ r. HasRisen n (row_at rows k) r v) (sym (row_last rows next (k + 1) (omega arith))) (subst (λ j. HasRisen n (row_at rows j) next v) here risen))
+      subst (λ r. HasRisen n r (slack_row_at (rows ++ next ∷ []) (k + 1)) v) (sym (row_before rows next k (omega arith)))
+      (subst (λ r. HasRisen n (slack_row_at rows k) r v) (sym (row_last rows next (k + 1) (omega arith))) (subst (λ j. HasRisen n (slack_row_at rows j) next v) here risen))

@@ -15,7 +15,7 @@ use Rattle.pt_offsets.specs.Margins.{unit_at}
 use Rattle.pt_slacks.specs.declared.hop.Hop.{Hop}
 use Rattle.pt_slacks.specs.Hops.{hop_at}
 use Rattle.pt_slacks.specs.Needs.{IsBase, IsRaised, by_hop, by_kind, by_sensor, needed_by}
-use Rattle.pt_slacks.specs.Rows.{AreRows, HaveEnough, IsLeastRow, IsNext, row_at}
+use Rattle.pt_slacks.specs.Rows.{AreSlackRows, HaveEnough, IsLeastRow, IsNextRow, slack_row_at}
 use Rattle.pt_slacks.proofs.Most.{up_to}
 
 same_le : (x y z : ℕ) → x ≡ y → y ≤ z → x ≤ z
@@ -59,41 +59,41 @@ module _ (g : Graph) (least : Part → Part → Option Delay) (hops : List Hop) 
       raised.some
 
   -- no row has more than what is enough
-  pub rows_least : (rows : List (List ℕ)) (m : ℕ) (other : ℕ → ℕ) → AreRows g least hops rows m → HaveEnough g least hops other → (k : ℕ) → k ≤ m → (v : ℕ) → v < length hops → slice_index (row_at rows k) v ≤ other v
-  rows_least rows m other are enough zero h v below = base_least other v (slice_index (row_at rows 0) v) enough below (are.first.each v below)
+  pub rows_least : (rows : List (List ℕ)) (m : ℕ) (other : ℕ → ℕ) → AreSlackRows g least hops rows m → HaveEnough g least hops other → (k : ℕ) → k ≤ m → (v : ℕ) → v < length hops → slice_index (slack_row_at rows k) v ≤ other v
+  rows_least rows m other are enough zero h v below = base_least other v (slice_index (slack_row_at rows 0) v) enough below (are.first.each v below)
   rows_least rows m other are enough (suc k) h v below =
       let step : k + 1 ≡ suc k = omega arith in
-      subst (λ n. slice_index (row_at rows n) v ≤ other v) step
-      (raised_least other (slice_index (row_at rows k)) v (slice_index (row_at rows (k + 1)) v) enough (rows_least rows m other are enough k (omega arith)) below ((are.next k (omega arith)).each v below))
+      subst (λ n. slice_index (slack_row_at rows n) v ≤ other v) step
+      (raised_least other (slice_index (slack_row_at rows k)) v (slice_index (slack_row_at rows (k + 1)) v) enough (rows_least rows m other are enough k (omega arith)) below ((are.next k (omega arith)).each v below))
 
   -- no slack falls
-  pub rows_rise : (rows : List (List ℕ)) (m : ℕ) → AreRows g least hops rows m → (k j : ℕ) → k + j ≤ m → (v : ℕ) → v < length hops → slice_index (row_at rows k) v ≤ slice_index (row_at rows (k + j)) v
+  pub rows_rise : (rows : List (List ℕ)) (m : ℕ) → AreSlackRows g least hops rows m → (k j : ℕ) → k + j ≤ m → (v : ℕ) → v < length hops → slice_index (slack_row_at rows k) v ≤ slice_index (slack_row_at rows (k + j)) v
   rows_rise rows m are k zero h v below =
       let same : k ≡ k + 0 = omega arith in
-      subst (λ n. slice_index (row_at rows k) v ≤ slice_index (row_at rows n) v) same (omega arith)
+      subst (λ n. slice_index (slack_row_at rows k) v ≤ slice_index (slack_row_at rows n) v) same (omega arith)
   rows_rise rows m are k (suc j) h v below =
       let same : (k + j) + 1 ≡ k + suc j = omega arith in
-      subst (λ n. slice_index (row_at rows k) v ≤ slice_index (row_at rows n) v) same
-      (up_to (slice_index (row_at rows k) v) (slice_index (row_at rows (k + j)) v) (slice_index (row_at rows ((k + j) + 1)) v) (rows_rise rows m are k j (omega arith) v below) ((are.next (k + j) (omega arith)).each v below).from)
+      subst (λ n. slice_index (slack_row_at rows k) v ≤ slice_index (slack_row_at rows n) v) same
+      (up_to (slice_index (slack_row_at rows k) v) (slice_index (slack_row_at rows (k + j)) v) (slice_index (slack_row_at rows ((k + j) + 1)) v) (rows_rise rows m are k j (omega arith) v below) ((are.next (k + j) (omega arith)).each v below).from)
 
   -- a round that raises nothing has the least slacks that are enough
-  pub least_row : (rows : List (List ℕ)) (m : ℕ) (next : List ℕ) → AreRows g least hops rows m → IsNext hops least (row_at rows m) next → ((v : ℕ) → v < length hops → slice_index next v ≤ slice_index (row_at rows m) v) → ((v : ℕ) → v < length hops → slice_index next v < 2 ^ 62) → IsLeastRow g least hops next
+  pub least_row : (rows : List (List ℕ)) (m : ℕ) (next : List ℕ) → AreSlackRows g least hops rows m → IsNextRow hops least (slack_row_at rows m) next → ((v : ℕ) → v < length hops → slice_index next v ≤ slice_index (slack_row_at rows m) v) → ((v : ℕ) → v < length hops → slice_index next v < 2 ^ 62) → IsLeastRow g least hops next
   least_row rows m next are is still fit = record {
     fits = fit;
     len = is.len;
     enough = record {
       sensors = λ v a below there.
-          let first = slice_index (row_at rows 0) v in
-          let last = slice_index (row_at rows m) v in
+          let first = slice_index (slack_row_at rows 0) v in
+          let last = slice_index (slack_row_at rows m) v in
           let same : 0 + m ≡ m = omega arith in
-          let risen : first ≤ last = subst (λ n. first ≤ slice_index (row_at rows n) v) same (rows_rise rows m are 0 m (omega arith) v below) in
+          let risen : first ≤ last = subst (λ n. first ≤ slice_index (slack_row_at rows n) v) same (rows_rise rows m are 0 m (omega arith) v below) in
           up_to (by_sensor g least (hop_at hops v).from a) first (slice_index next v) ((are.first.each v below).each a there) (up_to first last (slice_index next v) risen (is.each v below).from);
       others = λ v w below there.
-          up_to (by_hop hops least (slice_index next) (hop_at hops v).from w) (by_hop hops least (slice_index (row_at rows m)) (hop_at hops v).from w) (slice_index next v)
-          (hop_more (slice_index next) (slice_index (row_at rows m)) (hop_at hops v).from w (still w there))
+          up_to (by_hop hops least (slice_index next) (hop_at hops v).from w) (by_hop hops least (slice_index (slack_row_at rows m)) (hop_at hops v).from w) (slice_index next v)
+          (hop_more (slice_index next) (slice_index (slack_row_at rows m)) (hop_at hops v).from w (still w there))
           ((is.each v below).each w there);
     };
-    least_of_all = λ other enough v below. up_to (slice_index next v) (slice_index (row_at rows m) v) (other v) (still v below) (rows_least rows m other are enough m (omega arith) v below);
+    least_of_all = λ other enough v below. up_to (slice_index next v) (slice_index (slack_row_at rows m) v) (other v) (still v below) (rows_least rows m other are enough m (omega arith) v below);
   }
 
   base_small : (v x : ℕ) → IsLawful g → IsBase g least v x → x < 2 ^ 52
@@ -119,24 +119,24 @@ module _ (g : Graph) (least : Part → Part → Option Delay) (hops : List Hop) 
       raised.some
 
   -- the slacks of a round are small
-  pub rows_small : (rows : List (List ℕ)) (m : ℕ) → IsLawful g → ((w : ℕ) → w < length hops → (hop_at hops w).cost < 2 ^ 52) → AreRows g least hops rows m → (k : ℕ) → k ≤ m → (v : ℕ) → v < length hops → slice_index (row_at rows k) v < (k + 1) * 2 ^ 52
+  pub rows_small : (rows : List (List ℕ)) (m : ℕ) → IsLawful g → ((w : ℕ) → w < length hops → (hop_at hops w).cost < 2 ^ 52) → AreSlackRows g least hops rows m → (k : ℕ) → k ≤ m → (v : ℕ) → v < length hops → slice_index (slack_row_at rows k) v < (k + 1) * 2 ^ 52
   rows_small rows m lawful cheap are zero h v below =
-      let small : slice_index (row_at rows 0) v < 2 ^ 52 = base_small (hop_at hops v).from (slice_index (row_at rows 0) v) lawful (are.first.each v below) in
+      let small : slice_index (slack_row_at rows 0) v < 2 ^ 52 = base_small (hop_at hops v).from (slice_index (slack_row_at rows 0) v) lawful (are.first.each v below) in
       omega (arith, small)
   rows_small rows m lawful cheap are (suc k) h v below =
       let step : k + 1 ≡ suc k = omega arith in
-      subst (λ n. slice_index (row_at rows n) v < (n + 1) * 2 ^ 52) step
-      (raised_small (slice_index (row_at rows k)) k (hop_at hops v).from (slice_index (row_at rows k) v) (slice_index (row_at rows (k + 1)) v) cheap (rows_small rows m lawful cheap are k (omega arith)) (rows_small rows m lawful cheap are k (omega arith) v below) ((are.next k (omega arith)).each v below))
+      subst (λ n. slice_index (slack_row_at rows n) v < (n + 1) * 2 ^ 52) step
+      (raised_small (slice_index (slack_row_at rows k)) k (hop_at hops v).from (slice_index (slack_row_at rows k) v) (slice_index (slack_row_at rows (k + 1)) v) cheap (rows_small rows m lawful cheap are k (omega arith)) (rows_small rows m lawful cheap are k (omega arith) v below) ((are.next k (omega arith)).each v below))
 
   -- a row has a slack for each hop
-  pub row_len : (rows : List (List ℕ)) (m k : ℕ) → AreRows g least hops rows m → k ≤ m → length (row_at rows k) ≡ length hops
+  pub row_len : (rows : List (List ℕ)) (m k : ℕ) → AreSlackRows g least hops rows m → k ≤ m → length (slack_row_at rows k) ≡ length hops
   row_len rows m zero are h = are.first.len
   row_len rows m (suc k) are h =
       let step : k + 1 ≡ suc k = omega arith in
-      subst (λ n. length (row_at rows n) ≡ length hops) step (are.next k (omega arith)).len
+      subst (λ n. length (slack_row_at rows n) ≡ length hops) step (are.next k (omega arith)).len
 
   -- the slacks of a round are far below what 64 bits hold
-  pub rows_fit : (rows : List (List ℕ)) (m : ℕ) → IsLawful g → length hops ≤ 64 → ((w : ℕ) → w < length hops → (hop_at hops w).cost < 2 ^ 52) → AreRows g least hops rows m → (k : ℕ) → k ≤ m → k ≤ 65 → (v : ℕ) → v < length hops → slice_index (row_at rows k) v < 2 ^ 62
+  pub rows_fit : (rows : List (List ℕ)) (m : ℕ) → IsLawful g → length hops ≤ 64 → ((w : ℕ) → w < length hops → (hop_at hops w).cost < 2 ^ 52) → AreSlackRows g least hops rows m → (k : ℕ) → k ≤ m → k ≤ 65 → (v : ℕ) → v < length hops → slice_index (slack_row_at rows k) v < 2 ^ 62
   rows_fit rows m lawful few cheap are k h limit v below =
-      let small : slice_index (row_at rows k) v < (k + 1) * 2 ^ 52 = rows_small rows m lawful cheap are k h v below in
+      let small : slice_index (slack_row_at rows k) v < (k + 1) * 2 ^ 52 = rows_small rows m lawful cheap are k h v below in
       omega (arith, small)

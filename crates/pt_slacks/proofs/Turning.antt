@@ -6,7 +6,7 @@ use Rattle.pt_types.specs.declared.graph.Graph.{Graph}
 use Rattle.pt_semantics.specs.Lists.{Each, IsIn}
 use Rattle.pt_semantics.proofs.Lookups.{Each-append, Each-from, Each-in, IsIn-append, IsIn-append_left, IsIn-append_right}
 use Rattle.pt_causality.specs.Ranking.{Apart}
-use Rattle.pt_causality.specs.Rings.{IsTurned}
+use Rattle.pt_causality.specs.Rings.{IsRotated}
 use Rattle.pt_slacks.specs.Rings.{IsRing}
 use Rattle.pt_slacks.proofs.Circles.{Round, rotate}
 
@@ -45,7 +45,7 @@ each_at P [] h = tt
 each_at P (x ∷ xs) h = (h 0 (omega arith), each_at P xs (λ k below. h (suc k) (omega arith)))
 
 -- a ring is one wherever it begins, so also from its least number on
-pub turned_ring : (g : Graph) (sends turned : List ℕ) (gain : ℕ) → Round g sends (pos gain) → 0 < gain → Apart sends → IsTurned sends turned → IsRing g turned gain
+pub turned_ring : (g : Graph) (sends turned : List ℕ) (gain : ℕ) → Round g sends (pos gain) → 0 < gain → Apart sends → IsRotated sends turned → IsRing g turned gain
 turned_ring g sends turned gain round more apart is =
     let p = is.place in
     let head = get_or sends p 0 in

@@ -13,13 +13,13 @@ use Rattle.pt_types.proofs.LawfulLinks.{links_once_out}
 use Rattle.pt_semantics.specs.Lists.{Each, IsIn}
 use Rattle.pt_causality.specs.Delays.{AreLeast}
 use Rattle.pt_causality.specs.Ranking.{Apart}
-use Rattle.pt_causality.specs.Rings.{IsTurned}
+use Rattle.pt_causality.specs.Rings.{IsRotated}
 use Rattle.pt_slacks.specs.declared.hop.Hop.{Hop}
 use Rattle.pt_slacks.specs.Hops.{hop_at, hop_of}
 use Rattle.pt_slacks.specs.Needs.{by_hop}
 use Rattle.pt_slacks.specs.Rings.{GainsAlong, IsRing}
-use Rattle.pt_slacks.specs.Rows.{AreRows, HasRisen, row_at}
-use Rattle.pt_slacks.specs.Trails.{IsRaisedByTrail, IsTrail, IsWalk, Raises, Trails}
+use Rattle.pt_slacks.specs.Rows.{AreSlackRows, HasRisen, slack_row_at}
+use Rattle.pt_slacks.specs.Trails.{IsRaisedByTrail, IsTrail, IsWalkBack, Raises, Trails}
 use Rattle.pt_slacks.proofs.Admitting.{hop_of_link}
 use Rattle.pt_slacks.proofs.Circles.{Round, along_to, rotate}
 use Rattle.pt_slacks.proofs.Rounds.{hop_more, rows_rise}
@@ -81,39 +81,39 @@ trails_below : (hops : List Hop) (least : Part → Part → Option Delay) (rows 
 trails_below hops least rows k [] h = tt
 trails_below hops least rows k (x ∷ xs) h = (h.0.below, trails_below hops least rows (k + 1) xs h.2)
 
-module _ (g : Graph) (least : Part → Part → Option Delay) (hops : List Hop) (rows : List (List ℕ)) (are_rows : AreRows g least hops rows (length hops + 1)) where
+module _ (g : Graph) (least : Part → Part → Option Delay) (hops : List Hop) (rows : List (List ℕ)) (are_rows : AreSlackRows g least hops rows (length hops + 1)) where
   -- what raised a sender has risen in the round before
-  pub riser : (k at w : ℕ) → k + 1 ≤ length hops → HasRisen (length hops) (row_at rows (k + 1)) (row_at rows ((k + 1) + 1)) at → w < length hops →
-      slice_index (row_at rows ((k + 1) + 1)) at ≡ by_hop hops least (slice_index (row_at rows (k + 1))) (hop_at hops at).from w → HasRisen (length hops) (row_at rows k) (row_at rows (k + 1)) w
+  pub riser : (k at w : ℕ) → k + 1 ≤ length hops → HasRisen (length hops) (slack_row_at rows (k + 1)) (slack_row_at rows ((k + 1) + 1)) at → w < length hops →
+      slice_index (slack_row_at rows ((k + 1) + 1)) at ≡ by_hop hops least (slice_index (slack_row_at rows (k + 1))) (hop_at hops at).from w → HasRisen (length hops) (slack_row_at rows k) (slack_row_at rows (k + 1)) w
   riser k at w limit rose below is = record {
     below = below;
     more =
         ⊎_elim
-        (λ (less : slice_index (row_at rows k) w < slice_index (row_at rows (k + 1)) w). less)
-        (λ (not_more : slice_index (row_at rows (k + 1)) w ≤ slice_index (row_at rows k) w).
+        (λ (less : slice_index (slack_row_at rows k) w < slice_index (slack_row_at rows (k + 1)) w). less)
+        (λ (not_more : slice_index (slack_row_at rows (k + 1)) w ≤ slice_index (slack_row_at rows k) w).
         let v = (hop_at hops at).from in
-        let one : by_hop hops least (slice_index (row_at rows (k + 1))) v w ≤ by_hop hops least (slice_index (row_at rows k)) v w = hop_more g least hops (slice_index (row_at rows (k + 1))) (slice_index (row_at rows k)) v w not_more in
-        let two : by_hop hops least (slice_index (row_at rows k)) v w ≤ slice_index (row_at rows (k + 1)) at = ((are_rows.next k (omega (arith, limit))).each at rose.below).each w below in
-        let more : slice_index (row_at rows (k + 1)) at < slice_index (row_at rows ((k + 1) + 1)) at = rose.more in
+        let one : by_hop hops least (slice_index (slack_row_at rows (k + 1))) v w ≤ by_hop hops least (slice_index (slack_row_at rows k)) v w = hop_more g least hops (slice_index (slack_row_at rows (k + 1))) (slice_index (slack_row_at rows k)) v w not_more in
+        let two : by_hop hops least (slice_index (slack_row_at rows k)) v w ≤ slice_index (slack_row_at rows (k + 1)) at = ((are_rows.next k (omega (arith, limit))).each at rose.below).each w below in
+        let more : slice_index (slack_row_at rows (k + 1)) at < slice_index (slack_row_at rows ((k + 1) + 1)) at = rose.more in
         absurd (omega (arith, one, two, more, is)))
-        (less_or (slice_index (row_at rows k) w) (slice_index (row_at rows (k + 1)) w));
+        (less_or (slice_index (slack_row_at rows k) w) (slice_index (slack_row_at rows (k + 1)) w));
   }
     where
       less_or : (x y : ℕ) → (x < y) ⊎ (y ≤ x)
       less_or x y = grind arith
 
   -- a sender that rose was raised by some hop
-  pub raised_by : (k at : ℕ) → k + 1 ≤ length hops → HasRisen (length hops) (row_at rows (k + 1)) (row_at rows ((k + 1) + 1)) at → ((w : ℕ) → w < length hops → by_hop hops least (slice_index (row_at rows (k + 1))) (hop_at hops at).from w ≢ slice_index (row_at rows ((k + 1) + 1)) at) → ⊥
+  pub raised_by : (k at : ℕ) → k + 1 ≤ length hops → HasRisen (length hops) (slack_row_at rows (k + 1)) (slack_row_at rows ((k + 1) + 1)) at → ((w : ℕ) → w < length hops → by_hop hops least (slice_index (slack_row_at rows (k + 1))) (hop_at hops at).from w ≢ slice_index (slack_row_at rows ((k + 1) + 1)) at) → ⊥
   raised_by k at limit rose none =
-      let more : slice_index (row_at rows (k + 1)) at < slice_index (row_at rows ((k + 1) + 1)) at = rose.more in
+      let more : slice_index (slack_row_at rows (k + 1)) at < slice_index (slack_row_at rows ((k + 1) + 1)) at = rose.more in
       ⊎_elim
-      (λ (same : slice_index (row_at rows ((k + 1) + 1)) at ≡ slice_index (row_at rows (k + 1)) at). absurd (omega (arith, more, same)))
-      (λ (one : (w : ℕ) × (w < length hops) × (slice_index (row_at rows ((k + 1) + 1)) at ≡ by_hop hops least (slice_index (row_at rows (k + 1))) (hop_at hops at).from w)). none one.0 one.1 (sym one.2))
+      (λ (same : slice_index (slack_row_at rows ((k + 1) + 1)) at ≡ slice_index (slack_row_at rows (k + 1)) at). absurd (omega (arith, more, same)))
+      (λ (one : (w : ℕ) × (w < length hops) × (slice_index (slack_row_at rows ((k + 1) + 1)) at ≡ by_hop hops least (slice_index (slack_row_at rows (k + 1))) (hop_at hops at).from w)). none one.0 one.1 (sym one.2))
       ((are_rows.next (k + 1) (omega (arith, limit))).each at rose.below).some
 
   -- one step back
   pub walk_more : (step at from : ℕ) (trail after : List ℕ) (k : ℕ) (others : List ℕ) → k + (step + 1) ≡ length hops → reverse trail ≡ at ∷ others → after ≡ trail ++ from ∷ [] → IsTrail hops least rows (k + 1) (at ∷ others) → from < length hops →
-      slice_index (row_at rows ((k + 1) + 1)) at ≡ by_hop hops least (slice_index (row_at rows (k + 1))) (hop_at hops at).from from → list_any (λ x. x == from) (reverse trail) ≡ false → IsWalk hops least rows (step + 1) after from
+      slice_index (slack_row_at rows ((k + 1) + 1)) at ≡ by_hop hops least (slice_index (slack_row_at rows (k + 1))) (hop_at hops at).from from → list_any (λ x. x == from) (reverse trail) ≡ false → IsWalkBack hops least rows (step + 1) after from
   walk_more step at from trail after k others place are pushed is_trail below is none =
       let whole : (k + 1) + length (at ∷ others) ≡ length hops + 1 = is_trail.whole in
       record {
@@ -136,7 +136,7 @@ module _ (g : Graph) (least : Part → Part → Option Delay) (hops : List Hop) 
     pub are : reverse trail ≡ at ∷ others
     pub is_trail : IsTrail hops least rows (risen + 1) (at ∷ others)
 
-  pub back : (step : ℕ) (trail : List ℕ) (at : ℕ) → step < length hops → IsWalk hops least rows step trail at → Back step trail at
+  pub back : (step : ℕ) (trail : List ℕ) (at : ℕ) → step < length hops → IsWalkBack hops least rows step trail at → Back step trail at
   back step trail at less walk =
       let place : walk.risen + step ≡ length hops = walk.place in
       let one = before_of walk.risen (omega (arith, place, less)) in
@@ -148,19 +148,19 @@ module _ (g : Graph) (least : Part → Part → Option Delay) (hops : List Hop) 
       before_of (suc k) h = (k, omega arith)
 
   -- what the hop asks for, by the rows
-  pub asks_at : (row : List ℕ) (slack round k at w : ℕ) → row ≡ row_at rows round → slack ≡ slice_index (row_at rows (round + 1)) at → round ≡ k + 1 → by_hop hops least (slice_index row) (hop_at hops at).from w ≡ slack →
-      slice_index (row_at rows ((k + 1) + 1)) at ≡ by_hop hops least (slice_index (row_at rows (k + 1))) (hop_at hops at).from w
+  pub asks_at : (row : List ℕ) (slack round k at w : ℕ) → row ≡ slack_row_at rows round → slack ≡ slice_index (slack_row_at rows (round + 1)) at → round ≡ k + 1 → by_hop hops least (slice_index row) (hop_at hops at).from w ≡ slack →
+      slice_index (slack_row_at rows ((k + 1) + 1)) at ≡ by_hop hops least (slice_index (slack_row_at rows (k + 1))) (hop_at hops at).from w
   asks_at row slack round k at w is_row is_slack place asks =
-      ap (λ n. slice_index (row_at rows (n + 1)) at) (sym place) ∙ sym is_slack ∙ sym asks
-      ∙ ap (λ (r : List ℕ). by_hop hops least (slice_index r) (hop_at hops at).from w) (is_row ∙ ap (row_at rows) place)
+      ap (λ n. slice_index (slack_row_at rows (n + 1)) at) (sym place) ∙ sym is_slack ∙ sym asks
+      ∙ ap (λ (r : List ℕ). by_hop hops least (slice_index r) (hop_at hops at).from w) (is_row ∙ ap (slack_row_at rows) place)
 
-  pub none_asks : (row : List ℕ) (slack round k at : ℕ) → row ≡ row_at rows round → slack ≡ slice_index (row_at rows (round + 1)) at → round ≡ k + 1 → k + 1 ≤ length hops → HasRisen (length hops) (row_at rows (k + 1)) (row_at rows ((k + 1) + 1)) at → ((w : ℕ) → w < length hops → by_hop hops least (slice_index row) (hop_at hops at).from w ≢ slack) → ⊥
+  pub none_asks : (row : List ℕ) (slack round k at : ℕ) → row ≡ slack_row_at rows round → slack ≡ slice_index (slack_row_at rows (round + 1)) at → round ≡ k + 1 → k + 1 ≤ length hops → HasRisen (length hops) (slack_row_at rows (k + 1)) (slack_row_at rows ((k + 1) + 1)) at → ((w : ℕ) → w < length hops → by_hop hops least (slice_index row) (hop_at hops at).from w ≢ slack) → ⊥
   none_asks row slack round k at is_row is_slack place limit rose none =
       raised_by k at limit rose
       (λ w less e. none w less
-      (ap (λ (r : List ℕ). by_hop hops least (slice_index r) (hop_at hops at).from w) (is_row ∙ ap (row_at rows) place) ∙ e ∙ ap (λ n. slice_index (row_at rows (n + 1)) at) (sym place) ∙ sym is_slack))
+      (ap (λ (r : List ℕ). by_hop hops least (slice_index r) (hop_at hops at).from w) (is_row ∙ ap (slack_row_at rows) place) ∙ e ∙ ap (λ n. slice_index (slack_row_at rows (n + 1)) at) (sym place) ∙ sym is_slack))
 
-  pub closes : (step at from round : ℕ) (trail : List ℕ) (b : Back step trail at) → round ≡ b.risen + 1 → from < length hops → slice_index (row_at rows ((b.risen + 1) + 1)) at ≡ by_hop hops least (slice_index (row_at rows (b.risen + 1))) (hop_at hops at).from from → list_any (λ x. x == from) (reverse trail) ≡ true → IsRaisedByTrail hops least rows trail round from
+  pub closes : (step at from round : ℕ) (trail : List ℕ) (b : Back step trail at) → round ≡ b.risen + 1 → from < length hops → slice_index (slack_row_at rows ((b.risen + 1) + 1)) at ≡ by_hop hops least (slice_index (slack_row_at rows (b.risen + 1))) (hop_at hops at).from from → list_any (λ x. x == from) (reverse trail) ≡ true → IsRaisedByTrail hops least rows trail round from
   closes step at from round trail b place below is found =
       let limit : b.risen + (step + 1) ≡ length hops = b.place in
       record {
@@ -173,14 +173,14 @@ module _ (g : Graph) (least : Part → Part → Option Delay) (hops : List Hop) 
       }
 
   -- the walk can't come to the first round
-  pub walk_ends : (trail : List ℕ) (at step : ℕ) → length hops ≤ step → IsWalk hops least rows step trail at → ⊥
+  pub walk_ends : (trail : List ℕ) (at step : ℕ) → length hops ≤ step → IsWalkBack hops least rows step trail at → ⊥
   walk_ends trail at step past walk =
       let whole : walk.risen + length (at ∷ walk.others) ≡ length hops + 1 = walk.is_trail.whole in
       let place : walk.risen + step ≡ length hops = walk.place in
       let most : length (at ∷ walk.others) ≤ length hops = few (length hops) (at ∷ walk.others) walk.is_trail.apart (trails_below hops least rows walk.risen (at ∷ walk.others) walk.is_trail.on) in
       omega (arith, whole, place, most, past)
 
-module _ (g : Graph) (least : Part → Part → Option Delay) (hops : List Hop) (lawful : IsLawful g) (are : hops ≡ map (hop_of g) g.links) (all : AreLeast g least) (rows : List (List ℕ)) (are_rows : AreRows g least hops rows (length hops + 1)) where
+module _ (g : Graph) (least : Part → Part → Option Delay) (hops : List Hop) (lawful : IsLawful g) (are : hops ≡ map (hop_of g) g.links) (all : AreLeast g least) (rows : List (List ℕ)) (are_rows : AreSlackRows g least hops rows (length hops + 1)) where
   once : (a b : ℕ) → a < length hops → b < length hops → (hop_at hops a).from ≡ (hop_at hops b).from → a ≡ b
   once a b here there same =
       let one = hop_of_link g least hops lawful are all a here in
@@ -190,7 +190,7 @@ module _ (g : Graph) (least : Part → Part → Option Delay) (hops : List Hop) 
   -- a closed trail is a ring
   pub closed_ring : (trail : List ℕ) (round from : ℕ) (sends turned : List ℕ) (before after gain : ℕ) → IsRaisedByTrail hops least rows trail round from →
       sends ≡ map (λ l. (hop_at hops l).from) (take_while (λ l. not (l == from)) (reverse trail)) ++ (hop_at hops from).from ∷ [] →
-      before ≡ slice_index (row_at rows round) from → after ≡ slice_index (row_at rows (round + length sends)) from → gain ≡ after - before → IsTurned sends turned → IsRing g turned gain × (before < after)
+      before ≡ slice_index (slack_row_at rows round) from → after ≡ slice_index (slack_row_at rows (round + length sends)) from → gain ≡ after - before → IsRotated sends turned → IsRing g turned gain × (before < after)
   closed_ring trail round from sends turned before after gain closing are_sends is_before is_after is_gain is_turned =
       let k = closing.risen in
       let f : ℕ → ℕ = λ l. (hop_at hops l).from in
@@ -202,15 +202,15 @@ module _ (g : Graph) (least : Part → Part → Option Delay) (hops : List Hop) 
       let mapped : sends ≡ map f links = list ∙ sym (map-append f steps (from ∷ [])) in
       let count : length sends ≡ length steps + 1 = ap length list ∙ length-append (map f steps) (f from ∷ []) ∙ ap (λ n. n + 1) (length-map steps f) in
       let index : round + length sends ≡ ((k + 1) + length steps) + 1 = omega (arith, place, count) in
-      let first : before ≡ slice_index (row_at rows (k + 1)) from = is_before ∙ ap (λ n. slice_index (row_at rows n) from) place in
-      let last : after ≡ slice_index (row_at rows (((k + 1) + length steps) + 1)) from = is_after ∙ ap (λ n. slice_index (row_at rows n) from) index in
+      let first : before ≡ slice_index (slack_row_at rows (k + 1)) from = is_before ∙ ap (λ n. slice_index (slack_row_at rows n) from) place in
+      let last : after ≡ slice_index (slack_row_at rows (((k + 1) + length steps) + 1)) from = is_after ∙ ap (λ n. slice_index (slack_row_at rows n) from) index in
       let links_in : (links ++ way.rest) ≡ reverse trail = way.parts in
       let limit : (k + 1) + length steps ≤ length hops + 1 = steps_fit k steps (reverse trail) from way.rest links_in closing.is_trail.whole in
-      let risen : slice_index (row_at rows (k + 1)) from ≤ slice_index (row_at rows ((k + 1) + length steps)) from = rows_rise g least hops rows (length hops + 1) are_rows (k + 1) (length steps) limit from closing.rose.below in
-      let more : slice_index (row_at rows ((k + 1) + length steps)) from < slice_index (row_at rows (((k + 1) + length steps) + 1)) from = way.rose.more in
+      let risen : slice_index (slack_row_at rows (k + 1)) from ≤ slice_index (slack_row_at rows ((k + 1) + length steps)) from = rows_rise g least hops rows (length hops + 1) are_rows (k + 1) (length steps) limit from closing.rose.below in
+      let more : slice_index (slack_row_at rows ((k + 1) + length steps)) from < slice_index (slack_row_at rows (((k + 1) + length steps) + 1)) from = way.rose.more in
       let grew : before < after = omega (arith, first, last, risen, more) in
-      let sum : pos (slice_index (row_at rows (((k + 1) + length steps) + 1)) from) -ℤ pos (slice_index (row_at rows (k + 1)) from) ≡ pos gain =
-      gain_sum before after (slice_index (row_at rows (k + 1)) from) (slice_index (row_at rows (((k + 1) + length steps) + 1)) from) gain first last is_gain grew in
+      let sum : pos (slice_index (slack_row_at rows (((k + 1) + length steps) + 1)) from) -ℤ pos (slice_index (slack_row_at rows (k + 1)) from) ≡ pos gain =
+      gain_sum before after (slice_index (slack_row_at rows (k + 1)) from) (slice_index (slack_row_at rows (((k + 1) + length steps) + 1)) from) gain first last is_gain grew in
       let round_one : Round g (f from ∷ map f steps) (pos gain) = subst (λ z. GainsAlong g (f from) (map f steps) (f from) z) sum way.gains in
       let apart : Apart sends =
       subst Apart (sym mapped)

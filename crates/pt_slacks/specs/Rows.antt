@@ -9,8 +9,8 @@ use Rattle.pt_slacks.specs.declared.settled.Settled.TheVariants.{Rising, Row}
 use Rattle.pt_slacks.specs.Hops.{hop_at}
 use Rattle.pt_slacks.specs.Needs.{IsBase, IsRaised, by_hop, by_sensor}
 
-abbrev pub row_at : List (List ℕ) → ℕ → List ℕ
-row_at rows k = slice_index_or rows k []
+abbrev pub slack_row_at : List (List ℕ) → ℕ → List ℕ
+slack_row_at rows k = slice_index_or rows k []
 
 -- each sender has the slack that it needs by the sensors alone
 pub record AreBases (g : Graph) (least : Part → Part → Option Delay) (hops : List Hop) (row : List ℕ) : Type 0 where
@@ -18,15 +18,15 @@ pub record AreBases (g : Graph) (least : Part → Part → Option Delay) (hops :
   pub each : (v : ℕ) → v < length hops → IsBase g least (hop_at hops v).from (slice_index row v)
 
 -- each sender has the slack that it had, or more if it needs more by the slacks of that round
-pub record IsNext (hops : List Hop) (least : Part → Part → Option Delay) (row next : List ℕ) : Type 0 where
+pub record IsNextRow (hops : List Hop) (least : Part → Part → Option Delay) (row next : List ℕ) : Type 0 where
   pub len : length next ≡ length hops
   pub each : (v : ℕ) → v < length hops → IsRaised hops least (slice_index row) (hop_at hops v).from (slice_index row v) (slice_index next v)
 
 -- the first row has the bases, and each of the first m rows is followed by the next
-pub record AreRows (g : Graph) (least : Part → Part → Option Delay) (hops : List Hop) (rows : List (List ℕ)) (m : ℕ) : Type 0 where
+pub record AreSlackRows (g : Graph) (least : Part → Part → Option Delay) (hops : List Hop) (rows : List (List ℕ)) (m : ℕ) : Type 0 where
   pub len : length rows ≡ m + 1
-  pub first : AreBases g least hops (row_at rows 0)
-  pub next : (k : ℕ) → k < m → IsNext hops least (row_at rows k) (row_at rows (k + 1))
+  pub first : AreBases g least hops (slack_row_at rows 0)
+  pub next : (k : ℕ) → k < m → IsNextRow hops least (slack_row_at rows k) (slack_row_at rows (k + 1))
 
 -- each sender has what it needs
 pub record HaveEnough (g : Graph) (least : Part → Part → Option Delay) (hops : List Hop) (slack : ℕ → ℕ) : Type 0 where
@@ -47,8 +47,8 @@ pub record HasRisen (n : ℕ) (row next : List ℕ) (v : ℕ) : Type 0 where
 
 -- the rows of one round more than there are hops; in the last one the sender of hop v has risen
 pub record AreRising (g : Graph) (least : Part → Part → Option Delay) (hops : List Hop) (rows : List (List ℕ)) (v : ℕ) : Type 0 where
-  pub are : AreRows g least hops rows (length hops + 1)
-  pub last : HasRisen (length hops) (row_at rows (length hops)) (row_at rows (length hops + 1)) v
+  pub are : AreSlackRows g least hops rows (length hops + 1)
+  pub last : HasRisen (length hops) (slack_row_at rows (length hops)) (slack_row_at rows (length hops + 1)) v
 
 -- the rounds end with the least row, or with the rows of all rounds, in the last of which the sender of a hop has risen
 abbrev pub SettlesAs : Graph → (Part → Part → Option Delay) → List Hop → Settled → Type 0

@@ -8,20 +8,20 @@ use Rattle.pt_slacks.specs.Listed.{listed}
 use Rattle.pt_slacks.specs.Slacks.{AreLeastSlacks}
 
 -- actor,slack
-abbrev pub head : List ℕ
-head = codes "actor,slack" ++ 10 ∷ []
+abbrev pub slacks_head : List ℕ
+slacks_head = codes "actor,slack" ++ 10 ∷ []
 
 -- NAME,SLACK
-abbrev pub line : List ℕ → ℕ → List ℕ
-line name slack = name ++ 44 ∷ decimal slack ++ 10 ∷ []
+abbrev pub slack_line : List ℕ → ℕ → List ℕ
+slack_line name slack = name ++ 44 ∷ decimal slack ++ 10 ∷ []
 
-abbrev pub lines_of : Graph → List Slack → List ℕ
-lines_of g [] = []
-lines_of g (entry ∷ more) = line (actor_name g entry.actor) entry.slack ++ lines_of g more
+abbrev pub slack_lines : Graph → List Slack → List ℕ
+slack_lines g [] = []
+slack_lines g (entry ∷ more) = slack_line (actor_name g entry.actor) entry.slack ++ slack_lines g more
 
 -- the header, and a line for each slack
 abbrev pub slacks_text : Graph → List Slack → List ℕ
-slacks_text g slacks = head ++ lines_of g slacks
+slacks_text g slacks = slacks_head ++ slack_lines g slacks
 
 -- the text has the least slacks of the graph's senders and the slacks of its actuators, in graph order
 pub record IsSlacked (g : Graph) (text : List ℕ) : Type 0 where

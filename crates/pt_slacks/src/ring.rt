@@ -4,11 +4,11 @@ ghost use Rattle.std.specs.Prelude.{◌≡◌, ◌≢◌, ◌<◌, ◌≤◌, �
 ghost use Rattle.std.specs.List.{IsFirstBest, list_any, take_while};
 ghost use Rattle.pt_types.specs.Lawful.{IsLawful};
 ghost use Rattle.pt_causality.specs.Delays.{AreLeast, least_of};
-ghost use Rattle.pt_causality.specs.Rings.{IsTurned};
+ghost use Rattle.pt_causality.specs.Rings.{IsRotated};
 ghost use Rattle.pt_slacks.specs.Hops.{hop_at, hop_of};
 ghost use Rattle.pt_slacks.specs.Needs.{by_hop};
 ghost use Rattle.pt_slacks.specs.Rings.{CauseOfSlacks};
-ghost use Rattle.pt_slacks.specs.Rows.{AreRising, AreRows, row_at};
+ghost use Rattle.pt_slacks.specs.Rows.{AreRising, AreSlackRows, slack_row_at};
 ghost use Rattle.pt_slacks.specs.Trails.{IsRaisedByTrail};
 
 use crate::hop::Hop;
@@ -93,7 +93,7 @@ fn raiser(hops: &[Hop], least: &Least, row: &[u64], at: u32, slack: u64) -> Opti
 
 /// The slack of a link's sender in a round; 0 if there is none.
 fn slack_at(rows: &[List<u64>], round: usize, link: u32) -> u64
-    ensures { result ≡ slice_index (row_at rows.now round) link }
+    ensures { result ≡ slice_index (slack_row_at rows.now round) link }
 {
     match rows.get(round) {
         Some(row) => number_at(row.as_slice(), link),
@@ -132,7 +132,7 @@ fn closed(
     requires lawful { IsLawful graph.now }
     requires least { AreLeast graph.now (least_of least.now) }
     requires hops { hops.now ≡ map (hop_of graph.now) graph.now.links }
-    requires rows { AreRows graph.now (least_of least.now) hops.now rows.now (length hops.now + 1) }
+    requires rows { AreSlackRows graph.now (least_of least.now) hops.now rows.now (length hops.now + 1) }
     requires closing { IsRaisedByTrail hops.now (least_of least.now) rows.now trail.now round from }
     ensures { IfOk result (λ f. CauseOfSlacks f graph.now) }
 {
@@ -194,7 +194,7 @@ fn least_place(numbers: &[u32]) -> usize
 /// Rotates a ring of numbers so that the least number is the first.
 fn turn(numbers: &mut Vec<u32>)
     requires { 0 < length numbers.old.items }
-    ensures { IsTurned numbers.old.items numbers.new.items }
+    ensures { IsRotated numbers.old.items numbers.new.items }
 {
     let place = least_place(numbers.as_slice());
     numbers.as_mut_slice().rotate_left(place);

@@ -4,7 +4,7 @@ ghost use Rattle.std.specs.Prelude.{◌≡◌, ◌<◌, ◌≤◌, ◌^◌, ◌+
 ghost use Rattle.pt_types.specs.Lawful.{IsLawful};
 ghost use Rattle.pt_causality.specs.Delays.{least_of};
 ghost use Rattle.pt_slacks.specs.Hops.{hop_at, hop_of};
-ghost use Rattle.pt_slacks.specs.Rows.{AreBases, HasRisen, IsNext, SettlesAs};
+ghost use Rattle.pt_slacks.specs.Rows.{AreBases, HasRisen, IsNextRow, SettlesAs};
 
 use crate::hop::Hop;
 use crate::needs::{base, raised};
@@ -67,7 +67,7 @@ fn next_row(
     requires len { length row.now ≡ length hops.now }
     requires row { (w : ℕ) → w < length hops.now → slice_index row.now w < 2 ^ 62 }
     requires cost { (w : ℕ) → w < length hops.now → (hop_at hops.now w).cost < 2 ^ 52 }
-    ensures { IfOk result (λ next. IsNext hops.now (least_of least.now) row.now next) }
+    ensures { IfOk result (λ next. IsNextRow hops.now (least_of least.now) row.now next) }
 {
     let mut next = Vec::new(alloc);
     for (number, hop) in hops.iter().enumerate() {

@@ -1,7 +1,7 @@
 //! The text of slacks.
 
 ghost use Rattle.std.specs.Prelude.{◌≡◌, ◌++◌, IfOk, OnOk, string_bytes};
-ghost use Rattle.pt_slacks.specs.Text.{head, line, slacks_text};
+ghost use Rattle.pt_slacks.specs.Text.{slacks_head, slack_line, slacks_text};
 
 use crate::slack::Slack;
 use pt_types::Graph;
@@ -22,14 +22,14 @@ pub fn slacks_text(alloc: Global, graph: &Graph, slacks: &[Slack]) -> Result<Str
 
 /// Appends the header line.
 fn push_head(text: &mut String) -> Result<(), AllocError>
-    ensures { OnOk result (string_bytes text.new ≡ string_bytes text.old ++ head) }
+    ensures { OnOk result (string_bytes text.new ≡ string_bytes text.old ++ slacks_head) }
 {
     text.push_str("actor,slack\n")
 }
 
 /// Appends the line of an actor.
 fn push_line(text: &mut String, name: &str, slack: u64) -> Result<(), AllocError>
-    ensures { OnOk result (string_bytes text.new ≡ string_bytes text.old ++ line name.now slack) }
+    ensures { OnOk result (string_bytes text.new ≡ string_bytes text.old ++ slack_line name.now slack) }
 {
     write!(text, "{name},{slack}\n")
 }

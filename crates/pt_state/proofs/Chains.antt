@@ -7,7 +7,7 @@ use Rattle.pt_tags.specs.declared.message.Message.{Message}
 use Rattle.pt_semantics.specs.Lists.{IsIn}
 use Rattle.pt_semantics.proofs.Lookups.{IsIn-append}
 use Rattle.pt_state.specs.declared.slots.Slot.{Slot}
-use Rattle.pt_state.specs.Slots.{EndsAt, IsChain, Stays, joined, read, slot_at, walk}
+use Rattle.pt_state.specs.Slots.{HasLastPlace, IsChain, Stays, slots_joined, read, slot_at, walk}
 
 abbrev pub no_slot : Slot
 no_slot = record { message = Message.End; link = None; next = 0 }
@@ -63,16 +63,16 @@ push_at ns s p e = (subst (λ x. x < length (ns ++ s ∷ [])) (sym e) (more ns),
     more (x ∷ xs) = let r = more xs in omega (arith, r)
 
 -- the end of a chain
-pub end_in : (k : ℕ) (ks : List ℕ) (q : ℕ) → EndsAt (k ∷ ks) q → IsIn q (k ∷ ks)
+pub end_in : (k : ℕ) (ks : List ℕ) (q : ℕ) → HasLastPlace (k ∷ ks) q → IsIn q (k ∷ ks)
 end_in k [] q e = inl (sym e)
 end_in k (j ∷ ks) q e = inr (end_in j ks q e)
 
-pub ends_push : (ks : List ℕ) (p : ℕ) → EndsAt (ks ++ p ∷ []) p
+pub ends_push : (ks : List ℕ) (p : ℕ) → HasLastPlace (ks ++ p ∷ []) p
 ends_push [] p = refl
 ends_push (k ∷ []) p = refl
 ends_push (k ∷ j ∷ ks) p = ends_push (j ∷ ks) p
 
-pub ends_rest : (k : ℕ) (ks : List ℕ) (q : ℕ) → EndsAt (k ∷ ks) q → EndsAt ks q
+pub ends_rest : (k : ℕ) (ks : List ℕ) (q : ℕ) → HasLastPlace (k ∷ ks) q → HasLastPlace ks q
 ends_rest k [] q e = tt
 ends_rest k (j ∷ ks) q e = e
 
@@ -82,9 +82,9 @@ pub record Extends (old new : List Slot) (o : Option ℕ) (k n p : ℕ) : Type 0
   pub places : walk new k (suc n) ≡ walk old k n ++ p ∷ []
   pub messages : read new k (suc n) ≡ read old k n ++ (slot_at old p).message ∷ []
 
-pub extends : (ns : List Slot) (o : Option ℕ) (k n q p : ℕ) → IsChain ns o k (suc n) → EndsAt (walk ns k (suc n)) q → p < length ns → (slot_at ns p).link ≡ o → (IsIn p (walk ns k (suc n)) → ⊥) → Extends ns (joined ns q p) o k (suc n) p
+pub extends : (ns : List Slot) (o : Option ℕ) (k n q p : ℕ) → IsChain ns o k (suc n) → HasLastPlace (walk ns k (suc n)) q → p < length ns → (slot_at ns p).link ≡ o → (IsIn p (walk ns k (suc n)) → ⊥) → Extends ns (slots_joined ns q p) o k (suc n) p
 extends ns o k zero q p h end below label away =
-    let new : List Slot = joined ns q p in
+    let new : List Slot = slots_joined ns q p in
     let size : length new ≡ length ns = length-set ns q (record (slot_at ns q) { next = p }) in
     let here : slot_at new k ≡ record (slot_at ns q) { next = p } = get_or-set_at ns q k (record (slot_at ns q) { next = p }) no_slot end (subst (λ x. x < length ns) end h.0) in
     let next : (slot_at new k).next ≡ p = ap (λ (s : Slot). s.next) here in
@@ -100,7 +100,7 @@ extends ns o k zero q p h end below label away =
       messages = ap₂ (λ (a b : Message). a ∷ b ∷ []) (ap (λ (s : Slot). s.message) here ∙ ap (λ x. (slot_at ns x).message) (sym end)) (ap (λ m. (slot_at new m).message) next ∙ ap (λ (s : Slot). s.message) there);
     }
 extends ns o k (suc n) q p h end below label away =
-    let new : List Slot = joined ns q p in
+    let new : List Slot = slots_joined ns q p in
     let size : length new ≡ length ns = length-set ns q (record (slot_at ns q) { next = p }) in
     let last : IsIn q (walk ns (slot_at ns k).next (suc n)) = end_in (slot_at ns k).next (walk ns (slot_at ns (slot_at ns k).next).next n) q end in
     let here : slot_at new k ≡ slot_at ns k = get_or-set_other ns q k (record (slot_at ns q) { next = p }) no_slot (λ e. h.2 (subst (λ x. IsIn x (walk ns (slot_at ns k).next (suc n))) (sym e) last)) in
@@ -136,6 +136,6 @@ starts ns o k (suc n) some h =
       rest = subst (IsChain ns o (slot_at ns k).next) (sym less) h.3;
     }
 
-pub last_in : (ns : List Slot) (o : Option ℕ) (first last n : ℕ) → IsChain ns o first n → EndsAt (walk ns first n) last → 0 < n → last < length ns
+pub last_in : (ns : List Slot) (o : Option ℕ) (first last n : ℕ) → IsChain ns o first n → HasLastPlace (walk ns first n) last → 0 < n → last < length ns
 last_in ns o first last zero h ends some = absurd (omega (arith, some))
 last_in ns o first last (suc n) h ends some = (within ns o first (suc n) h last (end_in first (walk ns (slot_at ns first).next n) last ends)).0

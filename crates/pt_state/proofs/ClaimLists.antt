@@ -15,7 +15,7 @@ use Rattle.pt_semantics.proofs.Lookups.{when_found, first_of_found, first_of-app
 use Rattle.pt_causality.specs.Units.{IsUnit}
 use Rattle.pt_state.specs.declared.fields.OpenClaim.{OpenClaim}
 use Rattle.pt_state.specs.Others.{is_other, IsPlaceOf}
-use Rattle.pt_state.specs.Unposted.{AreApart}
+use Rattle.pt_state.specs.Unposted.{AreOfDifferentUnits}
 use Rattle.pt_state.specs.State.{busy_in, states_in, IsOpen, IsFound}
 
 -- the claims of the other units
@@ -162,7 +162,7 @@ read_again (x ∷ xs) zero d e l = refl
 read_again (x ∷ xs) (suc k) d e l = read_again xs k d e (omega (arith, l))
 
 -- no other claim of the unit goes with the one that stands at its place
-pub one_goes : (u : Part) (claims : List OpenClaim) (k : ℕ) → AreApart claims → IsPlaceOf claims u (Some k) → remove claims k ≡ others u claims
+pub one_goes : (u : Part) (claims : List OpenClaim) (k : ℕ) → AreOfDifferentUnits claims → IsPlaceOf claims u (Some k) → remove claims k ≡ others u claims
 one_goes u [] k apart h = absurd (omega (arith, h.0))
 one_goes u (o ∷ os) zero apart h =
     let here : is_other u o ≡ false = h.1 o refl in
@@ -184,11 +184,11 @@ each_others : (P : OpenClaim → Type 0) (u : Part) (claims : List OpenClaim) �
 each_others P u [] h = tt
 each_others P u (o ∷ os) h = each_left P (is_other u o) o (others u os) h.0 (each_others P u os h.1)
 
-apart_left : (c : Bool) (o : OpenClaim) (ys : List OpenClaim) → Each (λ (x : OpenClaim). is_other o.unit x ≡ true) ys → AreApart ys → AreApart (cond c (o ∷ ys) ys)
+apart_left : (c : Bool) (o : OpenClaim) (ys : List OpenClaim) → Each (λ (x : OpenClaim). is_other o.unit x ≡ true) ys → AreOfDifferentUnits ys → AreOfDifferentUnits (cond c (o ∷ ys) ys)
 apart_left true o ys h hs = (h, hs)
 apart_left false o ys h hs = hs
 
-pub apart_others : (u : Part) (claims : List OpenClaim) → AreApart claims → AreApart (others u claims)
+pub apart_others : (u : Part) (claims : List OpenClaim) → AreOfDifferentUnits claims → AreOfDifferentUnits (others u claims)
 apart_others u [] h = tt
 apart_others u (o ∷ os) h = apart_left (is_other u o) o (others u os) (each_others (λ (x : OpenClaim). is_other o.unit x ≡ true) u os h.0) (apart_others u os h.1)
 
@@ -197,7 +197,7 @@ free_first : (b : Bool) (t : Task) (rest : Option Task) → or_else (when b (Som
 free_first true t rest h = absurd (none_some t (sym h))
 free_first false t rest h = (refl, h)
 
-pub apart_push : (claims : List OpenClaim) (c : OpenClaim) → AreApart claims → busy_in claims c.unit ≡ None → AreApart (claims ++ c ∷ [])
+pub apart_push : (claims : List OpenClaim) (c : OpenClaim) → AreOfDifferentUnits claims → busy_in claims c.unit ≡ None → AreOfDifferentUnits (claims ++ c ∷ [])
 apart_push [] c apart free = (tt, tt)
 apart_push (o ∷ os) c apart free =
     let two = free_first (same_part o.unit c.unit) o.task (busy_in os c.unit) free in

@@ -13,7 +13,7 @@ use Rattle.pt_semantics.specs.Closing.{on_link}
 use Rattle.pt_semantics.proofs.Lookups.{none_some, same_some}
 use Rattle.pt_state.specs.declared.slots.Slot.{Slot}
 use Rattle.pt_state.specs.declared.slots.Chain.{Chain}
-use Rattle.pt_state.specs.Slots.{AreQueues, EndsAt, IsChain, IsQueue, Stays, joined, no_chain, read, slot_at, walk}
+use Rattle.pt_state.specs.Slots.{AreQueues, HasLastPlace, IsChain, IsQueue, Stays, slots_joined, no_chain, read, slot_at, walk}
 use Rattle.pt_state.specs.Outbox.{items_from, items_of}
 use Rattle.pt_state.proofs.Chains.{Extends, end_in, ends_push, ends_rest, extends, last_in, no_slot, not_in, stays_set, within}
 
@@ -123,7 +123,7 @@ joined_to c p = record { first = if c.count == 0 then p else c.first; last = p; 
 by_count : (old mid : List Slot) (l p : ℕ) (m : Message) (first last count : ℕ) → IsQueue old l (record { first = first; last = last; count = count })
     → p < length mid → slot_at mid p ≡ record { message = m; link = Some l; next = 0 }
     → ((k n : ℕ) → IsChain old (Some l) k n → Stays old mid (Some l) k n) → ((k n : ℕ) → IsChain old (Some l) k n → IsIn p (walk old k n) → ⊥)
-    → Pushed old mid (if count == 0 then mid else joined mid last p) l m (record { first = first; last = last; count = count }) (record { first = if count == 0 then p else first; last = p; count = count + 1 })
+    → Pushed old mid (if count == 0 then mid else slots_joined mid last p) l m (record { first = first; last = last; count = count }) (record { first = if count == 0 then p else first; last = p; count = count + 1 })
 by_count old mid l p m first last zero h lt placed others apart = record {
   queue = ((lt, ap (λ (s : Slot). s.link) placed, (λ (none : ⊥). none), tt), refl);
   messages = ap (λ (s : Slot). s.message ∷ []) placed;
@@ -131,26 +131,26 @@ by_count old mid l p m first last zero h lt placed others apart = record {
 }
 by_count old mid l p m first last (suc n) h lt placed others apart =
     let there : Stays old mid (Some l) first (suc n) = others first (suc n) h.0 in
-    let ends : EndsAt (walk mid first (suc n)) last = subst (λ ks. EndsAt ks last) (sym there.places) h.1 in
+    let ends : HasLastPlace (walk mid first (suc n)) last = subst (λ ks. HasLastPlace ks last) (sym there.places) h.1 in
     let label : (slot_at mid p).link ≡ Some l = ap (λ (s : Slot). s.link) placed in
-    let more : Extends mid (joined mid last p) (Some l) first (suc n) p = extends mid (Some l) first n last p there.chain ends lt label (λ i. apart first (suc n) h.0 (subst (IsIn p) there.places i)) in
+    let more : Extends mid (slots_joined mid last p) (Some l) first (suc n) p = extends mid (Some l) first n last p there.chain ends lt label (λ i. apart first (suc n) h.0 (subst (IsIn p) there.places i)) in
     let at_last : (slot_at mid last).link ≡ Some l = (within mid (Some l) first (suc n) there.chain last (end_in first (walk mid (slot_at mid first).next n) last ends)).1 in
     let some : (suc n == 0) ≡ false = ne_eqb (suc n) 0 (λ e. absurd (omega (arith, e))) in
     let size : suc n + 1 ≡ suc (suc n) = omega arith in
-    let given : Pushed old mid (joined mid last p) l m (record { first = first; last = last; count = suc n }) (record { first = first; last = p; count = suc (suc n) }) = record {
-      queue = (more.chain, subst (λ ks. EndsAt ks p) (sym more.places) (ends_push (walk mid first (suc n)) p));
+    let given : Pushed old mid (slots_joined mid last p) l m (record { first = first; last = last; count = suc n }) (record { first = first; last = p; count = suc (suc n) }) = record {
+      queue = (more.chain, subst (λ ks. HasLastPlace ks p) (sym more.places) (ends_push (walk mid first (suc n)) p));
       messages = more.messages ∙ ap₂ (λ (a : List Message) (s : Slot). a ++ s.message ∷ []) there.messages placed;
       others = λ o k j chain far. elsewhere mid l k j last o (record (slot_at mid last) { next = p }) chain at_last far;
     } in
-    subst (λ b. Pushed old mid (if b then mid else joined mid last p) l m (record { first = first; last = last; count = suc n }) (record { first = if b then p else first; last = p; count = suc n + 1 })) (sym some)
-    (subst (λ x. Pushed old mid (joined mid last p) l m (record { first = first; last = last; count = suc n }) (record { first = first; last = p; count = x })) (sym size) given)
+    subst (λ b. Pushed old mid (if b then mid else slots_joined mid last p) l m (record { first = first; last = last; count = suc n }) (record { first = if b then p else first; last = p; count = suc n + 1 })) (sym some)
+    (subst (λ x. Pushed old mid (slots_joined mid last p) l m (record { first = first; last = last; count = suc n }) (record { first = first; last = p; count = x })) (sym size) given)
 
 pub pushed : (old mid new : List Slot) (l p : ℕ) (m : Message) (c d : Chain) → IsQueue old l c
     → p < length mid → slot_at mid p ≡ record { message = m; link = Some l; next = 0 }
     → ((k n : ℕ) → IsChain old (Some l) k n → Stays old mid (Some l) k n) → ((k n : ℕ) → IsChain old (Some l) k n → IsIn p (walk old k n) → ⊥)
-    → new ≡ (if c.count == 0 then mid else joined mid c.last p) → d ≡ joined_to c p → Pushed old mid new l m c d
+    → new ≡ (if c.count == 0 then mid else slots_joined mid c.last p) → d ≡ joined_to c p → Pushed old mid new l m c d
 pushed old mid new l p m c d h lt placed others apart is queue =
-    subst (λ (ns : List Slot). Pushed old mid ns l m c d) (sym is) (subst (λ (x : Chain). Pushed old mid (if c.count == 0 then mid else joined mid c.last p) l m c x) (sym queue) (by_count old mid l p m c.first c.last c.count h lt placed others apart))
+    subst (λ (ns : List Slot). Pushed old mid ns l m c d) (sym is) (subst (λ (x : Chain). Pushed old mid (if c.count == 0 then mid else slots_joined mid c.last p) l m c x) (sym queue) (by_count old mid l p m c.first c.last c.count h lt placed others apart))
 
 -- all queues after a push on link l
 pub queues_pushed : (old mid new : List Slot) (qs : List Chain) (l : ℕ) (m : Message) (d : Chain) → l < length qs → AreQueues old qs
@@ -161,7 +161,7 @@ queues_pushed old mid new qs l m d lt are others push k = ⊎_elim
     let c : Chain = get_or qs k no_chain in
     let first : Stays old mid (Some k) c.first c.count = others k c.first c.count (are k).0 in
     let moved : Stays mid new (Some k) c.first c.count = push.others (Some k) c.first c.count first.chain (λ e. ne (same_some k l e)) in
-    subst (IsQueue new k) (sym (get_or-set_other qs l k d no_chain ne)) (moved.chain, subst (λ ks. EndsAt ks c.last) (sym (moved.places ∙ first.places)) (are k).1))
+    subst (IsQueue new k) (sym (get_or-set_other qs l k d no_chain ne)) (moved.chain, subst (λ ks. HasLastPlace ks c.last) (sym (moved.places ∙ first.places)) (are k).1))
     (cases_eq k l)
 
 pub messages_pushed : (old mid new : List Slot) (qs : List Chain) (l : ℕ) (m : Message) (d : Chain) → l < length qs → AreQueues old qs
@@ -210,7 +210,7 @@ pop_count ns l f first last (suc n) lt h =
     let here : slot_at new first ≡ empty = get_or-set_at ns first first empty no_slot refl h.0.0 in
     record {
       within = h.0.0;
-      queue = subst (λ x. IsQueue new l (record { first = next; last = last; count = x })) (sym less) (rest.chain, subst (λ ks. EndsAt ks last) (sym rest.places) (ends_rest first (walk ns next n) last h.1));
+      queue = subst (λ x. IsQueue new l (record { first = next; last = last; count = x })) (sym less) (rest.chain, subst (λ ks. HasLastPlace ks last) (sym rest.places) (ends_rest first (walk ns next n) last h.1));
       messages = ap (λ ms. (slot_at ns first).message ∷ ms) (sym rest.messages ∙ ap (read new next) (sym less));
       others = λ o k j chain far. elsewhere ns l k j first o empty chain h.0.1 far;
       frees = λ j chain.
@@ -239,7 +239,7 @@ queues_popped ns qs l f lt are pop k =
     (λ (ne : k ≡ l → ⊥).
     let c : Chain = get_or qs k no_chain in
     let moved : Stays ns new (Some k) c.first c.count = pop.others (Some k) c.first c.count (are k).0 (λ e. ne (same_some k l e)) in
-    subst (IsQueue new k) (sym (get_or-set_other qs l k d no_chain ne)) (moved.chain, subst (λ ks. EndsAt ks c.last) (sym moved.places) (are k).1))
+    subst (IsQueue new k) (sym (get_or-set_other qs l k d no_chain ne)) (moved.chain, subst (λ ks. HasLastPlace ks c.last) (sym moved.places) (are k).1))
     (cases_eq k l)
 
 pub first_popped : (ns : List Slot) (qs : List Chain) (l f : ℕ) → l < length qs → Popped ns l f (get_or qs l no_chain)
@@ -301,7 +301,7 @@ pub record PushIs (old mid new : List Slot) (qs : List Chain) (l : ℕ) (m : Mes
 pub push_is : (old mid new : List Slot) (qs : List Chain) (l p : ℕ) (m : Message) (a d : Chain) → l < length qs → AreQueues old qs → a ≡ get_or qs l no_chain
     → (p < length mid) × (slot_at mid p ≡ record { message = m; link = Some l; next = 0 })
     → ((k j n : ℕ) → IsChain old (Some k) j n → Stays old mid (Some k) j n) → ((k j n : ℕ) → IsChain old (Some k) j n → IsIn p (walk old j n) → ⊥)
-    → new ≡ (if a.count == 0 then mid else joined mid a.last p) → d ≡ joined_to a p → PushIs old mid new qs l m d
+    → new ≡ (if a.count == 0 then mid else slots_joined mid a.last p) → d ≡ joined_to a p → PushIs old mid new qs l m d
 push_is old mid new qs l p m a d lt are at placed others apart slots queue =
     let c : Chain = get_or qs l no_chain in
     let push : Pushed old mid new l m c d = subst (λ (x : Chain). Pushed old mid new l m x d) at
@@ -319,7 +319,7 @@ pub last_there : (old mid : List Slot) (qs : List Chain) (l : ℕ) (a : Chain) �
 last_there old mid qs l a are at others some =
     let queue : IsQueue old l a = subst (IsQueue old l) (sym at) (are l) in
     let moved : Stays old mid (Some l) a.first a.count = others l a.first a.count queue.0 in
-    last_in mid (Some l) a.first a.last a.count moved.chain (subst (λ ks. EndsAt ks a.last) (sym moved.places) queue.1) some
+    last_in mid (Some l) a.first a.last a.count moved.chain (subst (λ ks. HasLastPlace ks a.last) (sym moved.places) queue.1) some
 
 -- a pop from link l, by what its steps read
 abbrev emptied : Slot → ℕ → Slot

@@ -26,14 +26,14 @@ IsChain ns owner k zero = Unit {0}
 IsChain ns owner k (suc n) = (k < length ns) × ((slot_at ns k).link ≡ owner) × (IsIn k (walk ns (slot_at ns k).next n) → ⊥) × IsChain ns owner (slot_at ns k).next n
 
 -- the last of these places is q, if there is one
-abbrev pub EndsAt : List ℕ → ℕ → Type 0
-EndsAt [] q = Unit {0}
-EndsAt (k ∷ []) q = k ≡ q
-EndsAt (k ∷ j ∷ ks) q = EndsAt (j ∷ ks) q
+abbrev pub HasLastPlace : List ℕ → ℕ → Type 0
+HasLastPlace [] q = Unit {0}
+HasLastPlace (k ∷ []) q = k ≡ q
+HasLastPlace (k ∷ j ∷ ks) q = HasLastPlace (j ∷ ks) q
 
 -- the slots of a queue are linked from its first to its last, and belong to link l
 abbrev pub IsQueue : List Slot → ℕ → Chain → Type 0
-IsQueue ns l c = IsChain ns (Some l) c.first c.count × EndsAt (walk ns c.first c.count) c.last
+IsQueue ns l c = IsChain ns (Some l) c.first c.count × HasLastPlace (walk ns c.first c.count) c.last
 
 -- what is past all queues: an empty one
 abbrev pub no_chain : Chain
@@ -50,5 +50,5 @@ pub record Stays (old new : List Slot) (owner : Option ℕ) (k n : ℕ) : Type 0
   pub messages : read new k n ≡ read old k n
 
 -- the slots, with that at q followed by that at p
-abbrev pub joined : List Slot → ℕ → ℕ → List Slot
-joined ns q p = set ns q (record (slot_at ns q) { next = p })
+abbrev pub slots_joined : List Slot → ℕ → ℕ → List Slot
+slots_joined ns q p = set ns q (record (slot_at ns q) { next = p })

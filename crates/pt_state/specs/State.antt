@@ -35,8 +35,8 @@ abbrev pub left_in : List Sensor → ℕ → List Row
 left_in sensors a = unwrap_or (first_of (rows_left a) sensors) []
 
 -- all rows of each sensor, those that have entered too
-abbrev pub rows_of : List Sensor → ℕ → List Row
-rows_of sensors a = unwrap_or (first_of (λ (s : Sensor). when (s.actor == a) (Some s.rows)) sensors) []
+abbrev pub rows_at_sensors : List Sensor → ℕ → List Row
+rows_at_sensors sensors a = unwrap_or (first_of (λ (s : Sensor). when (s.actor == a) (Some s.rows)) sensors) []
 
 -- the state represented by the fields and by all messages taken
 abbrev pub state_of : Fields → List OnLink → State

@@ -10,6 +10,6 @@ pub record Unposted : Type 0 where
   pub spare : ℕ
 
 -- no two claims are of the same unit
-abbrev pub AreApart : List OpenClaim → Type 0
-AreApart [] = Unit {0}
-AreApart (c ∷ cs) = Each (λ (o : OpenClaim). is_other c.unit o ≡ true) cs × AreApart cs
+abbrev pub AreOfDifferentUnits : List OpenClaim → Type 0
+AreOfDifferentUnits [] = Unit {0}
+AreOfDifferentUnits (c ∷ cs) = Each (λ (o : OpenClaim). is_other c.unit o ≡ true) cs × AreOfDifferentUnits cs

@@ -32,13 +32,13 @@ pub struct OpenClaims {
 impl Model for OpenClaims {
     ghost use Rattle.std.specs.Prelude.{◌+◌, ◌≤◌};
     ghost use Rattle.std.specs.VecDeque.{deque_len, deque_capacity};
-    ghost use Rattle.pt_state.specs.Unposted.{Unposted, AreApart};
+    ghost use Rattle.pt_state.specs.Unposted.{Unposted, AreOfDifferentUnits};
 
     ghost Value = { Unposted };
 
     ghost view = { λ o. record { items = o.claims.items; spare = o.spare } };
 
-    ghost invariant = { λ o. AreApart o.claims.items × (o.spare + deque_len o.claims ≤ deque_capacity o.claims) };
+    ghost invariant = { λ o. AreOfDifferentUnits o.claims.items × (o.spare + deque_len o.claims ≤ deque_capacity o.claims) };
 }
 
 /// The index of a unit's open claim; `None` if it has none.

@@ -2,7 +2,7 @@
 
 ghost use Rattle.std.specs.Prelude.{◌≡◌, ℕ, ◌+◌, ◌<◌, ◌≤◌, ◌==◌, Some, None, length, slice_set, vec_len, vec_capacity, if◌then◌else◌};
 ghost use Rattle.pt_semantics.specs.Lists.{IsIn};
-ghost use Rattle.pt_state.specs.Slots.{IsChain, Stays, joined, slot_at, walk};
+ghost use Rattle.pt_state.specs.Slots.{IsChain, Stays, slots_joined, slot_at, walk};
 
 use pt_tags::Message;
 
@@ -64,7 +64,7 @@ pub fn put(slots: &mut Vec<Slot>, free: &mut Free, link: u32, message: Message) 
 pub fn join(slots: &mut Vec<Slot>, queue: Chain, place: usize) -> Chain
     requires last { 0 < queue.count → queue.last < length slots.old.items }
     requires few { queue.count < vec_len slots.old }
-    ensures slots { slots.new.items ≡ (if queue.count == 0 then slots.old.items else joined slots.old.items queue.last place) }
+    ensures slots { slots.new.items ≡ (if queue.count == 0 then slots.old.items else slots_joined slots.old.items queue.last place) }
     ensures len { vec_len slots.new ≡ vec_len slots.old }
     ensures capacity { vec_capacity slots.old ≤ vec_capacity slots.new }
     ensures queue { result ≡ record { first = if queue.count == 0 then place else queue.first; last = place; count = queue.count + 1 } }

@@ -2,7 +2,7 @@
 
 ghost use Rattle.std.specs.Prelude.{◌≡◌, ◌<◌, ◌^◌, ◌++◌, ◌∷◌, IfOk, OnOk, length, string_bytes};
 ghost use Rattle.pt_offsets.specs.Timings.{actor_offset_of, margin_in};
-ghost use Rattle.pt_tables.specs.Margins.{cell, head, line, margins_text};
+ghost use Rattle.pt_tables.specs.Margins.{cell, margins_head, margin_line, margins_text};
 
 use pt_offsets::Offsets;
 use pt_types::Graph;
@@ -27,7 +27,7 @@ pub fn margins(alloc: Global, graph: &Graph, offsets: &Offsets) -> Result<String
 
 /// Appends the header line.
 fn push_head(text: &mut String) -> Result<(), AllocError>
-    ensures { OnOk result (string_bytes text.new ≡ string_bytes text.old ++ head) }
+    ensures { OnOk result (string_bytes text.new ≡ string_bytes text.old ++ margins_head) }
 {
     text.push_str("actor,offset,margin\n")
 }
@@ -39,7 +39,7 @@ fn push_line(
     offset: Option<i64>,
     margin: Option<i64>,
 ) -> Result<(), AllocError>
-    ensures { OnOk result (string_bytes text.new ≡ string_bytes text.old ++ line name.now offset margin) }
+    ensures { OnOk result (string_bytes text.new ≡ string_bytes text.old ++ margin_line name.now offset margin) }
 {
     text.push_str(name)?;
     push_cell(text, offset)?;

@@ -35,7 +35,7 @@ use Rattle.pt_offsets.specs.Plans.{AreOffsets}
 use Rattle.pt_offsets.specs.Timings.{bound_in}
 use Rattle.pt_state.specs.declared.fields.Fields.{Fields}
 use Rattle.pt_state.specs.State.{state_of, busy_in, states_in, left_in, IsSound, IsOpen}
-use Rattle.pt_take.specs.Taken.{carried, Basis, Arrive, Comes}
+use Rattle.pt_take.specs.Taken.{carried, Basis, Arrive, MayArrive}
 
 both : (b c d : Bool) (x : Option ℤ) → when (b && c && d) x ≡ when (b && c) (when d x)
 both true true d x = refl
@@ -133,7 +133,7 @@ some_below [] i x h = absurd (none_some x h)
 some_below (y ∷ ys) zero x h = omega arith
 some_below (y ∷ ys) (suc i) x h = let l : i < length ys = some_below ys i x h in omega arith
 
-pub comes_at : (g : Graph) (w : Basis) (messages : List OnLink) (i : ℕ) (d : OnLink) → Arrive g w messages → i < length messages → Comes g w (w.taken ++ take i messages) (get_or messages i d)
+pub comes_at : (g : Graph) (w : Basis) (messages : List OnLink) (i : ℕ) (d : OnLink) → Arrive g w messages → i < length messages → MayArrive g w (w.taken ++ take i messages) (get_or messages i d)
 comes_at g w messages i d arrive lt = arrive i (get_or messages i d) (slice_get-get_or messages i d lt)
 
 pub on_at : (r : Bool) (P : Type 0) → MatchBool r P (P → ⊥) → r ≡ true → P

@@ -27,7 +27,7 @@ pub record Basis : Type 0 where
   pub taken : List OnLink
 
 -- a message may come after these: its link leads to the platform, and keeps its messages orderly
-pub record Comes (g : Graph) (w : Basis) (before : List OnLink) (m : OnLink) : Type 0 where
+pub record MayArrive (g : Graph) (w : Basis) (before : List OnLink) (m : OnLink) : Type 0 where
   pub link : Link
   pub at : slice_get g.links m.link ≡ Some link
   pub home : platform_of g link.to ≡ w.platform
@@ -35,7 +35,7 @@ pub record Comes (g : Graph) (w : Basis) (before : List OnLink) (m : OnLink) : T
 
 -- each message may come after those taken before and those ahead of it
 abbrev pub Arrive : Graph → Basis → List OnLink → Type 0
-Arrive g w messages = (k : ℕ) (m : OnLink) → slice_get messages k ≡ Some m → Comes g w (w.taken ++ take k messages) m
+Arrive g w messages = (k : ℕ) (m : OnLink) → slice_get messages k ≡ Some m → MayArrive g w (w.taken ++ take k messages) m
 
 -- after any messages that can be taken without one being late, no event waits where the next one on time goes
 abbrev pub NeverTakes : Graph → Basis → State → Type 0

@@ -22,12 +22,12 @@ use Rattle.pt_turn.specs.All.{AreAll, AreReady, histories_of}
 use Rattle.pt_turn.specs.Platforms.{PlatformView, rows_at, state_at}
 use Rattle.pt_turn.specs.Running.{Shows}
 use Rattle.pt_fixed_order.proofs.Whole.{linked_if_finished}
-use Rattle.pt_together.specs.Asked.{AreLegal, EndsAt}
+use Rattle.pt_together.specs.Asked.{HaveLegalHistories, EndsAt}
 use Rattle.pt_links.specs.Ends.{LinkId}
 use Rattle.pt_pool.specs.Station.{AreRead, StationView}
 use Rattle.pt_pool.proofs.Lanes.{get_here, get_map, got_map, same_some}
 use Rattle.pt_free.specs.Orders.{AllDone, AreUnmarked, HasFailed}
-use Rattle.pt_ends.specs.Settled.{AreInOrder, AreStations, IsStation, platform_of_station, told_of_station}
+use Rattle.pt_ends.specs.Settled.{AreByNumber, AreStations, IsStation, platform_of_station, told_of_station}
 use Rattle.pt_alone.specs.HasGone.{HaveGone}
 use Rattle.pt_threads.specs.Opened.{AreBegun}
 use Rattle.pt_threads.specs.Reported.{IsReported}
@@ -80,9 +80,9 @@ told_count told ahead xs stations same =
 
 module _ (plan : Parts) (whole : Option Parts) (own_rows : ℕ → List Row) (link : ℕ → LinkId) (began : ℕ → Option (List ℕ)) (fixed : ℕ → Option (ℕ → ℕ)) (whole_is : whole ≡ Some plan) (admitted : IsAdmitted plan)
     (opened_at : List PlatformView) (clocks now : List ClockView) (all : AreAll plan own_rows opened_at) (begun : AreBegun began fixed clocks)
-    (stations : List StationView) (count : length stations ≡ length plan.graph.platforms) (order : AreInOrder stations) (are : AreStations whole own_rows link began fixed 0 stations) (unmarked : AreUnmarked stations)
+    (stations : List StationView) (count : length stations ≡ length plan.graph.platforms) (order : AreByNumber stations) (are : AreStations whole own_rows link began fixed 0 stations) (unmarked : AreUnmarked stations)
     (now_count : length now ≡ length stations) (now_told : (i : ℕ) (n : ClockView) → slice_get now i ≡ Some n → slice_get (map told_of_station stations) i ≡ Some n.told)
-    (platforms : List PlatformView) (platforms_are : platforms ≡ map platform_of_station stations) (legal : AreLegal platforms) (matched : AreMatched plan.graph (histories_of platforms)) where
+    (platforms : List PlatformView) (platforms_are : platforms ≡ map platform_of_station stations) (legal : HaveLegalHistories platforms) (matched : AreMatched plan.graph (histories_of platforms)) where
   is_wired : IsWired plan.graph
   is_wired = wired plan.graph admitted.lawful
 

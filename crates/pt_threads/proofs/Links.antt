@@ -10,13 +10,13 @@ use Rattle.pt_links.specs.Ends.{SentBy, TakenBy}
 use Rattle.pt_pool.specs.Ends.{limits_at, limits_of}
 use Rattle.pt_pool.proofs.Lanes.{same_some}
 use Rattle.pt_ends.proofs.Lists.{get_front, get_last}
-use Rattle.pt_threads.specs.Opened.{AreOpen, AreOwners, IsNewLink, IsOpenAt}
+use Rattle.pt_threads.specs.Opened.{AreOpenEnds, AreOwners, IsNewLink, IsOpenAt}
 
-pub open_none : (plan : Parts) → AreOpen plan 0 [] []
+pub open_none : (plan : Parts) → AreOpenEnds plan 0 [] []
 open_none plan = record { counts = (refl, refl); each = λ l lt. absurd (omega (arith, lt)) }
 
-pub open_more : (plan : Parts) (k : ℕ) (outs : List (Option SentBy)) (ins : List (Option TakenBy)) (o : SentBy) (i : TakenBy) (link : Link) (bounds : Bounds) → AreOpen plan k outs ins → slice_get plan.graph.links k ≡ Some link → bounds ≡ limits_of plan link
-    → i.link ≡ o.link → (o.limits ≡ Some bounds) × (i.limits ≡ Some bounds) → (o.sent ≡ []) × (i.taken ≡ []) → AreOpen plan (k + 1) (outs ++ Some o ∷ []) (ins ++ Some i ∷ [])
+pub open_more : (plan : Parts) (k : ℕ) (outs : List (Option SentBy)) (ins : List (Option TakenBy)) (o : SentBy) (i : TakenBy) (link : Link) (bounds : Bounds) → AreOpenEnds plan k outs ins → slice_get plan.graph.links k ≡ Some link → bounds ≡ limits_of plan link
+    → i.link ≡ o.link → (o.limits ≡ Some bounds) × (i.limits ≡ Some bounds) → (o.sent ≡ []) × (i.taken ≡ []) → AreOpenEnds plan (k + 1) (outs ++ Some o ∷ []) (ins ++ Some i ∷ [])
 open_more plan k outs ins o i link bounds h at is one limits nothing =
     let a = length-append outs (Some o ∷ []) in
     let b = length-append ins (Some i ∷ []) in

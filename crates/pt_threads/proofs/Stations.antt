@@ -18,12 +18,12 @@ use Rattle.pt_turn.specs.Platforms.{PlatformView, messages_of, rows_at}
 use Rattle.pt_links.specs.declared.rule.Bounds.{Bounds}
 use Rattle.pt_links.specs.Ends.{LinkId, SentBy, TakenBy}
 use Rattle.pt_links.specs.Line.{IsOrderlyBy}
-use Rattle.pt_pool.specs.Ends.{AreEnds, AreNamed, End, end_in, end_out, leaves, limits_at, reaches}
+use Rattle.pt_pool.specs.Ends.{AreEnds, AreNamed, End, end_in, end_out, leaves, limits_at, receiving_platform}
 use Rattle.pt_pool.specs.Station.{AreRead, IsOfRun, StationView}
 use Rattle.pt_pool.proofs.Lanes.{get_here, get_map, got_map, same_some}
 use Rattle.pt_free.specs.Orders.{count_up, numbers}
-use Rattle.pt_ends.specs.Places.{AreCollected, IsElsewhere, IsFull}
-use Rattle.pt_threads.specs.Opened.{AreNamedBy, AreOpen, AreOwners}
+use Rattle.pt_ends.specs.Places.{AreCollected, IsElsewhere, PlaceIsFull}
+use Rattle.pt_threads.specs.Opened.{AreNamedBy, AreOpenEnds, AreOwners}
 
 -- what owners below n have is still in its place
 abbrev pub AreLeft : {X : Type 0} → List ℕ → ℕ → List (Option X) → List (Option X) → Type 0
@@ -37,7 +37,7 @@ some_at : {A : Type 0} (xs : List A) (k : ℕ) → k < length xs → (x : A) × 
 some_at [] k lt = absurd (omega (arith, lt))
 some_at (x ∷ xs) k lt = (get_or (x ∷ xs) k x, get_here (x ∷ xs) k x lt)
 
-pub full_at : {X : Type 0} (owners : List ℕ) (m n k : ℕ) (old now : List (Option X)) → m + 1 ≡ n → AreLeft owners n old now → length owners ≡ k → ((l : ℕ) → l < k → IsFull old l) → (l : ℕ) → slice_get owners l ≡ Some m → IsFull now l
+pub full_at : {X : Type 0} (owners : List ℕ) (m n k : ℕ) (old now : List (Option X)) → m + 1 ≡ n → AreLeft owners n old now → length owners ≡ k → ((l : ℕ) → l < k → PlaceIsFull old l) → (l : ℕ) → slice_get owners l ≡ Some m → PlaceIsFull now l
 full_at owners m n k old now one left count full l at =
     let w = slice_get_within owners l m at in
     let f = full l (omega (arith, w, count)) in
@@ -90,15 +90,15 @@ none_ahead (Some f) (Some all) = λ e. refl
 none_read : (ahead : Option (ℕ → ℕ)) (told : Option (List ℕ)) (turns : List Turn) → turns ≡ [] → AreRead ahead told told turns
 none_read ahead told turns none = ([], none_handed told, none_ahead ahead told, subst (λ (ts : List Turn). IsReadBy ts []) (sym none) refl)
 
-module _ (plan : Parts) (whole : Option Parts) (whole_is : whole ≡ Some plan) (rows : ℕ → List Row) (link : ℕ → LinkId) (all_outs : List (Option SentBy)) (all_ins : List (Option TakenBy)) (opened : AreOpen plan (length plan.graph.links) all_outs all_ins) (names : AreNamedBy link all_outs)
-    (senders receivers : List ℕ) (from : AreOwners plan.graph leaves (length plan.graph.links) senders) (to : AreOwners plan.graph reaches (length plan.graph.links) receivers) where
+module _ (plan : Parts) (whole : Option Parts) (whole_is : whole ≡ Some plan) (rows : ℕ → List Row) (link : ℕ → LinkId) (all_outs : List (Option SentBy)) (all_ins : List (Option TakenBy)) (opened : AreOpenEnds plan (length plan.graph.links) all_outs all_ins) (names : AreNamedBy link all_outs)
+    (senders receivers : List ℕ) (from : AreOwners plan.graph leaves (length plan.graph.links) senders) (to : AreOwners plan.graph receiving_platform (length plan.graph.links) receivers) where
   link_below : (side : Graph → Link → ℕ) (owners : List ℕ) (n : ℕ) → AreOwners plan.graph side (length plan.graph.links) owners → (l : ℕ) → slice_get owners l ≡ Some n → l < length plan.graph.links
   link_below side owners n own l at = let w = slice_get_within owners l n at in omega (arith, w, own.count)
 
-  pub outs_full : (m n : ℕ) (now : List (Option SentBy)) → m + 1 ≡ n → AreLeft senders n all_outs now → (l : ℕ) → slice_get senders l ≡ Some m → IsFull now l
+  pub outs_full : (m n : ℕ) (now : List (Option SentBy)) → m + 1 ≡ n → AreLeft senders n all_outs now → (l : ℕ) → slice_get senders l ≡ Some m → PlaceIsFull now l
   outs_full m n now one left = full_at senders m n (length plan.graph.links) all_outs now one left from.count (λ l lt. let w = opened.each l lt in (w.0, w.2))
 
-  pub ins_full : (m n : ℕ) (now : List (Option TakenBy)) → m + 1 ≡ n → AreLeft receivers n all_ins now → (l : ℕ) → slice_get receivers l ≡ Some m → IsFull now l
+  pub ins_full : (m n : ℕ) (now : List (Option TakenBy)) → m + 1 ≡ n → AreLeft receivers n all_ins now → (l : ℕ) → slice_get receivers l ≡ Some m → PlaceIsFull now l
   ins_full m n now one left = full_at receivers m n (length plan.graph.links) all_ins now one left to.count (λ l lt. let w = opened.each l lt in (w.1, w.3))
 
   module _ (n m : ℕ) (one : n + 1 ≡ m) (places_out : List (Option SentBy)) (places_in : List (Option TakenBy)) (left_out : AreLeft senders m all_outs places_out) (left_in : AreLeft receivers m all_ins places_in)
@@ -113,7 +113,7 @@ module _ (plan : Parts) (whole : Option Parts) (whole_is : whole ≡ Some plan) 
 
     in_new : (l : ℕ) (x : TakenBy) → slice_get receivers l ≡ Some n → slice_get places_in l ≡ Some (Some x) → (x.limits ≡ limits_at plan l) × (x.taken ≡ []) × (x.link ≡ link l)
     in_new l x mine at =
-        let w = opened.each l (link_below reaches receivers n to l mine) in
+        let w = opened.each l (link_below receiving_platform receivers n to l mine) in
         let at_all : slice_get all_ins l ≡ Some (Some x) = sym (left_in l n mine (omega (arith, one))) ∙ at in
         let same : x ≡ w.1 = same_some x w.1 (same_some (Some x) (Some w.1) (sym at_all ∙ w.3)) in
         (ap (λ (z : TakenBy). z.limits) same ∙ w.4.limits.1, ap (λ (z : TakenBy). z.taken) same ∙ w.4.nothing.1, ap (λ (z : TakenBy). z.link) same ∙ w.4.one ∙ names l w.0 w.2)
@@ -133,8 +133,8 @@ module _ (plan : Parts) (whole : Option Parts) (whole_is : whole ≡ Some plan) 
     ends_out : AreEnds plan leaves n (map end_out outs)
     ends_out = collected_ends end_out (λ p. refl) plan leaves n senders from places_out outs got_outs (λ l x mine at. (out_new l x mine at).0)
 
-    ends_in : AreEnds plan reaches n (map end_in ins)
-    ends_in = collected_ends end_in (λ p. refl) plan reaches n receivers to places_in ins got_ins (λ l x mine at. (in_new l x mine at).0)
+    ends_in : AreEnds plan receiving_platform n (map end_in ins)
+    ends_in = collected_ends end_in (λ p. refl) plan receiving_platform n receivers to places_in ins got_ins (λ l x mine at. (in_new l x mine at).0)
 
     pub of_run : (p : PlatformView) → p.plan ≡ plan → p.number ≡ n → p.turns ≡ [] → n < length plan.graph.platforms → ((a : ℕ) → platform_of plan.graph a ≡ n → rows_at p a ≡ rows a)
         → (began told : Option (List ℕ)) (fixed ahead : Option (ℕ → ℕ)) → began ≡ told → fixed ≡ ahead → IsOfRun whole rows link began fixed ahead told p outs ins false
@@ -144,7 +144,7 @@ module _ (plan : Parts) (whole : Option Parts) (whole_is : whole ≡ Some plan) 
       number = subst (λ (k : ℕ). k < length p.plan.graph.platforms) (sym number_is) (subst (λ (z : Parts). n < length z.graph.platforms) (sym plan_is) below);
       fits = record {
         outs_are = subst (λ (k : ℕ). AreEnds p.plan leaves k (map end_out outs)) (sym number_is) (subst (λ (z : Parts). AreEnds z leaves n (map end_out outs)) (sym plan_is) ends_out);
-        ins_are = subst (λ (k : ℕ). AreEnds p.plan reaches k (map end_in ins)) (sym number_is) (subst (λ (z : Parts). AreEnds z reaches n (map end_in ins)) (sym plan_is) ends_in);
+        ins_are = subst (λ (k : ℕ). AreEnds p.plan receiving_platform k (map end_in ins)) (sym number_is) (subst (λ (z : Parts). AreEnds z receiving_platform n (map end_in ins)) (sym plan_is) ends_in);
         sent = λ i e at. (out_at i e at).1 ∙ sym (ap (all_sent e.0) none);
         taken = λ fine i e at. (in_at i e at).1 ∙ sym (ap (λ (ts : List Turn). on_link e.0 (messages_of ts)) none);
         begins = λ i e at. ([], (in_at i e at).1 ∙ sym (ap (λ (ts : List Turn). on_link e.0 (messages_of ts) ++ []) none));

@@ -19,7 +19,7 @@ abbrev pub IsOpenAt : Parts → List (Option SentBy) → List (Option TakenBy) �
 IsOpenAt plan outs ins l = (o : SentBy) × (i : TakenBy) × (slice_get outs l ≡ Some (Some o)) × (slice_get ins l ≡ Some (Some i)) × IsNewLink (limits_at plan l) o i
 
 -- there are n places on each side: for each of the first n links of a plan's graph the ends of a new link
-pub record AreOpen (plan : Parts) (n : ℕ) (outs : List (Option SentBy)) (ins : List (Option TakenBy)) : Type 0 where
+pub record AreOpenEnds (plan : Parts) (n : ℕ) (outs : List (Option SentBy)) (ins : List (Option TakenBy)) : Type 0 where
   pub counts : (length outs ≡ n) × (length ins ≡ n)
   pub each : (l : ℕ) → l < n → IsOpenAt plan outs ins l
 

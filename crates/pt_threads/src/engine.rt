@@ -7,7 +7,7 @@ ghost use Rattle.pt_types.specs.declared.rows.Row.{Row};
 ghost use Rattle.pt_offsets.specs.Plans.{Parts};
 ghost use Rattle.pt_turn.specs.All.{AreAll, AreNew, AreReady, IsReady};
 ghost use Rattle.pt_alone.specs.HasGone.{HaveGone};
-ghost use Rattle.pt_threads.specs.Opened.{AreBegun, AreNamedBy, AreOpen};
+ghost use Rattle.pt_threads.specs.Opened.{AreBegun, AreNamedBy, AreOpenEnds};
 
 use crate::opening::{Ends, open_links};
 use crate::placing::make_stations;
@@ -44,7 +44,7 @@ fn run_named<J: Run + Send + Sync, C: Clock + Send, G: Gate + Sync, R: Threads +
     requires fresh { AreNew platforms.items }
     requires clocks { length clocks.items ≡ length platforms.items }
     requires begun { AreBegun J.began J.fixed (tell C.told C.ahead clocks.items) }
-    requires open { AreOpen (arc_value plan) (length (arc_value plan).graph.links) ends.outlets.items ends.inlets.items }
+    requires open { AreOpenEnds (arc_value plan) (length (arc_value plan).graph.links) ends.outlets.items ends.inlets.items }
     requires named { AreNamedBy J.link ends.outlets.items }
     requires most { (1 ≤ most) × (most ≤ 32) }
     ensures ran { IfOk result (λ e. (p : Parts) (rows : ℕ → List Row) → AreReady p rows platforms.items →

@@ -1,8 +1,8 @@
 //! New links for all links of a plan.
 
 ghost use Rattle.std.specs.Prelude.{◌≡◌, IfOk, length};
-ghost use Rattle.pt_pool.specs.Ends.{leaves, limits_of, reaches};
-ghost use Rattle.pt_threads.specs.Opened.{AreOpen, AreOwners};
+ghost use Rattle.pt_pool.specs.Ends.{leaves, limits_of, receiving_platform};
+ghost use Rattle.pt_threads.specs.Opened.{AreOpenEnds, AreOwners};
 
 use pt_links::{Bounds, Inlet, Outlet, link};
 use pt_offsets::Plan;
@@ -38,7 +38,7 @@ fn bounds(plan: &Plan, link: &Link) -> Bounds
 
 /// Opens a new link for each link of a plan's graph.
 pub(crate) fn open_links(alloc: Global, plan: &Plan) -> Result<Ends, Memory>
-    ensures { IfOk result (λ e. AreOpen plan.now (length plan.now.graph.links) e.outlets.items e.inlets.items) }
+    ensures { IfOk result (λ e. AreOpenEnds plan.now (length plan.now.graph.links) e.outlets.items e.inlets.items) }
 {
     let links = plan.graph().links.as_slice();
     let (Ok(mut outlets), Ok(mut inlets)) = (
@@ -59,7 +59,7 @@ pub(crate) fn open_links(alloc: Global, plan: &Plan) -> Result<Ends, Memory>
 /// The platforms at the two ends of each link of a graph.
 pub(crate) fn owners_of(alloc: Global, graph: &Graph) -> Result<Owners, Memory>
     ensures senders { IfOk result (λ o. AreOwners graph.now leaves (length graph.now.links) o.senders.items) }
-    ensures receivers { IfOk result (λ o. AreOwners graph.now reaches (length graph.now.links) o.receivers.items) }
+    ensures receivers { IfOk result (λ o. AreOwners graph.now receiving_platform (length graph.now.links) o.receivers.items) }
 {
     let links = graph.links.as_slice();
     let (Ok(mut senders), Ok(mut receivers)) = (

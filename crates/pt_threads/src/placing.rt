@@ -5,7 +5,7 @@ ghost use Rattle.pt_io.specs.Told.{tell};
 ghost use Rattle.pt_offsets.specs.Plans.{IsAdmitted};
 ghost use Rattle.pt_turn.specs.All.{AreAll, AreNew};
 ghost use Rattle.pt_free.specs.Orders.{count_up, numbers};
-ghost use Rattle.pt_threads.specs.Opened.{AreBegun, AreNamedBy, AreOpen};
+ghost use Rattle.pt_threads.specs.Opened.{AreBegun, AreNamedBy, AreOpenEnds};
 
 use crate::opening::{Ends, owners_of};
 use pt_ends::collect;
@@ -29,7 +29,7 @@ pub(crate) fn make_stations<J: Run, C: Clock>(
     requires fresh { AreNew platforms.items }
     requires clocks { length clocks.items ≡ length platforms.items }
     requires begun { AreBegun J.began J.fixed (tell C.told C.ahead clocks.items) }
-    requires open { AreOpen plan.now (length plan.now.graph.links) ends.outlets.items ends.inlets.items }
+    requires open { AreOpenEnds plan.now (length plan.now.graph.links) ends.outlets.items ends.inlets.items }
     requires named { AreNamedBy J.link ends.outlets.items }
     ensures admitted { OnOk result (IsAdmitted plan.now) }
     ensures count { IfOk result (λ v. vec_len v ≡ length plan.now.graph.platforms) }

@@ -1,14 +1,14 @@
 //! What the platforms report after a run.
 
 ghost use Rattle.std.specs.Prelude.{length};
-ghost use Rattle.pt_together.specs.Asked.{AreLegal};
-ghost use Rattle.pt_threads.specs.Reported.{IsFaultOf, IsPlace, IsReported};
+ghost use Rattle.pt_together.specs.Asked.{HaveLegalHistories};
+ghost use Rattle.pt_threads.specs.Reported.{IsReportedFault, IsPlaceBelow, IsReported};
 
 use pt_turn::{Platform, TurnFault};
 
 /// The fault of a platform, with the platform's number; `None` if it has no fault.
 fn fault_of(platform: &Platform) -> Option<(u32, TurnFault)>
-    ensures { IsFaultOf platform.now result }
+    ensures { IsReportedFault platform.now result }
 {
     match platform.fault() {
         Some(fault) => Some((platform.number(), fault)),
@@ -18,7 +18,7 @@ fn fault_of(platform: &Platform) -> Option<(u32, TurnFault)>
 
 /// The fault of the platform in this place, with the platform's number; `None` where there is no place.
 pub(crate) fn fault_at(platforms: &[Platform], place: Option<usize>) -> Option<(u32, TurnFault)>
-    requires { IsPlace (length platforms.now) place }
+    requires { IsPlaceBelow (length platforms.now) place }
     ensures { IsReported platforms.now place result }
 {
     match place {
@@ -29,7 +29,7 @@ pub(crate) fn fault_at(platforms: &[Platform], place: Option<usize>) -> Option<(
 
 /// The recorded turns of each platform are a legal history.
 pub(crate) fn show_histories(platforms: &[Platform])
-    ensures { AreLegal platforms.now }
+    ensures { HaveLegalHistories platforms.now }
 {
     for i in 0..platforms.len() {
         let _ = platforms[i].history();

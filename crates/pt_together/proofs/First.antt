@@ -12,7 +12,7 @@ use Rattle.pt_semantics.specs.Visits.{together_at_start}
 use Rattle.pt_offsets.specs.Plans.{IsAdmitted, Parts}
 use Rattle.pt_turn.specs.All.{AreReady}
 use Rattle.pt_turn.specs.Platforms.{PlatformView}
-use Rattle.pt_together.specs.Asked.{AreLegal}
+use Rattle.pt_together.specs.Asked.{HaveLegalHistories}
 use Rattle.pt_together.specs.Shown.{AreShown}
 use Rattle.pt_together.proofs.Listed.{none_in}
 use Rattle.pt_together.proofs.Showing.{start_shows}
@@ -22,7 +22,7 @@ pub record AreOpened (plan : Parts) (rows : ℕ → List Row) (platforms : List 
   pub ready : AreReady plan rows platforms
   pub some : 0 < length platforms
   pub admitted : IsAdmitted plan
-  pub legal : AreLegal platforms
+  pub legal : HaveLegalHistories platforms
   pub no_message : pipes ≡ replicate (length plan.graph.links) []
   pub no_result : results ≡ replicate (length platforms) []
 
@@ -36,7 +36,7 @@ shown_first plan rows platforms pipes results new = start_shows plan rows platfo
 -- the plan of the first platform is that of all
 module _ (plan : Parts) (rows : ℕ → List Row) (platforms sliced : List PlatformView) (d : PlatformView) (first : Parts) (g : Graph) (links : List Link) (pipes : List (List Message)) (results : List (List Done))
     (some : 0 < length platforms) (plan_is : first ≡ (get_or platforms 0 d).plan) (graph_is : g ≡ first.graph) (admitted : IsAdmitted first) (links_are : links ≡ g.links) (same : sliced ≡ platforms)
-    (no_message : pipes ≡ replicate (length links) []) (no_result : results ≡ replicate (length sliced) []) (legal : AreLegal sliced) where
+    (no_message : pipes ≡ replicate (length links) []) (no_result : results ≡ replicate (length sliced) []) (legal : HaveLegalHistories sliced) where
   pub opened : AreReady plan rows platforms → AreOpened plan rows platforms pipes results
   opened ready =
       let whole : first ≡ plan = plan_is ∙ ready.all.plans 0 (get_or platforms 0 d) (slice_get-get_or platforms 0 d some) in
@@ -44,7 +44,7 @@ module _ (plan : Parts) (rows : ℕ → List Row) (platforms sliced : List Platf
         ready = ready;
         some = some;
         admitted = subst IsAdmitted whole admitted;
-        legal = subst AreLegal same legal;
+        legal = subst HaveLegalHistories same legal;
         no_message = no_message ∙ ap (λ (ls : List Link). replicate (length ls) []) (links_are ∙ ap (λ (z : Graph). z.links) graph_is ∙ ap (λ (p : Parts). p.graph.links) whole);
         no_result = no_result ∙ ap (λ (vs : List PlatformView). replicate (length vs) []) same;
       }

@@ -5,7 +5,7 @@ use Rattle.std.specs.Global.{Vec}
 use Rattle.pt_types.specs.declared.firing.Done.{Done}
 use Rattle.pt_semantics.proofs.Lookups.{none_some, same_some}
 use Rattle.pt_laws.proofs.Onward.{cases_same}
-use Rattle.pt_together.specs.Asked.{lists_of}
+use Rattle.pt_together.specs.Asked.{result_lists}
 
 -- a fact on each member below i and on that at i is a fact on each below i + 1
 pub one_more : {X : Type 0} (P : X → Type 0) (xs : List X) (i : ℕ) (x : X) → slice_get xs i ≡ Some x → P x → ((j : ℕ) (w : X) → j < i → slice_get xs j ≡ Some w → P w) → (j : ℕ) (w : X) → j < i + 1 → slice_get xs j ≡ Some w → P w
@@ -19,12 +19,12 @@ one_more P xs i x there here below j w lt at =
     apart j i lt ne = omega arith
 
 -- the items of one of several vectors
-pub list_at : (vectors : List (Vec Done)) (i : ℕ) (v : Vec Done) → slice_get vectors i ≡ Some v → slice_get (lists_of vectors) i ≡ Some v.items
+pub list_at : (vectors : List (Vec Done)) (i : ℕ) (v : Vec Done) → slice_get vectors i ≡ Some v → slice_get (result_lists vectors) i ≡ Some v.items
 list_at [] i v e = absurd (none_some v e)
 list_at (x ∷ vectors) zero v e = ap (λ (z : Vec Done). Some z.items) (same_some x v e)
 list_at (x ∷ vectors) (suc i) v e = list_at vectors i v e
 
-pub one_list_more : (vectors : List (Vec Done)) (v : Vec Done) (n : ℕ) → lists_of vectors ≡ replicate n [] → v.items ≡ [] → lists_of (vectors ++ v ∷ []) ≡ replicate (n + 1) []
+pub one_list_more : (vectors : List (Vec Done)) (v : Vec Done) (n : ℕ) → result_lists vectors ≡ replicate n [] → v.items ≡ [] → result_lists (vectors ++ v ∷ []) ≡ replicate (n + 1) []
 one_list_more vectors v n before none =
     map-append (λ (z : Vec Done). z.items) vectors (v ∷ []) ∙ ap₂ (λ (a : List (List Done)) (b : List Done). a ++ b ∷ []) before none ∙ replicate-append-replicate n 1 []
 

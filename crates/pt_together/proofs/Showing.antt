@@ -43,7 +43,7 @@ use Rattle.pt_state.specs.State.{busy_in}
 use Rattle.pt_history.proofs.Gathered.{kept-push}
 use Rattle.pt_turn.specs.declared.fault.TurnFault.{TurnFault}
 use Rattle.pt_turn.specs.Platforms.{PlatformView, level_at, raised_to, rows_at, state_at}
-use Rattle.pt_turn.specs.Turned.{Ends, MayCome, is_late}
+use Rattle.pt_turn.specs.Turned.{FaultsIfLast, MayCome, is_late}
 use Rattle.pt_turn.proofs.Coming.{on_append}
 use Rattle.pt_turn.specs.All.{AreAll}
 use Rattle.pt_visits.specs.Pipes.{arriving, emptied, leads_to}
@@ -80,7 +80,7 @@ link_front (x ∷ xs) ys h = (each_of (λ (n : OnLink). x.link ≤ n.link) xs ys
     each_of P (x ∷ xs) ys h = (h.0, each_of P xs ys h.1)
 
 -- a turn ends with a fault exactly if it is a last one
-fault_if_last : (fault : Option TurnFault) (X : Type 0) → Ends fault X → (X → is_fault fault ≡ true) × (is_fault fault ≡ true → X)
+fault_if_last : (fault : Option TurnFault) (X : Type 0) → FaultsIfLast fault X → (X → is_fault fault ≡ true) × (is_fault fault ≡ true → X)
 fault_if_last None X h = ((λ last. absurd (h last)), (λ e. absurd (false≢true e)))
 fault_if_last (Some fault) X h = ((λ last. refl), (λ e. h))
 
@@ -297,8 +297,8 @@ module _ (rows : ℕ → List Row) (x : Together) (platforms : List PlatformView
   ends_so : (IsLast v.plan.graph (x.at v.number) (raised_to v.reading c) (is_late w.fault) k.is.ready → is_fault w.fault ≡ true) × (is_fault w.fault ≡ true → IsLast v.plan.graph (x.at v.number) (raised_to v.reading c) (is_late w.fault) k.is.ready)
   ends_so =
       fault_if_last w.fault (IsLast v.plan.graph (x.at v.number) (raised_to v.reading c) (is_late w.fault) k.is.ready)
-      (subst (λ n. Ends w.fault (IsLast v.plan.graph (x.at v.number) n (is_late w.fault) k.is.ready)) last_is
-      (subst (λ (z : State). Ends w.fault (IsLast v.plan.graph z k.turn.last (is_late w.fault) k.is.ready)) (sym was) k.last))
+      (subst (λ n. FaultsIfLast w.fault (IsLast v.plan.graph (x.at v.number) n (is_late w.fault) k.is.ready)) last_is
+      (subst (λ (z : State). FaultsIfLast w.fault (IsLast v.plan.graph z k.turn.last (is_late w.fault) k.is.ready)) (sym was) k.last))
 
   makes_it : IsVisit v.plan.graph (level_at v) most room (raised_to v.reading c) x visit_made after
   makes_it = record {

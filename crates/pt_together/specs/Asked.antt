@@ -10,8 +10,8 @@ use Rattle.pt_turn.specs.Platforms.{PlatformView, level_at, rows_at, state_at}
 use Rattle.pt_turn.specs.Running.{Shows}
 
 -- the recorded turns of each platform are a legal history
-abbrev pub AreLegal : List PlatformView → Type 0
-AreLegal platforms = (i : ℕ) (v : PlatformView) → slice_get platforms i ≡ Some v → IsLegal v.plan.graph (level_at v) v.number (rows_at v) v.turns (state_at v)
+abbrev pub HaveLegalHistories : List PlatformView → Type 0
+HaveLegalHistories platforms = (i : ℕ) (v : PlatformView) → slice_get platforms i ≡ Some v → IsLegal v.plan.graph (level_at v) v.number (rows_at v) v.turns (state_at v)
 
 -- all platforms are finished
 abbrev pub AreAllFinished : List PlatformView → Type 0
@@ -28,5 +28,5 @@ EndsAt g platforms None = (i : ℕ) (v : PlatformView) → slice_get platforms i
 EndsAt g platforms (Some f) = (v : PlatformView) × (slice_get platforms f.0 ≡ Some v) × (v.fault ≡ Some f.1) × Shows g v.turns (state_at v) f.1 × ((j : ℕ) (w : PlatformView) → j < f.0 → slice_get platforms j ≡ Some w → w.fault ≡ None)
 
 -- the items of each vector
-abbrev pub lists_of : List (Vec Done) → List (List Done)
-lists_of vectors = map (λ (v : Vec Done). v.items) vectors
+abbrev pub result_lists : List (Vec Done) → List (List Done)
+result_lists vectors = map (λ (v : Vec Done). v.items) vectors

@@ -21,7 +21,7 @@ use Rattle.pt_turn.specs.Turned.{MayCome, is_late}
 use Rattle.pt_visits.specs.Pipes.{arriving}
 use Rattle.pt_visits.specs.Visited.{IsVisited}
 use Rattle.pt_fixed_order.specs.Sound.{SendsNothingElse}
-use Rattle.pt_together.specs.Asked.{AreLegal}
+use Rattle.pt_together.specs.Asked.{HaveLegalHistories}
 use Rattle.pt_together.specs.Shown.{ArePending, AreShown, AreThere, is_fault}
 
 -- all platforms before a visit of platform i, however they were made: it took no late message so far, and what was sent to it
@@ -54,7 +54,7 @@ IsRoomFrom g i x room = (l : ℕ) (link : Link) → slice_get g.links l ≡ Some
 -- platforms just opened, empty pipes and no pending results represent the start
 abbrev pub StartShows : Type 0
 StartShows = (plan : Parts) (rows : ℕ → List Row) (platforms : List PlatformView) (pipes : List (List Message)) (results : List (List Done)) → AreReady plan rows platforms →
-    AreLegal platforms →
+    HaveLegalHistories platforms →
     length pipes ≡ length plan.graph.links → ((l : ℕ) (pipe : List Message) → slice_get pipes l ≡ Some pipe → pipe ≡ []) →
     length results ≡ length platforms → ((i : ℕ) (dones : List Done) → slice_get results i ≡ Some dones → dones ≡ []) →
     AreShown plan rows (together_at_start plan.graph rows) platforms pipes results

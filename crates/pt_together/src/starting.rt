@@ -2,7 +2,7 @@
 
 ghost use Rattle.std.specs.Prelude.{◌≡◌, [], IfOk, OnOk, length, replicate};
 ghost use Rattle.pt_turn.specs.All.{AreNew};
-ghost use Rattle.pt_together.specs.Asked.{AreLegal, lists_of};
+ghost use Rattle.pt_together.specs.Asked.{HaveLegalHistories, result_lists};
 
 use pt_actors::Done;
 use pt_links::Pipe;
@@ -26,8 +26,8 @@ pub fn pipes(alloc: Global, count: usize) -> Result<Vec<Pipe>, Memory>
 /// An empty list of results for each platform. No platform has made a turn, so each is still in its opening state.
 pub fn no_results(alloc: Global, platforms: &[Platform]) -> Result<Vec<Vec<Done>>, Memory>
     requires fresh { AreNew platforms.now }
-    ensures none { IfOk result (λ lists. lists_of lists.items ≡ replicate (length platforms.now) []) }
-    ensures legal { OnOk result (AreLegal platforms.now) }
+    ensures none { IfOk result (λ lists. result_lists lists.items ≡ replicate (length platforms.now) []) }
+    ensures legal { OnOk result (HaveLegalHistories platforms.now) }
 {
     let mut lists = Vec::new(alloc);
     for i in 0..platforms.len() {

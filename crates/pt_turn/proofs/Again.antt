@@ -18,18 +18,18 @@ use Rattle.pt_offsets.specs.Plans.{Parts}
 use Rattle.pt_state.specs.Sensors.{AreSensors}
 use Rattle.pt_history.specs.declared.history.History.{History}
 use Rattle.pt_state.specs.declared.fields.Fields.{Fields}
-use Rattle.pt_state.specs.State.{rows_of, state_of, IsSound}
+use Rattle.pt_state.specs.State.{rows_at_sensors, state_of, IsSound}
 use Rattle.pt_turn.specs.declared.claim_step.Ending.{Ending}
 use Rattle.pt_turn.specs.declared.claim_step.Ending.TheVariants.{Long as LongEnd}
 use Rattle.pt_turn.specs.declared.steps.Lists.{Lists}
-use Rattle.pt_turn.specs.Steps.{AreEmpty, ShowsEnd, is_late as ends_late, turn_of, IsFront}
+use Rattle.pt_turn.specs.Steps.{AreEmpty, ShowsEnd, took_late as ends_late, turn_of, IsFront}
 use Rattle.pt_turn.specs.declared.fault.TurnFault.{TurnFault}
 use Rattle.pt_turn.specs.declared.room.Room.{Room}
 use Rattle.pt_turn.specs.declared.platform.Platform.TheInside.{Inside}
-use Rattle.pt_turn.specs.Making.{IsKept}
-use Rattle.pt_turn.specs.Platforms.{IsPlatform, IsRoomy, graph_of, messages_of, raised_to, view_of}
+use Rattle.pt_turn.specs.Making.{IsRecordedTurn}
+use Rattle.pt_turn.specs.Platforms.{IsPlatform, IsRoomy, platform_graph, messages_of, raised_to, view_of}
 use Rattle.pt_turn.specs.Running.{Ran, ShowsLong}
-use Rattle.pt_turn.specs.Turned.{Ends, IsTurned, StaysThere, is_late}
+use Rattle.pt_turn.specs.Turned.{FaultsIfLast, IsTurned, StaysThere, is_late}
 use Rattle.pt_turn.proofs.Onward.{ends_as, late_as, ran_on}
 use Rattle.pt_turn.proofs.Readiness.{basis_of, still_runs}
 use Rattle.pt_turn.proofs.Turns.{messages_more}
@@ -37,10 +37,10 @@ use Rattle.pt_types.specs.Limits.{most_claims}
 
 -- all that a turn over the parts gives
 pub record IsDone (p : Inside) (r most : ℕ) (dones : List Done) (messages : List OnLink) (new : Fields) (history : History) (lists : Lists) (fault : Option TurnFault) (handed now : List Task) : Type 0 where
-  pub kept : IsKept (arc_value p.plan) (basis_of p) r most dones messages p.fields new p.history.turns history.turns handed now fault
-  pub sound : IsSound (graph_of p) new
-  pub sensors : AreSensors (graph_of p) new.sensors.items
-  pub all_rows : (a : ℕ) → rows_of new.sensors.items a ≡ rows_of p.fields.sensors.items a
+  pub kept : IsRecordedTurn (arc_value p.plan) (basis_of p) r most dones messages p.fields new p.history.turns history.turns handed now fault
+  pub sound : IsSound (platform_graph p) new
+  pub sensors : AreSensors (platform_graph p) new.sensors.items
+  pub all_rows : (a : ℕ) → rows_at_sensors new.sensors.items a ≡ rows_at_sensors p.fields.sensors.items a
   pub reading : new.reading ≡ Some r
   pub claims : new.claims ≤ most_claims
   pub empty : AreEmpty lists
@@ -49,14 +49,14 @@ pub record IsDone (p : Inside) (r most : ℕ) (dones : List Done) (messages : Li
 
 -- by the clauses of the call
 pub is_done : (p : Inside) (plan : Parts) (room : Room) (r most : ℕ) (dones : List Done) (messages : List OnLink) (new : Fields) (history : History) (lists : Lists) (fault : Option TurnFault) (handed now : List Task) → plan ≡ arc_value p.plan → IsRoomy p room → length dones ≤ room.done
-    → IsKept plan (record { level = level_of plan.ranks; platform = p.number; taken = messages_of p.history.turns }) r most dones messages p.fields new p.history.turns history.turns handed now fault
-    → IsSound plan.graph new → AreSensors plan.graph new.sensors.items → ((a : ℕ) → rows_of new.sensors.items a ≡ rows_of p.fields.sensors.items a) → new.reading ≡ Some r → new.claims ≤ most_claims → AreEmpty lists
+    → IsRecordedTurn plan (record { level = level_of plan.ranks; platform = p.number; taken = messages_of p.history.turns }) r most dones messages p.fields new p.history.turns history.turns handed now fault
+    → IsSound plan.graph new → AreSensors plan.graph new.sensors.items → ((a : ℕ) → rows_at_sensors new.sensors.items a ≡ rows_at_sensors p.fields.sensors.items a) → new.reading ≡ Some r → new.claims ≤ most_claims → AreEmpty lists
     → length new.outbox.items ≤ length p.fields.outbox.items + length dones * length plan.graph.links + length plan.graph.links → history.room.sent ≡ p.history.room.sent → r < 2 ^ 64 → IsDone p r most dones messages new history lists fault handed now
 is_done p plan room r most dones messages new history lists fault handed now same roomy few kept sound sensors all_rows reading claims empty outbox sent fits =
-    let bound : length new.outbox.items ≤ length p.fields.outbox.items + length dones * length (graph_of p).links + length (graph_of p).links = subst (λ (z : Parts). length new.outbox.items ≤ length p.fields.outbox.items + length dones * length z.graph.links + length z.graph.links) same outbox in
-    let product : length dones * length (graph_of p).links ≤ room.done * length (graph_of p).links = mul-le-mul_right (length (graph_of p).links) few in
+    let bound : length new.outbox.items ≤ length p.fields.outbox.items + length dones * length (platform_graph p).links + length (platform_graph p).links = subst (λ (z : Parts). length new.outbox.items ≤ length p.fields.outbox.items + length dones * length z.graph.links + length z.graph.links) same outbox in
+    let product : length dones * length (platform_graph p).links ≤ room.done * length (platform_graph p).links = mul-le-mul_right (length (platform_graph p).links) few in
     record {
-      kept = subst (λ (z : Parts). IsKept z (record { level = level_of z.ranks; platform = p.number; taken = messages_of p.history.turns }) r most dones messages p.fields new p.history.turns history.turns handed now fault) same kept;
+      kept = subst (λ (z : Parts). IsRecordedTurn z (record { level = level_of z.ranks; platform = p.number; taken = messages_of p.history.turns }) r most dones messages p.fields new p.history.turns history.turns handed now fault) same kept;
       sound = subst (λ (z : Parts). IsSound z.graph new) same sound;
       sensors = subst (λ (z : Parts). AreSensors z.graph new.sensors.items) same sensors;
       all_rows = all_rows;
@@ -78,24 +78,24 @@ shows_long g new taken r ending read full is =
 taken_is : (p : Inside) (history : History) (turn : Turn) → history.turns ≡ kept_with p.history.turns turn → messages_of history.turns ≡ messages_of p.history.turns ++ turn.taken
 taken_is p history turn is = ap messages_of is ∙ messages_more p.history.turns turn
 
-pub is_again : (p : Inside) (r most : ℕ) (dones : List Done) (messages : List OnLink) (new : Fields) (history : History) (lists : Lists) (fault : Option TurnFault) (next : Option ℕ) (handed now : List Task) → IsPlatform p → p.fault ≡ None → IsDone p r most dones messages new history lists fault handed now → MatchOption next (Unit {0}) (IsNextReading (graph_of p) p.number (state_of new (messages_of history.turns))) → IsPlatform (after p new history lists fault next)
+pub is_again : (p : Inside) (r most : ℕ) (dones : List Done) (messages : List OnLink) (new : Fields) (history : History) (lists : Lists) (fault : Option TurnFault) (next : Option ℕ) (handed now : List Task) → IsPlatform p → p.fault ≡ None → IsDone p r most dones messages new history lists fault handed now → MatchOption next (Unit {0}) (IsNextReading (platform_graph p) p.number (state_of new (messages_of history.turns))) → IsPlatform (after p new history lists fault next)
 is_again p r most dones messages new history lists fault next handed now is on d is_next =
     let k = d.kept in
     let turn : Turn = turn_of r k.lists in
-    let rows : rows_of new.sensors.items ≡ rows_of p.fields.sensors.items = λ i a. d.all_rows a i in
-    let ran : Ran (graph_of p) (level_of (arc_value p.plan).ranks) p.number (rows_of p.fields.sensors.items) (kept_with p.history.turns turn) (state_of new (messages_of p.history.turns ++ k.lists.taken.items)) fault =
-    ran_on (graph_of p) (level_of (arc_value p.plan).ranks) p.number (rows_of p.fields.sensors.items) p.history.turns turn (state_of p.fields (messages_of p.history.turns)) (state_of new (messages_of p.history.turns ++ k.lists.taken.items)) k.ending fault (still_runs p is on)
-    (record { once = refl; one_reading = refl; fits = d.fits }) k.made.turn k.made.last k.names (shows_long (graph_of p) new (messages_of p.history.turns ++ k.lists.taken.items) r k.ending d.reading k.full) d.reading in
+    let rows : rows_at_sensors new.sensors.items ≡ rows_at_sensors p.fields.sensors.items = λ i a. d.all_rows a i in
+    let ran : Ran (platform_graph p) (level_of (arc_value p.plan).ranks) p.number (rows_at_sensors p.fields.sensors.items) (kept_with p.history.turns turn) (state_of new (messages_of p.history.turns ++ k.lists.taken.items)) fault =
+    ran_on (platform_graph p) (level_of (arc_value p.plan).ranks) p.number (rows_at_sensors p.fields.sensors.items) p.history.turns turn (state_of p.fields (messages_of p.history.turns)) (state_of new (messages_of p.history.turns ++ k.lists.taken.items)) k.ending fault (still_runs p is on)
+    (record { once = refl; one_reading = refl; fits = d.fits }) k.made.turn k.made.last k.names (shows_long (platform_graph p) new (messages_of p.history.turns ++ k.lists.taken.items) r k.ending d.reading k.full) d.reading in
     record {
       admitted = is.admitted;
       sound = d.sound;
       sensors = d.sensors;
-      fit = subst (FitRows (graph_of p)) (sym rows) is.fit;
+      fit = subst (FitRows (platform_graph p)) (sym rows) is.fit;
       closing = is.closing;
       claims = d.claims;
-      ran = subst (λ z. Ran (graph_of p) (level_of (arc_value p.plan).ranks) p.number z history.turns (state_of new (messages_of history.turns)) fault) (sym rows)
-          (subst (λ ts. Ran (graph_of p) (level_of (arc_value p.plan).ranks) p.number (rows_of p.fields.sensors.items) ts (state_of new (messages_of history.turns)) fault) (sym k.turns)
-          (subst (λ ms. Ran (graph_of p) (level_of (arc_value p.plan).ranks) p.number (rows_of p.fields.sensors.items) (kept_with p.history.turns turn) (state_of new ms) fault) (sym (taken_is p history turn k.turns)) ran));
+      ran = subst (λ z. Ran (platform_graph p) (level_of (arc_value p.plan).ranks) p.number z history.turns (state_of new (messages_of history.turns)) fault) (sym rows)
+          (subst (λ ts. Ran (platform_graph p) (level_of (arc_value p.plan).ranks) p.number (rows_at_sensors p.fields.sensors.items) ts (state_of new (messages_of history.turns)) fault) (sym k.turns)
+          (subst (λ ms. Ran (platform_graph p) (level_of (arc_value p.plan).ranks) p.number (rows_at_sensors p.fields.sensors.items) (kept_with p.history.turns turn) (state_of new ms) fault) (sym (taken_is p history turn k.turns)) ran));
       empty = d.empty;
       sent = d.sent;
       room = tt;
@@ -106,14 +106,14 @@ is_again p r most dones messages new history lists fault next handed now is on d
 record TurnPart (g : Graph) (level : ℕ → ℕ) (i : ℕ) (s : State) (turn : Turn) (most : ℕ) (fault : Option TurnFault) (late : Bool) (new : State) : Type 0 where
   is : IsTurn g level i s turn late new
   all_or : late ≡ false → NothingSafe g is.ready.waits is.ready.busy turn.last ⊎ ((most ≤ length turn.claimed) ⊎ (most_claims ≤ is.ready.claims))
-  last : Ends fault (IsLast g s turn.last late is.ready)
+  last : FaultsIfLast fault (IsLast g s turn.last late is.ready)
 
 -- the turn that was made
 pub is_turned : (p : Inside) (r reading most : ℕ) (dones : List Done) (messages : List OnLink) (new : Fields) (history : History) (lists : Lists) (fault : Option TurnFault) (handed now : List Task) → r ≡ raised_to p.fields.reading reading → IsDone p r most dones messages new history lists fault handed now
     → (made : IsTurned (view_of p) (view_of (after p new history lists fault None)) reading most dones messages) × (now ≡ handed ++ made.turn.claimed) × StaysThere (view_of p) (view_of (after p new history lists fault None))
 is_turned p r reading most dones messages new history lists fault handed now raised d =
     let k = d.kept in
-    let g : Graph = graph_of p in
+    let g : Graph = platform_graph p in
     let level : ℕ → ℕ = level_of (arc_value p.plan).ranks in
     let s : State = state_of p.fields (messages_of p.history.turns) in
     let turn : Turn = turn_of r k.lists in

@@ -23,7 +23,7 @@ use Rattle.pt_causality.specs.Units.{IsUnit}
 use Rattle.pt_offsets.proofs.Small.{past_kind}
 use Rattle.pt_queue.specs.Events.{value_in}
 use Rattle.pt_state.specs.State.{states_in}
-use Rattle.pt_turn.specs.Starting.{first_of_actor, start_of, start_one, starting}
+use Rattle.pt_turn.specs.Starting.{first_of_actor, start_of, starting_event, starting}
 
 -- an actor, read from the list of actors
 pub actor_read : (g : Graph) (actors : List Actor) (a : ℕ) (x : Actor) → actors ≡ g.actors → a < length actors → x ≡ get_or actors a x → x ≡ get_or g.actors a no_actor
@@ -55,20 +55,20 @@ both true true d x = refl
 both true false d x = refl
 both false c d x = refl
 
-pub begins : (g : Graph) (actor time : ℕ) (kind : Kind) (w : Values) → start_of kind g.until ≡ Some time → added w (value_in (record { tag = at_time time; actor = actor; port = 0; value = pos 0 })) ≡ added w (start_one g actor kind)
+pub begins : (g : Graph) (actor time : ℕ) (kind : Kind) (w : Values) → start_of kind g.until ≡ Some time → added w (value_in (record { tag = at_time time; actor = actor; port = 0; value = pos 0 })) ≡ added w (starting_event g actor kind)
 begins g actor time kind w e = ap (added w) (λ i a p t. at a p t i)
   where
-    at : (a p : ℕ) (t : Tag) → value_in (record { tag = at_time time; actor = actor; port = 0; value = pos 0 }) a p t ≡ start_one g actor kind a p t
+    at : (a p : ℕ) (t : Tag) → value_in (record { tag = at_time time; actor = actor; port = 0; value = pos 0 }) a p t ≡ starting_event g actor kind a p t
     at a p t =
         both (actor == a) (0 == p) (same_tag (at_time time) t) (Some (pos 0))
         ∙ ap (λ b. when (actor == a && b) (starts_at (Some time) t)) (flip p)
         ∙ ap (λ o. when (actor == a && p == 0) (starts_at o t)) (sym e)
         ∙ ap (when (actor == a && p == 0)) (sym (start_is g kind t))
 
-pub begins_never : (g : Graph) (actor : ℕ) (kind : Kind) (w : Values) → start_of kind g.until ≡ None → w ≡ added w (start_one g actor kind)
+pub begins_never : (g : Graph) (actor : ℕ) (kind : Kind) (w : Values) → start_of kind g.until ≡ None → w ≡ added w (starting_event g actor kind)
 begins_never g actor kind w e = λ i a p t. at a p t i
   where
-    at : (a p : ℕ) (t : Tag) → w a p t ≡ added w (start_one g actor kind) a p t
+    at : (a p : ℕ) (t : Tag) → w a p t ≡ added w (starting_event g actor kind) a p t
     at a p t =
         sym (ap (or_else (w a p t)) (ap (when (actor == a && p == 0)) (start_is g kind t ∙ ap (λ o. starts_at o t) e) ∙ when_none ℤ (actor == a && p == 0)) ∙ or_else_none (w a p t))
 
@@ -102,10 +102,10 @@ skip true here home port x off = refl
 skip false true home port x off = rw (off refl) refl
 skip false false home port x off = refl
 
-pub starts_more : (g : Graph) (i n : ℕ) (kind : Kind) → kind ≡ kind_of g n → platform_of g n ≡ i → added (starts_below g i n) (start_one g n kind) ≡ starts_below g i (n + 1)
+pub starts_more : (g : Graph) (i n : ℕ) (kind : Kind) → kind ≡ kind_of g n → platform_of g n ≡ i → added (starts_below g i n) (starting_event g n kind) ≡ starts_below g i (n + 1)
 starts_more g i n kind is home = λ j a p t. at a p t j
   where
-    at : (a p : ℕ) (t : Tag) → added (starts_below g i n) (start_one g n kind) a p t ≡ starts_below g i (n + 1) a p t
+    at : (a p : ℕ) (t : Tag) → added (starts_below g i n) (starting_event g n kind) a p t ≡ starts_below g i (n + 1) a p t
     at a p t =
         more (nat_lt a n) (n == a) (platform_of g a == i) (p == 0) (start_at g (kind_of g a) t) (start_at g kind t) (apart a n)
         (λ h. ap (λ k. start_at g k t) (is ∙ ap (kind_of g) (eqb-true n a h)))

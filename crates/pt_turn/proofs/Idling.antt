@@ -33,7 +33,7 @@ use Rattle.pt_turn.specs.declared.steps.Lists.{Lists}
 use Rattle.pt_turn.specs.Steps.{AreEmpty, IsMade, turn_of}
 use Rattle.pt_turn.specs.declared.room.Room.{Room}
 use Rattle.pt_turn.specs.declared.platform.Platform.TheInside.{Inside}
-use Rattle.pt_turn.specs.Platforms.{IsPlatform, IsRoomy, graph_of, messages_of}
+use Rattle.pt_turn.specs.Platforms.{IsPlatform, IsRoomy, platform_graph, messages_of}
 use Rattle.pt_turn.proofs.Again.{IsDone}
 use Rattle.pt_turn.proofs.Readiness.{basis_of}
 use Rattle.pt_types.specs.Limits.{most_claims}
@@ -91,9 +91,9 @@ turn_is r lists e = λ i. record { first = r; last = r; count = 1; posted = e.po
 nothing_taken : (lists : Lists) (taken : List OnLink) → AreEmpty lists → taken ++ lists.taken.items ≡ taken
 nothing_taken lists taken e = ap (λ ms. taken ++ ms) e.taken ∙ append-nil taken
 
-is_made : (p : Inside) (r most : ℕ) → IsPlatform p → ((q : ℕ) → p.fields.reading ≡ Some q → q ≤ r) → IsIdle (graph_of p) p.number (state_of p.fields (messages_of p.history.turns)) r → IsMade (graph_of p) (basis_of p) r most [] [] p.fields (record p.fields { reading = Some r }) p.lists On
+is_made : (p : Inside) (r most : ℕ) → IsPlatform p → ((q : ℕ) → p.fields.reading ≡ Some q → q ≤ r) → IsIdle (platform_graph p) p.number (state_of p.fields (messages_of p.history.turns)) r → IsMade (platform_graph p) (basis_of p) r most [] [] p.fields (record p.fields { reading = Some r }) p.lists On
 is_made p r most is rises idle =
-    let g : Graph = graph_of p in
+    let g : Graph = platform_graph p in
     let level : ℕ → ℕ = level_of (arc_value p.plan).ranks in
     let s : State = state_of p.fields (messages_of p.history.turns) in
     let new : Fields = record p.fields { reading = Some r } in
@@ -111,12 +111,12 @@ is_made p r most is rises idle =
     }
 
 -- what always holds of the next reading
-is_idle : (p : Inside) (r next : ℕ) → IsPlatform p → IsNextReading (graph_of p) p.number (state_of p.fields (messages_of p.history.turns)) next → r < next → IsIdle (graph_of p) p.number (state_of p.fields (messages_of p.history.turns)) r
+is_idle : (p : Inside) (r next : ℕ) → IsPlatform p → IsNextReading (platform_graph p) p.number (state_of p.fields (messages_of p.history.turns)) next → r < next → IsIdle (platform_graph p) p.number (state_of p.fields (messages_of p.history.turns)) r
 is_idle p r next is is_next before =
-    let idle = idle_before (graph_of p) p.number (state_of p.fields (messages_of p.history.turns)) (offset_of (arc_value p.plan).offsets) next p.closing r is.admitted.offsets.units is.closing is_next before in
+    let idle = idle_before (platform_graph p) p.number (state_of p.fields (messages_of p.history.turns)) (offset_of (arc_value p.plan).offsets) next p.closing r is.admitted.offsets.units is.closing is_next before in
     record { due = idle.0; safe = idle.1; closes = idle.2 }
 
-pub has_rested : (p : Inside) (r most next : ℕ) (history : History) (handed : List Task) → IsPlatform p → IsNextReading (graph_of p) p.number (state_of p.fields (messages_of p.history.turns)) next → r < next → ((q : ℕ) → p.fields.reading ≡ Some q → q ≤ r) → history.turns ≡ kept_with p.history.turns (fresh r) → length p.fields.outbox.items ≤ history.room.sent → r < 2 ^ 64
+pub has_rested : (p : Inside) (r most next : ℕ) (history : History) (handed : List Task) → IsPlatform p → IsNextReading (platform_graph p) p.number (state_of p.fields (messages_of p.history.turns)) next → r < next → ((q : ℕ) → p.fields.reading ≡ Some q → q ≤ r) → history.turns ≡ kept_with p.history.turns (fresh r) → length p.fields.outbox.items ≤ history.room.sent → r < 2 ^ 64
     → IsDone p r most [] [] (record p.fields { reading = Some r }) history p.lists None handed handed
 has_rested p r most next history handed is is_next before rises turns sent fits = record {
   kept = record {
@@ -154,7 +154,7 @@ roomy_still p next (Some r) roomy = record {
   sent = roomy.sent;
 }
 
-pub knows_next : (p : Inside) (next : ℕ) → IsPlatform p → IsNextReading (graph_of p) p.number (state_of p.fields (messages_of p.history.turns)) next → IsPlatform (with_next p (Some next))
+pub knows_next : (p : Inside) (next : ℕ) → IsPlatform p → IsNextReading (platform_graph p) p.number (state_of p.fields (messages_of p.history.turns)) next → IsPlatform (with_next p (Some next))
 knows_next p next is known = record {
   admitted = is.admitted;
   sound = is.sound;

@@ -25,7 +25,7 @@ use Rattle.pt_turn.specs.Claiming.{EndsIn, HasClaimed, IsIdle}
 use Rattle.pt_take.specs.Taken.{Basis}
 use Rattle.pt_turn.specs.declared.steps.Lists.{Lists}
 use Rattle.pt_queue.specs.Events.{waiting_in}
-use Rattle.pt_turn.specs.Steps.{Ends, IsFront, IsMade, ShowsEnd, is_late}
+use Rattle.pt_turn.specs.Steps.{EndsAsLast, IsFront, IsMade, ShowsEnd, took_late}
 use Rattle.pt_types.specs.Limits.{most_claims}
 
 -- a state in which other messages were taken
@@ -43,14 +43,14 @@ never_posts g s k h = λ ds mid d posts busy. h ds (retaken mid s.taken) d (post
 -- what is claimed in a turn, late or not
 pub record ClaimsPart (g : Graph) (old new : Fields) (r most : ℕ) (taken : List OnLink) (tasks : List Task) (ending : Ending) : Type 0 where
   pub claims : Claims g r (state_of old taken) tasks (state_of new taken)
-  pub idle : is_late ending ≡ true → tasks ≡ []
-  pub greedy : tasks ≡ [] → (is_late ending ≡ true) ⊎ (IsIdle g new r ⊎ (most_claims ≤ old.claims))
+  pub idle : took_late ending ≡ true → tasks ≡ []
+  pub greedy : tasks ≡ [] → (took_late ending ≡ true) ⊎ (IsIdle g new r ⊎ (most_claims ≤ old.claims))
   pub few : length tasks ≤ most
   pub bound : new.claims ≤ most_claims
-  pub all_or : is_late ending ≡ false → IsIdle g new r ⊎ ((most ≤ length tasks) ⊎ (most_claims ≤ new.claims))
+  pub all_or : took_late ending ≡ false → IsIdle g new r ⊎ ((most ≤ length tasks) ⊎ (most_claims ≤ new.claims))
 
 -- a turn is late exactly where it ends so
-pub late_is : (g : Graph) (r : ℕ) (old new : Fields) (late : Bool) (ending : Ending) → EndsIn g r old new late ending → is_late ending ≡ late
+pub late_is : (g : Graph) (r : ℕ) (old new : Fields) (late : Bool) (ending : Ending) → EndsIn g r old new late ending → took_late ending ≡ late
 late_is g r old new late On h = sym h.0
 late_is g r old new late Late h = sym h
 late_is g r old new late Long h = sym h.0
@@ -61,7 +61,7 @@ none_left X most old new tasks some count empty h =
     let none : length tasks ≡ 0 = ap length empty in
     ⊎_elim (λ x. inl x) (λ k. ⊎_elim (λ (full : most ≤ length tasks). absurd (omega (arith, some, none, full))) (λ (all : most_claims ≤ new). inr (omega (arith, all, count, none))) k) h
 
-in_time : (g : Graph) (old new : Fields) (r most : ℕ) (taken : List OnLink) (before after : List Task) (ending : Ending) → is_late ending ≡ false → before ≡ [] → 1 ≤ most → AreClaimed g r most old new before after → ClaimsPart g old new r most taken after ending
+in_time : (g : Graph) (old new : Fields) (r most : ℕ) (taken : List OnLink) (before after : List Task) (ending : Ending) → took_late ending ≡ false → before ≡ [] → 1 ≤ most → AreClaimed g r most old new before after → ClaimsPart g old new r most taken after ending
 in_time g old new r most taken before after ending on empty some h =
     let list : after ≡ h.claimed = h.appended ∙ ap (λ xs. xs ++ h.claimed) empty in
     record {
@@ -73,7 +73,7 @@ in_time g old new r most taken before after ending on empty some h =
       all_or = λ e. subst (λ (cs : List Task). IsIdle g new r ⊎ ((most ≤ length cs) ⊎ (most_claims ≤ new.claims))) (sym list) h.all_or;
     }
 
-too_late : (g : Graph) (old new : Fields) (r most : ℕ) (taken : List OnLink) (before after : List Task) (ending : Ending) → is_late ending ≡ true → before ≡ [] → old.claims ≤ most_claims → (new ≡ old) × (after ≡ before) → ClaimsPart g old new r most taken after ending
+too_late : (g : Graph) (old new : Fields) (r most : ℕ) (taken : List OnLink) (before after : List Task) (ending : Ending) → took_late ending ≡ true → before ≡ [] → old.claims ≤ most_claims → (new ≡ old) × (after ≡ before) → ClaimsPart g old new r most taken after ending
 too_late g old new r most taken before after ending off empty bound same =
     let none : after ≡ [] = same.1 ∙ empty in
     record {
@@ -90,7 +90,7 @@ claims_part g old new r most taken before after true ending empty some bound h =
 claims_part g old new r most taken before after false ending empty some bound h = in_time g old new r most taken before after ending (late_is g r old new false ending h.ends) empty some (h.claimed refl)
 
 -- how a turn ends is what the definition of a last turn says
-pub ends_as : (g : Graph) (r : ℕ) (old new : Fields) (s ready : State) (late : Bool) (ending : Ending) → s.claims ≡ old.claims → ready.waits ≡ (state_of new []).waits → ready.busy ≡ (state_of new []).busy → EndsIn g r old new late ending → Ends g ending (IsLast g s r (is_late ending) ready)
+pub ends_as : (g : Graph) (r : ℕ) (old new : Fields) (s ready : State) (late : Bool) (ending : Ending) → s.claims ≡ old.claims → ready.waits ≡ (state_of new []).waits → ready.busy ≡ (state_of new []).busy → EndsIn g r old new late ending → EndsAsLast g ending (IsLast g s r (took_late ending) ready)
 ends_as g r old new s ready late On count waits busy h = λ last. ⊎_elim (λ (l : false ≡ true). false≢true l)
     (λ (l : (most_claims ≤ s.claims) × (NothingSafe g ready.waits ready.busy r → ⊥)). l.1 (subst (λ w. NothingSafe g w ready.busy r) (sym waits) (subst (λ b. NothingSafe g (state_of new []).waits b r) (sym busy) (h.1 (subst (λ n. most_claims ≤ n) count l.0))))) last
 ends_as g r old new s ready late Late count waits busy h = inl refl
@@ -128,7 +128,7 @@ pub record AreSteps (g : Graph) (w : Basis) (r most : ℕ) (dones : List Done) (
   pub front : IsFront messages lists.taken.items late
   pub reading : raised got r ≡ state_of before (w.taken ++ lists.taken.items)
   pub count : before.claims ≡ old.claims
-  pub is_late : is_late ending ≡ late
+  pub is_late : took_late ending ≡ late
   pub ends : EndsIn g r before after late ending
   pub claims : ClaimsPart g before after r most (w.taken ++ lists.taken.items) lists.claimed.items ending
   pub closes : Closes g w.platform (state_of after (w.taken ++ lists.taken.items)) r late (state_of new (w.taken ++ lists.taken.items))
@@ -139,11 +139,11 @@ unfolding whole
 is_made g w r most dones messages old before after new lists late ending few s =
     let all : List OnLink = w.taken ++ lists.taken.items in
     record {
-      turn = whole g w.level w.platform r (state_of old w.taken) s.posted s.got (state_of after all) (state_of new all) lists.posted.items lists.rows.items lists.taken.items lists.claimed.items (is_late ending) s.rises s.posts s.rows
+      turn = whole g w.level w.platform r (state_of old w.taken) s.posted s.got (state_of after all) (state_of new all) lists.posted.items lists.rows.items lists.taken.items lists.claimed.items (took_late ending) s.rises s.posts s.rows
           (subst (λ l. Takes g w.level w.platform (after_rows s.posted r) lists.taken.items l s.got) (sym s.is_late) s.takes)
           (subst (λ z. Claims g r z lists.claimed.items (state_of after all)) (sym s.reading) s.claims.claims)
           s.claims.idle
-          (λ e. ⊎_elim (λ (l : is_late ending ≡ true). inl l) (λ (o : IsIdle g after r ⊎ (most_claims ≤ before.claims)). inr (⊎_elim (λ (n : IsIdle g after r). inl n) (λ (m : most_claims ≤ before.claims). inr (subst (λ n. most_claims ≤ n) s.count m)) o)) (s.claims.greedy e))
+          (λ e. ⊎_elim (λ (l : took_late ending ≡ true). inl l) (λ (o : IsIdle g after r ⊎ (most_claims ≤ before.claims)). inr (⊎_elim (λ (n : IsIdle g after r). inl n) (λ (m : most_claims ≤ before.claims). inr (subst (λ n. most_claims ≤ n) s.count m)) o)) (s.claims.greedy e))
           (omega (arith, few, s.claims.few)) s.claims.bound
           (subst (λ l. Closes g w.platform (state_of after all) r l (state_of new all)) (sym s.is_late) s.closes);
       posted = s.are;

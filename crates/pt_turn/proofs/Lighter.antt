@@ -11,11 +11,11 @@ use Rattle.pt_causality.specs.Ranked.{level_of}
 use Rattle.pt_history.specs.declared.history.History.{History}
 use Rattle.pt_history.specs.Turns.{sending}
 use Rattle.pt_state.specs.Outbox.{OutboxView}
-use Rattle.pt_state.specs.State.{rows_of, state_of}
+use Rattle.pt_state.specs.State.{rows_at_sensors, state_of}
 use Rattle.pt_turn.specs.declared.room.Room.{Room}
 use Rattle.pt_turn.specs.declared.platform.Platform.TheInside.{Inside}
-use Rattle.pt_turn.specs.Gone.{HasGone, last_sent}
-use Rattle.pt_turn.specs.Platforms.{IsPlatform, IsRoomy, graph_of, messages_of, view_of}
+use Rattle.pt_turn.specs.Gone.{FirstHasGone, last_sent}
+use Rattle.pt_turn.specs.Platforms.{IsPlatform, IsRoomy, platform_graph, messages_of, view_of}
 use Rattle.pt_turn.specs.Running.{Ran}
 use Rattle.pt_turn.proofs.Coming.{on_append}
 use Rattle.pt_turn.proofs.Leaving.{on_other, on_own}
@@ -114,8 +114,8 @@ pub is_lighter : (p : Inside) (l : ℕ) (m : OnLink) (outbox : OutboxView) (hist
 is_lighter p l m outbox history is w =
     let sent : history.room.sent ≡ p.history.room.sent - 1 = ap (λ z. z.sent) w.room in
     let taken : messages_of history.turns ≡ messages_of p.history.turns = ap messages_of w.turns ∙ taken_still p.history.turns (m ∷ []) in
-    let ran : Ran (graph_of p) (level_of (arc_value p.plan).ranks) p.number (rows_of p.fields.sensors.items) (on_last (sending (m ∷ [])) p.history.turns) (state_of (record p.fields { outbox = outbox }) (messages_of p.history.turns)) p.fault =
-    ran_more (graph_of p) (level_of (arc_value p.plan).ranks) p.number (rows_of p.fields.sensors.items) p.history.turns (state_of p.fields (messages_of p.history.turns)) p.fault (m ∷ []) (λ k. on_link k outbox.items) is.ran w.begun
+    let ran : Ran (platform_graph p) (level_of (arc_value p.plan).ranks) p.number (rows_at_sensors p.fields.sensors.items) (on_last (sending (m ∷ [])) p.history.turns) (state_of (record p.fields { outbox = outbox }) (messages_of p.history.turns)) p.fault =
+    ran_more (platform_graph p) (level_of (arc_value p.plan).ranks) p.number (rows_at_sensors p.fields.sensors.items) p.history.turns (state_of p.fields (messages_of p.history.turns)) p.fault (m ∷ []) (λ k. on_link k outbox.items) is.ran w.begun
     (front p l m outbox history w) (may_follow l m (last_sent p.history.turns) w.on w.few) in
     record {
       admitted = is.admitted;
@@ -124,15 +124,15 @@ is_lighter p l m outbox history is w =
       fit = is.fit;
       closing = is.closing;
       claims = is.claims;
-      ran = subst (λ ms. Ran (graph_of p) (level_of (arc_value p.plan).ranks) p.number (rows_of p.fields.sensors.items) history.turns (state_of (record p.fields { outbox = outbox }) ms) p.fault) (sym taken)
-          (subst (λ ts. Ran (graph_of p) (level_of (arc_value p.plan).ranks) p.number (rows_of p.fields.sensors.items) ts (state_of (record p.fields { outbox = outbox }) (messages_of p.history.turns)) p.fault) (sym w.turns) ran);
+      ran = subst (λ ms. Ran (platform_graph p) (level_of (arc_value p.plan).ranks) p.number (rows_at_sensors p.fields.sensors.items) history.turns (state_of (record p.fields { outbox = outbox }) ms) p.fault) (sym taken)
+          (subst (λ ts. Ran (platform_graph p) (level_of (arc_value p.plan).ranks) p.number (rows_at_sensors p.fields.sensors.items) ts (state_of (record p.fields { outbox = outbox }) (messages_of p.history.turns)) p.fault) (sym w.turns) ran);
       empty = is.empty;
       sent = omega (arith, w.len, sent, is.sent);
       room = room_still p l m outbox history p.room w is.room;
       next = is.next;
     }
 
-pub has_gone : (p : Inside) (l : ℕ) (m : OnLink) (outbox : OutboxView) (history : History) → Went p l m outbox history → HasGone (view_of p) (view_of (lighter p outbox history)) l
+pub has_gone : (p : Inside) (l : ℕ) (m : OnLink) (outbox : OutboxView) (history : History) → Went p l m outbox history → FirstHasGone (view_of p) (view_of (lighter p outbox history)) l
 has_gone p l m outbox history w = record {
   message = m.message;
   first = w.first;

@@ -9,13 +9,13 @@ use Rattle.pt_semantics.specs.Turn.{IsLast, IsTurn, Turn}
 use Rattle.pt_history.proofs.Gathered.{kept-push}
 use Rattle.pt_turn.specs.declared.claim_step.Ending.{Ending}
 use Rattle.pt_turn.specs.declared.claim_step.Ending.TheVariants.{On, Late as LateEnd, Long as LongEnd}
-use Rattle.pt_turn.specs.Steps.{Ends as EndsBy, is_late as ends_late}
+use Rattle.pt_turn.specs.Steps.{EndsAsLast as EndsBy, took_late as ends_late}
 use Rattle.pt_turn.specs.declared.fault.TurnFault.{TurnFault}
 use Rattle.pt_turn.specs.declared.fault.TurnFault.TheVariants.{Late, Long}
 use Rattle.pt_turn.specs.Faults.{IsFaultOf}
 use Rattle.pt_semantics.proofs.Lookups.{none_some}
-use Rattle.pt_turn.specs.Running.{GoesOn, LastIsLate, Leads, Ran, Shows, ShowsLong, last_reading}
-use Rattle.pt_turn.specs.Turned.{Ends, is_late}
+use Rattle.pt_turn.specs.Running.{GoesOn, LastIsLate, LeadsOn, Ran, Shows, ShowsLong, last_reading}
+use Rattle.pt_turn.specs.Turned.{FaultsIfLast, is_late}
 use Rattle.pt_turn.proofs.Turns.{each_push, goes_on_push, last_pushed, last_settled, legal_push}
 
 -- a fault is late where the turn ended so
@@ -27,9 +27,9 @@ late_as g last messages LateEnd (Some (Late actor tag reading limit)) h = refl
 late_as g last messages LateEnd (Some Long) h = absurd h
 
 -- and it is there where no turn may follow
-pub ends_as : (g : Graph) (last : Option ℕ) (messages : List OnLink) (ending : Ending) (fault : Option TurnFault) (X : Type 0) → IsFaultOf g last messages ending fault → EndsBy g ending X → Ends fault X
-ends_as g last messages On fault X h e = subst (λ f. Ends f X) (sym h) e
-ends_as g last messages LongEnd fault X h e = subst (λ f. Ends f X) (sym h) e
+pub ends_as : (g : Graph) (last : Option ℕ) (messages : List OnLink) (ending : Ending) (fault : Option TurnFault) (X : Type 0) → IsFaultOf g last messages ending fault → EndsBy g ending X → FaultsIfLast fault X
+ends_as g last messages On fault X h e = subst (λ f. FaultsIfLast f X) (sym h) e
+ends_as g last messages LongEnd fault X h e = subst (λ f. FaultsIfLast f X) (sym h) e
 ends_as g last messages LateEnd None X h e = absurd h
 ends_as g last messages LateEnd (Some fault) X h e = e
 
@@ -51,7 +51,7 @@ shows g turns turn s LateEnd Long h long = absurd h
 
 leads_on : (g : Graph) (level : ℕ → ℕ) (i : ℕ) (start s new : State) (turns all : List Turn) (turn : Turn) (ending : Ending) (fault : Option TurnFault) → GoesOn g level i start all s
     → (is : IsTurn g level i s turn (ends_late ending) new) → EndsBy g ending (IsLast g s turn.last (ends_late ending) is.ready) → IsFaultOf g (last_reading turns) turn.taken ending fault → (ending ≡ LongEnd → ShowsLong g new)
-    → Leads g level i start (kept_with turns turn) (all ++ turn ∷ []) new fault
+    → LeadsOn g level i start (kept_with turns turn) (all ++ turn ∷ []) new fault
 leads_on g level i start s new turns all turn On None on is last h long = goes_on_push g level i start s new all turn on is last
 leads_on g level i start s new turns all turn LateEnd None on is last h long = absurd h
 leads_on g level i start s new turns all turn LongEnd None on is last h long = absurd (none_some Long h)

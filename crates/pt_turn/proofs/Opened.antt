@@ -12,14 +12,14 @@ use Rattle.pt_semantics.specs.Platform.{opened}
 use Rattle.pt_queue.specs.Groups.{AreGroups}
 use Rattle.pt_queue.specs.Events.{waiting_in}
 use Rattle.pt_state.specs.declared.fields.Fields.{Fields}
-use Rattle.pt_state.specs.State.{IsOpen, IsSound, busy_in, left_in, rows_of, state_of}
+use Rattle.pt_state.specs.State.{IsOpen, IsSound, busy_in, left_in, rows_at_sensors, state_of}
 use Rattle.pt_turn.specs.Handed.{unentered, AreHanded}
 use Rattle.pt_turn.specs.Starting.{first_of_actor, starting}
 use Rattle.pt_turn.proofs.Beginning.{numbers, starting_unit}
 use Rattle.pt_turn.proofs.HandedIn.{left_rows, rows_same}
 
 pub opened_is : (g : Graph) (i : ℕ) (f : Fields) (handed : List SensorRows) → AreHanded g i handed → waiting_in f.queue.events ≡ starting g i → f.open_claims.items ≡ [] → f.states.items ≡ map first_of_actor g.actors → f.sensors.items ≡ map unentered handed → f.outbox.items ≡ [] → f.reading ≡ None → f.closed ≡ false → f.claims ≡ 0
-    → state_of f [] ≡ opened g i (rows_of f.sensors.items)
+    → state_of f [] ≡ opened g i (rows_at_sensors f.sensors.items)
 opened_is g i f handed given waits claimed states sensors outbox reading closed claims = λ j. record {
   waits = waits j;
   busy = busy_in (claimed j);
@@ -35,8 +35,8 @@ opened_is g i f handed given waits claimed states sensors outbox reading closed 
     at_home : (ℕ → List Row) → ℕ → List Row
     at_home rows a = if platform_of g a == i then rows a else []
 
-    left : left_in f.sensors.items ≡ (λ a. if platform_of g a == i then rows_of f.sensors.items a else [])
-    left = ap left_in sensors ∙ left_rows g i handed given ∙ ap at_home (sym (ap rows_of sensors ∙ rows_same handed))
+    left : left_in f.sensors.items ≡ (λ a. if platform_of g a == i then rows_at_sensors f.sensors.items a else [])
+    left = ap left_in sensors ∙ left_rows g i handed given ∙ ap at_home (sym (ap rows_at_sensors sensors ∙ rows_same handed))
 
 pub sound_is : (g : Graph) (i : ℕ) (f : Fields) → AreGroups g f.queue.groups → waiting_in f.queue.events ≡ starting g i → f.open_claims.items ≡ [] → f.states.items ≡ map first_of_actor g.actors → f.outbox.links ≡ length g.links → IsSound g f
 sound_is g i f groups waits claimed states links = record {

@@ -8,7 +8,7 @@ use Rattle.pt_semantics.proofs.LawfulEdges.{wired}
 use Rattle.pt_semantics.specs.Wired.{IsWired}
 use Rattle.pt_semantics.specs.History.{claims_of}
 use Rattle.pt_causality.specs.Ranked.{level_of}
-use Rattle.pt_state.specs.State.{rows_of, state_of}
+use Rattle.pt_state.specs.State.{rows_at_sensors, state_of}
 use Rattle.pt_post.specs.Posted.{AreDone}
 use Rattle.pt_post.proofs.Fitting.{open_claims_fit}
 use Rattle.pt_take.specs.Taken.{Basis}
@@ -16,7 +16,7 @@ use Rattle.pt_turn.specs.declared.fault.TurnFault.{TurnFault}
 use Rattle.pt_turn.specs.declared.room.Room.{Room}
 use Rattle.pt_turn.specs.declared.platform.Platform.TheInside.{Inside}
 use Rattle.pt_turn.specs.Making.{CanKeep, IsReady}
-use Rattle.pt_turn.specs.Platforms.{IsPlatform, IsRoomy, graph_of, messages_of, raised_to, state_at, view_of}
+use Rattle.pt_turn.specs.Platforms.{IsPlatform, IsRoomy, platform_graph, messages_of, raised_to, state_at, view_of}
 use Rattle.pt_turn.specs.Running.{Ran}
 use Rattle.pt_turn.specs.Turned.{IsEnough, MayCome}
 use Rattle.pt_turn.proofs.Coming.{arrive}
@@ -27,37 +27,37 @@ use Rattle.pt_turn.proofs.Turns.{NextTurn, next_turn}
 abbrev pub basis_of : Inside → Basis
 basis_of p = record { level = level_of (arc_value p.plan).ranks; platform = p.number; taken = messages_of p.history.turns }
 
-pub still_runs : (p : Inside) → IsPlatform p → p.fault ≡ None → Ran (graph_of p) (level_of (arc_value p.plan).ranks) p.number (rows_of p.fields.sensors.items) p.history.turns (state_of p.fields (messages_of p.history.turns)) None
-still_runs p is on = subst (λ (fault : Option TurnFault). Ran (graph_of p) (level_of (arc_value p.plan).ranks) p.number (rows_of p.fields.sensors.items) p.history.turns (state_of p.fields (messages_of p.history.turns)) fault) on is.ran
+pub still_runs : (p : Inside) → IsPlatform p → p.fault ≡ None → Ran (platform_graph p) (level_of (arc_value p.plan).ranks) p.number (rows_at_sensors p.fields.sensors.items) p.history.turns (state_of p.fields (messages_of p.history.turns)) None
+still_runs p is on = subst (λ (fault : Option TurnFault). Ran (platform_graph p) (level_of (arc_value p.plan).ranks) p.number (rows_at_sensors p.fields.sensors.items) p.history.turns (state_of p.fields (messages_of p.history.turns)) fault) on is.ran
 
-pub is_ready : (p : Inside) (room : Room) (reading n : ℕ) (results : List Done) (messages : List OnLink) → IsPlatform p → p.fault ≡ None → IsRoomy p room → IsEnough reading (length results) (length messages) n room → (1 ≤ n) × (n ≤ 64) → AreDone (graph_of p) results
-    → MayCome (graph_of p) (level_of (arc_value p.plan).ranks) p.number (state_at (view_of p)) messages
+pub is_ready : (p : Inside) (room : Room) (reading n : ℕ) (results : List Done) (messages : List OnLink) → IsPlatform p → p.fault ≡ None → IsRoomy p room → IsEnough reading (length results) (length messages) n room → (1 ≤ n) × (n ≤ 64) → AreDone (platform_graph p) results
+    → MayCome (platform_graph p) (level_of (arc_value p.plan).ranks) p.number (state_at (view_of p)) messages
     → IsReady (arc_value p.plan) (basis_of p) p.number p.closing (raised_to p.fields.reading reading) n results messages p.fields p.lists
 is_ready p room reading n results messages is on roomy enough most done may =
-    let is_wired : IsWired (graph_of p) = wired (graph_of p) is.admitted.lawful in
+    let is_wired : IsWired (platform_graph p) = wired (platform_graph p) is.admitted.lawful in
     let ran = still_runs p is on in
-    let next : NextTurn (graph_of p) (level_of (arc_value p.plan).ranks) p.number (state_of p.fields (messages_of p.history.turns)) ran.all = next_turn (graph_of p) (level_of (arc_value p.plan).ranks) p.number (rows_of p.fields.sensors.items) p.history.turns (state_of p.fields (messages_of p.history.turns)) is_wired is.admitted.levels is.fit ran in
+    let next : NextTurn (platform_graph p) (level_of (arc_value p.plan).ranks) p.number (state_of p.fields (messages_of p.history.turns)) ran.all = next_turn (platform_graph p) (level_of (arc_value p.plan).ranks) p.number (rows_at_sensors p.fields.sensors.items) p.history.turns (state_of p.fields (messages_of p.history.turns)) is_wired is.admitted.levels is.fit ran in
     record {
       sound = is.sound;
       sensors = is.sensors;
       goes_on = record {
         never = next.never;
-        fit = open_claims_fit (graph_of p) (level_of (arc_value p.plan).ranks) (claims_of (graph_of p) ran.all) p.fields (messages_of p.history.turns) is.admitted.lawful is_wired is.admitted.levels is.sound next.bounded;
+        fit = open_claims_fit (platform_graph p) (level_of (arc_value p.plan).ranks) (claims_of (platform_graph p) ran.all) p.fields (messages_of p.history.turns) is.admitted.lawful is_wired is.admitted.levels is.sound next.bounded;
       };
       platform = refl;
       closing = is.closing;
       rises = raised_rises p.fields.reading reading;
       dones = done;
-      arrive = arrive (graph_of p) (basis_of p) (state_at (view_of p)) messages (λ l. refl) may;
+      arrive = arrive (platform_graph p) (basis_of p) (state_at (view_of p)) messages (λ l. refl) may;
       most = most;
       claims = is.claims;
-      room = has_room_on (graph_of p) p.fields p.lists (raised_to p.fields.reading reading) (raised_to p.fields.reading room.reading) (length results) room.done (length messages) room.taken n room.most (raised_on p.fields.reading reading room.reading enough.reading) enough.done enough.taken enough.most roomy.fields;
+      room = has_room_on (platform_graph p) p.fields p.lists (raised_to p.fields.reading reading) (raised_to p.fields.reading room.reading) (length results) room.done (length messages) room.taken n room.most (raised_on p.fields.reading reading room.reading enough.reading) enough.done enough.taken enough.most roomy.fields;
       empty = is.empty;
     }
 
 pub can_keep : (p : Inside) (room : Room) (reading n : ℕ) (dones messages : ℕ) → IsRoomy p room → IsEnough reading dones messages n room → CanKeep (arc_value p.plan) (raised_to p.fields.reading reading) dones messages n p.fields p.history.room
 can_keep p room reading n dones messages roomy enough =
-    let due = count_on (graph_of p) (raised_to p.fields.reading reading) (raised_to p.fields.reading room.reading) p.fields (raised_on p.fields.reading reading room.reading enough.reading) in
+    let due = count_on (platform_graph p) (raised_to p.fields.reading reading) (raised_to p.fields.reading room.reading) p.fields (raised_on p.fields.reading reading room.reading enough.reading) in
     record {
       turns = roomy.turns;
       posted = omega (arith, roomy.posted, enough.done);

@@ -18,7 +18,7 @@ use Rattle.pt_turn.specs.declared.fault.TurnFault.{TurnFault}
 use Rattle.pt_turn.specs.declared.fault.TurnFault.TheVariants.{Late, Long}
 use Rattle.pt_turn.specs.Gone.{last_sent}
 use Rattle.pt_turn.specs.Platforms.{messages_of}
-use Rattle.pt_turn.specs.Running.{GoesOn, Leads, Ran, Shows, last_reading}
+use Rattle.pt_turn.specs.Running.{GoesOn, LeadsOn, Ran, Shows, last_reading}
 use Rattle.pt_turn.proofs.Coming.{on_append}
 use Rattle.pt_turn.proofs.Turns.{last_pushed}
 
@@ -84,7 +84,7 @@ shows_still g turns s (Late actor tag reading limit) ms rest h = record {
 }
 shows_still g turns s Long ms rest h = record { all = h.all; reading = h.reading; read = h.read; safe = h.safe }
 
-leads_more : (g : Graph) (level : ℕ → ℕ) (i : ℕ) (start s : State) (kept all : List Turn) (turn : Turn) (fault : Option TurnFault) (ms : List OnLink) (rest : ℕ → List Message) → Leads g level i start kept (all ++ turn ∷ []) s fault → AreFront s.outbox ms rest → MayFollow turn.sent ms → Leads g level i start (on_last (sending ms) kept) (all ++ sending ms turn ∷ []) (unsent s rest) fault
+leads_more : (g : Graph) (level : ℕ → ℕ) (i : ℕ) (start s : State) (kept all : List Turn) (turn : Turn) (fault : Option TurnFault) (ms : List OnLink) (rest : ℕ → List Message) → LeadsOn g level i start kept (all ++ turn ∷ []) s fault → AreFront s.outbox ms rest → MayFollow turn.sent ms → LeadsOn g level i start (on_last (sending ms) kept) (all ++ sending ms turn ∷ []) (unsent s rest) fault
 leads_more g level i start s kept all turn None ms rest h front few = goes_on_more g level i start s all turn ms rest h front few
 leads_more g level i start s kept all turn (Some fault) ms rest h front few = (legal_more g level i start s all turn ms rest h.0 front few, shows_still g kept s fault ms rest h.1)
 
@@ -127,7 +127,7 @@ ran_more g level i rows turns s fault ms rest ran some front few =
       all = e.before ++ sending ms e.last ∷ [];
       single = single_more e.before e.last ms (subst (Each IsSingle) e.ends ran.single);
       are_kept = ap (on_last (sending ms)) is_kept ∙ kept-on_last (sending ms) e.before e.last;
-      leads = leads_more g level i (opened g i rows) s turns e.before e.last fault ms rest (subst (λ all. Leads g level i (opened g i rows) turns all s fault) e.ends ran.leads) front (subst (λ z. MayFollow z ms) sent few);
+      leads = leads_more g level i (opened g i rows) s turns e.before e.last fault ms rest (subst (λ all. LeadsOn g level i (opened g i rows) turns all s fault) e.ends ran.leads) front (subst (λ z. MayFollow z ms) sent few);
       read = ran.read ∙ ap last_reading ends ∙ last_pushed before e.last ∙ sym (ap last_reading new ∙ last_pushed before (sending ms e.last));
     }
 

@@ -11,10 +11,10 @@ use Rattle.pt_semantics.specs.Lists.{Each, first_of, or_else}
 use Rattle.pt_semantics.specs.Meaning.{rows_until}
 use Rattle.pt_semantics.specs.Rows.{FitRows, FitsRow, NeverFalls, TimesRise}
 use Rattle.pt_state.specs.Sensors.{RiseFrom}
-use Rattle.pt_turn.specs.Handed.{AreHanded, IsHanded, rows_in, unentered}
+use Rattle.pt_turn.specs.Handed.{AreHanded, IsHanded, rows_handed, unentered}
 use Rattle.pt_sensors.specs.Listed.{rows_for}
 use Rattle.pt_sensors.specs.Places.{StandInPlace, of_run}
-use Rattle.pt_turn.specs.Sharing.{cut_of, if_some, is_at}
+use Rattle.pt_turn.specs.Sharing.{cut_of, if_some, is_entry_on}
 
 pub no_members : {X : Type 0} (xs : List X) → length xs ≡ 0 → xs ≡ []
 no_members [] e = refl
@@ -26,11 +26,11 @@ some_rows a (row ∷ rows) some = refl
 
 -- an entry for platform i
 abbrev pub own_of : Graph → ℕ → SensorRows → Option SensorRows
-own_of g i s = if is_at g i s then cut_of g s else None
+own_of g i s = if is_entry_on g i s then cut_of g s else None
 
 -- the entries that platform i is handed
 abbrev pub handed_to : Graph → ℕ → List SensorRows → List SensorRows
-handed_to g i entries = filter_map (cut_of g) (filter (is_at g i) entries)
+handed_to g i entries = filter_map (cut_of g) (filter (is_entry_on g i) entries)
 
 -- from place k on the entries are those of the actors k, k + 1 and so on
 abbrev pub StandFrom : ℕ → List SensorRows → Type 0
@@ -53,26 +53,26 @@ mapped_one f x xs (Some y) e = rw e refl
 
 -- the first entry is handed to the platform, or not
 handed_one : (g : Graph) (i : ℕ) (s : SensorRows) (ss : List SensorRows) → handed_to g i (s ∷ ss) ≡ option_to_list (own_of g i s) ++ handed_to g i ss
-handed_one g i s ss = by_test (is_at g i s) refl
+handed_one g i s ss = by_test (is_entry_on g i s) refl
   where
-    by_test : (b : Bool) → is_at g i s ≡ b → handed_to g i (s ∷ ss) ≡ option_to_list (if b then cut_of g s else None) ++ handed_to g i ss
-    by_test true e = ap (filter_map (cut_of g)) (filtered_one (is_at g i) s ss true e) ∙ mapped_one (cut_of g) s (filter (is_at g i) ss) (cut_of g s) refl
-    by_test false e = ap (filter_map (cut_of g)) (filtered_one (is_at g i) s ss false e)
+    by_test : (b : Bool) → is_entry_on g i s ≡ b → handed_to g i (s ∷ ss) ≡ option_to_list (if b then cut_of g s else None) ++ handed_to g i ss
+    by_test true e = ap (filter_map (cut_of g)) (filtered_one (is_entry_on g i) s ss true e) ∙ mapped_one (cut_of g) s (filter (is_entry_on g i) ss) (cut_of g s) refl
+    by_test false e = ap (filter_map (cut_of g)) (filtered_one (is_entry_on g i) s ss false e)
 
 each_as : {X : Type 0} (P Q : X → Type 0) (xs : List X) → ((x : X) → P x → Q x) → Each P xs → Each Q xs
 each_as P Q [] f h = tt
 each_as P Q (x ∷ xs) f h = (f x h.0, each_as P Q xs f h.1)
 
 -- what holds of each entry of platform i with its rows up to the horizon holds of all that the platform is handed
-handed_each : (P : SensorRows → Type 0) (g : Graph) (i : ℕ) (ss : List SensorRows) → Each (λ (s : SensorRows). is_at g i s ≡ true → P (record { actor = s.actor; rows = rows_until g.until s.rows })) ss → Each P (handed_to g i ss)
+handed_each : (P : SensorRows → Type 0) (g : Graph) (i : ℕ) (ss : List SensorRows) → Each (λ (s : SensorRows). is_entry_on g i s ≡ true → P (record { actor = s.actor; rows = rows_until g.until s.rows })) ss → Each P (handed_to g i ss)
 handed_each P g i [] h = tt
-handed_each P g i (s ∷ ss) h = subst (Each P) (sym (handed_one g i s ss)) (by_test (is_at g i s) refl (handed_each P g i ss h.1))
+handed_each P g i (s ∷ ss) h = subst (Each P) (sym (handed_one g i s ss)) (by_test (is_entry_on g i s) refl (handed_each P g i ss h.1))
   where
     by_rows : (rows : List Row) → P (record { actor = s.actor; rows = rows }) → Each P (handed_to g i ss) → Each P (option_to_list (if_some s.actor rows) ++ handed_to g i ss)
     by_rows [] p rest = rest
     by_rows (row ∷ rows) p rest = (p, rest)
 
-    by_test : (b : Bool) → is_at g i s ≡ b → Each P (handed_to g i ss) → Each P (option_to_list (if b then cut_of g s else None) ++ handed_to g i ss)
+    by_test : (b : Bool) → is_entry_on g i s ≡ b → Each P (handed_to g i ss) → Each P (option_to_list (if b then cut_of g s else None) ++ handed_to g i ss)
     by_test true e rest = by_rows (rows_until g.until s.rows) (h.0 e) rest
     by_test false e rest = rest
 
@@ -111,7 +111,7 @@ rise_less m n (s ∷ ss) le h = (let low = h.0 in omega (arith, le, low), h.1)
 
 handed_rise : (g : Graph) (i k : ℕ) (ss : List SensorRows) → StandFrom k ss → RiseFrom k (map unentered (handed_to g i ss))
 handed_rise g i k [] st = tt
-handed_rise g i k (s ∷ ss) st = subst (λ z. RiseFrom k (map unentered z)) (sym (handed_one g i s ss)) (by_test (is_at g i s) (handed_rise g i (suc k) ss st.1))
+handed_rise g i k (s ∷ ss) st = subst (λ z. RiseFrom k (map unentered z)) (sym (handed_one g i s ss)) (by_test (is_entry_on g i s) (handed_rise g i (suc k) ss st.1))
   where
     by_rows : (rows : List Row) → RiseFrom (suc k) (map unentered (handed_to g i ss)) → RiseFrom k (map unentered (option_to_list (if_some s.actor rows) ++ handed_to g i ss))
     by_rows [] rest = rise_less k (suc k) (handed_to g i ss) (omega arith) rest
@@ -125,7 +125,7 @@ pub are_handed : (g : Graph) (entries : List SensorRows) (i : ℕ) → StandInPl
 are_handed g entries i places fit = (
   handed_rise g i 0 entries (all_stand g entries places),
   handed_each (IsHanded g i) g i entries
-      (each_as (HasOwn entries 0 (0 + length entries)) (λ (s : SensorRows). is_at g i s ≡ true → IsHanded g i (record { actor = s.actor; rows = rows_until g.until s.rows })) entries
+      (each_as (HasOwn entries 0 (0 + length entries)) (λ (s : SensorRows). is_entry_on g i s ≡ true → IsHanded g i (record { actor = s.actor; rows = rows_until g.until s.rows })) entries
       (λ s own here. record {
         there = let lt = own.below in let n = places.count in omega (arith, lt, n);
         home = eqb-true (platform_of g s.actor) i here;
@@ -137,53 +137,53 @@ are_handed g entries i places fit = (
 )
 
 -- an entry of another actor has none of an actor's rows
-rows_skip : (s : SensorRows) (ss : List SensorRows) (a : ℕ) → (s.actor == a) ≡ false → rows_in (s ∷ ss) a ≡ rows_in ss a
+rows_skip : (s : SensorRows) (ss : List SensorRows) (a : ℕ) → (s.actor == a) ≡ false → rows_handed (s ∷ ss) a ≡ rows_handed ss a
 rows_skip s ss a e = ap (λ b. unwrap_or (or_else (when b (Some s.rows)) (first_of (λ (x : SensorRows). when (x.actor == a) (Some x.rows)) ss)) []) e
 
-rows_found : (s : SensorRows) (ss : List SensorRows) (a : ℕ) → (s.actor == a) ≡ true → rows_in (s ∷ ss) a ≡ s.rows
+rows_found : (s : SensorRows) (ss : List SensorRows) (a : ℕ) → (s.actor == a) ≡ true → rows_handed (s ∷ ss) a ≡ s.rows
 rows_found s ss a e = ap (λ b. unwrap_or (or_else (when b (Some s.rows)) (first_of (λ (x : SensorRows). when (x.actor == a) (Some x.rows)) ss)) []) e
 
 -- what a platform is handed are the rows of the run of its own actors
-handed_rows_from : (g : Graph) (i k : ℕ) (ss : List SensorRows) (a : ℕ) → StandFrom k ss → platform_of g a ≡ i → rows_in (handed_to g i ss) a ≡ rows_until g.until (rows_for ss a)
+handed_rows_from : (g : Graph) (i k : ℕ) (ss : List SensorRows) (a : ℕ) → StandFrom k ss → platform_of g a ≡ i → rows_handed (handed_to g i ss) a ≡ rows_until g.until (rows_for ss a)
 handed_rows_from g i k [] a st home = refl
-handed_rows_from g i k (s ∷ ss) a st home = ap (λ z. rows_in z a) (handed_one g i s ss) ∙ by_actor (s.actor == a) refl (handed_rows_from g i (suc k) ss a st.1 home)
+handed_rows_from g i k (s ∷ ss) a st home = ap (λ z. rows_handed z a) (handed_one g i s ss) ∙ by_actor (s.actor == a) refl (handed_rows_from g i (suc k) ss a st.1 home)
   where
-    found : (s.actor == a) ≡ true → (rows : List Row) → rows_in (handed_to g i ss) a ≡ [] → rows_in (option_to_list (if_some s.actor rows) ++ handed_to g i ss) a ≡ rows
+    found : (s.actor == a) ≡ true → (rows : List Row) → rows_handed (handed_to g i ss) a ≡ [] → rows_handed (option_to_list (if_some s.actor rows) ++ handed_to g i ss) a ≡ rows
     found e [] rest = rest
     found e (row ∷ rows) rest = rows_found (record { actor = s.actor; rows = row ∷ rows }) (handed_to g i ss) a e
 
-    skipped : (s.actor == a) ≡ false → (rows : List Row) → rows_in (option_to_list (if_some s.actor rows) ++ handed_to g i ss) a ≡ rows_in (handed_to g i ss) a
+    skipped : (s.actor == a) ≡ false → (rows : List Row) → rows_handed (option_to_list (if_some s.actor rows) ++ handed_to g i ss) a ≡ rows_handed (handed_to g i ss) a
     skipped e [] = refl
     skipped e (row ∷ rows) = rows_skip (record { actor = s.actor; rows = row ∷ rows }) (handed_to g i ss) a e
 
-    by_place : (s.actor == a) ≡ false → (b : Bool) → rows_in (option_to_list (if b then cut_of g s else None) ++ handed_to g i ss) a ≡ rows_in (handed_to g i ss) a
+    by_place : (s.actor == a) ≡ false → (b : Bool) → rows_handed (option_to_list (if b then cut_of g s else None) ++ handed_to g i ss) a ≡ rows_handed (handed_to g i ss) a
     by_place e true = skipped e (rows_until g.until s.rows)
     by_place e false = refl
 
-    by_actor : (b : Bool) → (s.actor == a) ≡ b → rows_in (handed_to g i ss) a ≡ rows_until g.until (rows_for ss a) → rows_in (option_to_list (own_of g i s) ++ handed_to g i ss) a ≡ rows_until g.until ((if s.actor == a then s.rows else []) ++ rows_for ss a)
+    by_actor : (b : Bool) → (s.actor == a) ≡ b → rows_handed (handed_to g i ss) a ≡ rows_until g.until (rows_for ss a) → rows_handed (option_to_list (own_of g i s) ++ handed_to g i ss) a ≡ rows_until g.until ((if s.actor == a then s.rows else []) ++ rows_for ss a)
     by_actor true e rest =
         let same : s.actor ≡ a = eqb-true s.actor a e in
         let none : rows_for ss a ≡ [] = lower (suc k) ss a st.1 (let at = st.0 in omega (arith, at, same)) in
-        let here : is_at g i s ≡ true = eq-eqb (platform_of g s.actor) i (ap (platform_of g) same ∙ home) in
-        ap (λ o. rows_in (option_to_list o ++ handed_to g i ss) a) (cond-true (is_at g i s) (cut_of g s) None here)
+        let here : is_entry_on g i s ≡ true = eq-eqb (platform_of g s.actor) i (ap (platform_of g) same ∙ home) in
+        ap (λ o. rows_handed (option_to_list o ++ handed_to g i ss) a) (cond-true (is_entry_on g i s) (cut_of g s) None here)
         ∙ (found e (rows_until g.until s.rows) (rest ∙ ap (rows_until g.until) none)
         ∙ ap (rows_until g.until) (sym (ap₂ (λ xs ys. xs ++ ys) (cond-true (s.actor == a) s.rows [] e) none ∙ append-nil s.rows)))
-    by_actor false e rest = by_place e (is_at g i s) ∙ (rest ∙ ap (λ xs. rows_until g.until (xs ++ rows_for ss a)) (sym (cond-false (s.actor == a) s.rows [] e)))
+    by_actor false e rest = by_place e (is_entry_on g i s) ∙ (rest ∙ ap (λ xs. rows_until g.until (xs ++ rows_for ss a)) (sym (cond-false (s.actor == a) s.rows [] e)))
 
-pub handed_rows : (g : Graph) (i : ℕ) (entries : List SensorRows) (a : ℕ) → StandInPlace g entries → platform_of g a ≡ i → rows_in (handed_to g i entries) a ≡ of_run g (rows_for entries) a
+pub handed_rows : (g : Graph) (i : ℕ) (entries : List SensorRows) (a : ℕ) → StandInPlace g entries → platform_of g a ≡ i → rows_handed (handed_to g i entries) a ≡ of_run g (rows_for entries) a
 handed_rows g i entries a places home = handed_rows_from g i 0 entries a (all_stand g entries places) home
 
 -- without those of one platform, all of another are left
-pub others_left : (g : Graph) (n k : ℕ) (xs : List SensorRows) → n < k → filter (is_at g k) (filter (λ (s : SensorRows). not (is_at g n s)) xs) ≡ filter (is_at g k) xs
+pub others_left : (g : Graph) (n k : ℕ) (xs : List SensorRows) → n < k → filter (is_entry_on g k) (filter (λ (s : SensorRows). not (is_entry_on g n s)) xs) ≡ filter (is_entry_on g k) xs
 others_left g n k [] lt = refl
-others_left g n k (x ∷ xs) lt = by_test (is_at g n x) refl (others_left g n k xs lt)
+others_left g n k (x ∷ xs) lt = by_test (is_entry_on g n x) refl (others_left g n k xs lt)
   where
-    by_test : (b : Bool) → is_at g n x ≡ b → filter (is_at g k) (filter (λ (s : SensorRows). not (is_at g n s)) xs) ≡ filter (is_at g k) xs → filter (is_at g k) (filter (λ (s : SensorRows). not (is_at g n s)) (x ∷ xs)) ≡ filter (is_at g k) (x ∷ xs)
+    by_test : (b : Bool) → is_entry_on g n x ≡ b → filter (is_entry_on g k) (filter (λ (s : SensorRows). not (is_entry_on g n s)) xs) ≡ filter (is_entry_on g k) xs → filter (is_entry_on g k) (filter (λ (s : SensorRows). not (is_entry_on g n s)) (x ∷ xs)) ≡ filter (is_entry_on g k) (x ∷ xs)
     by_test true e rest =
         let here : platform_of g x.actor ≡ n = eqb-true (platform_of g x.actor) n e in
-        let away : is_at g k x ≡ false = ne_eqb (platform_of g x.actor) k (λ same. absurd (omega (arith, here, same, lt))) in
-        ap (filter (is_at g k)) (filtered_one (λ (s : SensorRows). not (is_at g n s)) x xs false (ap not e)) ∙ (rest ∙ sym (filtered_one (is_at g k) x xs false away))
+        let away : is_entry_on g k x ≡ false = ne_eqb (platform_of g x.actor) k (λ same. absurd (omega (arith, here, same, lt))) in
+        ap (filter (is_entry_on g k)) (filtered_one (λ (s : SensorRows). not (is_entry_on g n s)) x xs false (ap not e)) ∙ (rest ∙ sym (filtered_one (is_entry_on g k) x xs false away))
     by_test false e rest =
-        ap (filter (is_at g k)) (filtered_one (λ (s : SensorRows). not (is_at g n s)) x xs true (ap not e))
-        ∙ (filtered_one (is_at g k) x (filter (λ (s : SensorRows). not (is_at g n s)) xs) (is_at g k x) refl
-        ∙ (ap (λ ys. if is_at g k x then x ∷ ys else ys) rest ∙ sym (filtered_one (is_at g k) x xs (is_at g k x) refl)))
+        ap (filter (is_entry_on g k)) (filtered_one (λ (s : SensorRows). not (is_entry_on g n s)) x xs true (ap not e))
+        ∙ (filtered_one (is_entry_on g k) x (filter (λ (s : SensorRows). not (is_entry_on g n s)) xs) (is_entry_on g k x) refl
+        ∙ (ap (λ ys. if is_entry_on g k x then x ∷ ys else ys) rest ∙ sym (filtered_one (is_entry_on g k) x xs (is_entry_on g k x) refl)))

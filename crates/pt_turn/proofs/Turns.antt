@@ -19,7 +19,7 @@ use Rattle.pt_laws.proofs.KeptTurns.{kept_is_legal}
 use Rattle.pt_history.proofs.Gathered.{taken_settled}
 use Rattle.pt_turn.specs.declared.fault.TurnFault.{TurnFault}
 use Rattle.pt_turn.specs.Platforms.{messages_of}
-use Rattle.pt_turn.specs.Running.{GoesOn, Leads, Ran, Shows, last_reading}
+use Rattle.pt_turn.specs.Running.{GoesOn, LeadsOn, Ran, Shows, last_reading}
 
 -- one turn more, after which another may come
 pub goes_on_push : (g : Graph) (level : ℕ → ℕ) (i : ℕ) (s mid new : State) (turns : List Turn) (turn : Turn) → GoesOn g level i s turns mid → (is : IsTurn g level i mid turn false new) → (IsLast g mid turn.last false is.ready → ⊥) → GoesOn g level i s (turns ++ turn ∷ []) new
@@ -39,7 +39,7 @@ pub goes_on_in_time : (g : Graph) (level : ℕ → ℕ) (i : ℕ) (s new : State
 goes_on_in_time g level i s new [] h = h
 goes_on_in_time g level i s new (turn ∷ turns) h = (h.0, h.1, goes_on_in_time g level i h.0 new turns h.3)
 
-leads_legal : (g : Graph) (level : ℕ → ℕ) (i : ℕ) (start s : State) (turns all : List Turn) (fault : Option TurnFault) → Leads g level i start turns all s fault → Legal g level i start all s
+leads_legal : (g : Graph) (level : ℕ → ℕ) (i : ℕ) (start s : State) (turns all : List Turn) (fault : Option TurnFault) → LeadsOn g level i start turns all s fault → Legal g level i start all s
 leads_legal g level i start s turns all None h = goes_on_legal g level i start s all h
 leads_legal g level i start s turns all (Some fault) h = h.0
 
@@ -56,7 +56,7 @@ ran_in_time g level i rows turns s None wired levels fit ran none =
     ((kept_is_legal g level i rows ran.all s wired levels fit ran.single).1 (goes_on_in_time g level i (opened g i rows) s ran.all ran.leads))
 ran_in_time g level i rows turns s (Some fault) wired levels fit ran none = absurd (none_some fault (sym none))
 
-shown : (g : Graph) (level : ℕ → ℕ) (i : ℕ) (start s : State) (turns all : List Turn) (fault : TurnFault) → Leads g level i start turns all s (Some fault) → Shows g turns s fault
+shown : (g : Graph) (level : ℕ → ℕ) (i : ℕ) (start s : State) (turns all : List Turn) (fault : TurnFault) → LeadsOn g level i start turns all s (Some fault) → Shows g turns s fault
 shown g level i start s turns all fault h = h.1
 
 -- what the turns so far give to the next one

@@ -16,14 +16,14 @@ use Rattle.pt_post.specs.Room.{leaving_open}
 use Rattle.pt_queue.specs.Events.{waiting_in}
 use Rattle.pt_queue.specs.Groups.{AreGroups}
 use Rattle.pt_state.specs.declared.fields.Fields.{Fields}
-use Rattle.pt_state.specs.State.{busy_in, left_in, rows_of, state_of, states_in, IsOpen, IsSound}
+use Rattle.pt_state.specs.State.{busy_in, left_in, rows_at_sensors, state_of, states_in, IsOpen, IsSound}
 use Rattle.pt_turn.specs.declared.steps.Lists.{Lists}
 use Rattle.pt_turn.specs.Steps.{count_due}
 use Rattle.pt_turn.specs.declared.room.Room.{Room}
 use Rattle.pt_turn.specs.declared.memory.Needs.{Needs}
 use Rattle.pt_turn.specs.declared.platform.Platform.TheInside.{Inside}
 use Rattle.pt_turn.specs.Growing.{AreEnough, AreWider, FieldsMeet, HistoryIsWider, HistoryMeets, ListsAreWider, ListsMeet}
-use Rattle.pt_turn.specs.Platforms.{IsPlatform, IsRoomy, graph_of, messages_of, raised_to}
+use Rattle.pt_turn.specs.Platforms.{IsPlatform, IsRoomy, platform_graph, messages_of, raised_to}
 use Rattle.pt_turn.specs.Running.{Ran}
 use Rattle.pt_types.specs.Limits.{most_claims}
 
@@ -58,14 +58,14 @@ due_still g r old new w = ap (λ v. length (all_due g r (left_in v.items))) w.se
 pub is_wider : (p : Inside) (fields : Fields) (history : History) (lists : Lists) (room : Option Room) → IsPlatform p → AreWider p.fields fields → HistoryIsWider p.history history → ListsAreWider p.lists lists → MatchOption room (Unit {0}) (IsRoomy (wider p fields history lists room)) → IsPlatform (wider p fields history lists room)
 is_wider p fields history lists room is f h l roomy = record {
   admitted = is.admitted;
-  sound = sound_still (graph_of p) p.fields fields f is.sound;
-  sensors = subst (λ v. AreSensors (graph_of p) v.items) (sym f.sensors) is.sensors;
-  fit = subst (λ v. FitRows (graph_of p) (rows_of v.items)) (sym f.sensors) is.fit;
+  sound = sound_still (platform_graph p) p.fields fields f is.sound;
+  sensors = subst (λ v. AreSensors (platform_graph p) v.items) (sym f.sensors) is.sensors;
+  fit = subst (λ v. FitRows (platform_graph p) (rows_at_sensors v.items)) (sym f.sensors) is.fit;
   closing = is.closing;
   claims = subst (λ n. n ≤ most_claims) (sym f.claims) is.claims;
-  ran = subst (λ v. Ran (graph_of p) (level_of (arc_value p.plan).ranks) p.number (rows_of v.items) history.turns (state_of fields (messages_of history.turns)) p.fault) (sym f.sensors)
-      (subst (λ ts. Ran (graph_of p) (level_of (arc_value p.plan).ranks) p.number (rows_of p.fields.sensors.items) ts (state_of fields (messages_of ts)) p.fault) (sym h.turns)
-      (subst (λ s. Ran (graph_of p) (level_of (arc_value p.plan).ranks) p.number (rows_of p.fields.sensors.items) p.history.turns s p.fault) (sym (same_state p.fields fields (messages_of p.history.turns) f)) is.ran));
+  ran = subst (λ v. Ran (platform_graph p) (level_of (arc_value p.plan).ranks) p.number (rows_at_sensors v.items) history.turns (state_of fields (messages_of history.turns)) p.fault) (sym f.sensors)
+      (subst (λ ts. Ran (platform_graph p) (level_of (arc_value p.plan).ranks) p.number (rows_at_sensors p.fields.sensors.items) ts (state_of fields (messages_of ts)) p.fault) (sym h.turns)
+      (subst (λ s. Ran (platform_graph p) (level_of (arc_value p.plan).ranks) p.number (rows_at_sensors p.fields.sensors.items) p.history.turns s p.fault) (sym (same_state p.fields fields (messages_of p.history.turns) f)) is.ran));
   empty = record {
     posted = l.posted.items ∙ is.empty.posted;
     rows = l.rows.items ∙ is.empty.rows;
@@ -80,7 +80,7 @@ is_wider p fields history lists room is f h l roomy = record {
 -- what there was room for there still is
 roomy_still : (p : Inside) (fields : Fields) (history : History) (lists : Lists) (o : Option Room) (r : Room) → AreWider p.fields fields → HistoryIsWider p.history history → ListsAreWider p.lists lists → IsRoomy p r → IsRoomy (wider p fields history lists o) r
 roomy_still p fields history lists o r f h l roomy =
-    let g : Graph = graph_of p in
+    let g : Graph = platform_graph p in
     let at : raised_to fields.reading r.reading ≡ raised_to p.fields.reading r.reading = ap (λ z. raised_to z r.reading) f.reading in
     let due : count_due g (raised_to fields.reading r.reading) fields ≡ count_due g (raised_to p.fields.reading r.reading) p.fields = ap (λ n. count_due g n fields) at ∙ due_still g (raised_to p.fields.reading r.reading) p.fields fields f in
     let leaving : leaving_open g (busy_in fields.open_claims.items) g.wires ≡ leaving_open g (busy_in p.fields.open_claims.items) g.wires = ap (λ cs. leaving_open g (busy_in cs) g.wires) f.open_claims in
@@ -107,9 +107,9 @@ room_still p fields history lists o None f h l roomy = tt
 room_still p fields history lists o (Some r) f h l roomy = roomy_still p fields history lists o r f h l roomy
 
 -- and what is met is enough for a turn
-pub is_roomy : (p : Inside) (fields : Fields) (history : History) (lists : Lists) (o : Option Room) (r : Room) (needs : Needs) → AreWider p.fields fields → AreEnough (graph_of p) p.fields (raised_to p.fields.reading r.reading) r needs → FieldsMeet needs fields → ListsMeet needs lists → HistoryMeets needs history.room → IsRoomy (wider p fields history lists o) r
+pub is_roomy : (p : Inside) (fields : Fields) (history : History) (lists : Lists) (o : Option Room) (r : Room) (needs : Needs) → AreWider p.fields fields → AreEnough (platform_graph p) p.fields (raised_to p.fields.reading r.reading) r needs → FieldsMeet needs fields → ListsMeet needs lists → HistoryMeets needs history.room → IsRoomy (wider p fields history lists o) r
 is_roomy p fields history lists o r needs f enough met listed kept =
-    let g : Graph = graph_of p in
+    let g : Graph = platform_graph p in
     let at : raised_to fields.reading r.reading ≡ raised_to p.fields.reading r.reading = ap (λ z. raised_to z r.reading) f.reading in
     let due : count_due g (raised_to fields.reading r.reading) fields ≡ count_due g (raised_to p.fields.reading r.reading) p.fields = ap (λ n. count_due g n fields) at ∙ due_still g (raised_to p.fields.reading r.reading) p.fields fields f in
     let leaving : leaving_open g (busy_in fields.open_claims.items) g.wires ≤ length g.wires = count_by-le-length _ g.wires in

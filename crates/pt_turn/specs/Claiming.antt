@@ -16,10 +16,10 @@ abbrev pub IsIdle : Graph → Fields → ℕ → Type 0
 IsIdle g f r = NothingSafe g (waiting_in f.queue.events) (busy_in f.open_claims.items) r
 
 -- how a turn without a late message ends, if all claims were made before it
-abbrev pub IsFull : Graph → Fields → ℕ → Ending → Type 0
-IsFull g f r On = IsIdle g f r
-IsFull g f r Late = ⊥
-IsFull g f r Long = IsIdle g f r → ⊥
+abbrev pub EndsFull : Graph → Fields → ℕ → Ending → Type 0
+EndsFull g f r On = IsIdle g f r
+EndsFull g f r Late = ⊥
+EndsFull g f r Long = IsIdle g f r → ⊥
 
 -- how a turn ends: Late with a late message; else, if all claims were made before it, Long or On by whether a unit is safe
 abbrev pub EndsIn : Graph → ℕ → Fields → Fields → Bool → Ending → Type 0

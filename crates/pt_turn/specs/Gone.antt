@@ -15,7 +15,7 @@ last_sent (x ∷ []) = x.sent
 last_sent (x ∷ y ∷ turns) = last_sent (y ∷ turns)
 
 -- the first message of link l leaves the outbox and is recorded as sent after the last turn; nothing else changes
-pub record HasGone (old new : PlatformView) (l : ℕ) : Type 0 where
+pub record FirstHasGone (old new : PlatformView) (l : ℕ) : Type 0 where
   pub message : Message
   pub first : on_link l old.outbox ≡ message ∷ on_link l new.outbox
   pub others : (k : ℕ) → (k ≡ l → ⊥) → on_link k new.outbox ≡ on_link k old.outbox

@@ -11,8 +11,8 @@ use Rattle.pt_state.specs.declared.fields.Sensor.{Sensor}
 use Rattle.pt_state.specs.Sensors.{RiseFrom}
 
 -- the rows given for each actor; an actor without an entry has none
-abbrev pub rows_in : List SensorRows → ℕ → List Row
-rows_in handed a = unwrap_or (first_of (λ (s : SensorRows). when (s.actor == a) (Some s.rows)) handed) []
+abbrev pub rows_handed : List SensorRows → ℕ → List Row
+rows_handed handed a = unwrap_or (first_of (λ (s : SensorRows). when (s.actor == a) (Some s.rows)) handed) []
 
 -- a sensor none of whose rows has entered
 abbrev pub unentered : SensorRows → Sensor

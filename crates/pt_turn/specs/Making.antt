@@ -44,7 +44,7 @@ pub record CanKeep (plan : Parts) (r dones messages most : ℕ) (f : Fields) (ro
   pub claimed : most ≤ room.claimed
 
 -- the turn was made and recorded, its claims were appended to the tasks, and this is its fault
-pub record IsKept (plan : Parts) (w : Basis) (r most : ℕ) (dones : List Done) (messages : List OnLink) (old new : Fields) (before after : List Turn) (handed now : List Task) (fault : Option TurnFault) : Type 0 where
+pub record IsRecordedTurn (plan : Parts) (w : Basis) (r most : ℕ) (dones : List Done) (messages : List OnLink) (old new : Fields) (before after : List Turn) (handed now : List Task) (fault : Option TurnFault) : Type 0 where
   pub lists : Lists
   pub ending : Ending
   pub made : IsMade plan.graph w r most dones messages old new lists ending

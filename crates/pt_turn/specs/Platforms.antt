@@ -17,7 +17,7 @@ use Rattle.pt_offsets.specs.Plans.{IsAdmitted, Parts}
 use Rattle.pt_state.specs.declared.fields.OpenClaim.{OpenClaim}
 use Rattle.pt_state.specs.declared.fields.Sensor.{Sensor}
 use Rattle.pt_queue.specs.Events.{waiting_in}
-use Rattle.pt_state.specs.State.{busy_in, left_in, rows_of, state_of, states_in, IsSound}
+use Rattle.pt_state.specs.State.{busy_in, left_in, rows_at_sensors, state_of, states_in, IsSound}
 use Rattle.pt_state.specs.Sensors.{AreSensors}
 use Rattle.pt_turn.specs.Steps.{AreEmpty, HasRoom, count_due}
 use Rattle.pt_turn.specs.declared.fault.TurnFault.{TurnFault}
@@ -63,15 +63,15 @@ state_at v = record {
 
 -- the rows with which a platform opened
 abbrev pub rows_at : PlatformView → ℕ → List Row
-rows_at v = rows_of v.sensors
+rows_at v = rows_at_sensors v.sensors
 
 -- the levels of the plan's actors
 abbrev pub level_at : PlatformView → ℕ → ℕ
 level_at v = level_of v.plan.ranks
 
 -- the graph of a platform's plan
-abbrev pub graph_of : Inside → Graph
-graph_of p = (arc_value p.plan).graph
+abbrev pub platform_graph : Inside → Graph
+platform_graph p = (arc_value p.plan).graph
 
 -- a platform as contracts see it, from its fields
 abbrev pub view_of : Inside → PlatformView
@@ -98,24 +98,24 @@ raised_to (Some p) r = later_of p r
 
 -- there is memory for a turn at this reading, with that many results, messages and claims
 pub record IsRoomy (p : Inside) (r : Room) : Type 0 where
-  pub fields : HasRoom (graph_of p) p.fields p.lists (raised_to p.fields.reading r.reading) r.done r.taken r.most
+  pub fields : HasRoom (platform_graph p) p.fields p.lists (raised_to p.fields.reading r.reading) r.done r.taken r.most
   pub turns : 0 < p.history.room.turns
   pub posted : r.done ≤ p.history.room.posted
-  pub rows : count_due (graph_of p) (raised_to p.fields.reading r.reading) p.fields ≤ p.history.room.rows
+  pub rows : count_due (platform_graph p) (raised_to p.fields.reading r.reading) p.fields ≤ p.history.room.rows
   pub taken : r.taken ≤ p.history.room.taken
   pub claimed : r.most ≤ p.history.room.claimed
-  pub sent : length p.fields.outbox.items + r.done * length (graph_of p).links + length (graph_of p).links ≤ p.history.room.sent
+  pub sent : length p.fields.outbox.items + r.done * length (platform_graph p).links + length (platform_graph p).links ≤ p.history.room.sent
 
 -- the invariant of a platform: its recorded turns follow one another from its opening, and lead to its state
 pub record IsPlatform (p : Inside) : Type 0 where
   pub admitted : IsAdmitted (arc_value p.plan)
-  pub sound : IsSound (graph_of p) p.fields
-  pub sensors : AreSensors (graph_of p) p.fields.sensors.items
-  pub fit : FitRows (graph_of p) (rows_of p.fields.sensors.items)
-  pub closing : IsClosing (graph_of p) p.number p.closing
+  pub sound : IsSound (platform_graph p) p.fields
+  pub sensors : AreSensors (platform_graph p) p.fields.sensors.items
+  pub fit : FitRows (platform_graph p) (rows_at_sensors p.fields.sensors.items)
+  pub closing : IsClosing (platform_graph p) p.number p.closing
   pub claims : p.fields.claims ≤ most_claims
-  pub ran : Ran (graph_of p) (level_of (arc_value p.plan).ranks) p.number (rows_of p.fields.sensors.items) p.history.turns (state_of p.fields (messages_of p.history.turns)) p.fault
+  pub ran : Ran (platform_graph p) (level_of (arc_value p.plan).ranks) p.number (rows_at_sensors p.fields.sensors.items) p.history.turns (state_of p.fields (messages_of p.history.turns)) p.fault
   pub empty : AreEmpty p.lists
   pub sent : length p.fields.outbox.items ≤ p.history.room.sent
   pub room : MatchOption p.room (Unit {0}) (IsRoomy p)
-  pub next : MatchOption p.next (Unit {0}) (IsNextReading (graph_of p) p.number (state_of p.fields (messages_of p.history.turns)))
+  pub next : MatchOption p.next (Unit {0}) (IsNextReading (platform_graph p) p.number (state_of p.fields (messages_of p.history.turns)))

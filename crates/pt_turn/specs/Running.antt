@@ -63,14 +63,14 @@ Shows g turns s (Late actor tag reading limit) = ShowsLate g turns actor tag rea
 Shows g turns s Long = ShowsLong g s
 
 -- turns of a platform since its opening: after each of them another may follow, or there is a fault and its cause is shown
-abbrev pub Leads : Graph → (ℕ → ℕ) → ℕ → State → List Turn → List Turn → State → Option TurnFault → Type 0
-Leads g level i start turns all s None = GoesOn g level i start all s
-Leads g level i start turns all s (Some fault) = Legal g level i start all s × Shows g turns s fault
+abbrev pub LeadsOn : Graph → (ℕ → ℕ) → ℕ → State → List Turn → List Turn → State → Option TurnFault → Type 0
+LeadsOn g level i start turns all s None = GoesOn g level i start all s
+LeadsOn g level i start turns all s (Some fault) = Legal g level i start all s × Shows g turns s fault
 
 -- the recorded turns are those of all single turns since the platform opened
 pub record Ran (g : Graph) (level : ℕ → ℕ) (i : ℕ) (rows : ℕ → List Row) (turns : List Turn) (s : State) (fault : Option TurnFault) : Type 0 where
   pub all : List Turn
   pub single : Each IsSingle all
   pub are_kept : turns ≡ kept all
-  pub leads : Leads g level i (opened g i rows) turns all s fault
+  pub leads : LeadsOn g level i (opened g i rows) turns all s fault
   pub read : s.reading ≡ last_reading turns

@@ -7,8 +7,8 @@ use Rattle.pt_types.specs.Lookups.{platform_of}
 use Rattle.pt_semantics.specs.Meaning.{rows_until}
 
 -- whether an entry's actor is on platform i
-abbrev pub is_at : Graph → ℕ → SensorRows → Bool
-is_at g i s = platform_of g s.actor == i
+abbrev pub is_entry_on : Graph → ℕ → SensorRows → Bool
+is_entry_on g i s = platform_of g s.actor == i
 
 -- an entry of an actor, if it has rows
 abbrev pub if_some : ℕ → List Row → Option SensorRows

@@ -19,8 +19,8 @@ start_of (Every start period) until = if nat_le start until then Some start else
 start_of _ until = None
 
 -- the starting event of an actor of this kind
-abbrev pub start_one : Graph → ℕ → Kind → Values
-start_one g actor kind a p t = when (actor == a && p == 0) (start_at g kind t)
+abbrev pub starting_event : Graph → ℕ → Kind → Values
+starting_event g actor kind a p t = when (actor == a && p == 0) (start_at g kind t)
 
 -- the starting events of platform i
 abbrev pub starting : Graph → ℕ → Values

@@ -62,10 +62,10 @@ abbrev pub turn_of : ℕ → Lists → Turn
 turn_of r lists = record { first = r; last = r; count = 1; posted = lists.posted.items; rows = lists.rows.items; taken = lists.taken.items; claimed = lists.claimed.items; sent = [] }
 
 -- whether the last message taken was late
-abbrev pub is_late : Ending → Bool
-is_late On = false
-is_late Late = true
-is_late Long = false
+abbrev pub took_late : Ending → Bool
+took_late On = false
+took_late Late = true
+took_late Long = false
 
 -- the first of these messages were taken: all of them unless one was late
 pub record IsFront (messages taken : List OnLink) (late : Bool) : Type 0 where
@@ -74,17 +74,17 @@ pub record IsFront (messages taken : List OnLink) (late : Bool) : Type 0 where
   pub all : late ≡ false → rest ≡ []
 
 -- a turn is a last one, unless it ends as On
-abbrev pub Ends : Graph → Ending → (IsLast : Type 0) → Type 0
-Ends g On last = last → ⊥
-Ends g Late last = last
-Ends g Long last = last
+abbrev pub EndsAsLast : Graph → Ending → (IsLast : Type 0) → Type 0
+EndsAsLast g On last = last → ⊥
+EndsAsLast g Late last = last
+EndsAsLast g Long last = last
 
 -- a turn from the old fields to the new ones: it posts those of the results that are of open claims, takes the messages or
 -- the first of them, and claims the greedy list or its first tasks
 pub record IsMade (g : Graph) (w : Basis) (r most : ℕ) (dones : List Done) (messages : List OnLink) (old new : Fields) (lists : Lists) (ending : Ending) : Type 0 where
-  pub turn : IsTurn g w.level w.platform (state_of old w.taken) (turn_of r lists) (is_late ending) (state_of new (w.taken ++ lists.taken.items))
+  pub turn : IsTurn g w.level w.platform (state_of old w.taken) (turn_of r lists) (took_late ending) (state_of new (w.taken ++ lists.taken.items))
   pub posted : ArePosted g (busy_in old.open_claims.items) dones lists.posted.items
-  pub taken : IsFront messages lists.taken.items (is_late ending)
+  pub taken : IsFront messages lists.taken.items (took_late ending)
   pub few : length lists.claimed.items ≤ most
-  pub all_or : is_late ending ≡ false → NothingSafe g turn.ready.waits turn.ready.busy r ⊎ ((most ≤ length lists.claimed.items) ⊎ (most_claims ≤ turn.ready.claims))
-  pub last : Ends g ending (IsLast g (state_of old w.taken) r (is_late ending) turn.ready)
+  pub all_or : took_late ending ≡ false → NothingSafe g turn.ready.waits turn.ready.busy r ⊎ ((most ≤ length lists.claimed.items) ⊎ (most_claims ≤ turn.ready.claims))
+  pub last : EndsAsLast g ending (IsLast g (state_of old w.taken) r (took_late ending) turn.ready)

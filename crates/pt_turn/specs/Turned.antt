@@ -40,9 +40,9 @@ is_late (Some (Late actor tag reading limit)) = true
 is_late (Some Long) = false
 
 -- a turn has a fault exactly if it is a last one
-abbrev pub Ends : Option TurnFault → Type 0 → Type 0
-Ends None last = last → ⊥
-Ends (Some fault) last = last
+abbrev pub FaultsIfLast : Option TurnFault → Type 0 → Type 0
+FaultsIfLast None last = last → ⊥
+FaultsIfLast (Some fault) last = last
 
 -- one turn of a platform, at the given reading, raised to the last one: it posts those of the results that are of open
 -- claims, takes the messages or the first of them, and claims the greedy list or its first tasks
@@ -54,7 +54,7 @@ pub record IsTurned (old new : PlatformView) (reading most : ℕ) (dones : List 
   pub taken : IsFront messages turn.taken (is_late new.fault)
   pub few : length turn.claimed ≤ most
   pub all_or : is_late new.fault ≡ false → NothingSafe old.plan.graph is.ready.waits is.ready.busy turn.last ⊎ ((most ≤ length turn.claimed) ⊎ (most_claims ≤ is.ready.claims))
-  pub last : Ends new.fault (IsLast old.plan.graph (state_at old) turn.last (is_late new.fault) is.ready)
+  pub last : FaultsIfLast new.fault (IsLast old.plan.graph (state_at old) turn.last (is_late new.fault) is.ready)
   pub turns : new.turns ≡ kept_with old.turns turn
 
 -- the plan, the number and the rows do not change

@@ -3,7 +3,7 @@
 ghost use Rattle.std.specs.Prelude.{◌≡◌, ◌+◌, ◌≤◌, vec_len, vec_capacity};
 ghost use Rattle.pt_claim.specs.Claimed.{OthersStay};
 ghost use Rattle.pt_state.specs.State.{IsSound};
-ghost use Rattle.pt_turn.specs.Claiming.{HasClaimed, IsFull};
+ghost use Rattle.pt_turn.specs.Claiming.{HasClaimed, EndsFull};
 ghost use Rattle.pt_types.specs.Limits.{most_claims};
 
 use pt_claim::{claims, next_safe};
@@ -61,7 +61,7 @@ pub fn claim_unless(
 /// How a turn ends if all 200,000 claims were made before it.
 fn full(fields: &Fields, plan: &Plan, reading: u64) -> Ending
     requires sound { IsSound plan.now.graph fields.now }
-    ensures { IsFull plan.now.graph fields.now reading result }
+    ensures { EndsFull plan.now.graph fields.now reading result }
 {
     match next_safe(fields, plan.graph(), plan.least(), plan.offsets(), reading) {
         None => Ending::On,

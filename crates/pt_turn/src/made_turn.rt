@@ -1,11 +1,11 @@
 //! A turn, run and recorded.
 
 ghost use Rattle.std.specs.Prelude.{◌≡◌, ◌+◌, ◌*◌, ◌≤◌, ℕ, Some, length};
-ghost use Rattle.pt_state.specs.State.{rows_of, IsSound};
+ghost use Rattle.pt_state.specs.State.{rows_at_sensors, IsSound};
 ghost use Rattle.pt_state.specs.Sensors.{AreSensors};
 ghost use Rattle.pt_take.specs.Taken.{Basis};
 ghost use Rattle.pt_turn.specs.Steps.{AreEmpty};
-ghost use Rattle.pt_turn.specs.Making.{CanKeep, IsKept, IsReady};
+ghost use Rattle.pt_turn.specs.Making.{CanKeep, IsRecordedTurn, IsReady};
 ghost use Rattle.pt_types.specs.Limits.{most_claims};
 
 use crate::fault::TurnFault;
@@ -37,10 +37,10 @@ pub fn make(
     requires ready { IsReady plan.now basis number closing reading most dones.now messages.now fields.old lists.old }
     requires keep { CanKeep plan.now reading (length dones.now) (length messages.now) most fields.old history.old.room }
     requires tasks { most ≤ tasks.old.spare }
-    ensures kept { IsKept plan.now basis reading most dones.now messages.now fields.old fields.new history.old.turns history.new.turns tasks.old.tasks tasks.new.tasks result }
+    ensures kept { IsRecordedTurn plan.now basis reading most dones.now messages.now fields.old fields.new history.old.turns history.new.turns tasks.old.tasks tasks.new.tasks result }
     ensures sound { IsSound plan.now.graph fields.new }
     ensures sensors { AreSensors plan.now.graph fields.new.sensors.items }
-    ensures all_rows { (a : ℕ) → rows_of fields.new.sensors.items a ≡ rows_of fields.old.sensors.items a }
+    ensures all_rows { (a : ℕ) → rows_at_sensors fields.new.sensors.items a ≡ rows_at_sensors fields.old.sensors.items a }
     ensures reading { fields.new.reading ≡ Some reading }
     ensures claims { fields.new.claims ≤ most_claims }
     ensures empty { AreEmpty lists.new }

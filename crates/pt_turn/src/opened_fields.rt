@@ -4,9 +4,9 @@ ghost use Rattle.std.specs.Prelude.{◌≡◌, [], None, false, IfOk};
 ghost use Rattle.pt_semantics.specs.Platform.{opened};
 ghost use Rattle.pt_semantics.specs.Rows.{FitRows};
 ghost use Rattle.pt_offsets.specs.Plans.{IsAdmitted};
-ghost use Rattle.pt_state.specs.State.{rows_of, state_of, IsSound};
+ghost use Rattle.pt_state.specs.State.{rows_at_sensors, state_of, IsSound};
 ghost use Rattle.pt_state.specs.Sensors.{AreSensors};
-ghost use Rattle.pt_turn.specs.Handed.{rows_in, AreHanded};
+ghost use Rattle.pt_turn.specs.Handed.{rows_handed, AreHanded};
 
 use crate::pending_rows::all_unentered;
 use crate::starting_events::starting;
@@ -26,9 +26,9 @@ pub fn open_fields(
 ) -> Result<Fields, Memory>
     requires { AreHanded plan.now.graph platform rows.items }
     ensures admitted { IsAdmitted plan.now }
-    ensures opened { IfOk result (λ fields. state_of fields [] ≡ opened plan.now.graph platform (rows_of fields.sensors.items)) }
-    ensures rows { IfOk result (λ fields. rows_of fields.sensors.items ≡ rows_in rows.items) }
-    ensures fit { IfOk result (λ fields. FitRows plan.now.graph (rows_of fields.sensors.items)) }
+    ensures opened { IfOk result (λ fields. state_of fields [] ≡ opened plan.now.graph platform (rows_at_sensors fields.sensors.items)) }
+    ensures rows { IfOk result (λ fields. rows_at_sensors fields.sensors.items ≡ rows_handed rows.items) }
+    ensures fit { IfOk result (λ fields. FitRows plan.now.graph (rows_at_sensors fields.sensors.items)) }
     ensures sound { IfOk result (λ fields. IsSound plan.now.graph fields) }
     ensures sensors { IfOk result (λ fields. AreSensors plan.now.graph fields.sensors.items) }
     ensures open_claims { IfOk result (λ fields. fields.open_claims.items ≡ []) }

@@ -3,7 +3,7 @@
 ghost use Rattle.std.specs.Prelude.{◌≡◌, [], None, IfOk, MatchOption, true, false};
 ghost use Rattle.std.specs.Arc.{arc_value};
 ghost use Rattle.pt_semantics.specs.Paced.{IsNextReading};
-ghost use Rattle.pt_turn.specs.Handed.{rows_in, AreHanded};
+ghost use Rattle.pt_turn.specs.Handed.{rows_handed, AreHanded};
 ghost use Rattle.pt_turn.specs.Platforms.{rows_at, state_at};
 
 use crate::platform::Platform;
@@ -28,7 +28,7 @@ impl Platform {
         requires { AreHanded (arc_value plan).graph platform rows.items }
         ensures plan { IfOk result (λ opened. opened.plan ≡ arc_value plan) }
         ensures number { IfOk result (λ opened. opened.number ≡ platform) }
-        ensures rows { IfOk result (λ opened. rows_at opened ≡ rows_in rows.items) }
+        ensures rows { IfOk result (λ opened. rows_at opened ≡ rows_handed rows.items) }
         ensures turns { IfOk result (λ opened. opened.turns ≡ []) }
         ensures new { IfOk result (λ opened. (opened.fault ≡ None) × (opened.room ≡ None) × (opened.open_claims ≡ []) × (opened.outbox ≡ []) × (opened.reading ≡ None)) }
     {

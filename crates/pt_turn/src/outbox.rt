@@ -2,7 +2,7 @@
 
 ghost use Rattle.std.specs.Prelude.{◌≡◌, ◌==◌, ◌<◌, length, slice_get};
 ghost use Rattle.pt_semantics.specs.Closing.{on_link};
-ghost use Rattle.pt_turn.specs.Gone.{HasGone, last_sent};
+ghost use Rattle.pt_turn.specs.Gone.{FirstHasGone, last_sent};
 
 use crate::platform::Platform;
 use pt_tags::Message;
@@ -29,7 +29,7 @@ impl Platform {
         requires begun { 0 < length self.old.turns }
         requires waits { 0 < length (on_link link self.old.outbox) }
         requires few { length (on_link link (last_sent self.old.turns)) < 64 }
-        ensures { HasGone self.old self.new link }
+        ensures { FirstHasGone self.old self.new link }
     {
         let Some(message) = self.fields.outbox.pop(link) else {
             unreachable!();

@@ -3,7 +3,7 @@
 ghost use Rattle.std.specs.Prelude.{◌≡◌, ◌==◌, IfOk, filter, filter_map, not};
 ghost use Rattle.pt_types.specs.Lookups.{platform_of};
 ghost use Rattle.pt_sensors.specs.declared.sensor_rows.SensorRows.{SensorRows as Entry};
-ghost use Rattle.pt_turn.specs.Sharing.{cut_of, is_at};
+ghost use Rattle.pt_turn.specs.Sharing.{cut_of, is_entry_on};
 
 use pt_sensors::SensorRows;
 use pt_tags::List;
@@ -17,7 +17,7 @@ pub fn parted(
     number: u32,
     entries: Vec<SensorRows>,
 ) -> Result<(Vec<SensorRows>, Vec<SensorRows>), AllocError>
-    ensures { IfOk result (λ both. (both.0.items ≡ filter (is_at graph.now number) entries.items) × (both.1.items ≡ filter (λ (s : Entry). not (is_at graph.now number s)) entries.items)) }
+    ensures { IfOk result (λ both. (both.0.items ≡ filter (is_entry_on graph.now number) entries.items) × (both.1.items ≡ filter (λ (s : Entry). not (is_entry_on graph.now number s)) entries.items)) }
 {
     let mut own = Vec::new(alloc);
     let mut others = Vec::new(alloc);

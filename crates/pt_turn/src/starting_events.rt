@@ -6,7 +6,7 @@ ghost use Rattle.pt_types.specs.Lawful.{IsLawful};
 ghost use Rattle.pt_semantics.specs.Meaning.{added};
 ghost use Rattle.pt_queue.specs.Groups.{AreGroups};
 ghost use Rattle.pt_queue.specs.Events.{waiting_in};
-ghost use Rattle.pt_turn.specs.Starting.{start_of, start_one, starting};
+ghost use Rattle.pt_turn.specs.Starting.{start_of, starting_event, starting};
 
 use pt_queue::Queue;
 use pt_tags::{Memory, Tag};
@@ -28,7 +28,7 @@ fn begin(queue: &mut Queue, graph: &Graph, actor: u32, kind: &Kind)
     requires spare { 0 < queue.old.spare }
     requires actor { actor < length queue.old.groups }
     requires absent { (t : Tag) → waiting_in queue.old.events actor 0 t ≡ None }
-    ensures waits { waiting_in queue.new.events ≡ added (waiting_in queue.old.events) (start_one graph.now actor kind.now) }
+    ensures waits { waiting_in queue.new.events ≡ added (waiting_in queue.old.events) (starting_event graph.now actor kind.now) }
     ensures spare { queue.old.spare ≤ queue.new.spare + 1 }
     ensures groups { queue.new.groups ≡ queue.old.groups }
 {

@@ -2,7 +2,7 @@
 
 ghost use Rattle.std.specs.Prelude.{◌≡◌, ◌+◌, ◌*◌, ◌≤◌, ℕ, Some, length};
 ghost use Rattle.pt_semantics.specs.Paced.{IsClosing};
-ghost use Rattle.pt_state.specs.State.{rows_of, IsSound};
+ghost use Rattle.pt_state.specs.State.{rows_at_sensors, IsSound};
 ghost use Rattle.pt_post.specs.Posted.{AreDone};
 ghost use Rattle.pt_state.specs.Sensors.{AreSensors};
 ghost use Rattle.pt_take.specs.Taken.{Arrive, Basis};
@@ -59,7 +59,7 @@ pub fn turn(
     ensures sound { IsSound plan.now.graph fields.new }
     ensures sensors { AreSensors plan.now.graph fields.new.sensors.items }
     ensures made { IsMade plan.now.graph basis reading most dones.now messages.now fields.old fields.new lists.new result }
-    ensures all_rows { (a : ℕ) → rows_of fields.new.sensors.items a ≡ rows_of fields.old.sensors.items a }
+    ensures all_rows { (a : ℕ) → rows_at_sensors fields.new.sensors.items a ≡ rows_at_sensors fields.old.sensors.items a }
     ensures reading { fields.new.reading ≡ Some reading }
     ensures claims { fields.new.claims ≤ most_claims }
     ensures few { FitIn dones.now messages.now most plan.now.graph reading fields.old lists.new }

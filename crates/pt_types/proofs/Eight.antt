@@ -8,7 +8,7 @@ use Rattle.pt_types.specs.Together.{same_there, same_values}
 use Rattle.pt_types.specs.declared.ports.Ports.{Ports}
 use Rattle.pt_types.specs.declared.ports.Ports.TheInside.{Inside}
 use Rattle.pt_types.specs.contracts.ports.Ports.{the_invariant, the_view}
-use Rattle.pt_types.specs.Apart.{AreApart, are_there, or_zero, together, values_or_zero}
+use Rattle.pt_types.specs.Apart.{AreApart, are_there, value_or_zero, together, values_or_zero}
 use Rattle.pt_types.specs.Ports.{at_port, when}
 
 -- the first eight members of a list
@@ -77,8 +77,8 @@ same_eight p q r s t u v w i = p i ∷ q i ∷ r i ∷ s i ∷ t i ∷ u i ∷ v
 pub apart_eight : {a b c d e f g h : Bool} {i j k l m n o p : ℤ} → (xs : List (Option ℤ))
     → a ≡ is_some (get_or xs 0 None) → b ≡ is_some (get_or xs 1 None) → c ≡ is_some (get_or xs 2 None) → d ≡ is_some (get_or xs 3 None)
     → e ≡ is_some (get_or xs 4 None) → f ≡ is_some (get_or xs 5 None) → g ≡ is_some (get_or xs 6 None) → h ≡ is_some (get_or xs 7 None)
-    → i ≡ or_zero (get_or xs 0 None) → j ≡ or_zero (get_or xs 1 None) → k ≡ or_zero (get_or xs 2 None) → l ≡ or_zero (get_or xs 3 None)
-    → m ≡ or_zero (get_or xs 4 None) → n ≡ or_zero (get_or xs 5 None) → o ≡ or_zero (get_or xs 6 None) → p ≡ or_zero (get_or xs 7 None)
+    → i ≡ value_or_zero (get_or xs 0 None) → j ≡ value_or_zero (get_or xs 1 None) → k ≡ value_or_zero (get_or xs 2 None) → l ≡ value_or_zero (get_or xs 3 None)
+    → m ≡ value_or_zero (get_or xs 4 None) → n ≡ value_or_zero (get_or xs 5 None) → o ≡ value_or_zero (get_or xs 6 None) → p ≡ value_or_zero (get_or xs 7 None)
     → (a ∷ b ∷ c ∷ d ∷ e ∷ f ∷ g ∷ h ∷ [] ≡ are_there (eight_in xs)) × (i ∷ j ∷ k ∷ l ∷ m ∷ n ∷ o ∷ p ∷ [] ≡ values_or_zero (eight_in xs))
 apart_eight xs qa qb qc qd qe qf qg qh qi qj qk ql qm qn qo qp = (same_eight qa qb qc qd qe qf qg qh, same_eight qi qj qk ql qm qn qo qp)
 

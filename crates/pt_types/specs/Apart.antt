@@ -3,9 +3,9 @@ use Rattle.std.specs.Prelude.{◌≡◌, Bool, true, false, List, [], ◌∷◌,
 use Rattle.pt_types.specs.Ports.{when}
 
 -- a value, or 0 if there is none
-abbrev pub or_zero : Option ℤ → ℤ
-or_zero None = pos 0
-or_zero (Some v) = v
+abbrev pub value_or_zero : Option ℤ → ℤ
+value_or_zero None = pos 0
+value_or_zero (Some v) = v
 
 -- which values are present
 abbrev pub are_there : List (Option ℤ) → List Bool
@@ -13,7 +13,7 @@ are_there ports = map is_some ports
 
 -- the values, with 0 for each that is absent
 abbrev pub values_or_zero : List (Option ℤ) → List ℤ
-values_or_zero ports = map or_zero ports
+values_or_zero ports = map value_or_zero ports
 
 -- the optional values again, from both lists
 abbrev pub together : List Bool → List ℤ → List (Option ℤ)

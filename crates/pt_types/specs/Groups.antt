@@ -49,9 +49,9 @@ output_group (Lanes cells) output = output
 output_group _ output = 0
 
 -- the pair is of these two platforms, in either order
-abbrev pub is_of : ℕ → ℕ → PairError → Bool
-is_of a b pair = pair.a == a && pair.b == b || pair.a == b && pair.b == a
+abbrev pub is_pair_of : ℕ → ℕ → PairError → Bool
+is_pair_of a b pair = pair.a == a && pair.b == b || pair.a == b && pair.b == a
 
 -- the clock error of two platforms: the error that their pair states, or else the graph's
 abbrev pub error_between : Graph → ℕ → ℕ → ℕ
-error_between g a b = unwrap_or (option_map (λ (pair : PairError). pair.error) (find (is_of a b) g.clock_errors)) g.clock_error
+error_between g a b = unwrap_or (option_map (λ (pair : PairError). pair.error) (find (is_pair_of a b) g.clock_errors)) g.clock_error

@@ -10,7 +10,7 @@ use Rattle.pt_types.specs.declared.kind.Kind.{Kind}
 use Rattle.pt_types.specs.declared.kind.Kind.TheVariants.{Lanes}
 use Rattle.pt_types.specs.Names.{is_name}
 use Rattle.pt_types.specs.Kinds.{kind_is_lawful, is_time, visible_inputs, visible_outputs}
-use Rattle.pt_types.specs.Groups.{is_of}
+use Rattle.pt_types.specs.Groups.{is_pair_of}
 use Rattle.pt_types.specs.Ends.{ends_fit, stays_home, is_fed, fed_twice_from, first_unfed, link_fits, misfit_from, hidden_wires}
 
 -- one of these has this name
@@ -23,9 +23,9 @@ repeated_from name_of seen i [] = None
 repeated_from name_of seen i (x ∷ xs) = if is_named name_of seen (name_of x) then Some i else repeated_from name_of (seen ++ x ∷ []) (i + 1) xs
 
 -- the index of the first pair that names the two platforms of an earlier pair
-abbrev pub pair_again_from : List PairError → ℕ → List PairError → Option ℕ
-pair_again_from seen i [] = None
-pair_again_from seen i (p ∷ ps) = if list_any (is_of p.a p.b) seen then Some i else pair_again_from (seen ++ p ∷ []) (i + 1) ps
+abbrev pub pair_repeats_from : List PairError → ℕ → List PairError → Option ℕ
+pair_repeats_from seen i [] = None
+pair_repeats_from seen i (p ∷ ps) = if list_any (is_pair_of p.a p.b) seen then Some i else pair_repeats_from (seen ++ p ∷ []) (i + 1) ps
 
 -- an actor's name, platform, parameters and visible ports are valid
 abbrev pub actor_is_lawful : ℕ → Actor → Bool
@@ -69,7 +69,7 @@ pub record IsLawful (g : Graph) : Type 0 where
   -- names of platforms, names of actors and pairs are all different
   pub other_platforms : repeated_from (λ n. n) [] 0 g.platforms ≡ None
   pub other_actors : repeated_from (λ (a : Actor). a.name) [] 0 g.actors ≡ None
-  pub other_pairs : pair_again_from [] 0 g.clock_errors ≡ None
+  pub other_pairs : pair_repeats_from [] 0 g.clock_errors ≡ None
   -- a wire joins visible ports on one platform, each visible input has one wire, and each link joins a sender to a receiver
   pub ends : list_all (ends_fit g.actors) visible ≡ true
   pub home : list_all (stays_home g.actors) visible ≡ true

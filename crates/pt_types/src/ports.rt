@@ -1,7 +1,7 @@
 //! The values at the eight inputs or the eight outputs of an actor.
 
 ghost use Rattle.std.specs.Prelude.{◌≡◌, ◌<◌, is_some, slice_set};
-ghost use Rattle.pt_types.specs.Apart.{or_zero};
+ghost use Rattle.pt_types.specs.Apart.{value_or_zero};
 ghost use Rattle.pt_types.specs.Ports.{eight, nothing, at_port, only};
 
 use std::marker::Model;
@@ -145,7 +145,7 @@ fn is_there(value: Option<i64>) -> bool
 
 /// The value, or 0 if there is none.
 fn or_zero(value: Option<i64>) -> i64
-    ensures { result ≡ or_zero value }
+    ensures { result ≡ value_or_zero value }
 {
     value.unwrap_or(0)
 }

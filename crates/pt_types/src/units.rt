@@ -44,11 +44,11 @@ impl Graph {
 }
 
 impl crate::graph::PairError {
-    ghost use Rattle.pt_types.specs.Groups.{is_of};
+    ghost use Rattle.pt_types.specs.Groups.{is_pair_of};
 
     /// Whether the pair is of these two platforms, in either order.
     pub fn is_of(&self, a: u32, b: u32) -> bool
-        ensures { result ≡ is_of a b self.now }
+        ensures { result ≡ is_pair_of a b self.now }
     {
         (self.a == a && self.b == b) || (self.a == b && self.b == a)
     }

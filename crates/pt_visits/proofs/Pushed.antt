@@ -12,7 +12,7 @@ use Rattle.pt_semantics.specs.Turn.{Turn}
 use Rattle.pt_semantics.specs.Visits.{LinkByLink}
 use Rattle.pt_history.proofs.LastMember.{length-on_last}
 use Rattle.pt_history.specs.Turns.{sending}
-use Rattle.pt_turn.specs.Gone.{HasGone, last_sent}
+use Rattle.pt_turn.specs.Gone.{FirstHasGone, last_sent}
 use Rattle.pt_turn.specs.Platforms.{PlatformView}
 use Rattle.pt_turn.proofs.Coming.{on_append}
 use Rattle.pt_visits.specs.Pipes.{put_on}
@@ -52,7 +52,7 @@ module _ (l : ℕ) (old mid : PlatformView) (pipe piped : List Message) (so_far 
       let before : length piped ≡ length pipe + length so_far.messages = ap length so_far.appended ∙ length-append pipe so_far.messages in
       omega (arith, sent, all, before, fits)
 
-  pub one_more : (new : PlatformView) (m : Message) (more : List Message) → Some m ≡ slice_get (on_link l mid.outbox) 0 → more ≡ piped ++ m ∷ [] → length more ≤ 64 → HasGone mid new l → PushesOn l old new pipe more
+  pub one_more : (new : PlatformView) (m : Message) (more : List Message) → Some m ≡ slice_get (on_link l mid.outbox) 0 → more ≡ piped ++ m ∷ [] → length more ≤ 64 → FirstHasGone mid new l → PushesOn l old new pipe more
   one_more new m more first is fits h =
       let all : length more ≡ length piped + 1 = ap length is ∙ length-append piped (m ∷ []) in
       let before : length piped ≡ length pipe + length so_far.messages = ap length so_far.appended ∙ length-append pipe so_far.messages in

@@ -9,7 +9,7 @@ use Rattle.pt_semantics.specs.Closing.{on_link}
 use Rattle.pt_semantics.specs.Lists.{Each}
 use Rattle.pt_semantics.specs.Turn.{Turn}
 use Rattle.pt_history.specs.Turns.{sending}
-use Rattle.pt_turn.specs.Gone.{HasGone, last_sent}
+use Rattle.pt_turn.specs.Gone.{FirstHasGone, last_sent}
 use Rattle.pt_turn.specs.Platforms.{PlatformView}
 use Rattle.pt_turn.proofs.Coming.{on_append}
 use Rattle.pt_turn.proofs.Leaving.{on_own, on_other}
@@ -64,7 +64,7 @@ sent_both old mid new ms ns h k = record {
   stays = k.stays ∙ ap (λ (z : PlatformView). record z { turns = new.turns; outbox = new.outbox }) h.stays;
 }
 
-pub sent_one : (old new : PlatformView) (l : ℕ) → (h : HasGone old new l) → HasSent old new (put_on l h.message ∷ [])
+pub sent_one : (old new : PlatformView) (l : ℕ) → (h : FirstHasGone old new l) → HasSent old new (put_on l h.message ∷ [])
 sent_one old new l h = record {
   rest = λ k.
       ⊎_elim

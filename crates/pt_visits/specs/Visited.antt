@@ -13,7 +13,7 @@ use Rattle.pt_history.specs.Turns.{sending}
 use Rattle.pt_post.specs.Posted.{AreDone, ArePosted}
 use Rattle.pt_turn.specs.Steps.{IsFront}
 use Rattle.pt_turn.specs.Platforms.{PlatformView, level_at, raised_to, state_at}
-use Rattle.pt_turn.specs.Turned.{Ends, StaysThere, is_late}
+use Rattle.pt_turn.specs.Turned.{FaultsIfLast, StaysThere, is_late}
 use Rattle.pt_visits.specs.Pipes.{HavePushed, arriving, emptied}
 use Rattle.pt_types.specs.Limits.{most_claims}
 
@@ -33,7 +33,7 @@ pub record IsVisited (most r : ℕ) (dones results : List Done) (old new : Platf
   pub taken : IsFront (arriving old.plan.graph old.number 0 pipes) turn.taken (is_late new.fault)
   pub few : length turn.claimed ≤ most
   pub all_or : is_late new.fault ≡ false → NothingSafe old.plan.graph is.ready.waits is.ready.busy turn.last ⊎ ((most ≤ length turn.claimed) ⊎ (most_claims ≤ is.ready.claims))
-  pub last : Ends new.fault (IsLast old.plan.graph (state_at old) turn.last (is_late new.fault) is.ready)
+  pub last : FaultsIfLast new.fault (IsLast old.plan.graph (state_at old) turn.last (is_late new.fault) is.ready)
   pub turns : new.turns ≡ kept_with old.turns turn
   pub sent : HavePushed is.done.outbox (emptied old.plan.graph old.number 0 pipes) piped turn.sent
   pub stays : StaysThere old new

@@ -10,7 +10,7 @@ use Rattle.clap.specs.Kinds.{Kinds, or_else}
 use Rattle.clap.specs.declared.error.kind.ErrorKind.{ErrorKind}
 use Rattle.clap.specs.declared.error.kind.ErrorKind.TheVariants as kind
 use Rattle.clap.specs.declared.parser.matches.ValueSource.TheVariants.{CommandLine}
-use Rattle.pt_words.specs.Said.{Said, Place, among, workers_due, clock_due, ended, is_dashed, nothing, option_said, said, with_graph, with_workers, with_clock, with_log}
+use Rattle.pt_words.specs.Said.{Said, Place, among, workers_due, clock_due, ended, is_dashed, no_words, option_said, said, with_graph, with_workers, with_clock, with_log}
 use Rattle.pt_words.specs.Short.{has_short, is_short}
 use Rattle.pt_words.proofs.Rows.{values_in, here, other}
 use Rattle.pt_words.proofs.Steps as step
@@ -23,7 +23,7 @@ said_in rows = record { graphs = values_in (codes "graph") rows; workers = value
 abbrev pub plus : Said → Said → Said
 plus a b = record { graphs = a.graphs ++ b.graphs; workers = a.workers ++ b.workers; clocks = a.clocks ++ b.clocks; logs = a.logs ++ b.logs }
 
-plus_nothing : (a : Said) → a ≡ plus a nothing
+plus_nothing : (a : Said) → a ≡ plus a no_words
 plus_nothing a = λ i. record { graphs = sym (append-nil a.graphs) i; workers = sym (append-nil a.workers) i; clocks = sym (append-nil a.clocks) i; logs = sym (append-nil a.logs) i }
 
 -- the faults of the rest of a walk, and the rows that it ends with
@@ -54,7 +54,7 @@ refuses : (now : Said) (w : Walk) (x : Text) (ws : List Text) (k : ErrorKind) �
 refuses now w x ws k f = stops now w x ws (rw f (λ e. absurd cc))
 
 finishes : (now : Said) (rows : List Row) (p : Option (Text × List Text)) (waiting : Waiting) (e : Bool) → IsWhole rows p → said_in (settled_rows app.top.rules p rows) ≡ now
-    → Agrees now (at rows p waiting e) [] (Some nothing)
+    → Agrees now (at rows p waiting e) [] (Some no_words)
 unfolding walk_fault Agrees
 finishes now rows p waiting e f is = (f, is ∙ plus_nothing now)
 

@@ -8,7 +8,7 @@ use Rattle.std.proofs.lemmas.Bool.Decides.{nat_tests}
 use Rattle.pt_words.specs.declared.orders.ClockChoice.{ClockChoice}
 use Rattle.pt_words.specs.declared.orders.Command.{Command}
 use Rattle.pt_words.specs.declared.orders.Command.TheVariants.{Run, Check, Meaning, Make, Migrate, Slacks, Audit, Replay}
-use Rattle.pt_words.specs.Grammar.{run, check, meaning, make, migrate, slacks, audit, audit_of, replay, replay_of, clock_in, command_of, graph_in, is_bare, is_numeral, log_in, made_number_of, make_of, number_within, order_of, pair_in, order_with, request_of, request_over, run_of, workers_in}
+use Rattle.pt_words.specs.Grammar.{run, check, meaning, make, migrate, slacks, audit, audit_of, replay, replay_of, clock_in, command_of, only_word, is_bare, is_numeral, log_in, made_number_of, make_of, number_within, request_of_words, pair_in, order_with, request_of, request_over, run_of, workers_in}
 use Rattle.pt_words.specs.Said.{Said, among, said}
 
 -- what comes of an option comes of a value that is there
@@ -107,9 +107,9 @@ replayed_by words n k h =
     other : (graph air : List ℕ) (w : ℕ) (l : Bool) → replay graph air w l ≡ make n k → ⊥
     other graph air w l e = cc
 
-one_word : (command : Command) (words : Said) (n k : ℕ) → option_and_then (request_over command words) (graph_in words.graphs) ≡ Some (make n k) → n ≤ 100
+one_word : (command : Command) (words : Said) (n k : ℕ) → option_and_then (request_over command words) (only_word words.graphs) ≡ Some (make n k) → n ≤ 100
 one_word command words n k h =
-    let word = and_then_found (request_over command words) (graph_in words.graphs) (make n k) h in
+    let word = and_then_found (request_over command words) (only_word words.graphs) (make n k) h in
     over_by command words word.0 n k word.1
 
 requested_by : (command : Command) (words : Said) (n k : ℕ) → request_of command words ≡ Some (make n k) → n ≤ 100
@@ -122,7 +122,7 @@ requested_by Slacks words n k h = one_word Slacks words n k h
 requested_by Audit words n k h = absurd (audited_by words n k h)
 requested_by Replay words n k h = absurd (replayed_by words n k h)
 
-pub made_number : (words : List (String Global)) (n k : ℕ) → order_of words ≡ Some (make n k) → n ≤ 100
+pub made_number : (words : List (String Global)) (n k : ℕ) → request_of_words words ≡ Some (make n k) → n ≤ 100
 made_number [] n k h = absurd cc
 made_number (word ∷ words) n k h =
     let command = and_then_found (λ command. order_with command (map string_bytes words)) (command_of (string_bytes word)) (make n k) h in

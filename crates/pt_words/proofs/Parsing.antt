@@ -8,7 +8,7 @@ use Rattle.clap.specs.Faults.{check_fault, defaults_fault, entered_fault, fault_
 use Rattle.clap.specs.Kinds.{Kinds, or_else}
 use Rattle.pt_words.specs.App.{words_app}
 use Rattle.clap.specs.Lexer.{name_and_value}
-use Rattle.pt_words.specs.Said.{Place, Said, among, clock_due, nothing, option_said, said, with_clock, with_graph, with_workers, workers_due}
+use Rattle.pt_words.specs.Said.{Place, Said, among, clock_due, no_words, option_said, said, with_clock, with_graph, with_workers, workers_due}
 use Rattle.pt_words.specs.Short.{has_short}
 use Rattle.pt_words.proofs.Agreeing.{Agrees, amid, clock_plain, last_rows, rest_fault, said_in, said_plain, short_plain, sim, workers_plain}
 use Rattle.pt_words.proofs.Shapes.{view, empty, dash, plain, ending, long, short}
@@ -49,14 +49,14 @@ same_rows rows = simp either
 pub rows_are : (ws : List Text) → matches_of words_app ws ≡ last_rows (at [] None idle false) ws
 rows_are ws = same_rows (last_rows (at [] None idle false) ws)
 
-agrees : (ws : List Text) → has_short ws ≡ false → Agrees nothing (at [] None idle false) ws (said among ws)
-agrees ws h = sim ws h nothing (amid [] None false refl refl)
+agrees : (ws : List Text) → has_short ws ≡ false → Agrees no_words (at [] None idle false) ws (said among ws)
+agrees ws h = sim ws h no_words (amid [] None false refl refl)
 
 pub record Parses (ws : List Text) (o : Option Said) : Type 0 where
   pub none : o ≡ None → fault_of words_app ws ≡ [] → ⊥
   pub some : (s : Said) → o ≡ Some s → (fault_of words_app ws ≡ []) × (said_in (matches_of words_app ws) ≡ s)
 
-by_walk : (ws : List Text) (o : Option Said) → Agrees nothing (at [] None idle false) ws o → Parses ws o
+by_walk : (ws : List Text) (o : Option Said) → Agrees no_words (at [] None idle false) ws o → Parses ws o
 unfolding Agrees
 by_walk ws None h = record { none = λ _ e. h (sym (whole ws) ∙ e); some = λ s e. absurd cc }
 by_walk ws (Some k) h = record { none = λ e. absurd cc; some = λ s e. (whole ws ∙ h.0, ap said_in (rows_are ws) ∙ h.1 ∙ cc) }

@@ -72,10 +72,10 @@ clock_of value =
     if bytes_eq (before_first is_colon value) (codes "step") then step_clock_of (after_first is_colon value) else None))
 
 -- exactly one positional word, which isn't empty: the graph file, or the number
-abbrev pub graph_in : List (List ℕ) → Option (List ℕ)
-graph_in [] = None
-graph_in (word ∷ []) = if length word == 0 then None else Some word
-graph_in (word ∷ next ∷ more) = None
+abbrev pub only_word : List (List ℕ) → Option (List ℕ)
+only_word [] = None
+only_word (word ∷ []) = if length word == 0 then None else Some word
+only_word (word ∷ next ∷ more) = None
 
 -- exactly two positional words, neither of which is empty: the graph file, and the log or the recording
 abbrev pub pair_in : List (List ℕ) → Option (List ℕ × List ℕ)
@@ -138,13 +138,13 @@ request_over Replay words graph = None
 abbrev pub request_of : Command → Said → Option Request
 request_of Audit words = audit_of words
 request_of Replay words = replay_of words
-request_of command words = option_and_then (request_over command words) (graph_in words.graphs)
+request_of command words = option_and_then (request_over command words) (only_word words.graphs)
 
 -- the request of a command and the words after it
 abbrev pub order_with : Command → List (List ℕ) → Option Request
 order_with command words = option_and_then (request_of command) (said among words)
 
 -- the request of all words: the first is the command
-abbrev pub order_of : List (String Global) → Option Request
-order_of [] = None
-order_of (word ∷ words) = option_and_then (λ command. order_with command (map string_bytes words)) (command_of (string_bytes word))
+abbrev pub request_of_words : List (String Global) → Option Request
+request_of_words [] = None
+request_of_words (word ∷ words) = option_and_then (λ command. order_with command (map string_bytes words)) (command_of (string_bytes word))

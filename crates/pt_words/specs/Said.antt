@@ -10,8 +10,8 @@ pub record Said : Type 0 where
   pub logs : List (List ℕ)
 
 -- no words
-abbrev pub nothing : Said
-nothing = record { graphs = []; workers = []; clocks = []; logs = [] }
+abbrev pub no_words : Said
+no_words = record { graphs = []; workers = []; clocks = []; logs = [] }
 
 -- the place of a word: among the options, where an option needs its value, or after `--`
 pub data Place : Type 0 where
@@ -68,10 +68,10 @@ word_said ended word next = with_graph word (next ended)
 
 -- after the last word no value may be missing
 abbrev pub end_said : Place → Option Said
-end_said among = Some nothing
+end_said among = Some no_words
 end_said workers_due = None
 end_said clock_due = None
-end_said ended = Some nothing
+end_said ended = Some no_words
 
 -- the values of these words, the first of which is at this place
 abbrev pub said : Place → List (List ℕ) → Option Said

@@ -1,7 +1,7 @@
 //! The order that the words ask for.
 
 ghost use Rattle.std.specs.Prelude.{◌≡◌, ◌==◌, IfOk, codes, length, map, option_map, string_bytes};
-ghost use Rattle.pt_words.specs.Grammar.{clock_in, command_of, audit_of, graph_in, is_bare, log_in, make_of, order_of, order_with, pair_in, replay_of, request_of, request_over, run_of, workers_in};
+ghost use Rattle.pt_words.specs.Grammar.{clock_in, command_of, audit_of, only_word, is_bare, log_in, make_of, request_of_words, order_with, pair_in, replay_of, request_of, request_over, run_of, workers_in};
 ghost use Rattle.pt_words.specs.Views.{asked, texts_in, told, values_of};
 
 use crate::orders::{ClockChoice, Command, Order};
@@ -28,7 +28,7 @@ struct Values<'m, 'a> {
 /// value is the next word, or follows `=` in the same word; `--log` takes none. A word `--` ends the options. Any other word that
 /// begins with `-` and is longer is refused, also as a value.
 pub fn order_of<'a>(alloc: Global, words: &'a [String]) -> Result<Option<Order<'a>>, AllocError>
-    ensures { IfOk result (λ order. option_map asked order ≡ order_of words.entry.now) }
+    ensures { IfOk result (λ order. option_map asked order ≡ request_of_words words.entry.now) }
 {
     let [first, rest @ ..] = words else {
         return Ok(None);
@@ -197,7 +197,7 @@ fn is_absent<'m, 'a>(words: Option<&'m [&'a str]>) -> bool
 
 /// The positional word, if there is exactly one and it isn't empty.
 fn graph_in<'m, 'a>(words: Option<&'m [&'a str]>) -> Option<&'a str>
-    ensures { option_map (λ word. word.now) result ≡ graph_in (texts_in words.entry) }
+    ensures { option_map (λ word. word.now) result ≡ only_word (texts_in words.entry) }
 {
     match words {
         Some([word]) if !word.is_empty() => Some(*word),

@@ -11,9 +11,9 @@ use Rattle.pt_semantics.proofs.Lookups.{same_some}
 use Rattle.pt_post.specs.Posted.{AreDone}
 use Rattle.pt_offsets.specs.Plans.{Parts}
 use Rattle.pt_turn.specs.Platforms.{PlatformView, state_at}
-use Rattle.pt_together.specs.Asked.{lists_of}
+use Rattle.pt_together.specs.Asked.{result_lists}
 use Rattle.pt_together.proofs.Listed.{list_at}
-use Rattle.pt_aired.specs.Passing.{HavePassed}
+use Rattle.pt_aired.specs.Passing.{HavePassedInAir}
 use Rattle.pt_aired.proofs.Passes.{comes, none_passed, not_faulty, one_by, one_flown}
 use Rattle.pt_aired.proofs.passing.pass.Goals as goal
 use Rattle.pt_aired.proofs.passing.pass.Goals.{then-quiet, else-quiet}
@@ -24,7 +24,7 @@ here platforms i v d lt = same_some (get_or platforms i v) (get_or platforms i d
 
 pub loop-i-init : goal.loop-i-init
 loop-i-init g c = record {
-  passed = λ plan rows count s. none_passed plan rows c.args.air.now count c.args.now c.args.platforms.now c.args.airways.now (lists_of c.args.results.now) s;
+  passed = λ plan rows count s. none_passed plan rows c.args.air.now count c.args.now c.args.platforms.now c.args.airways.now (result_lists c.args.results.now) s;
   pipes = refl;
 }
 
@@ -32,8 +32,8 @@ pub loop-i-preserved-then-finished : goal.loop-i-preserved-then-finished
 loop-i-preserved-then-finished g c = record {
   passed = λ plan rows count s.
       let lt : c.loop-i.i < length c.loop-i.platforms = omega (arith, c.loop-i-test.true, c.loop-i.auto.platforms) in
-      subst (λ k. HavePassed plan rows c.args.air.now c.args.now s.sky k c.loop-i.platforms c.loop-i.airways (lists_of c.loop-i.results) c.loop-i.quiet) (sym (add-one c.loop-i.i))
-      (one_by plan rows c.args.air.now count c.args.now c.args.platforms.now c.args.airways.now (lists_of c.args.results.now) s c.loop-i.i c.loop-i.platforms c.loop-i.airways (lists_of c.loop-i.results) c.loop-i.quiet (c.loop-i.invariant.passed plan rows count s)
+      subst (λ k. HavePassedInAir plan rows c.args.air.now c.args.now s.sky k c.loop-i.platforms c.loop-i.airways (result_lists c.loop-i.results) c.loop-i.quiet) (sym (add-one c.loop-i.i))
+      (one_by plan rows c.args.air.now count c.args.now c.args.platforms.now c.args.airways.now (result_lists c.args.results.now) s c.loop-i.i c.loop-i.platforms c.loop-i.airways (result_lists c.loop-i.results) c.loop-i.quiet (c.loop-i.invariant.passed plan rows count s)
       (get_or c.loop-i.platforms c.loop-i.i c.index-platforms-i.result)
       (slice_get-get_or c.loop-i.platforms c.loop-i.i c.index-platforms-i.result lt)
       (c.finished.ensures.0 c.if-finished.true));
@@ -51,13 +51,13 @@ fly_one-requires g c =
     let mine = list_at c.loop-i.results c.loop-i.i (get_or c.loop-i.results c.loop-i.i c.index-results-i.result) (slice_get-get_or c.loop-i.results c.loop-i.i c.index-results-i.result within) in
     let links = ap (λ (p : Parts). length p.graph.links) (sym (h.shown.all.plans c.loop-i.i v there)) in
     record {
-      no_fault = not_faulty plan rows c.args.air.now count c.args.now c.args.platforms.now c.args.airways.now (lists_of c.args.results.now) s c.loop-i.i c.loop-i.platforms c.loop-i.airways (lists_of c.loop-i.results) c.loop-i.quiet h v there;
+      no_fault = not_faulty plan rows c.args.air.now count c.args.now c.args.platforms.now c.args.airways.now (result_lists c.args.results.now) s c.loop-i.i c.loop-i.platforms c.loop-i.airways (result_lists c.loop-i.results) c.loop-i.quiet h v there;
       airways = h.shown.links ∙ links;
       pipes = ap length c.loop-i.invariant.pipes ∙ empty.0 ∙ links;
       empty = subst (Each (λ (pipe : List Message). pipe ≡ [])) (sym c.loop-i.invariant.pipes) empty.1;
       transits = s.transits ∙ links;
       done = subst (λ (p : Parts). AreDone p.graph (get_or c.loop-i.results c.loop-i.i c.index-results-i.result).items) (sym (h.shown.all.plans c.loop-i.i v there)) (h.shown.pending.each c.loop-i.i v (get_or c.loop-i.results c.loop-i.i c.index-results-i.result).items there mine).done;
-      taken = comes plan rows c.args.air.now count c.args.now c.args.platforms.now c.args.airways.now (lists_of c.args.results.now) s c.loop-i.i c.loop-i.platforms c.loop-i.airways (lists_of c.loop-i.results) c.loop-i.quiet h v there;
+      taken = comes plan rows c.args.air.now count c.args.now c.args.platforms.now c.args.airways.now (result_lists c.args.results.now) s c.loop-i.i c.loop-i.platforms c.loop-i.airways (result_lists c.loop-i.results) c.loop-i.quiet h v there;
     }
 
 pub loop-i-preserved : goal.loop-i-preserved
@@ -67,10 +67,10 @@ loop-i-preserved g c = record {
       let h = c.loop-i.invariant.passed plan rows count s in
       let within : c.loop-i.i < length c.loop-i.results = omega (arith, lt, h.shown.pending.count, length-map c.loop-i.results (λ (v : Vec Done). v.items)) in
       let one = here c.loop-i.platforms c.loop-i.i c.index-platforms-i.result c.index-platforms-i-in-loop-i.result lt in
-      subst (λ k. HavePassed plan rows c.args.air.now c.args.now s.sky k (set c.loop-i.platforms c.loop-i.i c.fly_one.new.platform) c.fly_one.new.airways (lists_of (set c.loop-i.results c.loop-i.i c.fly_one.new.results)) c.if-quiet.quiet) (sym (add-one c.loop-i.i))
-      (subst (λ results. HavePassed plan rows c.args.air.now c.args.now s.sky (suc c.loop-i.i) (set c.loop-i.platforms c.loop-i.i c.fly_one.new.platform) c.fly_one.new.airways results c.if-quiet.quiet)
+      subst (λ k. HavePassedInAir plan rows c.args.air.now c.args.now s.sky k (set c.loop-i.platforms c.loop-i.i c.fly_one.new.platform) c.fly_one.new.airways (result_lists (set c.loop-i.results c.loop-i.i c.fly_one.new.results)) c.if-quiet.quiet) (sym (add-one c.loop-i.i))
+      (subst (λ results. HavePassedInAir plan rows c.args.air.now c.args.now s.sky (suc c.loop-i.i) (set c.loop-i.platforms c.loop-i.i c.fly_one.new.platform) c.fly_one.new.airways results c.if-quiet.quiet)
       (sym (map-set (λ (v : Vec Done). v.items) c.loop-i.results c.loop-i.i c.fly_one.new.results))
-      (one_flown plan rows c.args.air.now count c.args.now c.args.platforms.now c.args.airways.now (lists_of c.args.results.now) s c.loop-i.i c.loop-i.platforms c.loop-i.airways (lists_of c.loop-i.results) c.loop-i.quiet h
+      (one_flown plan rows c.args.air.now count c.args.now c.args.platforms.now c.args.airways.now (result_lists c.args.results.now) s c.loop-i.i c.loop-i.platforms c.loop-i.airways (result_lists c.loop-i.results) c.loop-i.quiet h
       (get_or c.loop-i.platforms c.loop-i.i c.index-platforms-i-in-loop-i.result)
       (slice_get-get_or c.loop-i.platforms c.loop-i.i c.index-platforms-i-in-loop-i.result lt)
       c.fly_one.new.platform (get_or c.loop-i.results c.loop-i.i c.index-results-i.result).items c.fly_one.new.results.items c.fly_one.new.airways c.in_ok-still.still c.if-quiet.quiet
@@ -86,4 +86,4 @@ loop-i-preserved g c = record {
 pub returns-clause-passed : goal.returns-clause-passed
 returns-clause-passed g c = λ plan rows count s.
     let e : c.loop-i.i ≡ length c.args.platforms.now = omega (arith, c.loop-i-test.false, c.loop-i.auto.i-end) in
-    subst (λ k. HavePassed plan rows c.args.air.now c.args.now s.sky k c.loop-i.platforms c.loop-i.airways (lists_of c.loop-i.results) c.loop-i.quiet) e (c.loop-i.invariant.passed plan rows count s)
+    subst (λ k. HavePassedInAir plan rows c.args.air.now c.args.now s.sky k c.loop-i.platforms c.loop-i.airways (result_lists c.loop-i.results) c.loop-i.quiet) e (c.loop-i.invariant.passed plan rows count s)

@@ -1,13 +1,13 @@
 use Rattle.std.proofs.Common.{◌≡◌, ℕ, List}
 use Rattle.pt_types.specs.declared.rows.Row.{Row}
 use Rattle.pt_offsets.specs.Plans.{Parts}
-use Rattle.pt_together.specs.Asked.{lists_of}
-use Rattle.pt_aired.specs.Passing.{HavePassed, Stands}
+use Rattle.pt_together.specs.Asked.{result_lists}
+use Rattle.pt_aired.specs.Passing.{HavePassedInAir, IsBeforeFlights}
 use Rattle.pt_aired.proofs.passing.pass.Given as goal
 
 abbrev pub invariant-loop-i : goal.invariant-loop-i
 invariant-loop-i g l = record {
-  passed : (plan : Parts) (rows : ℕ → List Row) (count : ℕ) (s : Stands plan rows l.air count l.now l.fn.platforms l.fn.airways (lists_of l.fn.results)) →
-      HavePassed plan rows l.air l.now s.sky l.i l.platforms l.airways (lists_of l.results) l.quiet;
+  passed : (plan : Parts) (rows : ℕ → List Row) (count : ℕ) (s : IsBeforeFlights plan rows l.air count l.now l.fn.platforms l.fn.airways (result_lists l.fn.results)) →
+      HavePassedInAir plan rows l.air l.now s.sky l.i l.platforms l.airways (result_lists l.results) l.quiet;
   pipes : l.pipes ≡ l.fn.pipes;
 }

@@ -1,10 +1,10 @@
 use Rattle.std.proofs.Common.{◌∙◌, List, length, arith, sym, ap, subst}
 use Rattle.pt_causality.specs.Ranked.{level_of}
 use Rattle.pt_turn.specs.Platforms.{PlatformView}
-use Rattle.pt_together.specs.Asked.{lists_of}
+use Rattle.pt_together.specs.Asked.{result_lists}
 use Rattle.pt_together.proofs.First.{opened, written}
 use Rattle.pt_aired.specs.HaveFlown.{HaveFlown}
-use Rattle.pt_aired.specs.Passing.{AreEmpty}
+use Rattle.pt_aired.specs.Passing.{PipesAreEmpty}
 use Rattle.pt_aired.proofs.Opening.{empty, some_lent, stands_lent}
 use Rattle.pt_aired.proofs.rounds.aired.Goals as goal
 
@@ -12,10 +12,10 @@ pub time_after-requires : goal.time_after-requires
 time_after-requires g c = record {
   some =
       let (plan, rows, ready) = c.requires.ready in
-      let new = opened plan rows c.args.platforms.items c.as_slice.result.now c.index.result.now c.deref.result.now c.graph.result.now c.as_slice-links.result.now c.in_ok-pipes.pipes.items (lists_of c.in_ok-results.results.items)
+      let new = opened plan rows c.args.platforms.items c.as_slice.result.now c.index.result.now c.deref.result.now c.graph.result.now c.as_slice-links.result.now c.in_ok-pipes.pipes.items (result_lists c.in_ok-results.results.items)
       c.requires.some (c.deref.ensures ∙ c.plan.ensures ∙ ap (λ (v : PlatformView). v.plan) c.index.ensures) c.graph.ensures.value c.graph.ensures.admitted c.as_slice-links.ensures c.as_slice.ensures.value
       c.in_ok-pipes.ensures c.in_ok-results.ensures.none c.in_ok-results.ensures.legal ready in
-      some_lent plan rows c.args.air.now c.args.platforms.items c.in_ok-airways.airways.items c.in_ok-pipes.pipes.items (lists_of c.in_ok-results.results.items) new (length c.as_slice-links.result.now) c.in_ok-pipes.ensures c.in_ok-airways.ensures c.requires.transits
+      some_lent plan rows c.args.air.now c.args.platforms.items c.in_ok-airways.airways.items c.in_ok-pipes.pipes.items (result_lists c.in_ok-results.results.items) new (length c.as_slice-links.result.now) c.in_ok-pipes.ensures c.in_ok-airways.ensures c.requires.transits
       c.as_slice-2.result.now c.args.platforms.items c.as_slice-3.result.now c.in_ok-airways.airways.items c.as_slice-2.ensures.value c.as_slice-3.ensures.value;
 }
 
@@ -23,29 +23,29 @@ pub go_on-requires : goal.go_on-requires
 go_on-requires g c = record {
   begun =
       let (plan, rows, ready) = c.requires.ready in
-      let new = opened plan rows c.args.platforms.items c.as_slice.result.now c.index.result.now c.deref.result.now c.graph.result.now c.as_slice-links.result.now c.in_ok-pipes.pipes.items (lists_of c.in_ok-results.results.items)
+      let new = opened plan rows c.args.platforms.items c.as_slice.result.now c.index.result.now c.deref.result.now c.graph.result.now c.as_slice-links.result.now c.in_ok-pipes.pipes.items (result_lists c.in_ok-results.results.items)
       c.requires.some (c.deref.ensures ∙ c.plan.ensures ∙ ap (λ (v : PlatformView). v.plan) c.index.ensures) c.graph.ensures.value c.graph.ensures.admitted c.as_slice-links.ensures c.as_slice.ensures.value
       c.in_ok-pipes.ensures c.in_ok-results.ensures.none c.in_ok-results.ensures.legal ready in (
         plan,
         rows,
-        stands_lent plan rows c.args.air.now c.args.platforms.items c.in_ok-airways.airways.items c.in_ok-pipes.pipes.items (lists_of c.in_ok-results.results.items) new (length c.as_slice-links.result.now) c.in_ok-pipes.ensures c.in_ok-airways.ensures c.requires.transits
+        stands_lent plan rows c.args.air.now c.args.platforms.items c.in_ok-airways.airways.items c.in_ok-pipes.pipes.items (result_lists c.in_ok-results.results.items) new (length c.as_slice-links.result.now) c.in_ok-pipes.ensures c.in_ok-airways.ensures c.requires.transits
             c.as_slice-2.result.now c.as_mut_slice.result.now c.as_slice-3.result.now c.as_mut_slice-2.result.now c.as_slice-2.ensures.value c.as_slice-3.ensures.value
-            c.in_ok-begins.begins (lists_of c.as_mut_slice-4.result.now) c.in_ok-begins.ensures c.as_mut_slice.ensures.value c.as_mut_slice-2.ensures.value (ap lists_of c.as_mut_slice-4.ensures.value),
-        subst (AreEmpty plan.graph) (sym c.as_mut_slice-3.ensures.value)
-            (empty plan rows c.args.air.now c.args.platforms.items c.in_ok-airways.airways.items c.in_ok-pipes.pipes.items (lists_of c.in_ok-results.results.items) new (length c.as_slice-links.result.now) c.in_ok-pipes.ensures c.in_ok-airways.ensures c.requires.transits),
+            c.in_ok-begins.begins (result_lists c.as_mut_slice-4.result.now) c.in_ok-begins.ensures c.as_mut_slice.ensures.value c.as_mut_slice-2.ensures.value (ap result_lists c.as_mut_slice-4.ensures.value),
+        subst (PipesAreEmpty plan.graph) (sym c.as_mut_slice-3.ensures.value)
+            (empty plan rows c.args.air.now c.args.platforms.items c.in_ok-airways.airways.items c.in_ok-pipes.pipes.items (result_lists c.in_ok-results.results.items) new (length c.as_slice-links.result.now) c.in_ok-pipes.ensures c.in_ok-airways.ensures c.requires.transits),
       );
 }
 
 pub returns : goal.returns
 returns g c = record {
   flown = λ plan rows ready.
-      let new = opened plan rows c.args.platforms.items c.as_slice.result.now c.index.result.now c.deref.result.now c.graph.result.now c.as_slice-links.result.now c.in_ok-pipes.pipes.items (lists_of c.in_ok-results.results.items)
+      let new = opened plan rows c.args.platforms.items c.as_slice.result.now c.index.result.now c.deref.result.now c.graph.result.now c.as_slice-links.result.now c.in_ok-pipes.pipes.items (result_lists c.in_ok-results.results.items)
       c.requires.some (c.deref.ensures ∙ c.plan.ensures ∙ ap (λ (v : PlatformView). v.plan) c.index.ensures) c.graph.ensures.value c.graph.ensures.admitted c.as_slice-links.ensures c.as_slice.ensures.value
       c.in_ok-pipes.ensures c.in_ok-results.ensures.none c.in_ok-results.ensures.legal ready in
       subst (λ (vs : List PlatformView). HaveFlown plan (level_of plan.ranks) rows c.args.air.now vs c.in_ok-fault.fault)
       (sym (written c.args.platforms.len c.go_on.new.platforms c.args.platforms.items (omega (arith, c.go_on.auto.platforms, c.as_mut_slice.ensures.len))))
       (c.in_ok-fault.ensures.flown plan rows
-      (stands_lent plan rows c.args.air.now c.args.platforms.items c.in_ok-airways.airways.items c.in_ok-pipes.pipes.items (lists_of c.in_ok-results.results.items) new (length c.as_slice-links.result.now) c.in_ok-pipes.ensures c.in_ok-airways.ensures c.requires.transits
+      (stands_lent plan rows c.args.air.now c.args.platforms.items c.in_ok-airways.airways.items c.in_ok-pipes.pipes.items (result_lists c.in_ok-results.results.items) new (length c.as_slice-links.result.now) c.in_ok-pipes.ensures c.in_ok-airways.ensures c.requires.transits
       c.as_slice-2.result.now c.as_mut_slice.result.now c.as_slice-3.result.now c.as_mut_slice-2.result.now c.as_slice-2.ensures.value c.as_slice-3.ensures.value
-      c.in_ok-begins.begins (lists_of c.as_mut_slice-4.result.now) c.in_ok-begins.ensures c.as_mut_slice.ensures.value c.as_mut_slice-2.ensures.value (ap lists_of c.as_mut_slice-4.ensures.value)));
+      c.in_ok-begins.begins (result_lists c.as_mut_slice-4.result.now) c.in_ok-begins.ensures c.as_mut_slice.ensures.value c.as_mut_slice-2.ensures.value (ap result_lists c.as_mut_slice-4.ensures.value)));
 }

@@ -6,7 +6,7 @@ use Rattle.pt_types.specs.declared.firing.Done.{Done}
 use Rattle.pt_types.specs.declared.rows.Row.{Row}
 use Rattle.pt_offsets.specs.Plans.{Parts}
 use Rattle.pt_turn.specs.Platforms.{PlatformView}
-use Rattle.pt_together.specs.Asked.{lists_of}
+use Rattle.pt_together.specs.Asked.{result_lists}
 use Rattle.pt_alone.specs.HasGone.{HasGone}
 use Rattle.pt_alone.specs.Between.{BeforeVisit}
 use Rattle.pt_alone.proofs.Steps.{view_of_clock}
@@ -29,12 +29,12 @@ go_on-requires-clause-begun g c =
       plan,
       rows,
       tell g.C.Clock.told g.C.Clock.ahead c.args.clocks.items,
-      starts plan rows c.args.most (tell g.C.Clock.told g.C.Clock.ahead c.args.clocks.items) (tell g.C.Clock.told g.C.Clock.ahead c.as_mut_slice-2.result.now) c.args.platforms.items c.as_mut_slice.result.now c.in_ok-pipes.pipes.items c.as_mut_slice-3.result.now (lists_of c.in_ok-results.results.items) (lists_of c.as_mut_slice-4.result.now)
-          (opened plan rows c.args.platforms.items c.as_slice.result.now c.index.result.now c.deref.result.now c.graph.result.now c.as_slice-links.result.now c.in_ok-pipes.pipes.items (lists_of c.in_ok-results.results.items)
+      starts plan rows c.args.most (tell g.C.Clock.told g.C.Clock.ahead c.args.clocks.items) (tell g.C.Clock.told g.C.Clock.ahead c.as_mut_slice-2.result.now) c.args.platforms.items c.as_mut_slice.result.now c.in_ok-pipes.pipes.items c.as_mut_slice-3.result.now (result_lists c.in_ok-results.results.items) (result_lists c.as_mut_slice-4.result.now)
+          (opened plan rows c.args.platforms.items c.as_slice.result.now c.index.result.now c.deref.result.now c.graph.result.now c.as_slice-links.result.now c.in_ok-pipes.pipes.items (result_lists c.in_ok-results.results.items)
           c.requires.some (c.deref.ensures ∙ c.plan.ensures ∙ ap (λ (v : PlatformView). v.plan) c.index.ensures) c.graph.ensures.value c.graph.ensures.admitted c.as_slice-links.ensures c.as_slice.ensures.value
           c.in_ok-pipes.ensures c.in_ok-results.ensures.none c.in_ok-results.ensures.legal ready)
           (length-map c.args.clocks.items (view_of_clock g.C.Clock.told g.C.Clock.ahead) ∙ c.requires.clocks)
-          (ap (tell g.C.Clock.told g.C.Clock.ahead) c.as_mut_slice-2.ensures.value) c.as_mut_slice.ensures.value c.as_mut_slice-3.ensures.value (ap lists_of c.as_mut_slice-4.ensures.value),
+          (ap (tell g.C.Clock.told g.C.Clock.ahead) c.as_mut_slice-2.ensures.value) c.as_mut_slice.ensures.value c.as_mut_slice-3.ensures.value (ap result_lists c.as_mut_slice-4.ensures.value),
     )
 
 pub returns : goal.returns
@@ -46,10 +46,10 @@ returns g c = record {
       (subst (λ (ns : List ClockView). HasGone plan rows c.args.most began ns c.go_on.new.platforms c.in_ok-fault.fault)
       (sym (ap (tell g.C.Clock.told g.C.Clock.ahead) (written c.args.clocks.len c.go_on.new.clocks c.args.clocks.items (omega (arith, c.go_on.auto.clocks, c.as_mut_slice-2.ensures.len)))))
       (c.in_ok-fault.ensures.gone plan rows began
-      (starts plan rows c.args.most began (tell g.C.Clock.told g.C.Clock.ahead c.as_mut_slice-2.result.now) c.args.platforms.items c.as_mut_slice.result.now c.in_ok-pipes.pipes.items c.as_mut_slice-3.result.now (lists_of c.in_ok-results.results.items) (lists_of c.as_mut_slice-4.result.now)
-      (opened plan rows c.args.platforms.items c.as_slice.result.now c.index.result.now c.deref.result.now c.graph.result.now c.as_slice-links.result.now c.in_ok-pipes.pipes.items (lists_of c.in_ok-results.results.items)
+      (starts plan rows c.args.most began (tell g.C.Clock.told g.C.Clock.ahead c.as_mut_slice-2.result.now) c.args.platforms.items c.as_mut_slice.result.now c.in_ok-pipes.pipes.items c.as_mut_slice-3.result.now (result_lists c.in_ok-results.results.items) (result_lists c.as_mut_slice-4.result.now)
+      (opened plan rows c.args.platforms.items c.as_slice.result.now c.index.result.now c.deref.result.now c.graph.result.now c.as_slice-links.result.now c.in_ok-pipes.pipes.items (result_lists c.in_ok-results.results.items)
       c.requires.some (c.deref.ensures ∙ c.plan.ensures ∙ ap (λ (v : PlatformView). v.plan) c.index.ensures) c.graph.ensures.value c.graph.ensures.admitted c.as_slice-links.ensures c.as_slice.ensures.value
       c.in_ok-pipes.ensures c.in_ok-results.ensures.none c.in_ok-results.ensures.legal ready)
       (length-map c.args.clocks.items (view_of_clock g.C.Clock.told g.C.Clock.ahead) ∙ c.requires.clocks)
-      (ap (tell g.C.Clock.told g.C.Clock.ahead) c.as_mut_slice-2.ensures.value) c.as_mut_slice.ensures.value c.as_mut_slice-3.ensures.value (ap lists_of c.as_mut_slice-4.ensures.value))));
+      (ap (tell g.C.Clock.told g.C.Clock.ahead) c.as_mut_slice-2.ensures.value) c.as_mut_slice.ensures.value c.as_mut_slice-3.ensures.value (ap result_lists c.as_mut_slice-4.ensures.value))));
 }

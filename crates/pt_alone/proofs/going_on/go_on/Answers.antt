@@ -1,7 +1,7 @@
 use Rattle.std.proofs.Common.{◌∙◌, arith, sym}
 use Rattle.std.proofs.lemmas.Bool.{false≢true}
 use Rattle.pt_io.specs.Told.{tell}
-use Rattle.pt_together.specs.Asked.{lists_of}
+use Rattle.pt_together.specs.Asked.{result_lists}
 use Rattle.pt_alone.proofs.Steps.{ends_none, ends_one, goes_on, within_all}
 use Rattle.pt_alone.proofs.going_on.go_on.Goals as goal
 
@@ -17,7 +17,7 @@ visit_at-requires-clause-begun g c =
 pub returns-in-Some-fault_of : goal.returns-in-Some-fault_of
 returns-in-Some-fault_of g c = record {
   gone = λ plan rows began start.
-      ends_one plan rows c.args.most c.loop.number began (tell g.C.Clock.told g.C.Clock.ahead c.visit_at.new.clocks) c.visit_at.new.platforms c.visit_at.new.pipes (lists_of c.visit_at.new.results)
+      ends_one plan rows c.args.most c.loop.number began (tell g.C.Clock.told g.C.Clock.ahead c.visit_at.new.clocks) c.visit_at.new.platforms c.visit_at.new.pipes (result_lists c.visit_at.new.results)
       (c.in_ok-visit_at.ensures.visited plan rows began (c.loop.invariant plan rows began start))
       c.in-Some-fault_of.fault c.in-Some-fault_of.ensures;
 }
@@ -25,14 +25,14 @@ returns-in-Some-fault_of g c = record {
 pub returns-then-are_finished : goal.returns-then-are_finished
 returns-then-are_finished g c = record {
   gone = λ plan rows began start.
-      ends_none plan rows c.args.most c.loop.number began (tell g.C.Clock.told g.C.Clock.ahead c.visit_at.new.clocks) c.visit_at.new.platforms c.visit_at.new.pipes (lists_of c.visit_at.new.results)
+      ends_none plan rows c.args.most c.loop.number began (tell g.C.Clock.told g.C.Clock.ahead c.visit_at.new.clocks) c.visit_at.new.platforms c.visit_at.new.pipes (result_lists c.visit_at.new.results)
       (c.in_ok-visit_at.ensures.visited plan rows began (c.loop.invariant plan rows began start))
       c.in_default.ensures (c.are_finished.ensures.0 c.if-are_finished.true);
 }
 
 pub loop-preserved : goal.loop-preserved
 loop-preserved g c = λ plan rows began start.
-    goes_on plan rows c.args.most c.loop.number began (tell g.C.Clock.told g.C.Clock.ahead c.visit_at.new.clocks) c.visit_at.new.platforms c.visit_at.new.pipes (lists_of c.visit_at.new.results)
+    goes_on plan rows c.args.most c.loop.number began (tell g.C.Clock.told g.C.Clock.ahead c.visit_at.new.clocks) c.visit_at.new.platforms c.visit_at.new.pipes (result_lists c.visit_at.new.results)
     (c.in_ok-visit_at.ensures.visited plan rows began (c.loop.invariant plan rows began start))
     c.in_default.ensures (λ done. false≢true (sym c.if-are_finished.false ∙ c.are_finished.ensures.1 done))
     c.after-number.result c.after-number.ensures

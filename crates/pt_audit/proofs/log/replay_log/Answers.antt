@@ -7,7 +7,7 @@ use Rattle.pt_turn.specs.All.{AreReady}
 use Rattle.pt_turn.specs.Platforms.{PlatformView}
 use Rattle.pt_confluence.specs.Gathered.{AreLegal, HaveFinished}
 use Rattle.std.specs.Prelude.{MatchOption}
-use Rattle.pt_audit.specs.Finishing.{IsJudged}
+use Rattle.pt_audit.specs.Finishing.{IsFinalVerdict}
 use Rattle.pt_audit.specs.Replaying.{HaveReplayed, fresh_order}
 use Rattle.pt_audit.specs.declared.verdict.Verdict.{Verdict}
 use Rattle.pt_audit.specs.declared.verdict.Verdict.TheVariants.{Turn}
@@ -32,9 +32,9 @@ replay_blocks-requires g c = record {
 }
 
 -- the verdict, in the words of the plan
-judged_by : (stop : Option ℕ) (g h : Graph) (some all : List PlatformView) (v : Verdict) → g ≡ h → some ≡ all → MatchOption stop (IsJudged g some v) (λ line. v ≡ Turn line) → MatchOption stop (IsJudged h all v) (λ line. v ≡ Turn line)
+judged_by : (stop : Option ℕ) (g h : Graph) (some all : List PlatformView) (v : Verdict) → g ≡ h → some ≡ all → MatchOption stop (IsFinalVerdict g some v) (λ line. v ≡ Turn line) → MatchOption stop (IsFinalVerdict h all v) (λ line. v ≡ Turn line)
 judged_by stop g h some all v graph same k =
-    subst (λ (z : Graph). MatchOption stop (IsJudged z all v) (λ line. v ≡ Turn line)) graph (subst (λ (vs : List PlatformView). MatchOption stop (IsJudged g vs v) (λ line. v ≡ Turn line)) same k)
+    subst (λ (z : Graph). MatchOption stop (IsFinalVerdict z all v) (λ line. v ≡ Turn line)) graph (subst (λ (vs : List PlatformView). MatchOption stop (IsFinalVerdict g vs v) (λ line. v ≡ Turn line)) same k)
 
 pub returns-clause-verdict : goal.returns-clause-verdict
 returns-clause-verdict g c = λ rows ready.

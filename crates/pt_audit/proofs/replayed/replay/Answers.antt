@@ -4,7 +4,7 @@ use Rattle.pt_offsets.specs.Plans.{Parts}
 use Rattle.pt_sensors.specs.Listed.{rows_for}
 use Rattle.pt_sensors.specs.Places.{of_run}
 use Rattle.pt_turn.specs.All.{AreReady}
-use Rattle.pt_hints.specs.Lines.{Block, blocks_from, lines_of}
+use Rattle.pt_hints.specs.Lines.{Block, blocks_from, text_lines}
 use Rattle.pt_audit.specs.LawfulLogs.{most_bytes}
 use Rattle.pt_audit.specs.Verdicts.{IsVerdict, IsVerdictOn}
 use Rattle.pt_audit.specs.declared.verdict.Verdict.TheVariants.{Fine}
@@ -19,7 +19,7 @@ returns-then-ne-clause-verdict g c =
     let planned = subst (λ (p : Parts). IsVerdictOn p rows c.new-log.result c.in_ok-ended.ended.verdict) c.deref.ensures on in
     let short : length c.args.bytes.now ≤ most_bytes = omega (arith, c.if-bytes-gt-MOST_BYTES.false) in
     let whole = verdict_on_file (arc_value c.args.plan.now) rows c.args.bytes.now c.in-Some.at.place c.in-Some.at.line c.in_ok-ended.ended.verdict short c.in-Some.ensures
-    (subst (λ (bs : List Block). IsVerdictOn (arc_value c.args.plan.now) rows bs c.in_ok-ended.ended.verdict) (c.new-log.ensures ∙ ap (λ (ys : List ℕ). blocks_from (c.in-Some.at.line + 1) (lines_of ys)) (rest_of c.args.bytes.now (c.in-Some.at.place + 4))) planned) in
+    (subst (λ (bs : List Block). IsVerdictOn (arc_value c.args.plan.now) rows bs c.in_ok-ended.ended.verdict) (c.new-log.ensures ∙ ap (λ (ys : List ℕ). blocks_from (c.in-Some.at.line + 1) (text_lines ys)) (rest_of c.args.bytes.now (c.in-Some.at.place + 4))) planned) in
     subst (IsVerdict (arc_value c.args.plan.now) rows c.args.bytes.now) (sym c.unlawful-then-ne.ensures.verdict) whole
 
 pub returns-clause-verdict : goal.returns-clause-verdict
@@ -30,6 +30,6 @@ returns-clause-verdict g c =
     let planned = subst (λ (p : Parts). IsVerdictOn p rows c.new-log.result c.in_ok-ended.ended.verdict) c.deref.ensures on in
     let short : length c.args.bytes.now ≤ most_bytes = omega (arith, c.if-bytes-gt-MOST_BYTES.false) in
     let whole = verdict_on_file (arc_value c.args.plan.now) rows c.args.bytes.now c.in-Some.at.place c.in-Some.at.line c.in_ok-ended.ended.verdict short c.in-Some.ensures
-    (subst (λ (bs : List Block). IsVerdictOn (arc_value c.args.plan.now) rows bs c.in_ok-ended.ended.verdict) (c.new-log.ensures ∙ ap (λ (ys : List ℕ). blocks_from (c.in-Some.at.line + 1) (lines_of ys)) (rest_of c.args.bytes.now (c.in-Some.at.place + 4))) planned) in
+    (subst (λ (bs : List Block). IsVerdictOn (arc_value c.args.plan.now) rows bs c.in_ok-ended.ended.verdict) (c.new-log.ensures ∙ ap (λ (ys : List ℕ). blocks_from (c.in-Some.at.line + 1) (text_lines ys)) (rest_of c.args.bytes.now (c.in-Some.at.place + 4))) planned) in
     let same : c.in_ok-ended.ended.verdict ≡ Fine = search rules in
     subst (IsVerdict (arc_value c.args.plan.now) rows c.args.bytes.now) same whole

@@ -1,9 +1,9 @@
 use Rattle.std.proofs.Common.{List, ℕ, reverse, subst, sym}
-use Rattle.pt_causality.specs.Ranking.{IsRing}
+use Rattle.pt_causality.specs.Ranking.{IsCycleInLists}
 use Rattle.pt_causality.proofs.Cycles.{ring_closed}
 use Rattle.pt_causality.proofs.ring.ring_at.Goals as goal
 
 pub returns : goal.returns
 returns c = λ incoming closed.
-    subst (λ (z : List ℕ). IsRing incoming z) (sym c.new.ensures)
+    subst (λ (z : List ℕ). IsCycleInLists incoming z) (sym c.new.ensures)
     (ring_closed incoming (reverse c.args.trail.now) c.args.edge c.in-Ok.actors.items c.turn.new.numbers.items closed c.in-Ok.ensures c.turn.ensures)

@@ -3,14 +3,14 @@ use Rattle.std.specs.List.{insert}
 use Rattle.std.proofs.lemmas.List.{take_all}
 use Rattle.std.proofs.lemmas.List.Edits.{length-insert}
 use Rattle.pt_queue.specs.declared.waiting.Waiting.{Waiting}
-use Rattle.pt_claim.specs.Fronts.{IsPlace}
+use Rattle.pt_claim.specs.Fronts.{IsFrontPlace}
 use Rattle.pt_claim.proofs.Ordering.{insert_popped, take_insert, not_full}
 use Rattle.pt_claim.proofs.order.put.Goals as goal
 
 pub returns-then-not-is_full : goal.returns-then-not-is_full
 returns-then-not-is_full c =
     let old = c.args.units.now.items in
-    let place : IsPlace c.args.next old c.place_of-place.result = subst (λ cs. IsPlace c.args.next cs c.place_of-place.result) c.as_slice.ensures.value c.place_of-place.ensures in
+    let place : IsFrontPlace c.args.next old c.place_of-place.result = subst (λ cs. IsFrontPlace c.args.next cs c.place_of-place.result) c.as_slice.ensures.value c.place_of-place.ensures in
     let less : length old < 64 = not_full (length old) c.is_full.ensures.fits (sym c.is_full.ensures.value ∙ c.if-not-is_full.true) in
     record {
       place = c.place_of-place.result;
@@ -21,7 +21,7 @@ returns-then-not-is_full c =
 pub returns-then-place-len : goal.returns-then-place-len
 returns-then-place-len c =
     let old = c.args.units.now.items in
-    let place : IsPlace c.args.next old c.place_of-place.result = subst (λ cs. IsPlace c.args.next cs c.place_of-place.result) c.as_slice.ensures.value c.place_of-place.ensures in
+    let place : IsFrontPlace c.args.next old c.place_of-place.result = subst (λ cs. IsFrontPlace c.args.next cs c.place_of-place.result) c.as_slice.ensures.value c.place_of-place.ensures in
     let full : length old ≡ 64 = eqb-true (length old) 64 (sym c.is_full.ensures.value ∙ c.if-not-is_full.false) in
     let last : length old - 1 ≡ 63 = omega (arith, full) in
     let before : c.place_of-place.result ≤ 63 = omega (arith, full, c.if-place-len.true, c.len.ensures.value) in
@@ -34,7 +34,7 @@ returns-then-place-len c =
 pub returns-else-place-len : goal.returns-else-place-len
 returns-else-place-len c =
     let old = c.args.units.now.items in
-    let place : IsPlace c.args.next old c.place_of-place.result = subst (λ cs. IsPlace c.args.next cs c.place_of-place.result) c.as_slice.ensures.value c.place_of-place.ensures in
+    let place : IsFrontPlace c.args.next old c.place_of-place.result = subst (λ cs. IsFrontPlace c.args.next cs c.place_of-place.result) c.as_slice.ensures.value c.place_of-place.ensures in
     let full : length old ≡ 64 = eqb-true (length old) 64 (sym c.is_full.ensures.value ∙ c.if-not-is_full.false) in
     let past : 64 ≤ c.place_of-place.result = omega (arith, full, c.if-place-len.false, c.len.ensures.value) in
     record {

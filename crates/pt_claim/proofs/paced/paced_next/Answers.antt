@@ -1,7 +1,7 @@
 use Rattle.std.proofs.Common.{◌≡◌, length, subst, arith}
 use Rattle.pt_queue.specs.Events.{waiting_in}
 use Rattle.pt_claim.proofs.Passing.{listed_least}
-use Rattle.pt_claim.specs.Least.{AtOrIn, Below, IsLeastOf}
+use Rattle.pt_claim.specs.Least.{AtOrIn, Below, IsLeastAmong}
 use Rattle.pt_claim.proofs.Candidates.{listed_is_all, PacedAt}
 use Rattle.pt_claim.proofs.Least.{below_more}
 use Rattle.pt_claim.proofs.paced.paced_next.Goals as goal
@@ -18,4 +18,4 @@ returns c =
     let listed = c.waiting-waiting-items.result.now in
     let end : c.loop-waiting.waiting-index ≡ length listed = omega (arith, c.loop-waiting-test.false, c.loop-waiting.auto.waiting-index-end) in
     listed_is_all c.args.plan.now.graph c.args.fields.now listed c.args.so_far c.loop-waiting.least c.requires.sound (c.waiting-waiting-items.ensures c.args.plan.now.graph c.requires.sound.groups)
-    (subst (λ n. IsLeastOf (AtOrIn c.args.so_far (Below n (PacedAt c.args.plan.now.graph c.args.fields.now listed))) c.loop-waiting.least) end c.loop-waiting.invariant)
+    (subst (λ n. IsLeastAmong (AtOrIn c.args.so_far (Below n (PacedAt c.args.plan.now.graph c.args.fields.now listed))) c.loop-waiting.least) end c.loop-waiting.invariant)

@@ -4,11 +4,11 @@ use Rattle.std.proofs.lemmas.Iterator.{YieldsList-from_slice}
 use Rattle.std.proofs.lemmas.Iterator.Consumers.{YieldsList-from_chain}
 use Rattle.std.proofs.lemmas.Iterator.Search.{any_from_yields_List}
 use Rattle.pt_causality.specs.Delays.{least_of}
-use Rattle.pt_claim.specs.Safe.{leads_to}
+use Rattle.pt_claim.specs.Safe.{may_lead_to}
 use Rattle.pt_claim.proofs.safe.is_held_up.Goals as goal
 
 pub returns : goal.returns
 returns c =
-    any_from_yields_List (leads_to (least_of c.args.least.now) c.args.unit c.args.tag) _ _ c.any.result c.any.ensures.ran
+    any_from_yields_List (may_lead_to (least_of c.args.least.now) c.args.unit c.args.tag) _ _ c.any.result c.any.ensures.ran
     (YieldsList-from_chain (YieldsList-from_slice c.as_slices.result.0.now (cc)) (YieldsList-from_slice c.as_slices.result.1.now (cc)) (cc) (cc)) (λ x b q k. search (rules, tests))
-    ∙ ap (list_any (leads_to (least_of c.args.least.now) c.args.unit c.args.tag)) c.as_slices.ensures
+    ∙ ap (list_any (may_lead_to (least_of c.args.least.now) c.args.unit c.args.tag)) c.as_slices.ensures

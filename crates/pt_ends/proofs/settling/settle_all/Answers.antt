@@ -1,6 +1,6 @@
 use Rattle.std.proofs.Common.{◌≡◌, ◌∷◌, [], Some, length, sym, append-nil, arith}
 use Rattle.std.proofs.lemmas.Option.{slice_get_within}
-use Rattle.pt_ends.specs.Settled.{IsSettled}
+use Rattle.pt_ends.specs.Settled.{LinkIsSettled}
 use Rattle.pt_ends.proofs.Returning.{more_left, of_both, one_pair, settled_more}
 use Rattle.pt_ends.proofs.settling.settle_all.Goals as goal
 
@@ -27,5 +27,5 @@ loop-outlet-preserved g c =
       outs = (c.in-Some.outlet ∷ inv.outs.0, more_left c.pop.new.self.items c.loop-outlet.outlets.items inv.outs.0 c.args.outlets.items c.in-Some.outlet c.in-Some.ensures.items inv.outs.1);
       ins = (c.in-Some-pop.inlet ∷ inv.ins.0, more_left c.pop-in-Some.new.self.items c.loop-outlet.inlets.items inv.ins.0 c.args.inlets.items c.in-Some-pop.inlet c.in-Some-pop.ensures.items inv.ins.1);
       settled = settled_more c.pop.new.self.items c.loop-outlet.outlets.items inv.outs.0 c.args.outlets.items c.pop-in-Some.new.self.items c.loop-outlet.inlets.items inv.ins.0 c.args.inlets.items c.in-Some.outlet c.in-Some-pop.inlet
-          c.in-Some.ensures.items inv.outs.1 c.in-Some-pop.ensures.items inv.ins.1 a (of_both IsSettled c.in-Some.outlet c.in-Some-pop.inlet c.settle_one.ensures) inv.settled;
+          c.in-Some.ensures.items inv.outs.1 c.in-Some-pop.ensures.items inv.ins.1 a (of_both LinkIsSettled c.in-Some.outlet c.in-Some-pop.inlet c.settle_one.ensures) inv.settled;
     }

@@ -1,7 +1,7 @@
 use Rattle.std.proofs.Common.{◌≡◌, ◌+◌, ◌≤◌, List, [], ◌∷◌, ◌++◌, length, map, vec_len, sym, ap, subst, ◌∙◌, append-nil, arith}
 use mathlib.Core.List.{reverse, reverse-append}
 use Rattle.std.proofs.lemmas.Option.{slice_get_within}
-use Rattle.pt_pool.specs.Station.{StationView, graph_of}
+use Rattle.pt_pool.specs.Station.{StationView, plan_graph}
 use Rattle.pt_ends.proofs.Apart.{ins_distinct, ins_more, ins_within, outs_distinct, outs_more, outs_within, station_is, stations_more}
 use Rattle.pt_ends.proofs.Returning.{more_left}
 use Rattle.pt_ends.proofs.settling.take_apart.Goals as goal
@@ -23,7 +23,7 @@ lay-requires-clause-within g c =
     let r = g.J.Run in
     let e = c.into_parts-parts.ensures in
     outs_within r.plan r.rows r.link r.began r.fixed c.in-Some.station (station_is r.plan r.rows r.link r.began r.fixed c.in-Some.station _ _ _ _ _ e.kept e.same) (vec_len c.loop-station.outlets) c.into_parts-parts.result.outlets.items
-    (ap (λ (s : StationView). s.outs) e.same) (subst (λ n. length (graph_of r.plan).links ≤ n) (sym c.loop-station.invariant.count.0) c.requires.links)
+    (ap (λ (s : StationView). s.outs) e.same) (subst (λ n. length (plan_graph r.plan).links ≤ n) (sym c.loop-station.invariant.count.0) c.requires.links)
 
 pub lay-requires-clause-distinct : goal.lay-requires-clause-distinct
 lay-requires-clause-distinct g c =
@@ -37,7 +37,7 @@ lay-requires-in-Some-clause-within g c =
     let r = g.J.Run in
     let e = c.into_parts-parts.ensures in
     ins_within r.plan r.rows r.link r.began r.fixed c.in-Some.station (station_is r.plan r.rows r.link r.began r.fixed c.in-Some.station _ _ _ _ _ e.kept e.same) (vec_len c.loop-station.inlets) c.into_parts-parts.result.inlets.items
-    (ap (λ (s : StationView). s.ins) e.same) (subst (λ n. length (graph_of r.plan).links ≤ n) (sym c.loop-station.invariant.count.1) c.requires.links)
+    (ap (λ (s : StationView). s.ins) e.same) (subst (λ n. length (plan_graph r.plan).links ≤ n) (sym c.loop-station.invariant.count.1) c.requires.links)
 
 pub lay-requires-in-Some-clause-distinct : goal.lay-requires-in-Some-clause-distinct
 lay-requires-in-Some-clause-distinct g c =

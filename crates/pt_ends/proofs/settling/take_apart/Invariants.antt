@@ -1,7 +1,7 @@
 use Rattle.std.proofs.Common.{◌≡◌, ◌+◌, ◌++◌, List, length, map, vec_len, vec_capacity}
 use mathlib.Core.List.{reverse}
-use Rattle.pt_pool.specs.Ends.{leaves, reaches}
-use Rattle.pt_pool.specs.Station.{StationView, graph_of}
+use Rattle.pt_pool.specs.Ends.{leaves, receiving_platform}
+use Rattle.pt_pool.specs.Station.{StationView, plan_graph}
 use Rattle.pt_ends.specs.Settled.{AreReturned, AreStations, IsSentBy, IsTakenBy, platform_of_station, told_of_station}
 use Rattle.pt_ends.proofs.settling.take_apart.Given as goal
 
@@ -11,8 +11,8 @@ invariant-loop-station g l = record {
   room : (vec_len l.platforms + vec_len l.stations ≡ vec_len l.fn.stations) × (vec_len l.clocks + vec_len l.stations ≡ vec_len l.fn.stations);
   exact : (vec_capacity l.platforms ≡ vec_len l.fn.stations) × (vec_capacity l.clocks ≡ vec_len l.fn.stations);
   front : (rest : List StationView) × (l.fn.stations.items ≡ l.stations.items ++ rest) × (reverse l.platforms.items ≡ map platform_of_station rest) × (map g.C.Clock.told (reverse l.clocks.items) ≡ map told_of_station rest);
-  sent : AreReturned (graph_of g.J.Run.plan) leaves (IsSentBy g.J.Run.link) (length l.stations.items) l.fn.stations.items l.outlets.items;
-  taken : AreReturned (graph_of g.J.Run.plan) reaches (IsTakenBy g.J.Run.link) (length l.stations.items) l.fn.stations.items l.inlets.items;
+  sent : AreReturned (plan_graph g.J.Run.plan) leaves (IsSentBy g.J.Run.link) (length l.stations.items) l.fn.stations.items l.outlets.items;
+  taken : AreReturned (plan_graph g.J.Run.plan) receiving_platform (IsTakenBy g.J.Run.link) (length l.stations.items) l.fn.stations.items l.inlets.items;
   of_run : AreStations g.J.Run.plan g.J.Run.rows g.J.Run.link g.J.Run.began g.J.Run.fixed (length l.stations.items) l.fn.stations.items;
 }
 

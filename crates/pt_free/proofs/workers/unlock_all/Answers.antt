@@ -1,7 +1,7 @@
 use Rattle.std.proofs.Common.{◌≡◌, ◌+◌, ◌^◌, List, vec_len, ap, sym, ◌∙◌, arith}
 use Rattle.pt_pool.specs.Station.{StationView}
 use Rattle.pt_sites.specs.Sites.{SiteView}
-use Rattle.pt_free.specs.Orders.{weight, numbers}
+use Rattle.pt_free.specs.Orders.{order_weight, numbers}
 use Rattle.pt_free.proofs.Numbers.{weighed}
 use Rattle.pt_free.proofs.workers.unlock_all.Goals as goal
 
@@ -14,11 +14,11 @@ loop-bay-preserved g c =
       parts = omega (arith, c.merge.ensures.parts, bay.one_part);
       stations = omega (arith, c.push_reserved.ensures.len);
       room = c.push_reserved.ensures.capacity ∙ inv.room;
-      weight = ap (λ (xs : List StationView). weight (numbers xs)) c.push_reserved.ensures.items ∙ weighed c.loop-bay.stations.items c.into_station.result ∙ (λ i. inv.weight i + (ap (λ (v : StationView). 2 ^ v.platform.number) same ∙ sym bay.amount) i) ∙ sym c.merge.ensures.amount;
+      weight = ap (λ (xs : List StationView). order_weight (numbers xs)) c.push_reserved.ensures.items ∙ weighed c.loop-bay.stations.items c.into_station.result ∙ (λ i. inv.weight i + (ap (λ (v : StationView). 2 ^ v.platform.number) same ∙ sym bay.amount) i) ∙ sym c.merge.ensures.amount;
     }
 
-pub returns-clause-weight : goal.returns-clause-weight
-returns-clause-weight g c =
+pub returns-clause-order_weight : goal.returns-clause-order_weight
+returns-clause-order_weight g c =
     let inv = c.loop-bay.invariant in
     let none : vec_len c.loop-bay.bays ≡ 0 = c.in_default-pop.ensures.cases.0 in
     inv.weight ∙ c.audit.ensures.whole (omega arith)

@@ -1,7 +1,7 @@
 use Rattle.std.proofs.Common.{◌∙◌, sym, ap, arith}
 use Rattle.std.proofs.Math.Path.{fun_ext}
 use Rattle.std.proofs.lemmas.List.{take_all}
-use Rattle.pt_graph.specs.Known.{number_in}
+use Rattle.pt_graph.specs.Known.{first_named}
 use Rattle.pt_graph.specs.Index.{at_name}
 use Rattle.pt_graph.proofs.Numbers.{put_name, keep_name}
 use Rattle.pt_graph.proofs.index.numbers.Goals as goal
@@ -24,4 +24,4 @@ loop-i-preserved g c = elim c.if-not-contains_key.branch [
 
 -- the map and the list give each name the same number
 pub returns : goal.returns
-returns g c = fun_ext (λ n. c.loop-i.invariant n ∙ ap (λ xs. number_in g.T.Named.name_of xs n) (take_all c.loop-i.i c.args.items.now c.loop-i-test.false))
+returns g c = fun_ext (λ n. c.loop-i.invariant n ∙ ap (λ xs. first_named g.T.Named.name_of xs n) (take_all c.loop-i.i c.args.items.now c.loop-i-test.false))

@@ -1,7 +1,7 @@
 use Rattle.std.proofs.Common.{◌≡◌, ℕ, List, take}
-use Rattle.pt_graph.specs.Known.{number_in}
+use Rattle.pt_graph.specs.Known.{first_named}
 use Rattle.pt_graph.specs.Index.{at_name}
 use Rattle.pt_graph.proofs.index.numbers.Given as goal
 
 abbrev pub invariant-loop-i : goal.invariant-loop-i
-invariant-loop-i g l = (n : List ℕ) → at_name l.numbers n ≡ number_in g.T.Named.name_of (take l.i l.items) n
+invariant-loop-i g l = (n : List ℕ) → at_name l.numbers n ≡ first_named g.T.Named.name_of (take l.i l.items) n

@@ -1,11 +1,11 @@
 use Rattle.std.proofs.Common.{◌≡◌, ℕ, List, [], take, drop}
 use Rattle.pt_types.specs.Lawful.{repeated_from}
-use Rattle.pt_graph.specs.Known.{number_in}
+use Rattle.pt_graph.specs.Known.{first_named}
 use Rattle.pt_graph.specs.Index.{at_name}
 use Rattle.pt_graph.proofs.index.repeated.Given as goal
 
 abbrev pub invariant-loop-i : goal.invariant-loop-i
 invariant-loop-i g l = record {
-  seen : (n : List ℕ) → at_name l.numbers n ≡ number_in g.T.Named.name_of (take l.i l.items) n;
+  seen : (n : List ℕ) → at_name l.numbers n ≡ first_named g.T.Named.name_of (take l.i l.items) n;
   left : repeated_from g.T.Named.name_of (take l.i l.items) l.i (drop l.i l.items) ≡ repeated_from g.T.Named.name_of [] 0 l.items;
 }

@@ -1,10 +1,10 @@
 use Rattle.std.proofs.Common.{◌≡◌, rules}
 use Rattle.std.proofs.lemmas.List.Sorted.{answers_always}
-use Rattle.pt_meaning.specs.Early.{moment_of}
+use Rattle.pt_meaning.specs.Early.{event_moment}
 use Rattle.pt_meaning.proofs.early.sort.Goals as goal
 
 pub returns-clause-sorted : goal.returns-clause-sorted
-returns-clause-sorted c = c.in_ok-sort_by_key.ensures.sorted moment_of (answers_always _ (λ a r. r ≡ moment_of a.0.now) _ (λ f a r q k. search rules))
+returns-clause-sorted c = c.in_ok-sort_by_key.ensures.sorted event_moment (answers_always _ (λ a r. r ≡ event_moment a.0.now) _ (λ f a r q k. search rules))
 
 pub returns-clause-stable : goal.returns-clause-stable
-returns-clause-stable c = c.in_ok-sort_by_key.ensures.stable moment_of (answers_always _ (λ a r. r ≡ moment_of a.0.now) _ (λ f a r q k. search rules))
+returns-clause-stable c = c.in_ok-sort_by_key.ensures.stable event_moment (answers_always _ (λ a r. r ≡ event_moment a.0.now) _ (λ f a r q k. search rules))

@@ -1,7 +1,7 @@
 use Rattle.std.proofs.Common.{◌≡◌, ◌∙◌, rules, slice_set, slice_index_or, Some, None, ap, sym, subst, length, nat_lt, if◌then◌else◌}
 use Rattle.pt_semantics.specs.Lists.{or_else}
-use Rattle.pt_meaning.specs.Waiting.{waits_in, place_of, IsSound}
-use Rattle.pt_meaning.specs.Front.{Leaves, NoneInFront}
+use Rattle.pt_meaning.specs.Waiting.{waits_in, place_of, EventsArePlaced}
+use Rattle.pt_meaning.specs.Front.{TakesOne, NoneInFront}
 use Rattle.pt_meaning.proofs.Taking.{kept_more, length_put, others_more, port_low, values_more, none_left, all_taken, waits_without, sound_part}
 use Rattle.pt_meaning.proofs.front.take_all.Goals as goal
 
@@ -9,7 +9,7 @@ pub loop-port-preserved : goal.loop-port-preserved
 loop-port-preserved g c =
     let t = c.args.tag in let a = c.args.actor in let held = g.F.Front.held in
     let all = g.F.Front.held c.args.front.now in let before = g.F.Front.held c.loop-port.front in let now = g.F.Front.held c.take_first.new.self in
-    let leaves : Leaves c.args.tag c.args.actor c.in-Some.port c.in-Some.value (g.F.Front.held c.loop-port.front) (g.F.Front.held c.take_first.new.self) = search rules in
+    let leaves : TakesOne c.args.tag c.args.actor c.in-Some.port c.in-Some.value (g.F.Front.held c.loop-port.front) (g.F.Front.held c.take_first.new.self) = search rules in
     let written : c.put_at.new.values ≡ (if nat_lt c.in-Some.port 8 then slice_set c.loop-port.inputs c.in-Some.port (Some c.in-Some.value) else c.loop-port.inputs) = search rules in
     record {
       len = ap length written ∙ length_put c.loop-port.inputs c.in-Some.port c.in-Some.value c.loop-port.invariant.len;
@@ -38,5 +38,5 @@ returns-clause-waits g c = λ rank actors steps sound first.
 
 pub returns-clause-sound : goal.returns-clause-sound
 returns-clause-sound g c = λ rank actors steps sound.
-    subst (IsSound rank actors steps) (sym c.in_default.ensures.none.1)
+    subst (EventsArePlaced rank actors steps) (sym c.in_default.ensures.none.1)
     (sound_part rank actors steps (g.F.Front.held c.args.front.now) (g.F.Front.held c.loop-port.front) sound c.loop-port.invariant.kept)

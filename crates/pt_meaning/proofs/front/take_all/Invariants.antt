@@ -1,7 +1,7 @@
 use Rattle.std.proofs.Common.{◌≡◌, ℕ, ◌<◌, None, Some, ℤ, slice_index_or, length, false}
 use Rattle.pt_semantics.specs.Lists.{or_else}
-use Rattle.pt_meaning.specs.Waiting.{place_of, IsSound}
-use Rattle.pt_meaning.specs.Front.{is_of}
+use Rattle.pt_meaning.specs.Waiting.{place_of, EventsArePlaced}
+use Rattle.pt_meaning.specs.Front.{is_place_of}
 use Rattle.pt_meaning.specs.declared.place.Place.{Place}
 use Rattle.pt_meaning.proofs.front.take_all.Given as goal
 
@@ -9,8 +9,8 @@ abbrev pub invariant-loop-port : goal.invariant-loop-port
 invariant-loop-port g l = record {
   len : length l.inputs ≡ 8;
   kept : (q : Place) (v : ℤ) → g.F.Front.held l.front q ≡ Some v → g.F.Front.held l.fn.front q ≡ Some v;
-  others : (q : Place) → is_of l.tag l.actor q ≡ false → g.F.Front.held l.front q ≡ g.F.Front.held l.fn.front q;
-  values : (rank : ℕ → ℕ) (actors steps : ℕ) → IsSound rank actors steps (g.F.Front.held l.fn.front) → (p : ℕ) → p < 8
+  others : (q : Place) → is_place_of l.tag l.actor q ≡ false → g.F.Front.held l.front q ≡ g.F.Front.held l.fn.front q;
+  values : (rank : ℕ → ℕ) (actors steps : ℕ) → EventsArePlaced rank actors steps (g.F.Front.held l.fn.front) → (p : ℕ) → p < 8
       → or_else (g.F.Front.held l.front (place_of rank l.actor p l.tag)) (slice_index_or l.inputs p None) ≡ or_else (g.F.Front.held l.fn.front (place_of rank l.actor p l.tag)) (slice_index_or l.fn.inputs p None);
 }
 

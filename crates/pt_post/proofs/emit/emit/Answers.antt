@@ -1,7 +1,7 @@
 use Rattle.std.proofs.Common.{◌≡◌, true, false, ◌+◌, ◌<◌, ◌≤◌, length, take, refl, ap₂, ap, sym, subst, ◌∙◌, get_or, arith}
 use Rattle.std.proofs.lemmas.Grind.{get_or_default_zero}
 use Rattle.std.proofs.lemmas.Option.{slice_get-get_or}
-use Rattle.pt_causality.specs.Branches.{IsNext}
+use Rattle.pt_causality.specs.Branches.{IsNextWire}
 use Rattle.pt_post.specs.Room.{leaving}
 use Rattle.pt_post.proofs.Skipping.{leaving_on, nothing_goes, skipped}
 use Rattle.pt_types.specs.declared.graph.Wire.{Wire}
@@ -28,7 +28,7 @@ pub branches-init : goal.branches-init
 branches-init c =
     let g = c.args.graph.now in
     let place : c.index-place.result.now ≡ get_or c.args.branches.now.first.items c.args.unit.actor 0 = c.index-place.ensures ∙ get_or_default_zero c.args.branches.now.first.items c.args.unit.actor c.index-place.result.now (subst (λ n. c.args.unit.actor < n) (sym c.requires.branches.actors) c.requires.actor) in
-    let next : IsNext g.wires c.args.unit.actor 0 c.index-place.result.now = subst (IsNext g.wires c.args.unit.actor 0) (sym place) (c.requires.branches.first c.args.unit.actor c.requires.actor) in
+    let next : IsNextWire g.wires c.args.unit.actor 0 c.index-place.result.now = subst (IsNextWire g.wires c.args.unit.actor 0) (sym place) (c.requires.branches.first c.args.unit.actor c.requires.actor) in
     record {
       waits = sym (skipped g c.args.unit g.wires 0 c.index-place.result.now c.args.tag c.args.outputs.now none_wire (waiting_in c.args.queue.now.events) next.later next.none ∙ nothing_goes g c.args.unit c.args.tag c.args.outputs.now (waiting_in c.args.queue.now.events));
       groups = refl;
@@ -53,7 +53,7 @@ branches-preserved c =
     let w : Wire = get_or g.wires c.branches.place none_wire in
     let at = slice_get-get_or g.wires c.branches.place none_wire lt in
     let from : w.from ≡ c.args.unit.actor = c.branches.invariant.is w at in
-    let next : IsNext g.wires c.args.unit.actor (c.branches.place + 1) c.index-place-in-branches.result.now = subst (IsNext g.wires c.args.unit.actor (c.branches.place + 1)) (sym place) (subst (λ a. IsNext g.wires a (c.branches.place + 1) (get_or c.args.branches.now.next.items c.branches.place 0)) from (c.requires.branches.next c.branches.place w at)) in
+    let next : IsNextWire g.wires c.args.unit.actor (c.branches.place + 1) c.index-place-in-branches.result.now = subst (IsNextWire g.wires c.args.unit.actor (c.branches.place + 1)) (sym place) (subst (λ a. IsNextWire g.wires a (c.branches.place + 1) (get_or c.args.branches.now.next.items c.branches.place 0)) from (c.requires.branches.next c.branches.place w at)) in
     let spare : c.args.queue.now.spare ≤ c.emit_along.new.queue.spare + leaving g c.args.unit (take (c.branches.place + 1) g.wires) =
     spare_more g c.args.unit g.wires c.branches.place c.args.queue.now.spare c.branches.queue.spare c.emit_along.new.queue.spare none_wire
     lt c.branches.invariant.spare c.emit_along.ensures.spare

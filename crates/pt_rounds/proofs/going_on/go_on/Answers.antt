@@ -6,7 +6,7 @@ use Rattle.pt_semantics.proofs.LawfulEdges.{wired}
 use Rattle.pt_causality.specs.Ranked.{level_of}
 use Rattle.pt_offsets.specs.Timings.{offset_of}
 use Rattle.pt_rounds.specs.Asked.{IsLeastOf}
-use Rattle.pt_together.specs.Asked.{lists_of}
+use Rattle.pt_together.specs.Asked.{result_lists}
 use Rattle.pt_schedule.proofs.FewRounds.{rounds_are_few}
 use Rattle.pt_rounds.proofs.Runs.{ended_finished, ended_long, open_after_quiet, stands_next}
 use Rattle.pt_rounds.proofs.going_on.go_on.Goals as goal
@@ -16,7 +16,7 @@ pub returns-in-Some : goal.returns-in-Some
 returns-in-Some g c = record {
   run = λ plan rows start.
       let s = c.loop-round.invariant plan rows start in
-      ended_long plan rows c.loop-round._round c.loop-round.reading c.loop-round.platforms c.loop-round.pipes (lists_of c.loop-round.results) s c.pass.new.platforms c.pass.new.pipes (lists_of c.pass.new.results) c.in_ok-quiet.quiet
+      ended_long plan rows c.loop-round._round c.loop-round.reading c.loop-round.platforms c.loop-round.pipes (result_lists c.loop-round.results) s c.pass.new.platforms c.pass.new.pipes (result_lists c.pass.new.results) c.in_ok-quiet.quiet
       (c.in_ok-quiet.ensures.passed plan rows c.loop-round._round s)
       c.in-Some.fault c.number.result (get_or c.pass.new.platforms c.in-Some.fault c.index-platforms-fault.result) c.in-Some.ensures
       (slice_get-get_or c.pass.new.platforms c.in-Some.fault c.index-platforms-fault.result (slice_get_within c.pass.new.platforms c.in-Some.fault c.in-Some.ensures.view c.in-Some.ensures.at))
@@ -27,7 +27,7 @@ pub returns-then-are_finished : goal.returns-then-are_finished
 returns-then-are_finished g c = record {
   run = λ plan rows start.
       let s = c.loop-round.invariant plan rows start in
-      ended_finished plan rows c.loop-round._round c.loop-round.reading c.loop-round.platforms c.loop-round.pipes (lists_of c.loop-round.results) s c.pass.new.platforms c.pass.new.pipes (lists_of c.pass.new.results) c.in_ok-quiet.quiet
+      ended_finished plan rows c.loop-round._round c.loop-round.reading c.loop-round.platforms c.loop-round.pipes (result_lists c.loop-round.results) s c.pass.new.platforms c.pass.new.pipes (result_lists c.pass.new.results) c.in_ok-quiet.quiet
       (c.in_ok-quiet.ensures.passed plan rows c.loop-round._round s)
       c.in_default.ensures (c.are_finished.ensures.0 c.if-are_finished.true);
 }
@@ -37,7 +37,7 @@ next_reading-reading-requires g c = record {
   some_open =
       let (plan, rows, start) = c.requires.begun in
       let s = c.loop-round.invariant plan rows start in
-      open_after_quiet plan rows c.loop-round._round c.loop-round.reading c.loop-round.platforms c.loop-round.pipes (lists_of c.loop-round.results) s c.pass.new.platforms c.pass.new.pipes (lists_of c.pass.new.results) c.in_ok-quiet.quiet
+      open_after_quiet plan rows c.loop-round._round c.loop-round.reading c.loop-round.platforms c.loop-round.pipes (result_lists c.loop-round.results) s c.pass.new.platforms c.pass.new.pipes (result_lists c.pass.new.results) c.in_ok-quiet.quiet
       (c.in_ok-quiet.ensures.passed plan rows c.loop-round._round s)
       c.if-quiet.true c.in_default.ensures (λ done. false≢true (sym c.if-are_finished.false ∙ c.are_finished.ensures.1 done));
 }
@@ -45,7 +45,7 @@ next_reading-reading-requires g c = record {
 pub loop-round-preserved : goal.loop-round-preserved
 loop-round-preserved g c = λ plan rows start.
     let s = c.loop-round.invariant plan rows start in
-    stands_next plan rows c.loop-round._round c.loop-round.reading c.loop-round.platforms c.loop-round.pipes (lists_of c.loop-round.results) s c.pass.new.platforms c.pass.new.pipes (lists_of c.pass.new.results) c.in_ok-quiet.quiet
+    stands_next plan rows c.loop-round._round c.loop-round.reading c.loop-round.platforms c.loop-round.pipes (result_lists c.loop-round.results) s c.pass.new.platforms c.pass.new.pipes (result_lists c.pass.new.results) c.in_ok-quiet.quiet
     (c.in_ok-quiet.ensures.passed plan rows c.loop-round._round s)
     c.if-quiet.reading c.in_default.ensures (λ done. false≢true (sym c.if-are_finished.false ∙ c.are_finished.ensures.1 done))
     (elim c.if-quiet.branch [ then-quiet w ↦ λ e. subst (IsLeastOf (length c.pass.new.platforms) c.pass.new.platforms) (sym w.reading-is) w.next_reading-reading.ensures | else-quiet w ↦ λ e. absurd (false≢true (sym w.if-quiet.false ∙ e)) ])

@@ -9,7 +9,7 @@ use Rattle.pt_post.specs.Posted.{AreDone}
 use Rattle.pt_semantics.proofs.Lookups.{same_some}
 use Rattle.pt_offsets.specs.Plans.{Parts}
 use Rattle.pt_turn.specs.Platforms.{PlatformView, state_at}
-use Rattle.pt_together.specs.Asked.{lists_of}
+use Rattle.pt_together.specs.Asked.{result_lists}
 use Rattle.pt_rounds.specs.Passing.{HavePassed}
 use Rattle.pt_together.proofs.Listed.{list_at}
 use Rattle.pt_rounds.proofs.Showing.{may_come}
@@ -22,13 +22,13 @@ here : (platforms : List PlatformView) (i : ℕ) (v d : PlatformView) → i < le
 here platforms i v d lt = same_some (get_or platforms i v) (get_or platforms i d) (sym (slice_get-get_or platforms i v lt) ∙ slice_get-get_or platforms i d lt)
 
 pub loop-i-init : goal.loop-i-init
-loop-i-init g c = λ plan rows count s. none_passed plan rows count c.args.reading c.args.platforms.now c.args.pipes.now (lists_of c.args.results.now) s
+loop-i-init g c = λ plan rows count s. none_passed plan rows count c.args.reading c.args.platforms.now c.args.pipes.now (result_lists c.args.results.now) s
 
 pub loop-i-preserved-then-finished : goal.loop-i-preserved-then-finished
 loop-i-preserved-then-finished g c = λ plan rows count s.
     let lt : c.loop-i.i < length c.loop-i.platforms = omega (arith, c.loop-i-test.true, c.loop-i.auto.platforms) in
-    subst (λ k. HavePassed plan rows c.args.reading s.together k c.loop-i.platforms c.loop-i.pipes (lists_of c.loop-i.results) c.loop-i.quiet) (sym (add-one c.loop-i.i))
-    (one_by plan rows count c.args.reading c.args.platforms.now c.args.pipes.now (lists_of c.args.results.now) s c.loop-i.i c.loop-i.platforms c.loop-i.pipes (lists_of c.loop-i.results) c.loop-i.quiet (c.loop-i.invariant plan rows count s)
+    subst (λ k. HavePassed plan rows c.args.reading s.together k c.loop-i.platforms c.loop-i.pipes (result_lists c.loop-i.results) c.loop-i.quiet) (sym (add-one c.loop-i.i))
+    (one_by plan rows count c.args.reading c.args.platforms.now c.args.pipes.now (result_lists c.args.results.now) s c.loop-i.i c.loop-i.platforms c.loop-i.pipes (result_lists c.loop-i.results) c.loop-i.quiet (c.loop-i.invariant plan rows count s)
     (get_or c.loop-i.platforms c.loop-i.i c.index-platforms-i.result)
     (slice_get-get_or c.loop-i.platforms c.loop-i.i c.index-platforms-i.result lt)
     (c.finished.ensures.0 c.if-finished.true))
@@ -37,7 +37,7 @@ pub visit_one-requires-clause-no_fault : goal.visit_one-requires-clause-no_fault
 visit_one-requires-clause-no_fault g c =
     let (plan, rows, count, s) = c.requires.begun in
     let lt : c.loop-i.i < length c.loop-i.platforms = omega (arith, c.loop-i-test.true, c.loop-i.auto.platforms) in
-    not_faulty plan rows count c.args.reading c.args.platforms.now c.args.pipes.now (lists_of c.args.results.now) s c.loop-i.i c.loop-i.platforms c.loop-i.pipes (lists_of c.loop-i.results) c.loop-i.quiet (c.loop-i.invariant plan rows count s)
+    not_faulty plan rows count c.args.reading c.args.platforms.now c.args.pipes.now (result_lists c.args.results.now) s c.loop-i.i c.loop-i.platforms c.loop-i.pipes (result_lists c.loop-i.results) c.loop-i.quiet (c.loop-i.invariant plan rows count s)
     (get_or c.loop-i.platforms c.loop-i.i c.index-platforms-i-in-loop-i.result)
     (slice_get-get_or c.loop-i.platforms c.loop-i.i c.index-platforms-i-in-loop-i.result lt)
 
@@ -66,8 +66,8 @@ visit_one-requires-clause-taken g c =
     let (plan, rows, count, s) = c.requires.begun in
     let lt : c.loop-i.i < length c.loop-i.platforms = omega (arith, c.loop-i-test.true, c.loop-i.auto.platforms) in
     let h = c.loop-i.invariant plan rows count s in
-    may_come plan rows c.args.reading h.together c.loop-i.platforms c.loop-i.pipes (lists_of c.loop-i.results) s.admitted s.fit
-    (passed_onward plan rows count c.args.reading c.args.platforms.now c.args.pipes.now (lists_of c.args.results.now) s c.loop-i.i c.loop-i.platforms c.loop-i.pipes (lists_of c.loop-i.results) c.loop-i.quiet h (omega (arith, lt)))
+    may_come plan rows c.args.reading h.together c.loop-i.platforms c.loop-i.pipes (result_lists c.loop-i.results) s.admitted s.fit
+    (passed_onward plan rows count c.args.reading c.args.platforms.now c.args.pipes.now (result_lists c.args.results.now) s c.loop-i.i c.loop-i.platforms c.loop-i.pipes (result_lists c.loop-i.results) c.loop-i.quiet h (omega (arith, lt)))
     h.shown c.loop-i.i
     (get_or c.loop-i.platforms c.loop-i.i c.index-platforms-i-in-loop-i.result)
     (slice_get-get_or c.loop-i.platforms c.loop-i.i c.index-platforms-i-in-loop-i.result lt)
@@ -78,10 +78,10 @@ loop-i-preserved g c = λ plan rows count s.
     let h = c.loop-i.invariant plan rows count s in
     let within : c.loop-i.i < length c.loop-i.results = omega (arith, lt, h.shown.count, length-map c.loop-i.results (λ (v : Vec Done). v.items)) in
     let one = here c.loop-i.platforms c.loop-i.i c.index-platforms-i.result c.index-platforms-i-in-loop-i.result lt in
-    subst (λ k. HavePassed plan rows c.args.reading s.together k (set c.loop-i.platforms c.loop-i.i c.visit_one.new.platform) c.visit_one.new.pipes (lists_of (set c.loop-i.results c.loop-i.i c.visit_one.new.results)) c.if-quiet.quiet) (sym (add-one c.loop-i.i))
+    subst (λ k. HavePassed plan rows c.args.reading s.together k (set c.loop-i.platforms c.loop-i.i c.visit_one.new.platform) c.visit_one.new.pipes (result_lists (set c.loop-i.results c.loop-i.i c.visit_one.new.results)) c.if-quiet.quiet) (sym (add-one c.loop-i.i))
     (subst (λ results. HavePassed plan rows c.args.reading s.together (suc c.loop-i.i) (set c.loop-i.platforms c.loop-i.i c.visit_one.new.platform) c.visit_one.new.pipes results c.if-quiet.quiet)
     (sym (map-set (λ (v : Vec Done). v.items) c.loop-i.results c.loop-i.i c.visit_one.new.results))
-    (one_visited plan rows count c.args.reading c.args.platforms.now c.args.pipes.now (lists_of c.args.results.now) s c.loop-i.i c.loop-i.platforms c.loop-i.pipes (lists_of c.loop-i.results) c.loop-i.quiet h
+    (one_visited plan rows count c.args.reading c.args.platforms.now c.args.pipes.now (result_lists c.args.results.now) s c.loop-i.i c.loop-i.platforms c.loop-i.pipes (result_lists c.loop-i.results) c.loop-i.quiet h
     (get_or c.loop-i.platforms c.loop-i.i c.index-platforms-i-in-loop-i.result)
     (slice_get-get_or c.loop-i.platforms c.loop-i.i c.index-platforms-i-in-loop-i.result lt)
     c.visit_one.new.platform (get_or c.loop-i.results c.loop-i.i c.index-results-i.result).items c.visit_one.new.results.items c.visit_one.new.pipes c.in_ok-still.still c.if-quiet.quiet
@@ -96,5 +96,5 @@ pub returns : goal.returns
 returns g c = record {
   passed = λ plan rows count s.
       let e : c.loop-i.i ≡ length c.args.platforms.now = omega (arith, c.loop-i-test.false, c.loop-i.auto.i-end) in
-      subst (λ k. HavePassed plan rows c.args.reading s.together k c.loop-i.platforms c.loop-i.pipes (lists_of c.loop-i.results) c.loop-i.quiet) e (c.loop-i.invariant plan rows count s);
+      subst (λ k. HavePassed plan rows c.args.reading s.together k c.loop-i.platforms c.loop-i.pipes (result_lists c.loop-i.results) c.loop-i.quiet) e (c.loop-i.invariant plan rows count s);
 }

@@ -1,17 +1,17 @@
 use Rattle.std.specs.Arc.{arc_value}
 use Rattle.pt_sensors.specs.Asked.{Reading}
-use Rattle.pt_run.specs.Runs.{paced_by}
+use Rattle.pt_run.specs.Runs.{paced_clocking}
 use Rattle.pt_run.proofs.Finished.{run_of_went}
 use Rattle.pt_run.proofs.plan_run.run_of.Goals as goal
 
 pub returns-clause-ran : goal.returns-clause-ran
 returns-clause-ran g c =
     let r : Reading = record { asked_before = g.S.Source.asked c.args.source.now; asked_now = g.S.Source.asked c.opened_of.new.source; before = g.S.Source.faults c.args.source.now; now = g.S.Source.faults c.opened_of.new.source } in
-    (run_of_went (g.S.Source.tells c.args.source.now) (paced_by c.args.workers) (arc_value c.args.plan.now) c.args.log c.in_ok-platforms.platforms.items c.in-Ok.went.platforms.items c.in-Ok.went.fault c.outputs_of.result r
+    (run_of_went (g.S.Source.tells c.args.source.now) (paced_clocking c.args.workers) (arc_value c.args.plan.now) c.args.log c.in_ok-platforms.platforms.items c.in-Ok.went.platforms.items c.in-Ok.went.fault c.outputs_of.result r
     c.in_ok-platforms.ensures.opened c.in-Ok.ensures c.outputs_of.ensures.output c.outputs_of.ensures.stop).0
 
 pub returns-clause-fault : goal.returns-clause-fault
 returns-clause-fault g c =
     let r : Reading = record { asked_before = g.S.Source.asked c.args.source.now; asked_now = g.S.Source.asked c.opened_of.new.source; before = g.S.Source.faults c.args.source.now; now = g.S.Source.faults c.opened_of.new.source } in
-    (run_of_went (g.S.Source.tells c.args.source.now) (paced_by c.args.workers) (arc_value c.args.plan.now) c.args.log c.in_ok-platforms.platforms.items c.in-Ok.went.platforms.items c.in-Ok.went.fault c.outputs_of.result r
+    (run_of_went (g.S.Source.tells c.args.source.now) (paced_clocking c.args.workers) (arc_value c.args.plan.now) c.args.log c.in_ok-platforms.platforms.items c.in-Ok.went.platforms.items c.in-Ok.went.fault c.outputs_of.result r
     c.in_ok-platforms.ensures.opened c.in-Ok.ensures c.outputs_of.ensures.output c.outputs_of.ensures.stop).1

@@ -2,7 +2,7 @@ use Rattle.std.specs.Prelude.{string_bytes}
 use Rattle.pt_sensors.specs.Asked.{Reading}
 use Rattle.pt_run.specs.declared.words.Command.TheVariants.{Check, Meaning, Slacks}
 use Rattle.pt_run.specs.Causes.{CauseOf, Writing}
-use Rattle.pt_run.specs.Written.{Writes, nothing}
+use Rattle.pt_run.specs.Written.{Writes, leaves_nothing}
 use Rattle.std.proofs.Common.{[]}
 use Rattle.pt_words.specs.declared.orders.ClockChoice.TheVariants.{Paced}
 use Rattle.pt_run.proofs.Asks.{answer_asks, whatever_clock}
@@ -15,8 +15,8 @@ returns-in-Check-clause-ends g c =
     let r : Reading = record { asked_before = g.S.Source.asked c.args.source.now; asked_now = g.S.Source.asked c.args.source.now; before = g.S.Source.faults c.args.source.now; now = g.S.Source.faults c.args.source.now } in
     let w : Writing = record { before = g.K.Sink.faults c.args.out.now; now = g.K.Sink.faults c.give.new.out; written_before = g.K.Sink.written c.args.out.now; written_now = g.K.Sink.written c.give.new.out } in
     rw c.in-Check.is (ends_answer Check c.check_answer-answer.result c.give.result tells c.args.graph r w
-    (ok_at tells (λ t text. Writes Check t c.args.graph nothing (string_bytes text)) c.check_answer-answer.result c.check_answer-answer.ensures.text)
-    (err_at tells r (λ t q f. CauseOf Check f nothing t c.args.graph [] q) c.check_answer-answer.result c.check_answer-answer.ensures.fault)
+    (ok_at tells (λ t text. Writes Check t c.args.graph leaves_nothing (string_bytes text)) c.check_answer-answer.result c.check_answer-answer.ensures.text)
+    (err_at tells r (λ t q f. CauseOf Check f leaves_nothing t c.args.graph [] q) c.check_answer-answer.result c.check_answer-answer.ensures.fault)
     c.give.ensures.gives)
 
 pub returns-in-Meaning-clause-ends : goal.returns-in-Meaning-clause-ends
@@ -37,8 +37,8 @@ returns-in-Slacks-clause-ends g c =
     let r : Reading = record { asked_before = g.S.Source.asked c.args.source.now; asked_now = g.S.Source.asked c.args.source.now; before = g.S.Source.faults c.args.source.now; now = g.S.Source.faults c.args.source.now } in
     let w : Writing = record { before = g.K.Sink.faults c.args.out.now; now = g.K.Sink.faults c.give-in-Slacks.new.out; written_before = g.K.Sink.written c.args.out.now; written_now = g.K.Sink.written c.give-in-Slacks.new.out } in
     rw c.in-Slacks.is (ends_answer Slacks c.slacks_answer-answer.result c.give-in-Slacks.result tells c.args.graph r w
-    (ok_at tells (λ t text. Writes Slacks t c.args.graph nothing (string_bytes text)) c.slacks_answer-answer.result c.slacks_answer-answer.ensures.text)
-    (err_at tells r (λ t q f. CauseOf Slacks f nothing t c.args.graph [] q) c.slacks_answer-answer.result c.slacks_answer-answer.ensures.fault)
+    (ok_at tells (λ t text. Writes Slacks t c.args.graph leaves_nothing (string_bytes text)) c.slacks_answer-answer.result c.slacks_answer-answer.ensures.text)
+    (err_at tells r (λ t q f. CauseOf Slacks f leaves_nothing t c.args.graph [] q) c.slacks_answer-answer.result c.slacks_answer-answer.ensures.fault)
     c.give-in-Slacks.ensures.gives)
 
 pub returns-in-Paced-clause-asks : goal.returns-in-Paced-clause-asks

@@ -5,7 +5,7 @@ use Rattle.pt_types.specs.declared.graph.Graph.{Graph}
 use Rattle.pt_post.specs.Posted.{AreDone}
 use Rattle.pt_pool.specs.declared.station.VisitFault.TheVariants.{Turn}
 use Rattle.pt_pool.specs.Answers.{StationRefused}
-use Rattle.pt_pool.specs.Station.{graph_of}
+use Rattle.pt_pool.specs.Station.{plan_graph}
 use Rattle.pt_sites.specs.Sites.{HavePlaced}
 use Rattle.pt_sites.proofs.Collects.{done_both, have_done, have_same}
 use Rattle.pt_sites.proofs.Sites.{answer_counts, few_placed, site_visited}
@@ -25,11 +25,11 @@ returns-in_default g c = record {
 
 pub visit-requires-clause-done : goal.visit-requires-clause-done
 visit-requires-clause-done g c =
-    let h = graph_of g.J.Run.plan in
+    let h = plan_graph g.J.Run.plan in
     let kept = c.args.results.now.items in
     let got = c.collect_all.ensures in
     let is : c.as_slice.result.now ≡ kept ++ got.0 = c.as_slice.ensures.value ∙ got.2 ∙ ap (λ (z : List Done). z ++ got.0) c.make_room.ensures.results.0 in
-    let same : h ≡ c.args.station.now.platform.plan.graph = ap graph_of (c.platform.ensures.plan ∙ ap (λ (p : _). Some p.plan) c.platform.ensures.platform) in
+    let same : h ≡ c.args.station.now.platform.plan.graph = ap plan_graph (c.platform.ensures.plan ∙ ap (λ (p : _). Some p.plan) c.platform.ensures.platform) in
     subst (λ (z : Graph). AreDone z c.as_slice.result.now) same
     (subst (λ (ds : List Done). AreDone h ds) (sym is) (done_both h kept got.0 c.requires.done (have_done h c.args.keeper.now c.collect_all.new.keeper got.0 got.1 c.requires.graph)))
 
@@ -55,7 +55,7 @@ place_all-requires-in-Err-Turn-clause-numbers g c =
 
 pub returns-in-Ok-visit : goal.returns-in-Ok-visit
 returns-in-Ok-visit g c =
-    let h = graph_of g.J.Run.plan in
+    let h = plan_graph g.J.Run.plan in
     let kept = c.args.results.now.items in
     let got = c.collect_all.ensures in
     let is : c.as_slice.result.now ≡ kept ++ got.0 = c.as_slice.ensures.value ∙ got.2 ∙ ap (λ (z : List Done). z ++ got.0) c.make_room.ensures.results.0 in
@@ -69,7 +69,7 @@ returns-in-Ok-visit g c =
 
 pub returns-in-Err-Turn : goal.returns-in-Err-Turn
 returns-in-Err-Turn g c =
-    let h = graph_of g.J.Run.plan in
+    let h = plan_graph g.J.Run.plan in
     let kept = c.args.results.now.items in
     let got = c.collect_all.ensures in
     let is : c.as_slice.result.now ≡ kept ++ got.0 = c.as_slice.ensures.value ∙ got.2 ∙ ap (λ (z : List Done). z ++ got.0) c.make_room.ensures.results.0 in
@@ -83,7 +83,7 @@ returns-in-Err-Turn g c =
 
 pub returns-in-Err-Memory : goal.returns-in-Err-Memory
 returns-in-Err-Memory g c =
-    let h = graph_of g.J.Run.plan in
+    let h = plan_graph g.J.Run.plan in
     let got = c.collect_all.ensures in
     let r : StationRefused c.args.station.now c.visit.new.self c.clear.new.self.tasks c.visit.new.tasks.tasks = rw c.in-Err-Memory.field-0-is at c.in-Err-Memory.ensures.answer in
     record {

@@ -3,7 +3,7 @@ use Rattle.std.specs.List.{list_any}
 use Rattle.std.proofs.lemmas.List.{get_or_read}
 use Rattle.std.specs.Prelude.{reverse}
 use Rattle.pt_causality.specs.Delays.{least_of}
-use Rattle.pt_slacks.specs.Rows.{row_at}
+use Rattle.pt_slacks.specs.Rows.{slack_row_at}
 use Rattle.pt_slacks.specs.Trails.{IsRaisedByTrail}
 use Rattle.pt_slacks.proofs.Costs.{cheap, hops_len}
 use Rattle.pt_slacks.proofs.Rounds.{row_len, rows_fit}
@@ -11,7 +11,7 @@ use Rattle.pt_slacks.proofs.Walking.{asks_at, back, closes, none_asks, walk_ends
 use Rattle.pt_slacks.proofs.ring.ring_of.Goals as goal
 
 -- the row of a round
-row_read : (rows : List (List ℕ)) (n step : ℕ) (item row : List ℕ) → length rows ≡ (n + 1) + 1 → row ≡ item → item ≡ slice_index_or rows (n - step) item → row ≡ row_at rows (n - step)
+row_read : (rows : List (List ℕ)) (n step : ℕ) (item row : List ℕ) → length rows ≡ (n + 1) + 1 → row ≡ item → item ≡ slice_index_or rows (n - step) item → row ≡ slack_row_at rows (n - step)
 row_read rows n step item row len same read = same ∙ get_or_read rows (n - step) item (omega (arith, len)) read []
 
 pub raiser-requires-clause-len : goal.raiser-requires-clause-len

@@ -1,6 +1,6 @@
 use Rattle.std.proofs.Common.{◌≡◌, ◌+◌, ◌≤◌, length, sym, subst, ◌∙◌, arith}
 use Rattle.pt_causality.specs.Delays.{least_of}
-use Rattle.pt_slacks.specs.Rows.{AreRows, HasRisen, row_at}
+use Rattle.pt_slacks.specs.Rows.{AreSlackRows, HasRisen, slack_row_at}
 use Rattle.pt_slacks.proofs.Costs.{cheap, hops_len}
 use Rattle.pt_slacks.proofs.Pushes.{risen_more, rows_more}
 use Rattle.pt_slacks.proofs.Settling.{begun_len, begun_small, ended, read_row, risen, went_on}
@@ -66,9 +66,9 @@ loop-round-preserved c =
     let up = risen g least hops rows m c.as_slice-row.result.now is c.loop-round.invariant.are c.in_ok-next.next c.as_slice.result.now c.in-Some.risen c.as_slice.ensures c.in-Some.ensures in
     record {
       are =
-          subst (λ rs. AreRows g least hops rs (m + 1)) (sym c.in_ok-push-2.ensures.items)
+          subst (λ rs. AreSlackRows g least hops rs (m + 1)) (sym c.in_ok-push-2.ensures.items)
           (rows_more g least hops rows c.in_ok-next.next m c.loop-round.invariant.are (went_on g least hops rows m c.as_slice-row.result.now is c.loop-round.invariant.are c.in_ok-next.next c.in_ok-next.ensures));
       rose = λ k same.
-          subst (λ rs. HasRisen (length hops) (row_at rs k) (row_at rs (k + 1)) c.in-Some.risen) (sym c.in_ok-push-2.ensures.items)
+          subst (λ rs. HasRisen (length hops) (slack_row_at rs k) (slack_row_at rs (k + 1)) c.in-Some.risen) (sym c.in_ok-push-2.ensures.items)
           (risen_more g least hops rows c.in_ok-next.next (length hops) m c.in-Some.risen c.loop-round.invariant.are up k same);
     }

@@ -5,10 +5,10 @@ use Rattle.pt_types.specs.declared.graph.Graph.{Graph}
 use Rattle.pt_semantics.specs.Linked.{AreMatched}
 use Rattle.pt_offsets.specs.Plans.{IsAdmitted, Parts}
 use Rattle.pt_turn.specs.All.{histories_of}
-use Rattle.pt_together.specs.Asked.{AreLegal}
-use Rattle.pt_pool.specs.Station.{graph_of}
+use Rattle.pt_together.specs.Asked.{HaveLegalHistories}
+use Rattle.pt_pool.specs.Station.{plan_graph}
 use Rattle.pt_free.specs.Orders.{count_up}
-use Rattle.pt_ends.specs.Settled.{AreInOrder}
+use Rattle.pt_ends.specs.Settled.{AreByNumber}
 use Rattle.pt_ends.proofs.Numbered.{numbered_in_order}
 use Rattle.pt_threads.specs.Reported.{IsReported}
 use Rattle.pt_threads.proofs.Ending.{all_gone, told_at, told_count}
@@ -17,7 +17,7 @@ use Rattle.pt_threads.proofs.engine.run_named.Goals as goal
 pub free-requires-clause-few : goal.free-requires-clause-few
 free-requires-clause-few g c κs within =
     let admitted = c.in_ok-stations.ensures.admitted in
-    subst (λ (z : Graph). length z.platforms ≤ 16) (sym (ap graph_of c.requires.plan ∙ ap (λ (p : Parts). p.graph) (sym c.deref.ensures))) admitted.lawful.few_platforms
+    subst (λ (z : Graph). length z.platforms ≤ 16) (sym (ap plan_graph c.requires.plan ∙ ap (λ (p : Parts). p.graph) (sym c.deref.ensures))) admitted.lawful.few_platforms
 
 pub settle_run-requires-clause-order : goal.settle_run-requires-clause-order
 settle_run-requires-clause-order g c =
@@ -36,13 +36,13 @@ returns g c =
     let platforms = c.in_ok-platforms.field-0.platforms.items in
     let clocks = c.in_ok-platforms.field-0.clocks.items in
     let settled = c.in_ok-platforms.ensures in
-    let in_order : AreInOrder stations.items = numbered_in_order stations.items (order.1 ∙ ap count_up (sym order.0 ∙ stations.ok.0)) in
+    let in_order : AreByNumber stations.items = numbered_in_order stations.items (order.1 ∙ ap count_up (sym order.0 ∙ stations.ok.0)) in
     record {
       ran = all_gone plan r.plan r.rows r.link r.began r.fixed c.requires.plan (subst IsAdmitted c.deref.ensures c.in_ok-stations.ensures.admitted)
           c.args.platforms.items (tell told ahead c.args.clocks.items) (tell told ahead clocks) c.requires.all c.requires.begun
-          stations.items (sym stations.ok.0 ∙ order.0 ∙ ap (λ (z : Graph). length z.platforms) (ap graph_of c.requires.plan)) in_order settled.of_run c.in_ok-stations-2.ensures.unmarked
+          stations.items (sym stations.ok.0 ∙ order.0 ∙ ap (λ (z : Graph). length z.platforms) (ap plan_graph c.requires.plan)) in_order settled.of_run c.in_ok-stations-2.ensures.unmarked
           (told_count told ahead clocks stations.items settled.clocks) (told_at told ahead clocks stations.items settled.clocks)
-          platforms settled.platforms (subst AreLegal c.as_slice.ensures.value c.show_histories.ensures)
+          platforms settled.platforms (subst HaveLegalHistories c.as_slice.ensures.value c.show_histories.ensures)
           (subst (λ (p : Parts). AreMatched p.graph (histories_of platforms)) c.deref-2.ensures settled.matched)
           c.in_ok-stations-2.field-0.fault c.fault_at-fault.result c.in_ok-stations-2.ensures.done c.in_ok-stations-2.ensures.fault
           (subst (λ ps. IsReported ps c.in_ok-stations-2.field-0.fault c.fault_at-fault.result) c.as_slice-2.ensures.value c.fault_at-fault.ensures);

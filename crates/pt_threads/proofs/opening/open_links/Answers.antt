@@ -4,7 +4,7 @@ use Rattle.std.specs.Prelude.{slice_get}
 use Rattle.pt_types.specs.declared.graph.Graph.{Graph}
 use Rattle.pt_types.specs.declared.graph.Link.{Link}
 use Rattle.pt_links.specs.Ends.{SentBy, TakenBy}
-use Rattle.pt_threads.specs.Opened.{AreOpen}
+use Rattle.pt_threads.specs.Opened.{AreOpenEnds}
 use Rattle.pt_threads.proofs.Links.{open_more}
 use Rattle.pt_threads.proofs.opening.open_links.Goals as goal
 
@@ -22,7 +22,7 @@ loop-l-preserved c =
     record {
       count = (omega (arith, c.push_reserved.ensures.len, inv.count.0), omega (arith, c.push_reserved-in-loop-l.ensures.len, inv.count.1));
       room = (c.push_reserved.ensures.capacity ∙ inv.room.0, c.push_reserved-in-loop-l.ensures.capacity ∙ inv.room.1);
-      opened = subst (λ (outs : List (Option SentBy)). AreOpen plan (k + 1) outs c.push_reserved-in-loop-l.new.self.items) (sym c.push_reserved.ensures.items)
-          (subst (λ (ins : List (Option TakenBy)). AreOpen plan (k + 1) (c.loop-l.outlets.items ++ Some o ∷ []) ins) (sym c.push_reserved-in-loop-l.ensures.items)
+      opened = subst (λ (outs : List (Option SentBy)). AreOpenEnds plan (k + 1) outs c.push_reserved-in-loop-l.new.self.items) (sym c.push_reserved.ensures.items)
+          (subst (λ (ins : List (Option TakenBy)). AreOpenEnds plan (k + 1) (c.loop-l.outlets.items ++ Some o ∷ []) ins) (sym c.push_reserved-in-loop-l.ensures.items)
           (open_more plan k c.loop-l.outlets.items c.loop-l.inlets.items o i link c.bounds-bounds.result inv.opened (subst (λ (ls : List Link). slice_get ls k ≡ Some link) links_are (slice_get-get_or links k none c.loop-l-test.true)) c.bounds-bounds.ensures c.in_ok-outlet.ensures.one c.in_ok-outlet.ensures.limits c.in_ok-outlet.ensures.new));
     }

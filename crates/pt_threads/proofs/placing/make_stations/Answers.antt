@@ -1,7 +1,7 @@
 use Rattle.std.proofs.Common.{◌≡◌, ◌<◌, ◌∷◌, ◌++◌, [], List, length, vec_len, refl, sym, ap, subst, ◌∙◌, append-nil, arith}
 use mathlib.Core.List.{reverse}
 use Rattle.pt_types.specs.declared.graph.Graph.{Graph}
-use Rattle.pt_pool.specs.Ends.{leaves, reaches}
+use Rattle.pt_pool.specs.Ends.{leaves, receiving_platform}
 use Rattle.pt_pool.specs.Station.{StationView}
 use Rattle.pt_pool.proofs.Lanes.{get_map}
 use Rattle.pt_free.specs.Orders.{count_up, numbers}
@@ -33,7 +33,7 @@ collect-requires-clause-full g c l at =
     let num : c.number-number.result ≡ vec_len c.pop.new.self = c.number-number.ensures ∙ c.requires.all.numbers (length c.pop.new.self.items) c.in-Some.platform is ∙ sym c.pop.new.self.ok.0 in
     outs_full plan r.plan c.requires.plan r.rows r.link c.args.ends.outlets.items c.args.ends.inlets.items c.requires.open c.requires.named senders receivers
     (subst (λ (h : Graph). AreOwners h leaves (length h.links) senders) c.graph.ensures.value c.in_ok-sides.ensures.senders)
-    (subst (λ (h : Graph). AreOwners h reaches (length h.links) receivers) c.graph.ensures.value c.in_ok-sides.ensures.receivers)
+    (subst (λ (h : Graph). AreOwners h receiving_platform (length h.links) receivers) c.graph.ensures.value c.in_ok-sides.ensures.receivers)
     (vec_len c.pop.new.self) (vec_len c.loop-platform.platforms) c.loop-platform.outlets.items c.in-Some.ensures.cases inv.sending l
     (owner_as c.as_slice.result.now senders c.number-number.result (vec_len c.pop.new.self) l c.as_slice.ensures.value num at)
 
@@ -48,7 +48,7 @@ collect-requires-in-Some-clause-full g c l at =
     let num : c.number-number.result ≡ vec_len c.pop.new.self = c.number-number.ensures ∙ c.requires.all.numbers (length c.pop.new.self.items) c.in-Some.platform is ∙ sym c.pop.new.self.ok.0 in
     ins_full plan r.plan c.requires.plan r.rows r.link c.args.ends.outlets.items c.args.ends.inlets.items c.requires.open c.requires.named senders receivers
     (subst (λ (h : Graph). AreOwners h leaves (length h.links) senders) c.graph.ensures.value c.in_ok-sides.ensures.senders)
-    (subst (λ (h : Graph). AreOwners h reaches (length h.links) receivers) c.graph.ensures.value c.in_ok-sides.ensures.receivers)
+    (subst (λ (h : Graph). AreOwners h receiving_platform (length h.links) receivers) c.graph.ensures.value c.in_ok-sides.ensures.receivers)
     (vec_len c.pop.new.self) (vec_len c.loop-platform.platforms) c.loop-platform.inlets.items c.in-Some.ensures.cases inv.taking l
     (owner_as c.as_slice-in-Some.result.now receivers c.number-number.result (vec_len c.pop.new.self) l c.as_slice-in-Some.ensures.value num at)
 
@@ -74,7 +74,7 @@ new-requires g c =
     record {
       kept = of_run plan r.plan c.requires.plan r.rows r.link c.args.ends.outlets.items c.args.ends.inlets.items c.requires.open c.requires.named senders receivers
           (subst (λ (h : Graph). AreOwners h leaves (length h.links) senders) c.graph.ensures.value c.in_ok-sides.ensures.senders)
-          (subst (λ (h : Graph). AreOwners h reaches (length h.links) receivers) c.graph.ensures.value c.in_ok-sides.ensures.receivers)
+          (subst (λ (h : Graph). AreOwners h receiving_platform (length h.links) receivers) c.graph.ensures.value c.in_ok-sides.ensures.receivers)
           n m c.in-Some.ensures.cases c.loop-platform.outlets.items c.loop-platform.inlets.items inv.sending inv.taking c.in_ok-sending.sending.items c.in_ok-taking.taking.items
           (collected_as c.as_slice.result.now senders c.number-number.result n c.loop-platform.outlets.items c.in_ok-sending.sending.items c.as_slice.ensures.value num c.in_ok-sending.ensures.collected)
           (collected_as c.as_slice-in-Some.result.now receivers c.number-number.result n c.loop-platform.inlets.items c.in_ok-taking.taking.items c.as_slice-in-Some.ensures.value num c.in_ok-taking.ensures.collected)

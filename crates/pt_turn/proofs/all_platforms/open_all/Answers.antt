@@ -4,7 +4,7 @@ use Rattle.pt_types.specs.declared.graph.Graph.{Graph}
 use Rattle.pt_sensors.specs.declared.sensor_rows.SensorRows.{SensorRows}
 use Rattle.pt_offsets.specs.Plans.{Parts}
 use Rattle.pt_turn.specs.Handed.{AreHanded}
-use Rattle.pt_turn.specs.Sharing.{cut_of, is_at}
+use Rattle.pt_turn.specs.Sharing.{cut_of, is_entry_on}
 use Rattle.pt_turn.proofs.EveryOpened.{AreOpened, all_ready, may_open, one_opened}
 use Rattle.pt_turn.proofs.all_platforms.open_all.Goals as goal
 
@@ -13,7 +13,7 @@ open-requires c =
     let plan : Parts = arc_value c.args.plan.now in
     let graph : c.graph-graph.result.now ≡ plan.graph = c.graph-graph.ensures.value ∙ ap (λ (p : Parts). p.graph) c.deref.ensures in
     let shared : arc_value c.in_ok-plan.plan ≡ plan = search rules in
-    let own : c.in_ok-own.own.items ≡ filter (is_at plan.graph c.loop-number.number) c.loop-number.rest.items = subst (λ (g : Graph). c.in_ok-own.own.items ≡ filter (is_at g c.loop-number.number) c.loop-number.rest.items) graph c.in_ok-own.ensures.0 in
+    let own : c.in_ok-own.own.items ≡ filter (is_entry_on plan.graph c.loop-number.number) c.loop-number.rest.items = subst (λ (g : Graph). c.in_ok-own.own.items ≡ filter (is_entry_on g c.loop-number.number) c.loop-number.rest.items) graph c.in_ok-own.ensures.0 in
     let rows : c.in_ok-rows.rows.items ≡ filter_map (cut_of plan.graph) c.in_ok-own.own.items = subst (λ (g : Graph). c.in_ok-rows.rows.items ≡ filter_map (cut_of g) c.in_ok-own.own.items) graph c.in_ok-rows.ensures in
     subst (λ (p : Parts). AreHanded p.graph c.loop-number.number c.in_ok-rows.rows.items) (sym shared)
     (may_open plan c.args.entries.items c.loop-number.rest.items c.in_ok-own.own.items c.in_ok-rows.rows.items c.loop-number.number c.loop-number.platforms.items c.requires.places c.requires.fit c.loop-number.invariant own rows)
@@ -23,8 +23,8 @@ loop-number-preserved c =
     let plan : Parts = arc_value c.args.plan.now in
     let graph : c.graph-graph.result.now ≡ plan.graph = c.graph-graph.ensures.value ∙ ap (λ (p : Parts). p.graph) c.deref.ensures in
     let shared : arc_value c.in_ok-plan.plan ≡ plan = search rules in
-    let own : c.in_ok-own.own.items ≡ filter (is_at plan.graph c.loop-number.number) c.loop-number.rest.items = subst (λ (g : Graph). c.in_ok-own.own.items ≡ filter (is_at g c.loop-number.number) c.loop-number.rest.items) graph c.in_ok-own.ensures.0 in
-    let others : c.in_ok-own.others.items ≡ filter (λ (s : SensorRows). not (is_at plan.graph c.loop-number.number s)) c.loop-number.rest.items = subst (λ (g : Graph). c.in_ok-own.others.items ≡ filter (λ (s : SensorRows). not (is_at g c.loop-number.number s)) c.loop-number.rest.items) graph c.in_ok-own.ensures.1 in
+    let own : c.in_ok-own.own.items ≡ filter (is_entry_on plan.graph c.loop-number.number) c.loop-number.rest.items = subst (λ (g : Graph). c.in_ok-own.own.items ≡ filter (is_entry_on g c.loop-number.number) c.loop-number.rest.items) graph c.in_ok-own.ensures.0 in
+    let others : c.in_ok-own.others.items ≡ filter (λ (s : SensorRows). not (is_entry_on plan.graph c.loop-number.number s)) c.loop-number.rest.items = subst (λ (g : Graph). c.in_ok-own.others.items ≡ filter (λ (s : SensorRows). not (is_entry_on g c.loop-number.number s)) c.loop-number.rest.items) graph c.in_ok-own.ensures.1 in
     let rows : c.in_ok-rows.rows.items ≡ filter_map (cut_of plan.graph) c.in_ok-own.own.items = subst (λ (g : Graph). c.in_ok-rows.rows.items ≡ filter_map (cut_of g) c.in_ok-own.own.items) graph c.in_ok-rows.ensures in
     let pushed : c.push.new.self.items ≡ c.loop-number.platforms.items ++ c.in_ok-platform.platform ∷ [] = search rules in
     subst (AreOpened plan c.args.entries.items (c.loop-number.number + 1) c.in_ok-own.others.items) (sym pushed)

@@ -5,7 +5,7 @@ use Rattle.pt_queue.specs.Events.{waiting_in}
 use Rattle.pt_queue.specs.Groups.{AreGroups}
 use Rattle.pt_state.specs.declared.fields.Fields.{Fields}
 use Rattle.pt_state.specs.Outbox.{OutboxView}
-use Rattle.pt_state.specs.State.{rows_of}
+use Rattle.pt_state.specs.State.{rows_at_sensors}
 use Rattle.pt_state.specs.Sensors.{AreSensors}
 use Rattle.pt_turn.specs.Starting.{first_of_actor, starting}
 use Rattle.pt_turn.proofs.HandedIn.{are_sensors, rows_fit, rows_same}
@@ -22,10 +22,10 @@ returns-clause-opened c =
     opened_is g c.args.platform f handed c.requires waits c.new-2.ensures.items states c.in_ok-sensors.ensures (ap (λ (v : OutboxView). v.items) c.in_ok-outbox.ensures.empty) refl refl refl
 
 pub returns-clause-rows : goal.returns-clause-rows
-returns-clause-rows c = ap rows_of c.in_ok-sensors.ensures ∙ rows_same c.args.rows.items
+returns-clause-rows c = ap rows_at_sensors c.in_ok-sensors.ensures ∙ rows_same c.args.rows.items
 
 pub returns-clause-fit : goal.returns-clause-fit
-returns-clause-fit c = subst (FitRows c.args.plan.now.graph) (sym (ap rows_of c.in_ok-sensors.ensures ∙ rows_same c.args.rows.items)) (rows_fit c.args.plan.now.graph c.args.platform c.args.rows.items c.requires)
+returns-clause-fit c = subst (FitRows c.args.plan.now.graph) (sym (ap rows_at_sensors c.in_ok-sensors.ensures ∙ rows_same c.args.rows.items)) (rows_fit c.args.plan.now.graph c.args.platform c.args.rows.items c.requires)
 
 pub returns-clause-sound : goal.returns-clause-sound
 returns-clause-sound c =

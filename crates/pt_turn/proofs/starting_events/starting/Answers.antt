@@ -4,7 +4,7 @@ use Rattle.pt_types.specs.Groups.{no_actor}
 use Rattle.pt_semantics.specs.Meaning.{added}
 use Rattle.pt_queue.specs.Events.{Queued, waiting_in}
 use Rattle.pt_queue.specs.Groups.{AreGroups}
-use Rattle.pt_turn.specs.Starting.{start_one}
+use Rattle.pt_turn.specs.Starting.{starting_event}
 use Rattle.pt_turn.proofs.Beginning.{actor_read, starts_all, starts_free, starts_more, starts_none, starts_skip}
 use Rattle.pt_turn.proofs.starting_events.starting.Goals.{then-actor-platform, else-actor-platform}
 use Rattle.pt_turn.proofs.starting_events.starting.Goals as goal
@@ -33,7 +33,7 @@ loop-number-preserved c =
             spare = omega (arith, spare, w.begin.ensures.spare, was.spare);
             waits =
                 ap (λ (q : Queued). waiting_in q.events) w.queue-is ∙ w.begin.ensures.waits
-                ∙ ap (λ x. added x (start_one g n c.actor-item.result.kind)) was.waits
+                ∙ ap (λ x. added x (starting_event g n c.actor-item.result.kind)) was.waits
                 ∙ starts_more g c.args.platform n c.actor-item.result.kind (ap (λ (x : Actor). x.kind) read) (sym (ap (λ (x : Actor). x.platform) read) ∙ w.if-actor-platform.true);
           }
       | else-actor-platform w ↦

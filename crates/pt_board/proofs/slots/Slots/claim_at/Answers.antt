@@ -7,7 +7,7 @@ use Rattle.pt_board.specs.declared.rule.View.{View}
 use Rattle.pt_board.specs.declared.table.Item.{Item}
 use Rattle.pt_board.specs.declared.table.Item.TheVariants.{Nothing, Placed}
 use Rattle.pt_board.specs.Rule.{part, with_part, BoardRule}
-use Rattle.pt_board.specs.Plays.{looking, claiming, gave_back}
+use Rattle.pt_board.specs.Plays.{looking, with_claim, gave_back}
 use Rattle.pt_board.proofs.Touch.{part_here}
 use Rattle.pt_board.proofs.Moves.{looks, tries, front, once, gives_back}
 use Rattle.pt_board.proofs.slots.Slots.claim_at.Goals as goal
@@ -46,7 +46,7 @@ load-requires c =
     let u = c.exchange-item.ensures in
     let m1 = c.load-word.new.seat.me in
     let a = once v m1.0 k (looking (part k v) c.load-word.result) c.requires.seat.1.1 c.requires.slot (ap (λ (y : Me Item View). y.0) l.2) in
-    let q = claiming (part k m1.0) (Some ((n * 4 + 1) / 4, h.0)) true in
+    let q = with_claim (part k m1.0) (Some ((n * 4 + 1) / 4, h.0)) true in
     let V = with_part m1.0 k q in
     let b = once m1.0 V k q a.3 c.requires.slot refl in
     let id = c.exchange-item.new.seat.id in

@@ -3,8 +3,8 @@ use Rattle.pt_types.specs.declared.graph.Graph.{Graph}
 use Rattle.pt_semantics.specs.Edges.{Edge, wires}
 use Rattle.pt_semantics.specs.Lists.{IsIn}
 use Rattle.pt_causality.specs.declared.arcs.Arc.{Arc}
-use Rattle.pt_causality.specs.Arcs.{arcs_from, arc_of, leaves_place, AreFit, IsRow}
-use Rattle.pt_causality.specs.Cells.{row_at}
+use Rattle.pt_causality.specs.Arcs.{arcs_from, arc_of, leaves_place, AreFit, HasLeastDelays}
+use Rattle.pt_causality.specs.Cells.{delay_row_at}
 use Rattle.pt_causality.proofs.Numbering.{few_groups}
 use Rattle.pt_causality.proofs.Paths.{source_below, target_below, arcs_fit, are_least}
 use Rattle.pt_causality.proofs.least.Least.new.Goals as goal
@@ -34,4 +34,4 @@ pub returns-clause-least : goal.returns-clause-least
 returns-clause-least c =
     are_least c.args.graph.now c.requires.lawful c.in_ok-numbers.numbers c.in_ok-numbers.ensures.numbered c.in_ok-arcs.arcs.items c.in_ok-arcs.ensures.len (leave c.args.graph.now c.in_ok-numbers.numbers.firsts.items c.in_ok-numbers.numbers.count c.in_ok-arcs.arcs.items c.as_slice.result.now c.in_ok-wires.wires.items c.as_slice.ensures.value c.in_ok-wires.ensures c.in_ok-arcs.ensures.arcs)
     c.in_ok-rows.rows.items
-    (subst (λ arcs. (s : ℕ) → s < length arcs → IsRow arcs s (row_at c.in_ok-rows.rows.items s)) c.as_slice-2.ensures.value c.in_ok-rows.ensures.rows)
+    (subst (λ arcs. (s : ℕ) → s < length arcs → HasLeastDelays arcs s (delay_row_at c.in_ok-rows.rows.items s)) c.as_slice-2.ensures.value c.in_ok-rows.ensures.rows)

@@ -1,6 +1,6 @@
 use Rattle.std.proofs.Common.{length, sym, subst, ap, ◌&&◌, ◌∙◌}
 use Rattle.pt_types.specs.declared.firing.Done.{Done}
-use Rattle.pt_history.specs.Keeping.{Fits, TellQuiet, turns_from}
+use Rattle.pt_history.specs.Keeping.{HasRoomFor, TellQuiet, turns_from}
 use Rattle.pt_history.specs.Turns.{RoomyTurns, claiming}
 use Rattle.pt_history.specs.Whole.{lists_of}
 use Rattle.pt_history.specs.Lists.{RoomyLists, on_last}
@@ -15,7 +15,7 @@ invariant_of-self c =
     record {
       heads = c.self.invariant.heads;
       claimed = fits_extend n c.self.inside.room.turns c.self.inside.room.claimed c.self.inside.work.claimed new.claimed c.args.tasks.now c.self.invariant.claimed c.claim.ensures.lists c.claim.ensures.items c.claim.ensures.room;
-      posted = subst (Fits n c.self.inside.room.turns c.self.inside.room.posted) (sym c.claim.ensures.posted) c.self.invariant.posted;
+      posted = subst (HasRoomFor n c.self.inside.room.turns c.self.inside.room.posted) (sym c.claim.ensures.posted) c.self.invariant.posted;
       rows = c.self.invariant.rows;
       taken = c.self.invariant.taken;
       sent = c.self.invariant.sent;

@@ -1,6 +1,6 @@
 use Rattle.std.proofs.Common.{length, sym, subst, ap, ◌&&◌, ◌∙◌}
 use Rattle.pt_types.specs.declared.firing.Task.{Task}
-use Rattle.pt_history.specs.Keeping.{Fits, TellQuiet, turns_from}
+use Rattle.pt_history.specs.Keeping.{HasRoomFor, TellQuiet, turns_from}
 use Rattle.pt_history.specs.Turns.{RoomyTurns, posting}
 use Rattle.pt_history.specs.Whole.{lists_of}
 use Rattle.pt_history.specs.Lists.{RoomyLists, on_last}
@@ -15,7 +15,7 @@ invariant_of-self c =
     record {
       heads = c.self.invariant.heads;
       posted = fits_extend n c.self.inside.room.turns c.self.inside.room.posted c.self.inside.work.posted new.posted c.args.dones.now c.self.invariant.posted c.post.ensures.lists c.post.ensures.items c.post.ensures.room;
-      claimed = subst (Fits n c.self.inside.room.turns c.self.inside.room.claimed) (sym c.post.ensures.claimed) c.self.invariant.claimed;
+      claimed = subst (HasRoomFor n c.self.inside.room.turns c.self.inside.room.claimed) (sym c.post.ensures.claimed) c.self.invariant.claimed;
       rows = c.self.invariant.rows;
       taken = c.self.invariant.taken;
       sent = c.self.invariant.sent;

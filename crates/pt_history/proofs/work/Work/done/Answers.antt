@@ -1,6 +1,6 @@
 use Rattle.std.proofs.Common.{◌≡◌, ◌<◌, ◌∷◌, [], Some, length, ap, sym, subst, ◌∙◌, arith}
 use Rattle.std.specs.Prelude.{slice_get}
-use Rattle.pt_history.specs.Works.{AreWithin, RoomyWork, done_of, task_at}
+use Rattle.pt_history.specs.Works.{SourcesAreWithin, RoomyWork, done_of, task_at}
 use Rattle.pt_history.proofs.DoneLists.{dones_get, length-dones, within_at}
 use Rattle.pt_history.proofs.work.Work.done.Goals as goal
 
@@ -13,7 +13,7 @@ pub task_at-task-requires : goal.task_at-task-requires
 task_at-task-requires c =
     let lists : length c.args.self.now.dones ≡ length c.self.inside.sources.items = ap (λ (v : RoomyWork). length v.dones) (sym c.self.view_is) ∙ length-dones c.self.inside.claims.tasks c.self.inside.others.items c.self.inside.sources.items c.self.inside.fired.cells c.self.invariant.same in
     let inside : c.args.number < length c.self.inside.sources.items = omega (arith, lists, c.requires) in
-    subst (λ os. AreWithin (length c.self.inside.claims.tasks) (length os) (c.index.result.now ∷ [])) (sym c.as_slice.ensures.value) (within_at (length c.self.inside.claims.tasks) (length c.self.inside.others.items) c.self.inside.sources.items c.args.number c.index.result.now inside c.index.ensures c.self.invariant.within)
+    subst (λ os. SourcesAreWithin (length c.self.inside.claims.tasks) (length os) (c.index.result.now ∷ [])) (sym c.as_slice.ensures.value) (within_at (length c.self.inside.claims.tasks) (length c.self.inside.others.items) c.self.inside.sources.items c.args.number c.index.result.now inside c.index.ensures c.self.invariant.within)
 
 pub get-requires : goal.get-requires
 get-requires c =

@@ -2,7 +2,7 @@ use Rattle.std.proofs.Common.{◌≡◌, ◌<◌, ◌∷◌, [], Some, length, a
 use Rattle.std.specs.Prelude.{option_map, slice_get}
 use Rattle.pt_types.specs.declared.firing.Done.{Done}
 use Rattle.pt_history.specs.Tasks.{mark_of}
-use Rattle.pt_history.specs.Works.{AreWithin, RoomyWork, task_at}
+use Rattle.pt_history.specs.Works.{SourcesAreWithin, RoomyWork, task_at}
 use Rattle.pt_history.proofs.DoneLists.{length-dones, task_get, within_at}
 use Rattle.pt_history.proofs.work.Work.done_mark.Goals as goal
 
@@ -15,7 +15,7 @@ pub mark_at-requires : goal.mark_at-requires
 mark_at-requires c =
     let lists : length c.args.self.now.dones ≡ length c.self.inside.sources.items = ap (λ (v : RoomyWork). length v.dones) (sym c.self.view_is) ∙ length-dones c.self.inside.claims.tasks c.self.inside.others.items c.self.inside.sources.items c.self.inside.fired.cells c.self.invariant.same in
     let inside : c.args.number < length c.self.inside.sources.items = omega (arith, lists, c.requires) in
-    subst (λ os. AreWithin (length c.self.inside.claims.tasks) (length os) (c.index.result.now ∷ [])) (sym c.as_slice.ensures.value) (within_at (length c.self.inside.claims.tasks) (length c.self.inside.others.items) c.self.inside.sources.items c.args.number c.index.result.now inside c.index.ensures c.self.invariant.within)
+    subst (λ os. SourcesAreWithin (length c.self.inside.claims.tasks) (length os) (c.index.result.now ∷ [])) (sym c.as_slice.ensures.value) (within_at (length c.self.inside.claims.tasks) (length c.self.inside.others.items) c.self.inside.sources.items c.args.number c.index.result.now inside c.index.ensures c.self.invariant.within)
 
 pub returns : goal.returns
 returns c =

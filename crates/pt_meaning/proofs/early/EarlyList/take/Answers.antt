@@ -1,7 +1,7 @@
 use Rattle.std.proofs.Common.{◌≡◌, ◌∙◌, ap, sym, subst, rules, arith, suc, length, ℕ, ◌==◌, Some, None}
 use Rattle.pt_types.specs.Ports.{when}
 use Rattle.pt_semantics.specs.Lists.{or_else}
-use Rattle.pt_meaning.specs.Early.{early_waits, left, Heads, IsOrderly}
+use Rattle.pt_meaning.specs.Early.{early_waits, left, Heads, IsFiringOrder}
 use Rattle.pt_meaning.proofs.Earlies.{others_on, here_on, orderly_on, none_left, all_taken, waits_without}
 use Rattle.pt_meaning.proofs.early.EarlyList.take.Goals as goal
 
@@ -35,4 +35,4 @@ returns-clause-waits c = λ rank actors orderly first.
     ap early_waits c.in_default.ensures.none.1 ∙ waits_without c.args.tag c.args.actor (left c.args.self.now) (left c.loop-value.self) c.loop-value.invariant.others none
 
 pub returns-clause-orderly : goal.returns-clause-orderly
-returns-clause-orderly c = λ rank actors orderly. subst (IsOrderly rank actors) (sym c.in_default.ensures.none.1) (c.loop-value.invariant.orderly rank actors orderly)
+returns-clause-orderly c = λ rank actors orderly. subst (IsFiringOrder rank actors) (sym c.in_default.ensures.none.1) (c.loop-value.invariant.orderly rank actors orderly)

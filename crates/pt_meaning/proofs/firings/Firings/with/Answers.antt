@@ -1,6 +1,6 @@
 use Rattle.std.proofs.Common.{◌≡◌, ◌∙◌, ap, length, rules, ◌++◌, ◌∷◌, [], refl}
 use Rattle.pt_meaning.specs.declared.firings.Mark.{Mark}
-use Rattle.pt_meaning.specs.Flat.{cells_of, places_from, values_in, StandsAt}
+use Rattle.pt_meaning.specs.Flat.{cells_of_firing, cell_numbers_from, cell_values, StandsAt}
 use Rattle.pt_meaning.proofs.Lists.{joins, stays_whole}
 use Rattle.pt_meaning.proofs.firings.Firings.with.Goals as goal
 
@@ -9,8 +9,8 @@ invariant_of-result c =
     let f = c.self.inside in let x = c.args.firing.now in
     let mark : Mark = record { actor = x.actor; moment = c.in_ok-moment.moment; end = c.in_ok-end.end } in
     let stands : StandsAt c.in_ok-moment.moment c.args.firing.now.tag c.self.inside.tags.items c.moment_of.new.tags.items = search rules in
-    let places : c.push_firing.new.places.items ≡ c.self.inside.places.items ++ places_from 0 (cells_of c.args.firing.now) = c.in_ok-push_firing.ensures.places in
-    let values : c.push_firing.new.values.items ≡ c.self.inside.values.items ++ values_in (cells_of c.args.firing.now) = c.in_ok-push_firing.ensures.values in
+    let places : c.push_firing.new.places.items ≡ c.self.inside.places.items ++ cell_numbers_from 0 (cells_of_firing c.args.firing.now) = c.in_ok-push_firing.ensures.places in
+    let values : c.push_firing.new.values.items ≡ c.self.inside.values.items ++ cell_values (cells_of_firing c.args.firing.now) = c.in_ok-push_firing.ensures.values in
     let marks : c.push.new.self.items ≡ c.self.inside.marks.items ++ mark ∷ [] = search rules in
     let counted : c.in_ok-end.end ≡ length c.push_firing.new.places.items = search rules in
     rw (places, values, marks) (stays_whole f.tags.items c.moment_of.new.tags.items f.places.items f.values.items f.marks.items mark x c.self.invariant stands (counted ∙ ap length places))
@@ -20,8 +20,8 @@ returns c =
     let f = c.self.inside in let x = c.args.firing.now in
     let mark : Mark = record { actor = x.actor; moment = c.in_ok-moment.moment; end = c.in_ok-end.end } in
     let stands : StandsAt c.in_ok-moment.moment c.args.firing.now.tag c.self.inside.tags.items c.moment_of.new.tags.items = search rules in
-    let places : c.push_firing.new.places.items ≡ c.self.inside.places.items ++ places_from 0 (cells_of c.args.firing.now) = c.in_ok-push_firing.ensures.places in
-    let values : c.push_firing.new.values.items ≡ c.self.inside.values.items ++ values_in (cells_of c.args.firing.now) = c.in_ok-push_firing.ensures.values in
+    let places : c.push_firing.new.places.items ≡ c.self.inside.places.items ++ cell_numbers_from 0 (cells_of_firing c.args.firing.now) = c.in_ok-push_firing.ensures.places in
+    let values : c.push_firing.new.values.items ≡ c.self.inside.values.items ++ cell_values (cells_of_firing c.args.firing.now) = c.in_ok-push_firing.ensures.values in
     let marks : c.push.new.self.items ≡ c.self.inside.marks.items ++ mark ∷ [] = search rules in
     let counted : c.in_ok-end.end ≡ length c.push_firing.new.places.items = search rules in
     let ports = c.in_ok-push_firing.ensures.ports in

@@ -5,7 +5,7 @@ use Rattle.pt_semantics.specs.Lists.{or_else}
 use Rattle.pt_semantics.specs.Meaning.{Values, IsFirst, waiting, added}
 use Rattle.pt_meaning.specs.declared.place.Place.{Place}
 use Rattle.pt_meaning.specs.Line.{in_line}
-use Rattle.pt_meaning.specs.Waiting.{place_cmp, place_of, waits_in, IsPlaced}
+use Rattle.pt_meaning.specs.Waiting.{place_cmp, place_of, waits_in, IsPlaceIn}
 use Rattle.pt_meaning.proofs.Both.{first_of_both, only_late, only_early, present_early, present_late}
 use Rattle.pt_meaning.proofs.Parts.{if_some, if_none, least_first, least_present, sound_near, sound_far, within_near, within_far}
 use Rattle.pt_meaning.proofs.pending.Pending.first.Goals as goal
@@ -78,6 +78,6 @@ pub returns-clause-within : goal.returns-clause-within
 returns-clause-within c = λ rank actors steps sound.
     let n = in_line place_cmp c.args.self.now.line in let f = tree.get place_cmp c.args.self.now.later.events in
     ⊎_elim
-    (λ (is : c.sooner.result ≡ c.in-Some.near). subst (IsPlaced rank actors steps) (sym is) (within_near n f rank actors steps c.in-Some.near c.in-Some.ensures sound))
-    (λ (is : c.sooner.result ≡ c.in-Some-first.far). subst (IsPlaced rank actors steps) (sym is) (within_far n f rank actors steps c.in-Some-first.far c.in-Some-first.ensures sound))
+    (λ (is : c.sooner.result ≡ c.in-Some.near). subst (IsPlaceIn rank actors steps) (sym is) (within_near n f rank actors steps c.in-Some.near c.in-Some.ensures sound))
+    (λ (is : c.sooner.result ≡ c.in-Some-first.far). subst (IsPlaceIn rank actors steps) (sym is) (within_far n f rank actors steps c.in-Some-first.far c.in-Some-first.ensures sound))
     c.sooner.ensures.one

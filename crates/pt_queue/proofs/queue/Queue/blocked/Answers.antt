@@ -3,7 +3,7 @@ use Rattle.std.specs.List.{list_any}
 use Rattle.pt_causality.specs.Delays.{least_of}
 use Rattle.pt_queue.specs.Groups.{AreGroups}
 use Rattle.pt_queue.specs.Events.{IsBlocked, IsClear, IsRising, Queued, waiting_in}
-use Rattle.pt_queue.specs.Lines.{all_of, settled}
+use Rattle.pt_queue.specs.Lines.{all_of, with_events}
 use Rattle.pt_queue.specs.Listed.{AreTags, holds_up}
 use Rattle.pt_queue.proofs.Holding.{free_is, held_is}
 use Rattle.pt_queue.proofs.Views.{placed_settled}
@@ -13,7 +13,7 @@ pub returns-clause-blocked : goal.returns-clause-blocked
 returns-clause-blocked c = λ g lawful are is unit.
     let table = c.self.inside.groups.items in
     let listed = c.self.inside.waiting.items in
-    let events = all_of (settled c.self.inside.lines c.self.inside.loose.items) in
+    let events = all_of (with_events c.self.inside.lines c.self.inside.loose.items) in
     let groups = ap (λ (v : Queued). v.groups) c.self.view_is in
     subst (λ (v : Queued). (c.is_blocked.result ≡ true) ↔ IsBlocked g (waiting_in v.events) c.args.unit c.args.tag) c.self.view_is
     (subst (λ r. (r ≡ true) ↔ IsBlocked g (waiting_in events) c.args.unit c.args.tag)
@@ -24,7 +24,7 @@ pub returns-clause-clear : goal.returns-clause-clear
 returns-clause-clear c = λ g lawful are is unit.
     let table = c.self.inside.groups.items in
     let listed = c.self.inside.waiting.items in
-    let events = all_of (settled c.self.inside.lines c.self.inside.loose.items) in
+    let events = all_of (with_events c.self.inside.lines c.self.inside.loose.items) in
     let groups = ap (λ (v : Queued). v.groups) c.self.view_is in
     subst (λ (v : Queued). (c.is_blocked.result ≡ false) ↔ IsClear g (waiting_in v.events) c.args.unit c.args.tag) c.self.view_is
     (subst (λ r. (r ≡ false) ↔ IsClear g (waiting_in events) c.args.unit c.args.tag)

@@ -2,7 +2,7 @@ use Rattle.std.proofs.Common.{◌≡◌, ◌<◌, None, [], ◌∷◌, ◌++◌,
 use Rattle.pt_semantics.specs.Meaning.{added}
 use Rattle.pt_semantics.specs.Units.{same_part}
 use Rattle.pt_queue.specs.Events.{waiting_in, value_in, IsPlaced, Queued}
-use Rattle.pt_queue.specs.Lines.{AreKept, all_of, joined_by, settled}
+use Rattle.pt_queue.specs.Lines.{AreKept, all_of, joined_by, with_events}
 use Rattle.pt_queue.specs.Listed.{AreKnown, FitsIn}
 use Rattle.pt_queue.specs.Scans.{sooner, unit_in}
 use Rattle.pt_queue.proofs.Changing.{known_fit, known_more, roomy}
@@ -15,7 +15,7 @@ pub returns-in-Ok-clause-waits : goal.returns-in-Ok-clause-waits
 returns-in-Ok-clause-waits c =
     let table = c.self.inside.groups.items in
     let placed : IsPlaced table c.args.event = record { actor = subst (λ (v : Queued). c.args.event.actor < length v.groups) (sym c.self.view_is) c.requires.actor; port = c.requires.port } in
-    ap₂ (λ lines loose. waiting_in (all_of (settled lines loose))) c.if-not-push.ensures c.in-Ok.ensures.items
+    ap₂ (λ lines loose. waiting_in (all_of (with_events lines loose))) c.if-not-push.ensures c.in-Ok.ensures.items
     ∙ waits_loose table c.self.inside.lines c.self.inside.loose.items c.args.event c.self.invariant.0 placed
     ∙ ap (λ (v : Queued). added (waiting_in v.events) (value_in c.args.event)) c.self.view_is
 
@@ -23,8 +23,8 @@ pub returns-else-not-push-clause-waits : goal.returns-else-not-push-clause-waits
 returns-else-not-push-clause-waits c =
     let table = c.self.inside.groups.items in
     let placed : IsPlaced table c.args.event = record { actor = subst (λ (v : Queued). c.args.event.actor < length v.groups) (sym c.self.view_is) c.requires.actor; port = c.requires.port } in
-    let absent : waiting_in (all_of (settled c.self.inside.lines c.self.inside.loose.items)) c.args.event.actor c.args.event.port c.args.event.tag ≡ None = subst (λ (v : Queued). waiting_in v.events c.args.event.actor c.args.event.port c.args.event.tag ≡ None) (sym c.self.view_is) c.requires.absent in
-    ap (λ lines. waiting_in (all_of (settled lines c.self.inside.loose.items))) c.if-not-push.ensures
+    let absent : waiting_in (all_of (with_events c.self.inside.lines c.self.inside.loose.items)) c.args.event.actor c.args.event.port c.args.event.tag ≡ None = subst (λ (v : Queued). waiting_in v.events c.args.event.actor c.args.event.port c.args.event.tag ≡ None) (sym c.self.view_is) c.requires.absent in
+    ap (λ lines. waiting_in (all_of (with_events lines c.self.inside.loose.items))) c.if-not-push.ensures
     ∙ waits_joined table c.self.inside.lines c.self.inside.loose.items c.args.event c.self.invariant.0 placed absent
     ∙ ap (λ (v : Queued). added (waiting_in v.events) (value_in c.args.event)) c.self.view_is
 
@@ -41,7 +41,7 @@ pub lower_both-requires-clause-place : goal.lower_both-requires-clause-place
 lower_both-requires-clause-place c =
     let table = c.self.inside.groups.items in
     let placed : IsPlaced table c.args.event = record { actor = subst (λ (v : Queued). c.args.event.actor < length v.groups) (sym c.self.view_is) c.requires.actor; port = c.requires.port } in
-    let known = roomy table (all_of (settled c.self.inside.lines c.self.inside.loose.items)) c.self.inside.waiting.items c.self.inside.tags (vec_capacity c.self.inside.waiting) c.self.invariant.2 c.self.invariant.3 in
+    let known = roomy table (all_of (with_events c.self.inside.lines c.self.inside.loose.items)) c.self.inside.waiting.items c.self.inside.tags (vec_capacity c.self.inside.waiting) c.self.invariant.2 c.self.invariant.3 in
     subst (FitsIn (length c.self.inside.tags)) (sym (c.unit_of-unit.ensures ∙ ap (λ gs. unit_in gs c.args.event) c.as_slice.ensures.value)) (unit_fits table c.args.event (length c.self.inside.tags) known.few known.room placed)
 
 pub invariant_of-self : goal.invariant_of-self
@@ -53,9 +53,9 @@ invariant_of-self c =
     let unit : c.unit_of-unit.result ≡ unit_in table c.args.event = c.unit_of-unit.ensures ∙ ap (λ gs. unit_in gs c.args.event) c.as_slice.ensures.value in (
       subst (λ ls. AreKept table ls c.push_back.new.self.items) (sym lines) (subst (AreKept table c.self.inside.lines) (sym loose) (loose_pushed table c.self.inside.lines c.self.inside.loose.items c.args.event c.self.invariant.0 placed)),
       omega (arith, c.push_back.ensures.len, c.push_back.ensures.capacity, c.in-Ok.ensures.len, c.self.invariant.1, c.requires.spare),
-      subst (λ ls. AreKnown table (all_of (settled ls c.push_back.new.self.items)) c.lower_both.new.listed.items (vec_capacity c.lower_both.new.listed)) (sym lines)
-          (subst (λ es. AreKnown table (all_of (settled c.self.inside.lines es)) c.lower_both.new.listed.items (vec_capacity c.lower_both.new.listed)) (sym loose)
-          (known_more table (all_of (settled c.self.inside.lines c.self.inside.loose.items)) (all_of (settled c.self.inside.lines (c.self.inside.loose.items ++ c.args.event ∷ []))) c.self.inside.waiting.items c.lower_both.new.listed.items (vec_capacity c.self.inside.waiting) (vec_capacity c.lower_both.new.listed) c.args.event c.unit_of-unit.result c.self.invariant.2 c.lower_both.ensures.rises unit c.lower_both.ensures.listed c.lower_both.ensures.capacity
+      subst (λ ls. AreKnown table (all_of (with_events ls c.push_back.new.self.items)) c.lower_both.new.listed.items (vec_capacity c.lower_both.new.listed)) (sym lines)
+          (subst (λ es. AreKnown table (all_of (with_events c.self.inside.lines es)) c.lower_both.new.listed.items (vec_capacity c.lower_both.new.listed)) (sym loose)
+          (known_more table (all_of (with_events c.self.inside.lines c.self.inside.loose.items)) (all_of (with_events c.self.inside.lines (c.self.inside.loose.items ++ c.args.event ∷ []))) c.self.inside.waiting.items c.lower_both.new.listed.items (vec_capacity c.self.inside.waiting) (vec_capacity c.lower_both.new.listed) c.args.event c.unit_of-unit.result c.self.invariant.2 c.lower_both.ensures.rises unit c.lower_both.ensures.listed c.lower_both.ensures.capacity
           (least_loose table c.self.inside.lines c.self.inside.loose.items c.args.event c.self.invariant.0 placed))),
       record {
         room = c.lower_both.ensures.len ∙ c.self.invariant.3.room;
@@ -72,8 +72,8 @@ invariant_of-self-else-not-push c =
     let kept : AreKept table (joined_by c.self.inside.lines c.args.event) c.self.inside.loose.items = line_kept table c.self.inside.lines c.args.event c.self.inside.loose.items c.self.invariant.0 placed in (
       subst (λ ls. AreKept table ls c.self.inside.loose.items) (sym lines) kept,
       omega (arith, c.self.invariant.1, c.requires.spare),
-      subst (λ ls. AreKnown table (all_of (settled ls c.self.inside.loose.items)) c.lower_both.new.listed.items (vec_capacity c.lower_both.new.listed)) (sym lines)
-          (known_more table (all_of (settled c.self.inside.lines c.self.inside.loose.items)) (all_of (settled (joined_by c.self.inside.lines c.args.event) c.self.inside.loose.items)) c.self.inside.waiting.items c.lower_both.new.listed.items (vec_capacity c.self.inside.waiting) (vec_capacity c.lower_both.new.listed) c.args.event c.unit_of-unit.result c.self.invariant.2 c.lower_both.ensures.rises unit c.lower_both.ensures.listed c.lower_both.ensures.capacity
+      subst (λ ls. AreKnown table (all_of (with_events ls c.self.inside.loose.items)) c.lower_both.new.listed.items (vec_capacity c.lower_both.new.listed)) (sym lines)
+          (known_more table (all_of (with_events c.self.inside.lines c.self.inside.loose.items)) (all_of (with_events (joined_by c.self.inside.lines c.args.event) c.self.inside.loose.items)) c.self.inside.waiting.items c.lower_both.new.listed.items (vec_capacity c.self.inside.waiting) (vec_capacity c.lower_both.new.listed) c.args.event c.unit_of-unit.result c.self.invariant.2 c.lower_both.ensures.rises unit c.lower_both.ensures.listed c.lower_both.ensures.capacity
           (least_joined table c.self.inside.lines c.self.inside.loose.items c.args.event c.self.invariant.0 placed kept)),
       record {
         room = c.lower_both.ensures.len ∙ c.self.invariant.3.room;

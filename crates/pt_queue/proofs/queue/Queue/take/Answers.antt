@@ -8,7 +8,7 @@ use Rattle.pt_types.specs.declared.graph.Unit.{Unit as Part}
 use Rattle.pt_queue.specs.declared.groups.Groups.{Groups}
 use Rattle.pt_queue.specs.Groups.{AreGroups, group_in}
 use Rattle.pt_queue.specs.Events.{waiting_in, Queued}
-use Rattle.pt_queue.specs.Lines.{all_of, settled}
+use Rattle.pt_queue.specs.Lines.{all_of, with_events}
 use Rattle.pt_queue.specs.Scans.{is_at, least_from}
 use Rattle.pt_queue.proofs.Changing.{known_fit, left_fits, left_kept, left_known, roomy}
 use Rattle.pt_queue.proofs.Soonest.{least_append}
@@ -43,7 +43,7 @@ set-requires-2 c =
     let loose : c.remove.new.events.items ≡ filter keep c.self.inside.loose.items = c.remove.ensures.left ∙ ap (λ gs. filter (λ (e : Event). not (is_at gs c.args.unit c.args.tag e)) c.self.inside.loose.items) c.as_slice-table.ensures.value in
     let least : c.least_tag-least.result ≡ least_from table c.args.unit None (all_of c.take_from_lines-taken.new.lines ++ c.remove.new.events.items) = least_whole c.as_slice-table.result.now table c.args.unit c.take_from_lines-taken.new.lines c.remove.new.events.items c.take_from_lines-taken.result.least c.least_tag-least.result c.as_slice-table.ensures.value c.take_from_lines-taken.ensures.least c.least_tag-least.ensures in
     left_fits table c.args.unit c.args.tag c.self.inside.lines c.take_from_lines-taken.new.lines c.self.inside.loose.items c.remove.new.events.items c.self.invariant.0 lines loose c.self.inside.waiting.items (length c.self.inside.tags) c.least_tag-least.result
-    (roomy table (all_of (settled c.self.inside.lines c.self.inside.loose.items)) c.self.inside.waiting.items c.self.inside.tags (vec_capacity c.self.inside.waiting) c.self.invariant.2 c.self.invariant.3) least
+    (roomy table (all_of (with_events c.self.inside.lines c.self.inside.loose.items)) c.self.inside.waiting.items c.self.inside.tags (vec_capacity c.self.inside.waiting) c.self.invariant.2 c.self.invariant.3) least
 
 pub invariant_of-self : goal.invariant_of-self
 invariant_of-self c =
@@ -77,7 +77,7 @@ pub returns-clause-waits : goal.returns-clause-waits
 returns-clause-waits c = λ g are.
     let table = c.self.inside.groups.items in
     let groups : table ≡ c.args.self.now.groups = ap (λ (v : Queued). v.groups) c.self.view_is in
-    ap₂ (λ lines loose. waiting_in (all_of (settled lines loose)))
+    ap₂ (λ lines loose. waiting_in (all_of (with_events lines loose)))
     (c.take_from_lines-taken.ensures.lines ∙ ap (λ gs. map (filter (λ (e : Event). not (is_at gs c.args.unit c.args.tag e))) c.self.inside.lines) c.as_slice-table.ensures.value)
     (c.remove.ensures.left ∙ ap (λ gs. filter (λ (e : Event). not (is_at gs c.args.unit c.args.tag e)) c.self.inside.loose.items) c.as_slice-table.ensures.value)
     ∙ removed_waits g table c.args.unit c.args.tag c.self.inside.lines c.self.inside.loose.items (subst (AreGroups g) (sym groups) are) c.self.invariant.0

@@ -1,14 +1,14 @@
 use Rattle.std.proofs.Common.{◌≡◌, ◌∷◌, ◌++◌, [], None, ap, ◌∙◌, subst, sym, arith}
 use Rattle.pt_semantics.specs.Lists.{Each}
 use Rattle.pt_state.specs.State.{busy_in, IsOpen}
-use Rattle.pt_state.specs.Unposted.{AreApart, Unposted}
+use Rattle.pt_state.specs.Unposted.{AreOfDifferentUnits, Unposted}
 use Rattle.pt_state.proofs.ClaimLists.{apart_push, busy_push, sound_push}
 use Rattle.pt_state.proofs.open_claims.OpenClaims.add.Goals as goal
 
 pub invariant_of-self : goal.invariant_of-self
 invariant_of-self c =
     let free : busy_in c.self.inside.claims.items c.args.claim.unit ≡ None = subst (λ (v : Unposted). busy_in v.items c.args.claim.unit ≡ None) (sym {A = Unposted} c.self.view_is) c.requires.free in
-    (subst AreApart (sym c.in-Ok.ensures.items) (apart_push c.self.inside.claims.items c.args.claim c.self.invariant.0 free), omega (arith, c.self.invariant.1, c.in-Ok.ensures.len, c.in-Ok.ensures.capacity, c.requires.spare, ap (λ (v : Unposted). v.spare) c.self.view_is))
+    (subst AreOfDifferentUnits (sym c.in-Ok.ensures.items) (apart_push c.self.inside.claims.items c.args.claim c.self.invariant.0 free), omega (arith, c.self.invariant.1, c.in-Ok.ensures.len, c.in-Ok.ensures.capacity, c.requires.spare, ap (λ (v : Unposted). v.spare) c.self.view_is))
 
 pub returns-clause-busy : goal.returns-clause-busy
 returns-clause-busy c = ap busy_in (c.in-Ok.ensures.items ∙ ap (λ (v : Unposted). v.items ++ c.args.claim ∷ []) c.self.view_is) ∙ busy_push c.args.self.now.items c.args.claim c.requires.free

@@ -1,7 +1,7 @@
 use Rattle.std.proofs.Common.{◌≡◌, ap, ◌∙◌, subst, sym, arith}
 use Rattle.pt_semantics.specs.Lists.{Each}
 use Rattle.pt_state.specs.State.{busy_in, IsOpen}
-use Rattle.pt_state.specs.Unposted.{AreApart, Unposted}
+use Rattle.pt_state.specs.Unposted.{AreOfDifferentUnits, Unposted}
 use Rattle.pt_state.proofs.ClaimLists.{apart_others, busy_others, none_goes, one_goes, others, sound_others}
 use Rattle.pt_state.proofs.open_claims.OpenClaims.close.Goals as goal
 
@@ -16,7 +16,7 @@ none c = subst (λ (v : Unposted). v.items ≡ others c.args.unit v.items) c.sel
 
 pub invariant_of-self : goal.invariant_of-self
 invariant_of-self c =
-    (subst AreApart (sym (left_inside c)) (apart_others c.args.unit c.self.inside.claims.items c.self.invariant.0), omega (arith, c.self.invariant.1, c.remove_at.ensures.len, c.remove_at.ensures.capacity))
+    (subst AreOfDifferentUnits (sym (left_inside c)) (apart_others c.args.unit c.self.inside.claims.items c.self.invariant.0), omega (arith, c.self.invariant.1, c.remove_at.ensures.len, c.remove_at.ensures.capacity))
 
 pub returns-in-None-clause-items : goal.returns-in-None-clause-items
 returns-in-None-clause-items c = none c

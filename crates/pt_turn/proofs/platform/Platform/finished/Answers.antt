@@ -6,7 +6,7 @@ use Rattle.pt_semantics.specs.Linked.{IsFinished}
 use Rattle.pt_offsets.specs.Plans.{Parts}
 use Rattle.pt_turn.specs.declared.platform.Platform.TheInside.{Inside}
 use Rattle.pt_turn.specs.Finished.{HaveEnded}
-use Rattle.pt_turn.specs.Platforms.{PlatformView, graph_of, state_at}
+use Rattle.pt_turn.specs.Platforms.{PlatformView, platform_graph, state_at}
 use Rattle.pt_turn.proofs.Ends.{no_members, no_messages}
 use Rattle.pt_turn.proofs.platform.Platform.finished.Goals as goal
 
@@ -25,7 +25,7 @@ returns c =
     let p : Inside = c.self.inside in
     let len : length p.fields.outbox.items ≡ 0 = eqb-true (length p.fields.outbox.items) 0 (sym c.is_empty.ensures ∙ c.if-not-is_empty.false) in
     let empty : p.fields.outbox.items ≡ [] = no_members p.fields.outbox.items len in
-    let graph : c.graph.result.now ≡ graph_of p = c.graph.ensures.value ∙ ap (λ (plan : Parts). plan.graph) c.deref.ensures in
-    let ended : (c.have_ended.result ≡ true) ↔ HaveEnded (graph_of p) p.number p.history.turns = subst (λ (g : Graph). (c.have_ended.result ≡ true) ↔ HaveEnded g p.number p.history.turns) graph c.have_ended.ensures in
+    let graph : c.graph.result.now ≡ platform_graph p = c.graph.ensures.value ∙ ap (λ (plan : Parts). plan.graph) c.deref.ensures in
+    let ended : (c.have_ended.result ≡ true) ↔ HaveEnded (platform_graph p) p.number p.history.turns = subst (λ (g : Graph). (c.have_ended.result ≡ true) ↔ HaveEnded g p.number p.history.turns) graph c.have_ended.ensures in
     subst (λ (v : PlatformView). (c.have_ended.result ≡ true) ↔ IsFinished v.plan.graph v.number (state_at v)) c.self.view_is
     (λ e. record { closed = c.if-not-self.false; all_went = λ l. ap (on_link l) empty; ends = ended.0 e }, λ is. ended.1 is.ends)

@@ -7,7 +7,7 @@ use Rattle.pt_semantics.specs.Turn.{Turn}
 use Rattle.pt_causality.specs.Ranked.{level_of}
 use Rattle.pt_offsets.specs.Plans.{IsAdmitted, Parts}
 use Rattle.pt_state.specs.Sensors.{AreSensors}
-use Rattle.pt_state.specs.State.{rows_of, state_of, IsSound}
+use Rattle.pt_state.specs.State.{rows_at_sensors, state_of, IsSound}
 use Rattle.pt_turn.specs.Platforms.{messages_of}
 use Rattle.pt_turn.specs.Running.{Ran}
 use Rattle.pt_turn.proofs.platform.Platform.open.Goals as goal
@@ -20,15 +20,15 @@ invariant_of-result c =
     let plan : c.deref.result.now ≡ arc_value c.args.plan = c.deref.ensures in
     let none : length f.outbox.items ≡ 0 = ap length e.outbox in
     let turns : c.new.result.turns ≡ [] = c.new.ensures.turns in
-    let start : state_of f [] ≡ opened (arc_value c.args.plan).graph c.args.platform (rows_of f.sensors.items) = subst (λ (z : Parts). state_of f [] ≡ opened z.graph c.args.platform (rows_of f.sensors.items)) plan e.opened in
+    let start : state_of f [] ≡ opened (arc_value c.args.plan).graph c.args.platform (rows_at_sensors f.sensors.items) = subst (λ (z : Parts). state_of f [] ≡ opened z.graph c.args.platform (rows_at_sensors f.sensors.items)) plan e.opened in
     record {
       admitted = subst IsAdmitted plan e.admitted;
       sound = subst (λ (z : Parts). IsSound z.graph f) plan e.sound;
       sensors = subst (λ (z : Parts). AreSensors z.graph f.sensors.items) plan e.sensors;
-      fit = subst (λ (z : Parts). FitRows z.graph (rows_of f.sensors.items)) plan e.fit;
+      fit = subst (λ (z : Parts). FitRows z.graph (rows_at_sensors f.sensors.items)) plan e.fit;
       closing = subst (λ (z : Parts). IsClosing z.graph c.args.platform c.closing_reading-closing.result) c.deref-2.ensures c.closing_reading-closing.ensures;
       claims = subst (λ n. n ≤ most_claims) (sym e.claims) (omega arith);
-      ran = subst (λ (ts : List Turn). Ran (arc_value c.args.plan).graph (level_of (arc_value c.args.plan).ranks) c.args.platform (rows_of f.sensors.items) ts (state_of f (messages_of ts)) None) (sym turns) (record {
+      ran = subst (λ (ts : List Turn). Ran (arc_value c.args.plan).graph (level_of (arc_value c.args.plan).ranks) c.args.platform (rows_at_sensors f.sensors.items) ts (state_of f (messages_of ts)) None) (sym turns) (record {
         all = [];
         single = tt;
         are_kept = refl;

@@ -5,7 +5,7 @@ use Rattle.pt_semantics.specs.Turn.{Turn}
 use Rattle.pt_history.specs.Turns.{fresh}
 use Rattle.pt_turn.specs.declared.fault.TurnFault.{TurnFault}
 use Rattle.pt_turn.specs.declared.platform.Platform.TheInside.{Inside}
-use Rattle.pt_turn.specs.Platforms.{IsPlatform, PlatformView, graph_of, state_at, view_of}
+use Rattle.pt_turn.specs.Platforms.{IsPlatform, PlatformView, platform_graph, state_at, view_of}
 use Rattle.pt_turn.specs.Rested.{HasRested}
 use Rattle.pt_turn.proofs.Again.{IsDone, after, is_again, is_turned}
 use Rattle.pt_turn.proofs.Ends.{no_members}
@@ -21,7 +21,7 @@ invariant_of-self-2 c =
     let p : Inside = c.self-2.inside in
     let r : ℕ = c.raised_to-reading.result in
     let same : view_of p ≡ c.args.self.now = c.self-2.view_is ∙ c.find_next-next.ensures.same in
-    let next : IsNextReading (graph_of p) p.number (state_at (view_of p)) c.find_next-next.result = subst (λ (v : PlatformView). IsNextReading v.plan.graph v.number (state_at v) c.find_next-next.result) (sym same) c.find_next-next.ensures.next in
+    let next : IsNextReading (platform_graph p) p.number (state_at (view_of p)) c.find_next-next.result = subst (λ (v : PlatformView). IsNextReading v.plan.graph v.number (state_at v) c.find_next-next.result) (sym same) c.find_next-next.ensures.next in
     let rises : (q : ℕ) → p.fields.reading ≡ Some q → q ≤ r = λ q is. subst (λ n. q ≤ n) (sym c.raised_to-reading.ensures) (raised_rises p.fields.reading c.args.reading q is) in
     let turns : c.begin.new.self.turns ≡ kept_with p.history.turns (fresh r) = c.begin.ensures.turns ∙ ap (λ (ts : List Turn). kept_with ts (fresh r)) c.keep_room.ensures.wider.turns in
     let room : c.begin.new.self.room.sent ≡ c.keep_room.new.history.room.sent = ap (λ z. z.sent) c.begin.ensures.room in
@@ -36,7 +36,7 @@ returns-clause-rested c = λ yes.
     let p : Inside = c.self-2.inside in
     let r : ℕ = c.raised_to-reading.result in
     let same : view_of p ≡ c.args.self.now = c.self-2.view_is ∙ c.find_next-next.ensures.same in
-    let next : IsNextReading (graph_of p) p.number (state_at (view_of p)) c.find_next-next.result = subst (λ (v : PlatformView). IsNextReading v.plan.graph v.number (state_at v) c.find_next-next.result) (sym same) c.find_next-next.ensures.next in
+    let next : IsNextReading (platform_graph p) p.number (state_at (view_of p)) c.find_next-next.result = subst (λ (v : PlatformView). IsNextReading v.plan.graph v.number (state_at v) c.find_next-next.result) (sym same) c.find_next-next.ensures.next in
     let rises : (q : ℕ) → p.fields.reading ≡ Some q → q ≤ r = λ q is. subst (λ n. q ≤ n) (sym c.raised_to-reading.ensures) (raised_rises p.fields.reading c.args.reading q is) in
     let turns : c.begin.new.self.turns ≡ kept_with p.history.turns (fresh r) = c.begin.ensures.turns ∙ ap (λ (ts : List Turn). kept_with ts (fresh r)) c.keep_room.ensures.wider.turns in
     let room : c.begin.new.self.room.sent ≡ c.keep_room.new.history.room.sent = ap (λ z. z.sent) c.begin.ensures.room in

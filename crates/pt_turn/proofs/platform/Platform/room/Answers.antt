@@ -2,7 +2,7 @@ use Rattle.std.proofs.Common.{Some, subst}
 use Rattle.pt_offsets.specs.Plans.{Parts}
 use Rattle.pt_turn.specs.declared.platform.Platform.TheInside.{Inside}
 use Rattle.pt_turn.specs.Growing.{AreEnough}
-use Rattle.pt_turn.specs.Platforms.{graph_of, raised_to}
+use Rattle.pt_turn.specs.Platforms.{platform_graph, raised_to}
 use Rattle.pt_turn.proofs.Wider.{is_roomy, is_wider, room_still}
 use Rattle.pt_turn.proofs.platform.Platform.room.Goals as goal
 
@@ -17,8 +17,8 @@ pub invariant_of-self-2 : goal.invariant_of-self-2
 invariant_of-self-2 c =
     let p : Inside = c.self.inside in
     let m = c.make_room.ensures in
-    let enough : AreEnough (graph_of p) p.fields (raised_to p.fields.reading c.args.room.reading) c.args.room c.in-Some.needs =
-    subst (λ r. AreEnough (graph_of p) p.fields r c.args.room c.in-Some.needs) c.raised_to-reading.ensures
+    let enough : AreEnough (platform_graph p) p.fields (raised_to p.fields.reading c.args.room.reading) c.args.room c.in-Some.needs =
+    subst (λ r. AreEnough (platform_graph p) p.fields r c.args.room c.in-Some.needs) c.raised_to-reading.ensures
     (subst (λ (plan : Parts). AreEnough plan.graph p.fields c.raised_to-reading.result c.args.room c.in-Some.needs) c.deref.ensures c.in-Some.ensures) in
     is_wider p c.make_room.new.fields c.make_room.new.history c.make_room.new.lists (Some c.args.room) c.self.invariant m.fields m.history m.lists
     (is_roomy p c.make_room.new.fields c.make_room.new.history c.make_room.new.lists (Some c.args.room) c.args.room c.in-Some.needs m.fields enough c.in_ok-make_room.ensures.met.0 c.in_ok-make_room.ensures.met.1 c.in_ok-make_room.ensures.met.2)

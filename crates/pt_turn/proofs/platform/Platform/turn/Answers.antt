@@ -7,7 +7,7 @@ use Rattle.pt_post.specs.Posted.{AreDone}
 use Rattle.pt_turn.specs.declared.room.Room.{Room}
 use Rattle.pt_turn.specs.declared.platform.Platform.TheInside.{Inside}
 use Rattle.pt_turn.specs.Making.{CanKeep, IsReady}
-use Rattle.pt_turn.specs.Platforms.{IsRoomy, PlatformView, graph_of, level_at, messages_of, state_at, view_of}
+use Rattle.pt_turn.specs.Platforms.{IsRoomy, PlatformView, platform_graph, level_at, messages_of, state_at, view_of}
 use Rattle.pt_turn.specs.Turned.{IsEnough, IsTurned, MayCome, StaysThere}
 use Rattle.pt_turn.proofs.Again.{IsDone, after, is_again, is_done, is_turned}
 use Rattle.pt_turn.proofs.Readiness.{basis_of, both_rooms, can_keep, is_ready}
@@ -18,8 +18,8 @@ make-self-inside-requires c =
     let p : Inside = c.self.inside in
     let room : (r : Room) × IsRoomy p r × IsEnough c.args.reading (length c.args.done.now) (length c.args.taken.now) c.args.most r = both_rooms p p.room (IsEnough c.args.reading (length c.args.done.now) (length c.args.taken.now) c.args.most) c.self.invariant.room
     (subst (λ (v : PlatformView). MatchOption v.room ⊥ (IsEnough c.args.reading (length c.args.done.now) (length c.args.taken.now) c.args.most)) (sym c.self.view_is) c.requires.room) in
-    let done : AreDone (graph_of p) c.args.done.now = subst (λ (v : PlatformView). AreDone v.plan.graph c.args.done.now) (sym c.self.view_is) c.requires.done in
-    let may : MayCome (graph_of p) (level_of (arc_value p.plan).ranks) p.number (state_at (view_of p)) c.args.taken.now = subst (λ (v : PlatformView). MayCome v.plan.graph (level_at v) v.number (state_at v) c.args.taken.now) (sym c.self.view_is) c.requires.taken in
+    let done : AreDone (platform_graph p) c.args.done.now = subst (λ (v : PlatformView). AreDone v.plan.graph c.args.done.now) (sym c.self.view_is) c.requires.done in
+    let may : MayCome (platform_graph p) (level_of (arc_value p.plan).ranks) p.number (state_at (view_of p)) c.args.taken.now = subst (λ (v : PlatformView). MayCome v.plan.graph (level_at v) v.number (state_at v) c.args.taken.now) (sym c.self.view_is) c.requires.taken in
     subst (λ (plan : Parts). IsReady plan (record { level = level_of plan.ranks; platform = p.number; taken = messages_of p.history.turns }) p.number p.closing c.raised_to-reading.result c.args.most c.args.done.now c.args.taken.now p.fields p.lists × (CanKeep plan c.raised_to-reading.result (length c.args.done.now) (length c.args.taken.now) c.args.most p.fields p.history.room × (c.args.most ≤ c.args.tasks.now.spare))) (sym c.deref.ensures)
     (subst (λ r. IsReady (arc_value p.plan) (basis_of p) p.number p.closing r c.args.most c.args.done.now c.args.taken.now p.fields p.lists × (CanKeep (arc_value p.plan) r (length c.args.done.now) (length c.args.taken.now) c.args.most p.fields p.history.room × (c.args.most ≤ c.args.tasks.now.spare))) (sym c.raised_to-reading.ensures)
     (is_ready p room.0 c.args.reading c.args.most c.args.done.now c.args.taken.now c.self.invariant c.in_default.is room.1 room.2 c.requires.most done may, (can_keep p room.0 c.args.reading c.args.most (length c.args.done.now) (length c.args.taken.now) room.1 room.2, c.requires.tasks)))

@@ -1,7 +1,7 @@
 use Rattle.std.proofs.Common.{◌≡◌, ◌<◌, [], length, sym, ap, subst, ◌∙◌, arith}
 use Rattle.pt_semantics.specs.Closing.{on_link}
 use Rattle.pt_turn.specs.declared.platform.Platform.TheInside.{Inside}
-use Rattle.pt_turn.specs.Gone.{HasGone, last_sent}
+use Rattle.pt_turn.specs.Gone.{FirstHasGone, last_sent}
 use Rattle.pt_turn.specs.Platforms.{PlatformView, view_of}
 use Rattle.pt_turn.proofs.Lighter.{Went, has_gone, is_lighter, lighter, went_of}
 use Rattle.pt_turn.proofs.platform.Platform.went.Goals as goal
@@ -25,5 +25,5 @@ invariant_of-self c = is_lighter c.self.inside c.args.link (record { link = c.ar
 
 pub returns : goal.returns
 returns c =
-    subst (λ v. HasGone v (view_of (lighter c.self.inside c.pop.new.self c.send.new.self)) c.args.link) c.self.view_is
+    subst (λ v. FirstHasGone v (view_of (lighter c.self.inside c.pop.new.self c.send.new.self)) c.args.link) c.self.view_is
     (has_gone c.self.inside c.args.link (record { link = c.args.link; message = c.in-Some.message }) c.pop.new.self c.send.new.self (gone c))
