@@ -58,6 +58,7 @@ fn total(values: &[Option<i64>]) -> i128
 }
 
 /// The outputs of the cells: each gives the sum of its inputs that are present.
+#[inline(never)]
 pub(crate) fn lanes(cells: &[u32], inputs: &Ports) -> Ports
     ensures { result ≡ eight (lane_outputs cells.now inputs.now) }
 {
