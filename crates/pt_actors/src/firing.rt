@@ -9,7 +9,7 @@ ghost use Rattle.pt_actors.specs.Fired.{IsFiredOnto};
 
 use crate::arithmetic::{difference, or_zero, scaled, sum};
 use crate::done::Done;
-use crate::lanes::{lanes, lowest};
+use crate::lanes::{lowest, write_lanes};
 use crate::machine::machine;
 use crate::stored::block_value;
 use pt_blocks::Blocks;
@@ -133,7 +133,7 @@ fn fired(
             )
         }
         Kind::Lanes { cells } => {
-            *outputs = lanes(cells.as_slice(), inputs);
+            write_lanes(cells.as_slice(), inputs, outputs);
             state
         }
     }
