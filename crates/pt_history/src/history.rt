@@ -1,6 +1,6 @@
 //! The recorded turns of a platform.
 
-ghost use Rattle.std.specs.Prelude.{◌≡◌, ◌↔◌, ◌+◌, ◌-◌, ◌<◌, ◌≤◌, ◌++◌, ◌∷◌, [], IsOk, MatchOption, OnErr, OnOk, Some, length, option_map, slice_get, take, true};
+ghost use Rattle.std.specs.Prelude.{◌≡◌, ◌↔◌, ◌+◌, ◌-◌, ◌<◌, ◌≤◌, ◌++◌, ◌∷◌, [], IsOk, MatchOption, OnErr, OnOk, Some, false, length, option_map, slice_get, take, true};
 ghost use Rattle.std.specs.List.{flat_map};
 ghost use Rattle.pt_history.specs.Lists.{on_last};
 ghost use Rattle.pt_semantics.specs.Turn.{is_quiet};
@@ -111,14 +111,38 @@ impl History {
         ensures turns { self.new.turns ≡ kept_with self.old.turns (fresh reading) }
         ensures room { self.new.room ≡ record self.old.room { turns = self.old.room.turns - 1 } }
     {
-        let head = Head {
-            first: reading,
-            last: reading,
-            count: 1,
-        };
+        let head = Head::single(reading);
         match self.run() {
-            Some(run) => self.join(run, head),
+            Some(run) => {
+                self.join(run, head);
+                self.room.turns -= 1;
+            }
             None => self.add(head),
+        }
+    }
+
+    /// Does the same as `begin`, but needs no room if two turns are joined; returns `false` and changes nothing if a turn is
+    /// to be added and there is no room for it. Allocates nothing.
+    pub fn rest(&mut self, reading: u64) -> bool
+        ensures turns { result ≡ true → self.new.turns ≡ kept_with self.old.turns (fresh reading) }
+        ensures room { result ≡ true → record self.new.room { turns = self.old.room.turns } ≡ self.old.room }
+        ensures used { self.old.room.turns ≤ self.new.room.turns + 1 }
+        ensures unchanged { result ≡ false → self.new ≡ self.old }
+        ensures why { result ≡ false → self.old.room.turns ≡ 0 }
+    {
+        let head = Head::single(reading);
+        match self.run() {
+            Some(run) => {
+                self.join(run, head);
+                true
+            }
+            None => {
+                if self.room.turns == 0 {
+                    return false;
+                }
+                self.add(head);
+                true
+            }
         }
     }
 
@@ -140,15 +164,13 @@ impl History {
 
     /// Replaces the last two turns, which are quiet, by their joined run and a new quiet turn.
     fn join(&mut self, run: Head, head: Head)
-        requires room { 0 < self.old.room.turns }
-        requires joins { Joins self.old.turns (length self.old.turns - 2) run }
+        requires { Joins self.old.turns (length self.old.turns - 2) run }
         ensures turns { self.new.turns ≡ take (length self.old.turns - 2) self.old.turns ++ quiet run.first run.last run.count ∷ quiet head.first head.last head.count ∷ [] }
-        ensures room { self.new.room ≡ record self.old.room { turns = self.old.room.turns - 1 } }
+        ensures room { self.new.room ≡ self.old.room }
     {
         let last = self.heads.len() - 1;
         self.heads[last - 1] = run;
         self.heads[last] = head;
-        self.room.turns -= 1;
     }
 
     /// The joined head of the last two turns, if both are quiet and their count fits; else `None`.
