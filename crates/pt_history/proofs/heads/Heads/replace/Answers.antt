@@ -1,4 +1,4 @@
-use Rattle.std.proofs.Common.{◌≡◌, ◌-◌, ◌++◌, List, length, set, sym, ap, ◌∙◌, arith}
+use Rattle.std.proofs.Common.{ap, sym}
 use Rattle.pt_history.specs.declared.head.Head.{Head}
 use Rattle.pt_history.specs.Indices.{RoomyItems}
 use Rattle.pt_history.proofs.LastTwo.{replaced}
