@@ -16,3 +16,4 @@ pub mod Matching
 pub mod Blocks
 pub mod ValuesAt
 pub mod Starts
+pub mod LastTwo

@@ -10,3 +10,5 @@ pub mod WorkWhole
 pub mod WorkLists
 pub mod Indices
 pub mod IndicesWhole
+pub mod Recents
+pub mod HeadsWhole
