@@ -60,11 +60,11 @@ module _ (g : Graph) (i now : ℕ) where
       same : (n : ℕ) → n ≡ n + 0
       same n = omega arith
 
-  all_none : (n : ℕ) (airways : List AirwayView) → NoneHasCome g i now n airways → map_from (come_on g i now) n airways ≡ map (λ a. []) airways
+  pub all_none : (n : ℕ) (airways : List AirwayView) → NoneHasCome g i now n airways → map_from (come_on g i now) n airways ≡ map (λ a. []) airways
   all_none n [] h = refl
   all_none n (a ∷ airways) h = ap₂ (λ (x : List Message) (xs : List (List Message)). x ∷ xs) (none_comes n a (first_none n a airways h)) (all_none (suc n) airways (next_none n a airways h))
 
-  all_left : (n : ℕ) (airways : List AirwayView) → NoneHasCome g i now n airways → map_from (left_on g i now) n airways ≡ airways
+  pub all_left : (n : ℕ) (airways : List AirwayView) → NoneHasCome g i now n airways → map_from (left_on g i now) n airways ≡ airways
   all_left n [] h = refl
   all_left n (a ∷ airways) h = ap₂ (λ (x : AirwayView) (xs : List AirwayView). x ∷ xs) (all_stay n a (first_none n a airways h)) (all_left (suc n) airways (next_none n a airways h))
 
@@ -89,6 +89,13 @@ no_pipe : (airways : List AirwayView) (k : ℕ) → slice_index_or (map {B = Lis
 no_pipe [] k = refl
 no_pipe (a ∷ airways) zero = refl
 no_pipe (a ∷ airways) (suc k) = no_pipe airways k
+
+-- as many empty pipes
+pub no_pipes : (airways : List AirwayView) (pipes : List (List Message)) → length airways ≡ length pipes → Each (λ pipe. pipe ≡ []) pipes → map {B = List Message} (λ (a : AirwayView). []) airways ≡ pipes
+no_pipes [] [] count empty = refl
+no_pipes [] (p ∷ pipes) count empty = absurd (omega (arith, count))
+no_pipes (a ∷ airways) [] count empty = absurd (omega (arith, count))
+no_pipes (a ∷ airways) (p ∷ pipes) count empty = ap₂ (λ (x : List Message) (xs : List (List Message)). x ∷ xs) (sym empty.0) (no_pipes airways pipes (omega (arith, count)) empty.1)
 
 all_kept : {A : Type 0} (n : ℕ) (xs : List A) → map_from (λ (k : ℕ) (x : A). x) n xs ≡ xs
 all_kept n [] = refl

@@ -1,6 +1,6 @@
 //! From when on messages arrive at each platform.
 
-ghost use Rattle.std.specs.Prelude.{◌≡◌, ◌≤◌, ℕ, length, slice_index_or};
+ghost use Rattle.std.specs.Prelude.{◌≡◌, ◌<◌, ◌≤◌, ℕ, false, length, slice_index_or};
 ghost use Rattle.pt_flights.specs.Moments.{ArriveFrom};
 
 use pt_airways::Airway;
@@ -22,7 +22,7 @@ fn lower(arrivals: &mut [u64], number: u32, arrival: u64)
 
 /// Sets for each platform, by its number, the least arrival of the messages that are on their way to it, in microseconds;
 /// `u64::MAX` if there are none.
-pub fn find_arrivals(graph: &Graph, airways: &[Airway], arrivals: &mut [u64])
+fn find_arrivals(graph: &Graph, airways: &[Airway], arrivals: &mut [u64])
     requires airways { length airways.now ≡ length graph.now.links }
     ensures { ArriveFrom graph.now arrivals.new airways.now }
 {
@@ -32,6 +32,28 @@ pub fn find_arrivals(graph: &Graph, airways: &[Airway], arrivals: &mut [u64])
         let next = airways[l].next_arrival().unwrap_or(u64::MAX);
         lower(arrivals, graph.platform_of(links[l].to), next);
     }
+}
+
+/// Finds the arrivals anew after a flight of a platform with this arrival, unless none were sent and none had arrived: then the
+/// times are still right.
+pub fn update_arrivals(
+    graph: &Graph,
+    airways: &[Airway],
+    arrivals: &mut [u64],
+    sent: bool,
+    arrival: u64,
+    now: u64,
+)
+    requires airways { length airways.now ≡ length graph.now.links }
+    requires still { sent ≡ false → now < arrival → ArriveFrom graph.now arrivals.old airways.now }
+    ensures { ArriveFrom graph.now arrivals.new airways.now }
+{
+    if !sent {
+        if now < arrival {
+            return;
+        }
+    }
+    find_arrivals(graph, airways, arrivals);
 }
 
 /// The time that the list has for a platform, or 0 if it has none.

@@ -9,9 +9,9 @@ ghost use Rattle.pt_turn.specs.Turned.{MayCome};
 ghost use Rattle.pt_visits.specs.Pipes.{arriving};
 ghost use Rattle.pt_flights.specs.Flights.{IsFlight};
 ghost use Rattle.pt_flights.specs.Moments.{ArriveFrom};
-ghost use Rattle.pt_flights.specs.Skies.{come_on, lag_of, map_from, reading_at};
+ghost use Rattle.pt_flights.specs.Skies.{come_on, lag_of, left_on, map_from, reading_at};
 
-use crate::arrivals::{arrival_at, find_arrivals};
+use crate::arrivals::{arrival_at, update_arrivals};
 use crate::landing::land;
 use crate::launching::launch;
 use pt_actors::Done;
@@ -46,10 +46,11 @@ fn rests(
 }
 
 /// A flight with all its steps, at this reading of the platform's clock: messages that have arrived are taken, and those that
-/// are sent are put on their way.
+/// are sent are put on their way. Returns whether there were any to send.
 fn full_flight(
     platform: &mut Platform,
     airways: &mut [Airway],
+    arrivals: &[u64],
     pipes: &mut [Pipe],
     results: &mut Vec<Done>,
     desk: &mut Desk,
@@ -57,9 +58,10 @@ fn full_flight(
     air: &Air,
     now: u64,
     reading: u64,
-) -> Result<(), Memory>
+) -> Result<bool, Memory>
     requires no_fault { platform.old.fault ≡ None }
     requires airways { length airways.old ≡ length platform.old.plan.graph.links }
+    requires arrivals { ArriveFrom platform.old.plan.graph arrivals.now airways.old }
     requires pipes { length pipes.old ≡ length platform.old.plan.graph.links }
     requires empty { Each (λ pipe. pipe ≡ []) pipes.old }
     requires transits { length air.now.transits ≡ length platform.old.plan.graph.links }
@@ -69,9 +71,17 @@ fn full_flight(
     requires reading { reading ≡ reading_at air.now platform.old.number now }
     ensures flown { OnOk result (IsFlight air.now now results.old.items results.new.items platform.old platform.new airways.old airways.new) }
     ensures pipes { OnOk result (pipes.new ≡ pipes.old) }
+    ensures none { IfOk result (λ sent. sent ≡ false → airways.new ≡ map_from (left_on platform.old.plan.graph platform.old.number now) 0 airways.old) }
 {
     let number = platform.number();
-    land(platform.plan().graph(), number, airways, pipes, now);
+    land(
+        platform.plan().graph(),
+        number,
+        airways,
+        arrivals,
+        pipes,
+        now,
+    );
     visit(platform, pipes, results, desk, blocks, reading, PLACES)?;
     launch(platform.plan().graph(), air, pipes, airways, now)
 }
@@ -116,10 +126,17 @@ pub fn fly(
     if rested {
         return Ok(());
     }
-    full_flight(
-        platform, airways, pipes, results, desk, blocks, air, now, reading,
+    let sent = full_flight(
+        platform, airways, arrivals, pipes, results, desk, blocks, air, now, reading,
     )?;
-    find_arrivals(platform.plan().graph(), airways, arrivals);
+    update_arrivals(
+        platform.plan().graph(),
+        airways,
+        arrivals,
+        sent,
+        arrival,
+        now,
+    );
     Ok(())
 }
 

@@ -9,9 +9,9 @@ use Rattle.pt_turn.specs.Turned.{MayCome}
 use Rattle.pt_visits.specs.Pipes.{arriving}
 use Rattle.pt_flights.specs.Flights.{IsFlight, flown_on}
 use Rattle.pt_flights.specs.Moments.{ArriveFrom}
-use Rattle.pt_flights.specs.Skies.{come_on, map_from, reading_at}
+use Rattle.pt_flights.specs.Skies.{come_on, left_on, map_from, reading_at}
 use Rattle.pt_flights.proofs.Replacing.{length-map_from}
-use Rattle.pt_flights.proofs.Resting.{before_arrivals, rested_flight}
+use Rattle.pt_flights.proofs.Resting.{all_left, before_arrivals, rested_flight}
 use Rattle.pt_flights.proofs.flying.fly.Goals as goal
 
 pub full_flight-requires : goal.full_flight-requires
@@ -22,6 +22,7 @@ full_flight-requires g c =
     record {
       no_fault = subst (λ (v : PlatformView). v.fault ≡ None) same c.requires.no_fault;
       airways = subst (λ (v : PlatformView). length c.args.airways.now ≡ length v.plan.graph.links) same c.requires.airways;
+      arrivals = subst (λ (v : PlatformView). ArriveFrom v.plan.graph c.args.arrivals.now c.args.airways.now) same c.requires.arrivals;
       pipes = subst (λ (v : PlatformView). length c.args.pipes.now ≡ length v.plan.graph.links) same c.requires.pipes;
       empty = c.requires.empty;
       transits = subst (λ (v : PlatformView). length c.args.air.now.transits ≡ length v.plan.graph.links) same c.requires.transits;
@@ -30,29 +31,37 @@ full_flight-requires g c =
       reading = reading ∙ ap (λ (v : PlatformView). reading_at c.args.air.now v.number c.args.now) same;
     }
 
-pub find_arrivals-requires : goal.find_arrivals-requires
-find_arrivals-requires g c =
+pub update_arrivals-requires : goal.update_arrivals-requires
+update_arrivals-requires g c =
     let same = c.in_ok-rested.ensures.awake c.if-rested.false in
     let flown : IsFlight c.args.air.now c.args.now c.args.results.now.items c.full_flight.new.results.items c.args.platform.now c.full_flight.new.platform c.args.airways.now c.full_flight.new.airways =
-    subst (λ (v : PlatformView). IsFlight c.args.air.now c.args.now c.args.results.now.items c.full_flight.new.results.items v c.full_flight.new.platform c.args.airways.now c.full_flight.new.airways) same c.in_ok-full_flight.ensures.flown in
+    subst (λ (v : PlatformView). IsFlight c.args.air.now c.args.now c.args.results.now.items c.full_flight.new.results.items v c.full_flight.new.platform c.args.airways.now c.full_flight.new.airways) same c.in_ok-sent.ensures.flown in
     let graph : c.graph.result.now ≡ c.args.platform.now.plan.graph = c.graph.ensures.value ∙ ap (λ (p : Parts). p.graph) (c.deref.ensures ∙ c.plan.ensures ∙ flown.visited.stays.plan) in
     record {
       airways = ap length flown.airways
           ∙ length-map_from (flown_on c.args.air.now c.args.platform.now.plan.graph c.args.platform.now.number c.args.now flown.visited.turn.sent) 0 c.args.airways.now
           ∙ c.requires.airways
           ∙ ap (λ (h : Graph). length h.links) (sym graph);
+      still = λ none early.
+          let arrival : c.arrival_at-arrival.result ≡ slice_index_or c.args.arrivals.now c.args.platform.now.number 0 =
+          c.arrival_at-arrival.ensures ∙ ap (λ (i : ℕ). slice_index_or c.args.arrivals.now i 0) c.number-number.ensures in
+          let stay : c.full_flight.new.airways ≡ c.args.airways.now =
+          subst (λ (v : PlatformView). c.full_flight.new.airways ≡ map_from (left_on v.plan.graph v.number c.args.now) 0 c.args.airways.now) same (c.in_ok-sent.ensures.none none)
+          ∙ all_left c.args.platform.now.plan.graph c.args.platform.now.number c.args.now 0 c.args.airways.now
+          (before_arrivals c.args.platform.now.plan.graph c.args.platform.now.number c.args.now c.args.arrivals.now c.args.airways.now c.requires.arrivals (subst (λ (n : ℕ). c.args.now < n) arrival early)) in
+          subst (λ (h : Graph). ArriveFrom h c.args.arrivals.now c.full_flight.new.airways) (sym graph) (subst (ArriveFrom c.args.platform.now.plan.graph c.args.arrivals.now) (sym stay) c.requires.arrivals);
     }
 
 pub returns : goal.returns
 returns g c =
     let same = c.in_ok-rested.ensures.awake c.if-rested.false in
     let flown : IsFlight c.args.air.now c.args.now c.args.results.now.items c.full_flight.new.results.items c.args.platform.now c.full_flight.new.platform c.args.airways.now c.full_flight.new.airways =
-    subst (λ (v : PlatformView). IsFlight c.args.air.now c.args.now c.args.results.now.items c.full_flight.new.results.items v c.full_flight.new.platform c.args.airways.now c.full_flight.new.airways) same c.in_ok-full_flight.ensures.flown in
+    subst (λ (v : PlatformView). IsFlight c.args.air.now c.args.now c.args.results.now.items c.full_flight.new.results.items v c.full_flight.new.platform c.args.airways.now c.full_flight.new.airways) same c.in_ok-sent.ensures.flown in
     let graph : c.graph.result.now ≡ c.args.platform.now.plan.graph = c.graph.ensures.value ∙ ap (λ (p : Parts). p.graph) (c.deref.ensures ∙ c.plan.ensures ∙ flown.visited.stays.plan) in
     record {
       flown = flown;
-      arrivals = subst (λ (h : Graph). ArriveFrom h c.find_arrivals.new.arrivals c.full_flight.new.airways) graph c.find_arrivals.ensures;
-      pipes = c.in_ok-full_flight.ensures.pipes;
+      arrivals = subst (λ (h : Graph). ArriveFrom h c.update_arrivals.new.arrivals c.full_flight.new.airways) graph c.update_arrivals.ensures;
+      pipes = c.in_ok-sent.ensures.pipes;
     }
 
 pub returns-then-rested : goal.returns-then-rested

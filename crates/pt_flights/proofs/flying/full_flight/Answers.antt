@@ -1,10 +1,11 @@
 use Rattle.std.proofs.Common.{◌≡◌, ℕ, List, [], Ok, Err, length, sym, ap, ap₂, subst, ◌∙◌}
-use Rattle.std.specs.Prelude.{OnOk, Result, slice_index_or}
+use Rattle.std.specs.Prelude.{IfOk, OnOk, Result, slice_index_or}
 use Rattle.pt_tags.specs.declared.message.Message.{Message}
 use Rattle.pt_types.specs.declared.graph.Graph.{Graph}
 use Rattle.pt_offsets.specs.Plans.{Parts}
 use Rattle.pt_airways.specs.Arrivals.{AirwayView}
 use Rattle.pt_visits.specs.Visited.{IsVisited}
+use Rattle.pt_flights.specs.Moments.{ArriveFrom}
 use Rattle.pt_flights.specs.Skies.{come_on, left_on, map_from, put_link, reading_at}
 use Rattle.pt_flights.proofs.Flown.{as_before, flight_of, length-emptied}
 use Rattle.pt_flights.proofs.Replacing.{length-map_from}
@@ -14,6 +15,22 @@ use Rattle.pt_flights.proofs.flying.full_flight.Goals as goal
 on_result : {T E P Q : Type 0} (r : Result T E) → (P → Q) → OnOk r P → OnOk r Q
 on_result (Ok x) f h = f h
 on_result (Err x) f h = tt
+
+if_result : {T E : Type 0} {P Q : T → Type 0} (r : Result T E) → ((x : T) → P x → Q x) → IfOk r P → IfOk r Q
+if_result (Ok x) f h = f x h
+if_result (Err x) f h = tt
+
+pub land-requires-clause-arrivals : goal.land-requires-clause-arrivals
+land-requires-clause-arrivals g c =
+    let graph : c.graph.result.now ≡ c.args.platform.now.plan.graph = c.graph.ensures.value ∙ ap (λ (p : Parts). p.graph) (c.deref.ensures ∙ c.plan.ensures) in
+    subst (λ (h : Graph). ArriveFrom h c.args.arrivals.now c.args.airways.now) (sym graph) c.requires.arrivals
+
+pub returns-clause-none : goal.returns-clause-none
+returns-clause-none g c =
+    let graph : c.graph.result.now ≡ c.args.platform.now.plan.graph = c.graph.ensures.value ∙ ap (λ (p : Parts). p.graph) (c.deref.ensures ∙ c.plan.ensures) in
+    let left : c.land.new.airways ≡ map_from (left_on c.args.platform.now.plan.graph c.args.platform.now.number c.args.now) 0 c.args.airways.now =
+    c.land.ensures.airways ∙ ap₂ (λ (a : Graph) (i : ℕ). map_from (left_on a i c.args.now) 0 c.args.airways.now) graph c.number-number.ensures in
+    if_result c.launch.result (λ sent none e. none e ∙ left) c.launch.ensures.none
 
 pub returns-clause-flown : goal.returns-clause-flown
 returns-clause-flown g c =
