@@ -17,9 +17,10 @@ use Rattle.pt_run.specs.declared.words.Command.TheVariants.{Run}
 use Rattle.pt_run.specs.InBounds.{ReplaysInBoundsAgreeWithRuns}
 use Rattle.pt_run.specs.Making.{Ends}
 use Rattle.pt_run.specs.Runs.{log_if}
-use Rattle.pt_run.specs.Words.{over}
+use Rattle.pt_run.specs.Words.{over, replay}
 use Rattle.pt_run.specs.Written.{Leaves, clocking}
 use Rattle.pt_run.proofs.Complete.{firings_meant, missed_meant, this_graph}
+use Rattle.pt_run.proofs.DueEnds.{due_ends}
 use Rattle.pt_run.proofs.CompleteInBounds.{missed_in_air, tables_in_air}
 
 -- what a paced run that finished wrote and missed
@@ -36,11 +37,13 @@ module _ (tells : Contents) (blocks : List Named) (name : List ℕ) (g : Graph) 
       )
 
 pub in_bounds_agree : ReplaysInBoundsAgreeWithRuns
-in_bounds_agree tells blocks name air g xs workers others log logged left leaves r q w v can replayed ran =
-    let run = paced tells blocks name g xs can.runs others logged leaves q v ran in
-    let missed = missed_in_air tells blocks name air g xs can left log w replayed in
+in_bounds_agree tells blocks name air g xs workers others log logged a b can done finished due more =
+    let replayed : Ends None a.left (Some (replay name air workers log)) tells blocks a.read a.wrote = subst (λ o. Ends o a.left (Some (replay name air workers log)) tells blocks a.read a.wrote) done (due_ends tells blocks a (Some (replay name air workers log)) due) in
+    let ran : Ends None b.left (Some (over (Run others Paced logged) name)) tells blocks b.read b.wrote = subst (λ o. Ends o b.left (Some (over (Run others Paced logged) name)) tells blocks b.read b.wrote) finished (due_ends tells blocks b (Some (over (Run others Paced logged) name)) more) in
+    let run = paced tells blocks name g xs can.runs others logged b.left b.read b.wrote ran in
+    let missed = missed_in_air tells blocks name air g xs can a.left log a.wrote replayed in
     record {
-      replayed = tables_in_air tells blocks name air g xs can left log w replayed;
+      replayed = tables_in_air tells blocks name air g xs can a.left log a.wrote replayed;
       ran = run.0;
       misses = λ m. ((λ mem. (run.1 m).1 ((missed m).0 mem)), (λ mem. (missed m).1 ((run.1 m).0 mem)));
     }

@@ -32,6 +32,7 @@ use Rattle.pt_run.specs.Written.{HasNothing, Leaves, clocking, has_run}
 use Rattle.pt_run.specs.declared.fault.Fault.{Fault}
 use Rattle.pt_run.specs.declared.fault.Fault.TheVariants as fault
 use Rattle.pt_run.specs.declared.words.Command.TheVariants.{Run}
+use Rattle.pt_run.proofs.DueEnds.{due_ends}
 use Rattle.pt_run.proofs.Exact.{exact}
 use Rattle.pt_run.proofs.RunsAgreeing.{runs_agree, texts_agree}
 use Rattle.pt_run.proofs.StepsAgreeing.{step_runs}
@@ -173,7 +174,7 @@ module _ (clock : ClockChoice) (log : Bool) (tells : Contents) (blocks : List Na
         (λ others o h still. by_cause (fault.LateRow actor row seen limit) o (WantsRows o) refl (no_rows o still) (h.late_row others clock log g actor row seen limit (reads others g file free feasible) cause)))
 
   -- two calls that had a run
-  module _ (workers others : ℕ) (o p : Option Fault) (left leaves : Leaves) (w v : Writing) (h : Runs workers o left w) (k : Runs others p leaves v) where
+  module _ (workers others : ℕ) (o p : Option Fault) (left leaves : Leaves) (r q : Reading) (w v : Writing) (h : Runs workers o left w) (k : Runs others p leaves v) where
     graphs : h.plan.graph ≡ k.plan.graph
     graphs = same_ok h.plan.graph k.plan.graph (sym h.file ∙ k.file)
 
@@ -201,7 +202,7 @@ module _ (clock : ClockChoice) (log : Bool) (tells : Contents) (blocks : List Na
           let b = k.stopped f (sym outcomes ∙ e) in
           (a.1 ∙ sym b.1, a.0 ∙ sym b.0)
 
-      runs_alike : EndAlike o p left leaves w v
+      runs_alike : EndAlike (record { fault = o; left = left; read = r; wrote = w }) (record { fault = p; left = leaves; read = q; wrote = v })
       runs_alike = record {
         status = ap₂ (λ z misses. status_of z misses) outcomes (outputs o refl).1;
         misses = (outputs o refl).1;
@@ -211,8 +212,9 @@ module _ (clock : ClockChoice) (log : Bool) (tells : Contents) (blocks : List Na
       }
 
   -- two calls that were refused
-  refused_alike : (o p : Option Fault) (left leaves : Leaves) (w v : Writing) (h : Refuses o left w) → Refuses p leaves v → (e : Fault) → p ≡ Some e → status_of_fault e ≡ status_of_fault h.answer → EndAlike o p left leaves w v
-  refused_alike o p left leaves w v h k e is status = record {
+  refused_alike : (o p : Option Fault) (left leaves : Leaves) (r q : Reading) (w v : Writing) (h : Refuses o left w) → Refuses p leaves v → (e : Fault) → p ≡ Some e → status_of_fault e ≡ status_of_fault h.answer →
+      EndAlike (record { fault = o; left = left; read = r; wrote = w }) (record { fault = p; left = leaves; read = q; wrote = v })
+  refused_alike o p left leaves r q w v h k e is status = record {
     status = ap (λ z. status_of z left.misses) h.is ∙ sym status ∙ sym (ap (λ z. status_of z leaves.misses) is);
     misses = h.nothing.0 ∙ sym k.nothing.0;
     histories = λ i. ap (λ (vs : List PlatformView). histories_of vs i) (h.nothing.1 ∙ sym k.nothing.1);
@@ -225,24 +227,30 @@ module _ (clock : ClockChoice) (log : Bool) (tells : Contents) (blocks : List Na
   not_both o e is never ran = false≢true (sym never ∙ sym (ap has_run is) ∙ ran)
 
 pub calls_agree : CallsAgree
-calls_agree workers others clock log tells blocks name o p left leaves r q w v all calm still few small ends more =
+calls_agree workers others clock log tells blocks name a b all calm still few small due more =
     ⊎_elim
-    (λ (h : Runs clock log tells blocks name all workers o left w).
+    (λ (h : Runs clock log tells blocks name all workers a.fault a.left a.wrote).
     ⊎_elim
-    (λ (k : Runs clock log tells blocks name all others p leaves v).
-    let alike = ran_alike clock log tells blocks name all workers others o p left leaves w v h k few small in
-    runs_alike clock log tells blocks name all workers others o p left leaves w v h k alike.0 alike.1)
-    (λ (k : Refuses clock log tells blocks name all p leaves v).
-    let (e, is, status, never) = k.decides workers o (exact o left (Some (over (Run workers clock log) name)) tells blocks r w ends) calm in
-    absurd (not_both clock log tells blocks name all o e is never h.ran))
+    (λ (k : Runs clock log tells blocks name all others b.fault b.left b.wrote).
+    let alike = ran_alike clock log tells blocks name all workers others a.fault b.fault a.left b.left a.read b.read a.wrote b.wrote h k few small in
+    runs_alike clock log tells blocks name all workers others a.fault b.fault a.left b.left a.read b.read a.wrote b.wrote h k alike.0 alike.1)
+    (λ (k : Refuses clock log tells blocks name all b.fault b.left b.wrote).
+    let (e, is, status, never) = k.decides workers a.fault (exact a.fault a.left (Some (over (Run workers clock log) name)) tells blocks a.read a.wrote ends) calm in
+    absurd (not_both clock log tells blocks name all a.fault e is never h.ran))
     other)
-    (λ (h : Refuses clock log tells blocks name all o left w).
-    let (e, is, status, never) = h.decides others p (exact p leaves (Some (over (Run others clock log) name)) tells blocks q v more) still in
+    (λ (h : Refuses clock log tells blocks name all a.fault a.left a.wrote).
+    let (e, is, status, never) = h.decides others b.fault (exact b.fault b.left (Some (over (Run others clock log) name)) tells blocks b.read b.wrote more_ends) still in
     ⊎_elim
-    (λ (k : Runs clock log tells blocks name all others p leaves v). absurd (not_both clock log tells blocks name all p e is never k.ran))
-    (λ (k : Refuses clock log tells blocks name all p leaves v). refused_alike clock log tells blocks name all o p left leaves w v h k e is status)
+    (λ (k : Runs clock log tells blocks name all others b.fault b.left b.wrote). absurd (not_both clock log tells blocks name all b.fault e is never k.ran))
+    (λ (k : Refuses clock log tells blocks name all b.fault b.left b.wrote). refused_alike clock log tells blocks name all a.fault b.fault a.left b.left a.read b.read a.wrote b.wrote h k e is status)
     other)
-    (classify clock log tells blocks name all workers left r w o ends calm)
+    (classify clock log tells blocks name all workers a.left a.read a.wrote a.fault ends calm)
   where
-    other : Runs clock log tells blocks name all others p leaves v ⊎ Refuses clock log tells blocks name all p leaves v
-    other = classify clock log tells blocks name all others leaves q v p more still
+    ends : EndsBy a.fault a.left (Some (Run workers clock log, name)) tells blocks a.read a.wrote
+    ends = due_ends tells blocks a (Some (over (Run workers clock log) name)) due
+
+    more_ends : EndsBy b.fault b.left (Some (Run others clock log, name)) tells blocks b.read b.wrote
+    more_ends = due_ends tells blocks b (Some (over (Run others clock log) name)) more
+
+    other : Runs clock log tells blocks name all others b.fault b.left b.wrote ⊎ Refuses clock log tells blocks name all b.fault b.left b.wrote
+    other = classify clock log tells blocks name all others b.left b.read b.wrote b.fault more_ends still

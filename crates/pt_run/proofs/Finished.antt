@@ -1,8 +1,13 @@
 -- Platforms that have finished a run.
 use Rattle.std.proofs.Common.{◌≡◌, ◌++◌, ℕ, Bool, true, false, List, Option, None, Some, Result, Ok, Err, IfOk, IfErr, refl, sym, ap, subst, ◌∙◌, append-nil}
-use Rattle.std.specs.Prelude.{flat_map}
+use Rattle.std.specs.Prelude.{◌↔◌, flat_map}
 use Rattle.pt_types.specs.declared.rows.Row.{Row}
 use Rattle.pt_types.specs.declared.graph.Graph.{Graph}
+use Rattle.pt_types.specs.declared.firing.ActorFiring.{ActorFiring}
+use Rattle.pt_history.specs.declared.miss.Miss.{Miss}
+use Rattle.pt_schedule.specs.Schedule.{IsMissedByMeaning}
+use Rattle.pt_semantics.specs.Lists.{IsIn}
+use Rattle.pt_semantics.specs.Meaning.{IsMeaning}
 use Rattle.pt_semantics.specs.Rows.{FitRows}
 use Rattle.pt_semantics.specs.Tables.{tables_text}
 use Rattle.pt_causality.specs.Ranked.{level_of, rank_of}
@@ -15,7 +20,7 @@ use Rattle.pt_confluence.specs.Gathered.{AreTables, HaveFinished}
 use Rattle.pt_rounds.specs.HaveRun.{HaveRun}
 use Rattle.pt_sensors.specs.Asked.{Contents, Reading}
 use Rattle.pt_sensors.specs.Places.{of_run}
-use Rattle.pt_offsets.specs.Plans.{Parts}
+use Rattle.pt_offsets.specs.Plans.{IsAdmitted, Parts}
 use Rattle.pt_turn.specs.declared.fault.TurnFault.{TurnFault}
 use Rattle.pt_turn.specs.declared.fault.TurnFault.TheVariants as turn
 use Rattle.pt_run.specs.declared.finished_run.Ran.{Ran}
@@ -45,6 +50,14 @@ have_finished plan rows platforms fit run = record { all = run.all; fit = fit; f
 pub kept_finished : (plan : Parts) (rows : ℕ → List Row) (platforms : List PlatformView) → FitRows plan.graph rows → IsKept plan rows platforms None → HaveFinished plan rows platforms
 kept_finished plan rows platforms fit kept = record { all = kept.all; fit = fit; finished = λ i v at. (kept.ends i v at).1; linked = kept.linked refl }
 
+-- in a paced run the misses are those of the meaning
+pub missed_as_meant : (plan : Parts) (rows : ℕ → List Row) (platforms : List PlatformView) (misses : List Miss) (firings : List ActorFiring) → IsAdmitted plan → HaveRun plan (level_of plan.ranks) rows platforms None → misses ≡ flat_map missed_by platforms →
+    IsMeaning plan.graph (rank_of plan.ranks) rows firings → (m : Miss) → IsIn m misses ↔ IsMissedByMeaning plan.graph firings m.actor m.tag m.reading m.limit
+missed_as_meant plan rows platforms misses firings admitted have missed meaning m =
+    let kept = missed_in plan rows platforms have.all misses missed m in
+    let meant = have.missed_as_meant refl (rank_of plan.ranks) firings admitted.ranks meaning m.actor m.tag m.reading m.limit in
+    ((λ mem. meant.0 (kept.0 mem)), (λ missed. kept.1 (meant.1 missed)))
+
 -- a run that finished, with its outputs
 has_outputs : (tells : Contents) (c : Clocking) (plan : Parts) (log : Bool) (platforms : List PlatformView) (ran : Ran) (run : HasRun tells c plan platforms None) → FitRows plan.graph (of_run plan.graph run.rows) → IsTold plan log platforms ran → HasOutputs tells c plan log ran
 has_outputs tells c plan log platforms ran run fit told =
@@ -58,11 +71,7 @@ has_outputs tells c plan log platforms ran run fit told =
         written = text.2 ∙ ap (λ ps. tables_text plan.graph text.0 ++ log_if log plan.graph ps) (sym told.platforms_are);
         held = subst (AreHeldIf log) (sym told.platforms_are) told.held;
         missed = told.misses ∙ ap (flat_map missed_by) (sym told.platforms_are);
-        missed_as_meant = λ paced m.
-            let have : HaveRun plan (level_of plan.ranks) rows platforms None = run.went.paced paced in
-            let kept = missed_in plan rows platforms have.all ran.misses.items told.misses m in
-            let meant = have.missed_as_meant refl (rank_of plan.ranks) text.0 run.admitted.ranks text.1 m.actor m.tag m.reading m.limit in
-            ((λ mem. meant.0 (kept.0 mem)), (λ missed. kept.1 (meant.1 missed)));
+        missed_as_meant = λ paced. missed_as_meant plan rows platforms ran.misses.items text.0 run.admitted (run.went.paced paced) told.misses text.1;
       },
       told.lines,
     )

@@ -26,7 +26,7 @@ use Rattle.pt_run.specs.Written.{GraphWith, HasNothing, Leaves, clocking, has_ru
 use Rattle.pt_run.proofs.CauseTable.{never_paced}
 
 -- the text of a run that finished, as it was put
-puts : (tells : Contents) (left : Leaves) (workers : ℕ) (clock : ClockChoice) (log : Bool) (plan : Parts) (misses : List Miss) (text : List ℕ) (Put : List ℕ → Type 0) →
+pub puts : (tells : Contents) (left : Leaves) (workers : ℕ) (clock : ClockChoice) (log : Bool) (plan : Parts) (misses : List Miss) (text : List ℕ) (Put : List ℕ → Type 0) →
     (done : IsFinishedRun tells (clocking workers clock left) plan log left.platforms misses text) → Put text → PutsMeaning plan (of_run plan.graph done.run.rows) log left.platforms Put
 puts tells left workers clock log plan misses text Put done put = record { fit = done.fit; firings = done.firings; meaning = done.meaning; text = subst Put done.written put; held = done.held }
 

@@ -38,3 +38,6 @@ pub mod OneStop
 pub mod StepsAgreeing
 pub mod CallsAgreeing
 pub mod ReplaysAgreeing
+pub mod Stages
+pub mod DueEnds
+pub mod EndsDue

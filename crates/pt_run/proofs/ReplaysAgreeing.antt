@@ -27,7 +27,7 @@ use Rattle.pt_turn.specs.All.{histories_of}
 use Rattle.pt_turn.specs.Platforms.{PlatformView}
 use Rattle.pt_monitors.specs.Misses.{missed_of}
 use Rattle.pt_tables.specs.Platforms.{histories}
-use Rattle.pt_sensors.specs.Asked.{Contents}
+use Rattle.pt_sensors.specs.Asked.{Contents, Reading}
 use Rattle.pt_sensors.specs.Places.{of_run}
 use Rattle.pt_air.specs.declared.air.Air.{Air}
 use Rattle.pt_air.specs.declared.fault.AirFault.{AirFault}
@@ -47,6 +47,7 @@ use Rattle.pt_run.specs.Words.{replay}
 use Rattle.pt_run.specs.Written.{Leaves}
 use Rattle.pt_run.proofs.CallsAgreeing.{of_bytes}
 use Rattle.pt_run.proofs.Complete.{same_ok}
+use Rattle.pt_run.proofs.DueEnds.{due_ends}
 use Rattle.pt_run.proofs.OneStop.{stop_one, turns_of}
 use Rattle.pt_run.proofs.Replayed.{replay_headline}
 use Rattle.pt_run.proofs.RunsAgreeing.{by_histories, same_list, same_log, same_rows}
@@ -143,7 +144,7 @@ replays_agree plan other rows air platforms others fault stop graphs h k = (
 )
 
 -- two calls that ran
-module _ (log logged : Bool) (tells : Contents) (blocks : List Named) (name air bytes : List ℕ) (o p : Option Fault) (left leaves : Leaves) (w v : Writing) (all : TellsAll tells blocks name) (told : tells air ≡ Some bytes)
+module _ (log logged : Bool) (tells : Contents) (blocks : List Named) (name air bytes : List ℕ) (o p : Option Fault) (left leaves : Leaves) (r q : Reading) (w v : Writing) (all : TellsAll tells blocks name) (told : tells air ≡ Some bytes)
     (h : RunWith tells blocks name (OnAir tells air (LeavesReplay log o left w))) (k : RunWith tells blocks name (OnAir tells air (LeavesReplay logged p leaves v))) where
   defines : (g : Graph) → IfSome (tells name) (λ bytes. graph_of blocks bytes ≡ Ok g) → graph_of blocks all.bytes ≡ Ok g
   defines g file = of_bytes (tells name) all.bytes (λ bytes. graph_of blocks bytes ≡ Ok g) all.told file
@@ -198,7 +199,7 @@ module _ (log logged : Bool) (tells : Contents) (blocks : List Named) (name air 
         (ap₂ (λ (g : Graph) xs. tables_text g xs ++ log_if logged g leaves.platforms) (sym graphs) firings
         ∙ ap (λ text. tables_text h.plan.graph a.firings ++ text) (sym (same_log logged h.plan.graph left.platforms leaves.platforms listed))) b.text
 
-  alike : LeaveAlike log logged o p left leaves w v
+  alike : LeaveAlike log logged (record { fault = o; left = left; read = r; wrote = w }) (record { fault = p; left = leaves; read = q; wrote = v })
   alike = record {
     histories = agree.0;
     stop = agree.1;
@@ -210,9 +211,9 @@ module _ (log logged : Bool) (tells : Contents) (blocks : List Named) (name air 
   }
 
 pub replay_calls_agree : ReplayCallsAgree
-replay_calls_agree workers others log logged tells blocks name air bytes o p left leaves r q w v all told ran too ends more =
+replay_calls_agree workers others log logged tells blocks name air bytes a b all told ran too due more =
     let order = replay name air workers log in
     let asked = replay name air others logged in
-    alike log logged tells blocks name air bytes o p left leaves w v all told
-    ((replay_headline o left (Some order) tells blocks r w ends workers log name air refl).run ran)
-    ((replay_headline p leaves (Some asked) tells blocks q v more others logged name air refl).run too)
+    alike log logged tells blocks name air bytes a.fault b.fault a.left b.left a.read b.read a.wrote b.wrote all told
+    ((replay_headline a.fault a.left (Some order) tells blocks a.read a.wrote (due_ends tells blocks a (Some order) due) workers log name air refl).run ran)
+    ((replay_headline b.fault b.left (Some asked) tells blocks b.read b.wrote (due_ends tells blocks b (Some asked) more) others logged name air refl).run too)

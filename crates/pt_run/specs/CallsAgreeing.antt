@@ -10,7 +10,7 @@ use Rattle.pt_words.specs.declared.orders.ClockChoice.TheVariants.{Machine, Pace
 use Rattle.pt_run.specs.Agreeing.{TellsAll}
 use Rattle.pt_run.specs.Causes.{Writing}
 use Rattle.pt_run.specs.Headline.{stop_of}
-use Rattle.pt_run.specs.Making.{Ends}
+use Rattle.pt_run.specs.Due.{Answer, IsDue}
 use Rattle.pt_run.specs.RunsAgreeing.{AreFewReadings}
 use Rattle.pt_run.specs.Statuses.{status_of}
 use Rattle.pt_run.specs.Words.{over}
@@ -36,15 +36,15 @@ IsFixed Machine platforms = ⊥
 
 -- two calls end with the same status and misses, and leave the same histories; either no platform stopped them or the same one
 -- with the same fault, as its status and its line say; and both wrote the same text
-pub record EndAlike (outcome other : Option Fault) (left leaves : Leaves) (w v : Writing) : Type 0 where
-  pub status : status_of outcome left.misses ≡ status_of other leaves.misses
-  pub misses : left.misses ≡ leaves.misses
-  pub histories : (i : ℕ) → histories_of left.platforms i ≡ histories_of leaves.platforms i
-  pub stop : stop_of outcome ≡ stop_of other
-  pub text : (text : List ℕ) × Appends w.written_before w.written_now text × Appends v.written_before v.written_now text
+pub record EndAlike (a b : Answer) : Type 0 where
+  pub status : status_of a.fault a.left.misses ≡ status_of b.fault b.left.misses
+  pub misses : a.left.misses ≡ b.left.misses
+  pub histories : (i : ℕ) → histories_of a.left.platforms i ≡ histories_of b.left.platforms i
+  pub stop : stop_of a.fault ≡ stop_of b.fault
+  pub text : (text : List ℕ) × Appends a.wrote.written_before a.wrote.written_now text × Appends b.wrote.written_before b.wrote.written_now text
 
 -- two undisturbed calls of `run` by such a clock over the same files end alike, whatever the number of workers
 abbrev pub CallsAgree : Type 0
-CallsAgree = (workers others : ℕ) (clock : ClockChoice) (log : Bool) (tells : Contents) (blocks : List Named) (name : List ℕ) (outcome other : Option Fault) (left leaves : Leaves) (r q : Reading) (w v : Writing) → TellsAll tells blocks name →
-    IsUndisturbed outcome → IsUndisturbed other → IsFixed clock left.platforms → IsFixed clock leaves.platforms →
-    Ends outcome left (Some (over (Run workers clock log) name)) tells blocks r w → Ends other leaves (Some (over (Run others clock log) name)) tells blocks q v → EndAlike outcome other left leaves w v
+CallsAgree = (workers others : ℕ) (clock : ClockChoice) (log : Bool) (tells : Contents) (blocks : List Named) (name : List ℕ) (a b : Answer) → TellsAll tells blocks name →
+    IsUndisturbed a.fault → IsUndisturbed b.fault → IsFixed clock a.left.platforms → IsFixed clock b.left.platforms →
+    IsDue (Some (over (Run workers clock log) name)) tells blocks a → IsDue (Some (over (Run others clock log) name)) tells blocks b → EndAlike a b

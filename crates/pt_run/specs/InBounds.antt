@@ -25,7 +25,7 @@ use Rattle.pt_run.specs.declared.fault.Fault.{Fault}
 use Rattle.pt_run.specs.declared.words.Command.TheVariants.{Run}
 use Rattle.pt_run.specs.Causes.{Writing}
 use Rattle.pt_run.specs.Complete.{CanRun, StatusIsMeant}
-use Rattle.pt_run.specs.Making.{Ends}
+use Rattle.pt_run.specs.Due.{Answer, IsDue}
 use Rattle.pt_run.specs.Readings.{EachOf}
 use Rattle.pt_run.specs.Replaying.{LeavesReplay, OnAir, stop_of_replay}
 use Rattle.pt_run.specs.Runs.{log_if}
@@ -69,12 +69,12 @@ IsCompleteInBounds status order tells blocks r w = (workers : ℕ) (log : Bool) 
     order ≡ Some (replay name air workers log) → CanReplay tells blocks name air g firings → (Rose r.before r.now → ⊥) → (Rose w.before w.now → ⊥) → StatusIsMeant status g firings
 
 -- a replay and a run of this graph each write the tables of these firings, with the log if it is asked for, and miss the same
-pub record WriteAlike (g : Graph) (firings : List ActorFiring) (log logged : Bool) (left leaves : Leaves) (w v : Writing) : Type 0 where
-  pub replayed : Appends w.written_before w.written_now (tables_text g firings ++ log_if log g left.platforms)
-  pub ran : Appends v.written_before v.written_now (tables_text g firings ++ log_if logged g leaves.platforms)
-  pub misses : (m : Miss) → IsIn m left.misses ↔ IsIn m leaves.misses
+pub record WriteAlike (g : Graph) (firings : List ActorFiring) (log logged : Bool) (a b : Answer) : Type 0 where
+  pub replayed : Appends a.wrote.written_before a.wrote.written_now (tables_text g firings ++ log_if log g a.left.platforms)
+  pub ran : Appends b.wrote.written_before b.wrote.written_now (tables_text g firings ++ log_if logged g b.left.platforms)
+  pub misses : (m : Miss) → IsIn m a.left.misses ↔ IsIn m b.left.misses
 
 -- so do a replay within the bounds and a paced run over the same files, if both end without a fault
 abbrev pub ReplaysInBoundsAgreeWithRuns : Type 0
-ReplaysInBoundsAgreeWithRuns = (tells : Contents) (blocks : List Named) (name air : List ℕ) (g : Graph) (firings : List ActorFiring) (workers others : ℕ) (log logged : Bool) (left leaves : Leaves) (r q : Reading) (w v : Writing) → CanReplay tells blocks name air g firings →
-    Ends None left (Some (replay name air workers log)) tells blocks r w → Ends None leaves (Some (over (Run others Paced logged) name)) tells blocks q v → WriteAlike g firings log logged left leaves w v
+ReplaysInBoundsAgreeWithRuns = (tells : Contents) (blocks : List Named) (name air : List ℕ) (g : Graph) (firings : List ActorFiring) (workers others : ℕ) (log logged : Bool) (a b : Answer) → CanReplay tells blocks name air g firings → a.fault ≡ None → b.fault ≡ None →
+    IsDue (Some (replay name air workers log)) tells blocks a → IsDue (Some (over (Run others Paced logged) name)) tells blocks b → WriteAlike g firings log logged a b

@@ -27,3 +27,4 @@ pub mod Runs
 pub mod Readings
 pub mod Went
 pub mod Clocks
+pub mod Due

@@ -17,7 +17,7 @@ use Rattle.pt_air.specs.declared.air.Air.{Air}
 use Rattle.pt_aired.specs.HaveFlown.{HaveFlown}
 use Rattle.pt_run.specs.Agreeing.{TellsAll}
 use Rattle.pt_run.specs.Causes.{Writing}
-use Rattle.pt_run.specs.Making.{Ends}
+use Rattle.pt_run.specs.Due.{Answer, IsDue}
 use Rattle.pt_run.specs.Replaying.{has_replayed, stop_of_replay}
 use Rattle.pt_run.specs.Runs.{log_if}
 use Rattle.pt_run.specs.Words.{replay}
@@ -42,14 +42,14 @@ WritesTables w g firings log platforms = Appends w.written_before w.written_now 
 
 -- two replays leave the same histories and are stopped by the same platform, if any; and if both end without a fault, they miss
 -- the same and write the same tables, and the same log if both are asked for it
-pub record LeaveAlike (log logged : Bool) (outcome other : Option Fault) (left leaves : Leaves) (w v : Writing) : Type 0 where
-  pub histories : (i : ℕ) → histories_of left.platforms i ≡ histories_of leaves.platforms i
-  pub stop : AreStoppedAlike (stop_of_replay outcome) (stop_of_replay other)
-  pub misses : outcome ≡ None → other ≡ None → left.misses ≡ leaves.misses
-  pub text : outcome ≡ None → other ≡ None → (g : Graph) × (firings : List ActorFiring) × WritesTables w g firings log left.platforms × WritesTables v g firings logged left.platforms
+pub record LeaveAlike (log logged : Bool) (a b : Answer) : Type 0 where
+  pub histories : (i : ℕ) → histories_of a.left.platforms i ≡ histories_of b.left.platforms i
+  pub stop : AreStoppedAlike (stop_of_replay a.fault) (stop_of_replay b.fault)
+  pub misses : a.fault ≡ None → b.fault ≡ None → a.left.misses ≡ b.left.misses
+  pub text : a.fault ≡ None → b.fault ≡ None → (g : Graph) × (firings : List ActorFiring) × WritesTables a.wrote g firings log a.left.platforms × WritesTables b.wrote g firings logged a.left.platforms
 
 -- so do two calls of `replay` that ran over the same known files, whatever their numbers of workers and whether they write the log
 abbrev pub ReplayCallsAgree : Type 0
-ReplayCallsAgree = (workers others : ℕ) (log logged : Bool) (tells : Contents) (blocks : List Named) (name air bytes : List ℕ) (outcome other : Option Fault) (left leaves : Leaves) (r q : Reading) (w v : Writing) → TellsAll tells blocks name → tells air ≡ Some bytes →
-    has_replayed outcome ≡ true → has_replayed other ≡ true →
-    Ends outcome left (Some (replay name air workers log)) tells blocks r w → Ends other leaves (Some (replay name air others logged)) tells blocks q v → LeaveAlike log logged outcome other left leaves w v
+ReplayCallsAgree = (workers others : ℕ) (log logged : Bool) (tells : Contents) (blocks : List Named) (name air bytes : List ℕ) (a b : Answer) → TellsAll tells blocks name → tells air ≡ Some bytes →
+    has_replayed a.fault ≡ true → has_replayed b.fault ≡ true →
+    IsDue (Some (replay name air workers log)) tells blocks a → IsDue (Some (replay name air others logged)) tells blocks b → LeaveAlike log logged a b

@@ -7,6 +7,7 @@ ghost use Rattle.pt_run.specs.CauseTable.{CauseTable};
 ghost use Rattle.pt_run.specs.Clocks.{AreBack, AreBackFor};
 ghost use Rattle.pt_run.specs.Complete.{IsComplete, IsCompleteByAnyClock};
 ghost use Rattle.pt_run.specs.declared.fault.Fault.TheVariants.{Memory};
+ghost use Rattle.pt_run.specs.Due.{IsDue};
 ghost use Rattle.pt_run.specs.Exact.{IsExact};
 ghost use Rattle.pt_run.specs.Headline.{IsHeadline};
 ghost use Rattle.pt_run.specs.InBounds.{IsCompleteInBounds};
@@ -79,11 +80,13 @@ pub fn ptides<S: Source, K: Sink, E: Sink, C: Clock + Send, R: Threads + Wait + 
     // And it ends so, unless memory runs out or a read fails, whenever the words and the files have that cause and none before it: one field for each answer that
     // depends on them alone.
     ensures exact { IsExact result.fault (order_of words.now) (S.tells source.old) blocks.now.listed.items }
-    // All of it, for every command: what was written and what is left, and the cause of each fault, by cases in `EndsBy`,
-    // `EndsMade`, `EndsMigrated`, `EndsAudit` and `EndsReplay`.
-    ensures ends { Ends result.fault (left_of result (order_of words.now) (tell C.told C.ahead clocks.items) (tell C.told C.ahead result.clocks.items)) (order_of words.now) (S.tells source.old) blocks.now.listed.items
-        (record { asked_before = S.asked source.old; asked_now = S.asked source.new; before = S.faults source.old; now = S.faults source.new })
-        (record { before = K.faults out.old; now = K.faults out.new; written_before = K.written out.old; written_now = K.written out.new }) }
+    // All of it, for every command: at which stage it was refused, and why; or what it wrote and what it leaves.
+    ensures due { IsDue (order_of words.now) (S.tells source.old) blocks.now.listed.items (record {
+      fault = result.fault;
+      left = left_of result (order_of words.now) (tell C.told C.ahead clocks.items) (tell C.told C.ahead result.clocks.items);
+      read = record { asked_before = S.asked source.old; asked_now = S.asked source.new; before = S.faults source.old; now = S.faults source.new };
+      wrote = record { before = K.faults out.old; now = K.faults out.new; written_before = K.written out.old; written_now = K.written out.new };
+    }) }
     // A paced run of a program that can run ends as its meaning says: by cases in `StatusIsMeant`.
     ensures complete { IsComplete result.status (order_of words.now) (S.tells source.old) blocks.now.listed.items
         (record { asked_before = S.asked source.old; asked_now = S.asked source.new; before = S.faults source.old; now = S.faults source.new })

@@ -7,10 +7,20 @@ use Rattle.pt_run.specs.Words.{order_of}
 use Rattle.pt_run.proofs.CauseTable.{caused}
 use Rattle.pt_run.proofs.Complete.{complete, complete_by_any_clock}
 use Rattle.pt_run.proofs.CompleteInBounds.{complete_in_bounds}
+use Rattle.pt_run.proofs.EndsDue.{ends_due}
 use Rattle.pt_run.proofs.Exact.{exact}
 use Rattle.pt_run.proofs.Headline.{headline}
 use Rattle.pt_run.proofs.Replayed.{replay_headline}
 use Rattle.pt_run.proofs.top.ptides.Goals as goal
+
+pub returns-clause-due : goal.returns-clause-due
+returns-clause-due g c =
+    let tells = g.S.Source.tells c.args.source.now in
+    let blocks = c.args.blocks.now.listed.items in
+    let r : Reading = record { asked_before = g.S.Source.asked c.args.source.now; asked_now = g.S.Source.asked c.run_words-ending.new.source; before = g.S.Source.faults c.args.source.now; now = g.S.Source.faults c.run_words-ending.new.source } in
+    let left : Leaves = left_at c.run_words-ending.result (order_of c.args.words.now) (tell g.C.Clock.told g.C.Clock.ahead c.args.clocks.items) (tell g.C.Clock.told g.C.Clock.ahead c.run_words-ending.new.clocks.items) in
+    let w : Writing = record { before = g.K.Sink.faults c.args.out.now; now = g.K.Sink.faults c.run_words-ending.new.out; written_before = g.K.Sink.written c.args.out.now; written_now = g.K.Sink.written c.run_words-ending.new.out } in
+    ends_due tells blocks left r w (order_of c.args.words.now) c.run_words-ending.result.fault c.run_words-ending.ensures.ends
 
 pub returns-clause-complete_by_any_clock : goal.returns-clause-complete_by_any_clock
 returns-clause-complete_by_any_clock g c =

@@ -1,0 +1,171 @@
+-- How a call ends: for each order what is due, in the order of its refusals.
+--
+-- A command goes from stage to stage: the graph file, the cycles of its graph, the offsets, the rows of its sensors, and so on. At
+-- each stage it is refused, for a cause that is this stage's alone, or it goes on to the next. `IsDueOver` lists the stages of each
+-- command.
+use Rattle.std.specs.Prelude.{◌≡◌, ◌⊎◌, ℕ, ℤ, Bool, true, List, [], ◌∷◌, Option, Some, None, Ok, Err, IfSome}
+use Rattle.pt_io.specs.Causes.{Appends, AppendsPart, Rose}
+use Rattle.pt_types.specs.declared.graph.Graph.{Graph}
+use Rattle.pt_types.specs.declared.rows.Row.{Row}
+use Rattle.pt_blocks.specs.declared.blocks.Named.{Named}
+use Rattle.pt_graph_text.specs.declared.fault.GraphFault.{GraphFault}
+use Rattle.pt_graph.specs.GraphOf.{graph_of}
+use Rattle.pt_semantics.specs.Cycles.{NoFreeCycle}
+use Rattle.pt_semantics.specs.Offsets.{IsFeasible}
+use Rattle.pt_causality.specs.Ranked.{IsFreeCycle}
+use Rattle.pt_offsets.specs.Margins.{IsFirstInfeasible}
+use Rattle.pt_offsets.specs.Plans.{IsAdmitted, Parts}
+use Rattle.pt_slacks.specs.Rings.{IsRing}
+use Rattle.pt_slacks.specs.Text.{IsSlacked}
+use Rattle.pt_sensors.specs.declared.fault.RowFault.{RowFault}
+use Rattle.pt_sensors.specs.declared.recorded_fault.LateRows.{LateRows}
+use Rattle.pt_sensors.specs.declared.recorded_fault.LateRows.TheVariants.{Refused, Taken}
+use Rattle.pt_sensors.specs.Asked.{Contents, ReadFails, Reading}
+use Rattle.pt_sensors.specs.Places.{of_run}
+use Rattle.pt_sensors.specs.Recorded.{AllPass, AreRows, SensorFails, SensorLate, SensorUnread}
+use Rattle.pt_air.specs.declared.fault.AirFault.{AirFault}
+use Rattle.pt_air.specs.AirOf.{air_of}
+use Rattle.pt_audit.specs.declared.verdict.Verdict.{Verdict}
+use Rattle.pt_words.specs.declared.orders.ClockChoice.{ClockChoice}
+use Rattle.pt_words.specs.declared.orders.ClockChoice.TheVariants.{Paced}
+use Rattle.pt_run.specs.declared.fault.Fault.{Fault}
+use Rattle.pt_run.specs.declared.fault.Fault.TheVariants as fault
+use Rattle.pt_run.specs.declared.words.Command.{Command}
+use Rattle.pt_run.specs.declared.words.Command.TheVariants.{Run, Check, Meaning, Slacks}
+use Rattle.pt_run.specs.Auditing.{Accepts, IsUnlawful, LastFails, lawful_line}
+use Rattle.pt_run.specs.Causes.{IsTooLongForAll, Writing}
+use Rattle.pt_run.specs.Headline.{LeavesRun, stop_of}
+use Rattle.pt_run.specs.Making.{IsMadeRun}
+use Rattle.pt_run.specs.Migrating.{IsMigrated}
+use Rattle.pt_run.specs.Replaying.{LeavesReplay, OnAir, has_replayed}
+use Rattle.pt_run.specs.Runs.{RunsPaced}
+use Rattle.pt_run.specs.Words.{Order, over, make, migrate, audit, replay}
+use Rattle.pt_run.specs.Written.{FitOnAll, GraphWith, HasNothing, IsChecked, IsTables, Leaves, clocking, has_run}
+
+-- the answer of a call: its fault, what it leaves, and the source and the sink before it and after it
+pub record Answer : Type 0 where
+  pub fault : Option Fault
+  pub left : Leaves
+  pub read : Reading
+  pub wrote : Writing
+
+-- the call is refused with this fault: it leaves nothing and writes nothing
+abbrev pub RefusedWith : Fault → Answer → Type 0
+RefusedWith f a = (a.fault ≡ Some f) × HasNothing a.left × (a.wrote.written_now ≡ a.wrote.written_before)
+
+-- such a text is put: all of it, or a prefix if a write fails
+abbrev pub PutsText : Answer → (List ℕ → Type 0) → Type 0
+PutsText a Text =
+    ((a.fault ≡ None) × (text : List ℕ) × Text text × Appends a.wrote.written_before a.wrote.written_now text)
+    ⊎ ((a.fault ≡ Some fault.Write) × Rose a.wrote.before a.wrote.now × (text : List ℕ) × Text text × AppendsPart a.wrote.written_before a.wrote.written_now text)
+
+-- nothing is left, and such a text is put
+abbrev pub OnlyPuts : Answer → (List ℕ → Type 0) → Type 0
+OnlyPuts a Text = HasNothing a.left × PutsText a Text
+
+-- memory ran out, and nothing is left or written; or this is due
+abbrev pub UnlessMemory : Answer → (Answer → Type 0) → Type 0
+UnlessMemory a Due = RefusedWith fault.Memory a ⊎ Due a
+
+-- The stages.
+
+-- the graph file: it could not be read; or its text has a fault; or it defines a graph, and the call goes on with it
+abbrev pub AfterFile : Contents → List Named → List ℕ → Answer → (Graph → Type 0) → Type 0
+AfterFile tells blocks name a Then =
+    (RefusedWith (fault.Read None) a × ReadFails [] name a.read)
+    ⊎ (((f : GraphFault) × RefusedWith (fault.Graph f) a × IfSome (tells name) (λ bytes. graph_of blocks bytes ≡ Err f))
+    ⊎ GraphWith tells blocks name Then)
+
+-- cycles: these actors are a cycle that takes no time; or there is none
+abbrev pub AfterCycles : Graph → Answer → Type 0 → Type 0
+AfterCycles g a Then = ((actors : List ℕ) × RefusedWith (fault.Cycle actors) a × IsFreeCycle g actors) ⊎ (NoFreeCycle g × Then)
+
+-- offsets: this sender is the first that can't send in time; or all senders can
+abbrev pub AfterOffsets : Graph → Answer → Type 0 → Type 0
+AfterOffsets g a Then =
+    ((send : ℕ) × (offset : ℤ) × (slack : ℕ) × RefusedWith (fault.Infeasible send offset slack) a × IsFirstInfeasible g send offset slack)
+    ⊎ (IsFeasible g × Then)
+
+-- the sensors' files, in order: this sensor is the first without rows, since its file could not be read, or has a fault, or has a
+-- row that is late where late rows are refused; or all sensors have rows. `others` were asked for before
+abbrev pub AfterRows : LateRows → Contents → Graph → List (List ℕ) → Answer → ((ℕ → List Row) → Type 0) → Type 0
+AfterRows late tells g others a Then =
+    ((actor : ℕ) × RefusedWith (fault.Read (Some actor)) a × SensorUnread late tells g actor others a.read)
+    ⊎ (((actor : ℕ) × (f : RowFault) × RefusedWith (fault.Sensor actor f) a × SensorFails late tells g actor f)
+    ⊎ (((actor : ℕ) × (row : ℕ) × (seen : ℕ) × (limit : ℕ) × RefusedWith (fault.LateRow actor row seen limit) a × (late ≡ Refused) × SensorLate tells g actor row seen limit)
+    ⊎ ((rows : ℕ → List Row) × AreRows tells g rows × AllPass late g rows × Then rows)))
+
+-- a fact of an admitted plan of the graph
+abbrev pub WithPlan : Graph → (Parts → Type 0) → Type 0
+WithPlan g Fact = (plan : Parts) × (plan.graph ≡ g) × IsAdmitted plan × Fact plan
+
+-- what a run must have to be admitted: no free cycle, no late sender, rows none of which is late; then a fact of its plan and of
+-- its rows up to the horizon
+abbrev pub AfterAdmission : Contents → Graph → List (List ℕ) → Answer → (Parts → (ℕ → List Row) → Type 0) → Type 0
+AfterAdmission tells g others a Then =
+    AfterCycles g a (AfterOffsets g a (AfterRows Refused tells g others a (λ rows. WithPlan g (λ plan. Then plan (of_run g rows)))))
+
+-- The last stage of each command.
+
+-- a run: all was written, or a write failed, or a platform stopped it
+pub record HasRunBy (workers : ℕ) (clock : ClockChoice) (log : Bool) (a : Answer) (plan : Parts) (rows : ℕ → List Row) : Type 0 where
+  pub ran : has_run a.fault ≡ true
+  pub leaves : LeavesRun (clocking workers clock a.left) log a.fault a.left a.wrote plan rows
+  pub failed : a.fault ≡ Some fault.Write → Rose a.wrote.before a.wrote.now
+  -- what more is known of a paced run
+  pub paced : clock ≡ Paced → RunsPaced plan rows a.left.platforms (stop_of a.fault)
+
+-- `meaning`: it has too many firings, or its tables are put
+abbrev pub IsMeantBy : Graph → (ℕ → List Row) → Answer → Type 0
+IsMeantBy g rows a = (RefusedWith (fault.Long None) a × IsTooLongForAll g rows) ⊎ (OnlyPuts a (IsTables g rows (FitOnAll g)))
+
+-- `slacks`: whatever the slacks of these senders, one of them can't send in time; or the least slacks are put
+abbrev pub IsSlackedBy : Graph → Answer → Type 0
+IsSlackedBy g a = ((sends : List ℕ) × (gain : ℕ) × RefusedWith (fault.Ring sends gain) a × IsRing g sends gain) ⊎ (OnlyPuts a (IsSlacked g))
+
+-- `audit`: the log could not be read; or this verdict refuses it; or it is lawful, and `lawful` is put
+abbrev pub IsJudgedBy : List ℕ → Contents → Graph → List (List ℕ) → Answer → Parts → (ℕ → List Row) → Type 0
+IsJudgedBy log tells g others a plan rows =
+    (RefusedWith fault.ReadLog a × LastFails g others log a.read)
+    ⊎ (((v : Verdict) × RefusedWith (fault.Unlawful v) a × IfSome (tells log) (λ bytes. IsUnlawful plan rows bytes v))
+    ⊎ (IfSome (tells log) (Accepts plan rows) × OnlyPuts a (λ text. text ≡ lawful_line)))
+
+-- a replay: the recording could not be read; or its text has a fault; or it ran: all was written, or a write failed, or a platform
+-- stopped it
+pub record HasReplayedBy (air : List ℕ) (log : Bool) (tells : Contents) (a : Answer) (plan : Parts) (rows : ℕ → List Row) : Type 0 where
+  pub ran : has_replayed a.fault ≡ true
+  pub leaves : OnAir tells air (LeavesReplay log a.fault a.left a.wrote) plan rows
+  pub failed : a.fault ≡ Some fault.Write → Rose a.wrote.before a.wrote.now
+
+abbrev pub IsReplayedBy : List ℕ → Bool → Contents → Graph → List (List ℕ) → Answer → Parts → (ℕ → List Row) → Type 0
+IsReplayedBy air log tells g others a plan rows =
+    (RefusedWith fault.ReadAir a × LastFails g others air a.read)
+    ⊎ (((f : AirFault) × RefusedWith (fault.Air f) a × IfSome (tells air) (λ bytes. air_of g bytes ≡ Err f))
+    ⊎ HasReplayedBy air log tells a plan rows)
+
+-- the stages of each command over a graph; `others` were asked for before the sensors' files
+abbrev pub IsDueFor : Command → Contents → Graph → List (List ℕ) → Answer → Type 0
+IsDueFor (Run workers clock log) tells g others a = AfterAdmission tells g others a (HasRunBy workers clock log a)
+IsDueFor Check tells g others a = AfterCycles g a (AfterOffsets g a (OnlyPuts a (IsChecked g)))
+IsDueFor Meaning tells g others a = AfterCycles g a (AfterRows Taken tells g others a (λ rows. IsMeantBy g rows a))
+IsDueFor Slacks tells g others a = AfterCycles g a (IsSlackedBy g a)
+
+-- the stages of an audit over a graph, and of a replay
+abbrev pub IsAudited : List ℕ → Contents → Graph → List (List ℕ) → Answer → Type 0
+IsAudited log tells g others a = AfterAdmission tells g others a (IsJudgedBy log tells g others a)
+
+abbrev pub IsReplayed : List ℕ → Bool → Contents → Graph → List (List ℕ) → Answer → Type 0
+IsReplayed air log tells g others a = AfterAdmission tells g others a (IsReplayedBy air log tells g others a)
+
+-- the stages of each order: `make` reads no file, and `migrate` writes any graph that its file defines
+abbrev pub IsDueTo : Order → Contents → List Named → Answer → Type 0
+IsDueTo (over command name) tells blocks a = AfterFile tells blocks name a (λ g. IsDueFor command tells g (name ∷ []) a)
+IsDueTo (make number workers) tells blocks a = (a.left.misses ≡ []) × PutsText a (IsMadeRun number a.left.platforms)
+IsDueTo (migrate name) tells blocks a = AfterFile tells blocks name a (λ g. OnlyPuts a (IsMigrated g blocks))
+IsDueTo (audit name log) tells blocks a = AfterFile tells blocks name a (λ g. IsAudited log tells g (name ∷ []) a)
+IsDueTo (replay name air workers log) tells blocks a = AfterFile tells blocks name a (λ g. IsReplayed air log tells g (name ∷ []) a)
+
+-- how a call ends: memory ran out; or the words are not a valid command line; or as is due
+abbrev pub IsDue : Option Order → Contents → List Named → Answer → Type 0
+IsDue None tells blocks a = UnlessMemory a (RefusedWith fault.Usage)
+IsDue (Some order) tells blocks a = UnlessMemory a (IsDueTo order tells blocks)
