@@ -54,9 +54,9 @@ celled : (g : Graph) (n : ℕ) (before : List AirRow) (row : AirRow) (o : Option
 celled g n before row None h = absurd cc
 celled g n before row (Some c) h = about n before c row (subject_of g c) h
 
-air_row_of-is_row : (g : Graph) (n : ℕ) (before : List AirRow) (fields : List (List ℕ)) (row : AirRow) → air_row_of g n before fields ≡ Ok row → IsRow row
+row_of-is_row : (g : Graph) (n : ℕ) (before : List AirRow) (fields : List (List ℕ)) (row : AirRow) → air_row_of g n before fields ≡ Ok row → IsRow row
 unfolding air_row_of
-air_row_of-is_row g n before fields row h = celled g n before row (option_and_then formed (cells fields)) h
+row_of-is_row g n before fields row h = celled g n before row (option_and_then formed (cells fields)) h
 
 Each-push : {X : Type 0} (P : X → Type 0) (xs : List X) (y : X) → Each P xs → P y → Each P (xs ++ y ∷ [])
 Each-push P [] y h last = (last, tt)
@@ -75,7 +75,7 @@ found_row : (g : Graph) (left : ℕ) (rows all : List AirRow) (p : Read) (most :
     → length rows + suc left ≤ most → Each IsRow rows → (r >>= λ row. air_rows_from g left (rows ++ row ∷ []) p.1 p.2) ≡ Ok all → AreRows most all
 found_row g left rows all p most (Err e) is rest few each h = absurd cc
 found_row g left rows all p most (Ok row) is rest few each h =
-    rest (rows ++ row ∷ []) all p.1 p.2 most (omega (arith, length-append rows (row ∷ []))) (Each-push IsRow rows row each (air_row_of-is_row g (length rows + 1) rows p.0 row is)) h
+    rest (rows ++ row ∷ []) all p.1 p.2 most (omega (arith, length-append rows (row ∷ []))) (Each-push IsRow rows row each (row_of-is_row g (length rows + 1) rows p.0 row is)) h
 
 found : (g : Graph) (left : ℕ) (rows all : List AirRow) (o : Option Read) (most : ℕ) → Rest g left
     → length rows + suc left ≤ most → Each IsRow rows → air_goes_on g rows (λ more. air_rows_from g left more) o ≡ Ok all → AreRows most all
@@ -86,26 +86,26 @@ ended : (rows all : List AirRow) (o : Option Read) (most : ℕ) → length rows 
 ended rows all None most few each h = same_rows most rows all (Ok rows) refl few each h
 ended rows all (Some p) most few each h = absurd cc
 
-air_rows_from-rows : (g : Graph) (left : ℕ) → Rest g left
+rows_from-rows : (g : Graph) (left : ℕ) → Rest g left
 unfolding air_rows_from
-air_rows_from-rows g zero rows all s xs most few each h = ended rows all (next s xs) most (omega arith) each h
-air_rows_from-rows g (suc left) rows all s xs most few each h = found g left rows all (next s xs) most (air_rows_from-rows g left) few each h
+rows_from-rows g zero rows all s xs most few each h = ended rows all (next s xs) most (omega arith) each h
+rows_from-rows g (suc left) rows all s xs most few each h = found g left rows all (next s xs) most (rows_from-rows g left) few each h
 
 headed : (most : ℕ) (b : Bool) (r : Rows) (rows : List AirRow) → (r ≡ Ok rows → AreRows most rows) → cond b r (Err fault.Header) ≡ Ok rows → AreRows most rows
 headed most true r rows f h = f h
 headed most false r rows f h = absurd cc
 
-air_after_header-rows : (g : Graph) (o : Option Read) (rows : List AirRow) → air_after_header g o ≡ Ok rows → AreRows 100000 rows
-air_after_header-rows g None rows h = absurd cc
-air_after_header-rows g (Some p) rows h =
-    headed 100000 (is_air_header p.0) (air_rows_from g 100000 [] p.1 p.2) rows (λ is. air_rows_from-rows g 100000 [] rows p.1 p.2 100000 (omega arith) tt is) h
+after_header-rows : (g : Graph) (o : Option Read) (rows : List AirRow) → air_after_header g o ≡ Ok rows → AreRows 100000 rows
+after_header-rows g None rows h = absurd cc
+after_header-rows g (Some p) rows h =
+    headed 100000 (is_air_header p.0) (air_rows_from g 100000 [] p.1 p.2) rows (λ is. rows_from-rows g 100000 [] rows p.1 p.2 100000 (omega arith) tt is) h
 
 not_too_long : (most : ℕ) (b : Bool) (r : Rows) (rows : List AirRow) → (r ≡ Ok rows → AreRows most rows) → cond b (Err fault.TooLong) r ≡ Ok rows → AreRows most rows
 not_too_long most true r rows f h = absurd cc
 not_too_long most false r rows f h = f h
 
 -- the rows of a file
-pub air_rows_of-rows : (g : Graph) (bytes : List ℕ) (rows : List AirRow) → air_rows_of g bytes ≡ Ok rows → AreRows 100000 rows
+pub rows_of-rows : (g : Graph) (bytes : List ℕ) (rows : List AirRow) → air_rows_of g bytes ≡ Ok rows → AreRows 100000 rows
 unfolding air_rows_of
-air_rows_of-rows g bytes rows h =
-    not_too_long 100000 (nat_lt 8388608 (length bytes)) (air_after_header g (next st.StartRecord (strip_bom bytes))) rows (air_after_header-rows g (next st.StartRecord (strip_bom bytes)) rows) h
+rows_of-rows g bytes rows h =
+    not_too_long 100000 (nat_lt 8388608 (length bytes)) (air_after_header g (next st.StartRecord (strip_bom bytes))) rows (after_header-rows g (next st.StartRecord (strip_bom bytes)) rows) h

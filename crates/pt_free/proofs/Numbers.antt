@@ -42,7 +42,7 @@ halves total n m k s e f h =
     let s' : 2 ^ s ≡ 2 ^ n = ap (λ (x : ℕ). 2 ^ x) f in omega arith
 
 pub weighed : (xs : List StationView) (s : StationView) → order_weight (numbers (xs ++ s ∷ [])) ≡ order_weight (numbers xs) + 2 ^ s.platform.number
-weighed xs s = ap order_weight (map-append (λ (v : StationView). v.platform.number) xs (s ∷ [])) ∙ order_weight-snoc (numbers xs) s.platform.number
+weighed xs s = ap order_weight (map-append (λ (v : StationView). v.platform.number) xs (s ∷ [])) ∙ weight-snoc (numbers xs) s.platform.number
 
 among_snoc : (w x : ℕ) (xs : List ℕ) → Among w (xs ++ x ∷ []) → Among w xs ⊎ (x ≡ w)
 among_snoc w x [] (zero, lt, is) = inr (is 0)

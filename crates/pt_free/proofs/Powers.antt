@@ -20,11 +20,11 @@ length-ups [] = refl
 length-ups (zero ∷ xs) = omega (arith, length-ups xs)
 length-ups (suc x ∷ xs) = omega (arith, length-ups xs)
 
-order_weight-ups : (xs : List ℕ) → order_weight xs ≡ zeros xs + 2 * order_weight (ups xs)
+weight-ups : (xs : List ℕ) → order_weight xs ≡ zeros xs + 2 * order_weight (ups xs)
 unfolding zeros ups
-order_weight-ups [] = refl
-order_weight-ups (zero ∷ xs) = omega (arith, order_weight-ups xs)
-order_weight-ups (suc x ∷ xs) = omega (arith, order_weight-ups xs, pow-suc 2 x)
+weight-ups [] = refl
+weight-ups (zero ∷ xs) = omega (arith, weight-ups xs)
+weight-ups (suc x ∷ xs) = omega (arith, weight-ups xs, pow-suc 2 x)
 
 -- fewer than k powers and units never add up to 2 ^ k - 1
 at_least : (k e : ℕ) (xs : List ℕ) → e + order_weight xs + 1 ≡ 2 ^ k → k ≤ e + length xs
@@ -33,20 +33,20 @@ at_least (suc k) e xs h =
     let U = order_weight (ups xs) in
     let P = 2 ^ k in
     let p = pow-suc 2 k in
-    let low : U < P = omega (arith, order_weight-ups xs) in
+    let low : U < P = omega (arith, weight-ups xs) in
     let h' : (P - U - 1) + U + 1 ≡ P = omega arith in
     let ih = at_least k (P - U - 1) (ups xs) h' in
-    omega (arith, order_weight-ups xs, length-ups xs)
+    omega (arith, weight-ups xs, length-ups xs)
 
 one_zero : (k : ℕ) (xs : List ℕ) → order_weight xs + 1 ≡ 2 ^ suc k → length xs ≡ suc k → zeros xs ≡ 1
 one_zero k xs h n =
     let U = order_weight (ups xs) in
     let P = 2 ^ k in
     let p = pow-suc 2 k in
-    let low : U < P = omega (arith, order_weight-ups xs) in
+    let low : U < P = omega (arith, weight-ups xs) in
     let h' : (P - U - 1) + U + 1 ≡ P = omega arith in
     let ih = at_least k (P - U - 1) (ups xs) h' in
-    omega (arith, order_weight-ups xs, length-ups xs)
+    omega (arith, weight-ups xs, length-ups xs)
 
 later : (w x : ℕ) (xs : List ℕ) → Among w xs → Among w (x ∷ xs)
 later w x xs a = (suc a.0, omega (arith, a.1), a.2)
@@ -69,8 +69,8 @@ each_among zero xs h n w low = absurd (omega arith)
 each_among (suc k) xs h n zero low = zero_among xs (omega (arith, one_zero k xs h n))
 each_among (suc k) xs h n (suc w) low =
     let one = one_zero k xs h n in
-    suc_among w xs (each_among k (ups xs) (omega (arith, order_weight-ups xs, pow-suc 2 k)) (omega (arith, length-ups xs)) w (omega arith))
+    suc_among w xs (each_among k (ups xs) (omega (arith, weight-ups xs, pow-suc 2 k)) (omega (arith, length-ups xs)) w (omega arith))
 
-pub order_weight-snoc : (xs : List ℕ) (x : ℕ) → order_weight (xs ++ x ∷ []) ≡ order_weight xs + 2 ^ x
-order_weight-snoc [] x = omega arith
-order_weight-snoc (y ∷ ys) x = omega (arith, order_weight-snoc ys x)
+pub weight-snoc : (xs : List ℕ) (x : ℕ) → order_weight (xs ++ x ∷ []) ≡ order_weight xs + 2 ^ x
+weight-snoc [] x = omega arith
+weight-snoc (y ∷ ys) x = omega (arith, weight-snoc ys x)

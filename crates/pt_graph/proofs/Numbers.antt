@@ -45,8 +45,8 @@ some_from p k [] = refl
 some_from p k (y ∷ ys) = elim (p y) as (λ b. is_some (cond b (Some k) (position_from p (k + 1) ys)) ≡ (b || list_any p ys)) [ true ↦ refl | false ↦ some_from p (k + 1) ys ]
 
 -- a name has a number where an item has it
-pub is_some-first_named : {A : Type 0} (f : A → List ℕ) (xs : List A) (n : List ℕ) → is_some (first_named f xs n) ≡ is_named f xs n
-is_some-first_named f xs n = ap is_some (position_from-zero (λ x. bytes_eq (f x) n) xs) ∙ some_from (λ x. bytes_eq (f x) n) 0 xs
+pub is_some-number_in : {A : Type 0} (f : A → List ℕ) (xs : List A) (n : List ℕ) → is_some (first_named f xs n) ≡ is_named f xs n
+is_some-number_in f xs n = ap is_some (position_from-zero (λ x. bytes_eq (f x) n) xs) ∙ some_from (λ x. bytes_eq (f x) n) 0 xs
 
 last_known : (o : Option ℕ) (i : ℕ) → or_last o false i ≡ o
 last_known None i = refl
@@ -91,12 +91,12 @@ keep_name f xs i d name m less same known there q =
 pub other_name : {A : Type 0} (f : A → List ℕ) (xs : List A) (i : ℕ) (d : A) (name : List ℕ) → i < length xs → name ≡ f (get_or xs i d) → is_some (first_named f (take i xs) name) ≡ false
     → repeated_from f (take (i + 1) xs) (i + 1) (drop (i + 1) xs) ≡ repeated_from f (take i xs) i (drop i xs)
 other_name f xs i d name less same absent =
-    let no : is_named f (take i xs) (f (get_or xs i d)) ≡ false = sym (is_some-first_named f (take i xs) _) ∙ (ap (λ z. is_some (first_named f (take i xs) z)) (sym same) ∙ absent) in
+    let no : is_named f (take i xs) (f (get_or xs i d)) ≡ false = sym (is_some-number_in f (take i xs) _) ∙ (ap (λ z. is_some (first_named f (take i xs) z)) (sym same) ∙ absent) in
     rw (add-one, take-suc xs i d less, drop-cons xs i d less) (rw (no, add-one) refl)
 
 -- it has the name of one before it
 pub same_name : {A : Type 0} (f : A → List ℕ) (xs : List A) (i : ℕ) (d : A) (name : List ℕ) → i < length xs → name ≡ f (get_or xs i d) → is_some (first_named f (take i xs) name) ≡ true
     → Some i ≡ repeated_from f (take i xs) i (drop i xs)
 same_name f xs i d name less same there =
-    let yes : is_named f (take i xs) (f (get_or xs i d)) ≡ true = sym (is_some-first_named f (take i xs) _) ∙ (ap (λ z. is_some (first_named f (take i xs) z)) (sym same) ∙ there) in
+    let yes : is_named f (take i xs) (f (get_or xs i d)) ≡ true = sym (is_some-number_in f (take i xs) _) ∙ (ap (λ z. is_some (first_named f (take i xs) z)) (sym same) ∙ there) in
     rw (drop-cons xs i d less) (rw yes refl)

@@ -83,22 +83,22 @@ two_stay i k h true None q = refl
 two_stay i k h false o q = refl
 
 plain_apart : (i : Inner) (d : Data) (k : KindText) → kind_with i k ≡ Some k → option_and_then (kind_with i) (plain_of k (without_items d)) ≡ plain_of k d
-plain_apart i d k h = ap (λ b. option_and_then (kind_with i) (only_if b (Some k))) (has_members-without_items 3 d) ∙ plain_stays i k h (has_members 3 d)
+plain_apart i d k h = ap (λ b. option_and_then (kind_with i) (only_if b (Some k))) (has_members-emptied 3 d) ∙ plain_stays i k h (has_members 3 d)
 
 one_apart : {A : Type 0} (f : Data → Option A) → SeesNoArray f → (i : Inner) (d : Data) (n : ℕ) (key : List ℕ) (k : A → KindText) → ((x : A) → kind_with i (k x) ≡ Some (k x))
     → option_and_then (kind_with i) (only_if (has_members n (without_items d)) (field f key (without_items d) >>= (λ x. Some (k x)))) ≡ only_if (has_members n d) (field f key d >>= (λ x. Some (k x)))
 one_apart f sees i d n key k h =
-    ap (λ b. option_and_then (kind_with i) (only_if b (field f key (without_items d) >>= (λ x. Some (k x))))) (has_members-without_items n d)
-    ∙ ap (λ o. option_and_then (kind_with i) (only_if (has_members n d) (o >>= (λ x. Some (k x))))) (field-without_items f sees key d)
+    ap (λ b. option_and_then (kind_with i) (only_if b (field f key (without_items d) >>= (λ x. Some (k x))))) (has_members-emptied n d)
+    ∙ ap (λ o. option_and_then (kind_with i) (only_if (has_members n d) (o >>= (λ x. Some (k x))))) (field-emptied f sees key d)
     ∙ one_stays i k h (has_members n d) (field f key d)
 
 two_apart : {A B : Type 0} (f : Data → Option A) → SeesNoArray f → (g : Data → Option B) → SeesNoArray g → (i : Inner) (d : Data) (n : ℕ) (key other : List ℕ) (k : A → B → KindText)
     → ((x : A) (y : B) → kind_with i (k x y) ≡ Some (k x y))
     → option_and_then (kind_with i) (only_if (has_members n (without_items d)) (field f key (without_items d) >>= (λ x. field g other (without_items d) >>= (λ y. Some (k x y))))) ≡ only_if (has_members n d) (field f key d >>= (λ x. field g other d >>= (λ y. Some (k x y))))
 two_apart f sees g sees_too i d n key other k h =
-    ap (λ b. option_and_then (kind_with i) (only_if b (field f key (without_items d) >>= (λ x. field g other (without_items d) >>= (λ y. Some (k x y)))))) (has_members-without_items n d)
-    ∙ ap (λ o. option_and_then (kind_with i) (only_if (has_members n d) (o >>= (λ x. field g other (without_items d) >>= (λ y. Some (k x y)))))) (field-without_items f sees key d)
-    ∙ ap (λ o. option_and_then (kind_with i) (only_if (has_members n d) (field f key d >>= (λ x. o >>= (λ y. Some (k x y)))))) (field-without_items g sees_too other d)
+    ap (λ b. option_and_then (kind_with i) (only_if b (field f key (without_items d) >>= (λ x. field g other (without_items d) >>= (λ y. Some (k x y)))))) (has_members-emptied n d)
+    ∙ ap (λ o. option_and_then (kind_with i) (only_if (has_members n d) (o >>= (λ x. field g other (without_items d) >>= (λ y. Some (k x y)))))) (field-emptied f sees key d)
+    ∙ ap (λ o. option_and_then (kind_with i) (only_if (has_members n d) (field f key d >>= (λ x. o >>= (λ y. Some (k x y)))))) (field-emptied g sees_too other d)
     ∙ two_stay i k h (has_members n d) (field f key d) (field g other d)
 
 map_then : {A B : Type 0} (g : A → B) (o : Option A) → option_map g o ≡ (o >>= (λ x. Some (g x)))
@@ -142,16 +142,16 @@ module _ (v : Version) (d : Data) where
   unfolding machine_of
   machine_apart =
       let rest = λ (s o : Option ℤ). s >>= (λ start. o >>= (λ outputs. field (list_of (row_text_of v)) (codes "rows") (without_items d) >>= (λ r. Some (kind.Machine start outputs r)))) in
-      ap (λ b. option_and_then (kind_with i) (only_if b (rest (field whole (codes "start") (without_items d)) (field whole (codes "outputs") (without_items d))))) (has_members-without_items 6 d)
-      ∙ ap (λ s. option_and_then (kind_with i) (only_if (has_members 6 d) (rest s (field whole (codes "outputs") (without_items d))))) (field-without_items whole whole-SeesNoArray (codes "start") d)
-      ∙ ap (λ o. option_and_then (kind_with i) (only_if (has_members 6 d) (rest (field whole (codes "start") d) o))) (field-without_items whole whole-SeesNoArray (codes "outputs") d)
+      ap (λ b. option_and_then (kind_with i) (only_if b (rest (field whole (codes "start") (without_items d)) (field whole (codes "outputs") (without_items d))))) (has_members-emptied 6 d)
+      ∙ ap (λ s. option_and_then (kind_with i) (only_if (has_members 6 d) (rest s (field whole (codes "outputs") (without_items d))))) (field-emptied whole whole-SeesNoArray (codes "start") d)
+      ∙ ap (λ o. option_and_then (kind_with i) (only_if (has_members 6 d) (rest (field whole (codes "start") d) o))) (field-emptied whole whole-SeesNoArray (codes "outputs") d)
       ∙ machine_at i (has_members 6 d) (field whole (codes "start") d) (field whole (codes "outputs") d) (field (list_of (row_text_of v)) (codes "rows") (without_items d)) (field (list_of (row_text_of v)) (codes "rows") d)
       (λ start outputs. list_apart (row_text_of v) (kind.Machine start outputs) (codes "rows") d)
 
   lanes_apart : option_and_then (kind_with i) (lanes_of v (without_items d)) ≡ lanes_of v d
   unfolding lanes_of
   lanes_apart =
-      ap (λ b. option_and_then (kind_with i) (only_if (is_second v && b) (field (list_of whole) (codes "cells") (without_items d) >>= (λ c. Some (kind.Lanes c))))) (has_members-without_items 4 d)
+      ap (λ b. option_and_then (kind_with i) (only_if (is_second v && b) (field (list_of whole) (codes "cells") (without_items d) >>= (λ c. Some (kind.Lanes c))))) (has_members-emptied 4 d)
       ∙ lanes_at i (is_second v && has_members 4 d) (field (list_of whole) (codes "cells") (without_items d)) (field (list_of whole) (codes "cells") d) (list_apart whole kind.Lanes (codes "cells") d)
 
   other_apart : (word : List ℕ) → Becomes (kind_with i) (other_kind_of v word (without_items d)) (other_kind_of v word d)
@@ -208,9 +208,9 @@ unfolding actor_of
 actor_apart v d =
     let k = λ (word : List ℕ). kind_text_of v word (without_items d) in
     let i = inner_of v (members_in d) in
-    ap (λ w. option_and_then (with_inner i) (actor_from w (field as_str (codes "name") (without_items d)) (field as_str (codes "platform") (without_items d)) k)) (field-without_items as_str as_str-SeesNoArray (codes "kind") d)
-    ∙ ap (λ n. option_and_then (with_inner i) (actor_from (field as_str (codes "kind") d) n (field as_str (codes "platform") (without_items d)) k)) (field-without_items as_str as_str-SeesNoArray (codes "name") d)
-    ∙ ap (λ p. option_and_then (with_inner i) (actor_from (field as_str (codes "kind") d) (field as_str (codes "name") d) p k)) (field-without_items as_str as_str-SeesNoArray (codes "platform") d)
+    ap (λ w. option_and_then (with_inner i) (actor_from w (field as_str (codes "name") (without_items d)) (field as_str (codes "platform") (without_items d)) k)) (field-emptied as_str as_str-SeesNoArray (codes "kind") d)
+    ∙ ap (λ n. option_and_then (with_inner i) (actor_from (field as_str (codes "kind") d) n (field as_str (codes "platform") (without_items d)) k)) (field-emptied as_str as_str-SeesNoArray (codes "name") d)
+    ∙ ap (λ p. option_and_then (with_inner i) (actor_from (field as_str (codes "kind") d) (field as_str (codes "name") d) p k)) (field-emptied as_str as_str-SeesNoArray (codes "platform") d)
     ∙ actor_then i k (λ word. kind_text_of v word d) (λ word. (kind_apart v d word).is) (field as_str (codes "kind") d) (field as_str (codes "name") d) (field as_str (codes "platform") d)
 
 pub actor_known : (v : Version) (d left : Data) (i : Inner) (actor : ActorText) → left ≡ without_items d → i ≡ inner_of v (members_in d) → actor_of v left ≡ Some actor → with_inner i actor ≡ actor_of v d

@@ -43,13 +43,13 @@ members_len-hollow : (ms : Members) → members_len (hollow_members ms) ≡ memb
 members_len-hollow no_members = refl
 members_len-hollow (member k d ms) = ap suc (members_len-hollow ms)
 
-pub has_members-without_items : (n : ℕ) (d : Data) → has_members n (without_items d) ≡ has_members n d
-has_members-without_items n null = refl
-has_members-without_items n (boolean b) = refl
-has_members-without_items n (number x) = refl
-has_members-without_items n (string s) = refl
-has_members-without_items n (array ds) = refl
-has_members-without_items n (object ms) = ap (λ m. m == n) (members_len-hollow ms)
+pub has_members-emptied : (n : ℕ) (d : Data) → has_members n (without_items d) ≡ has_members n d
+has_members-emptied n null = refl
+has_members-emptied n (boolean b) = refl
+has_members-emptied n (number x) = refl
+has_members-emptied n (string s) = refl
+has_members-emptied n (array ds) = refl
+has_members-emptied n (object ms) = ap (λ m. m == n) (members_len-hollow ms)
 
 -- a decoder that takes no array sees no difference
 abbrev pub SeesNoArray : {A : Type 0} → (Data → Option A) → Type 0
@@ -75,21 +75,21 @@ of_hollow : {A : Type 0} (f : Data → Option A) → SeesNoArray f → (o : Opti
 of_hollow f h None = refl
 of_hollow f h (Some d) = h d
 
-pub field-without_items : {A : Type 0} (f : Data → Option A) → SeesNoArray f → (k : List ℕ) (d : Data) → field f k (without_items d) ≡ field f k d
-field-without_items f h k null = refl
-field-without_items f h k (boolean b) = refl
-field-without_items f h k (number n) = refl
-field-without_items f h k (string s) = refl
-field-without_items f h k (array ds) = refl
-field-without_items f h k (object ms) = ap (option_and_then f) (get_member-hollow k ms) ∙ of_hollow f h (get_member k ms)
+pub field-emptied : {A : Type 0} (f : Data → Option A) → SeesNoArray f → (k : List ℕ) (d : Data) → field f k (without_items d) ≡ field f k d
+field-emptied f h k null = refl
+field-emptied f h k (boolean b) = refl
+field-emptied f h k (number n) = refl
+field-emptied f h k (string s) = refl
+field-emptied f h k (array ds) = refl
+field-emptied f h k (object ms) = ap (option_and_then f) (get_member-hollow k ms) ∙ of_hollow f h (get_member k ms)
 
-pub version_of-without_items : (d : Data) → version_of (without_items d) ≡ version_of d
-version_of-without_items d = rw (field-without_items whole whole-SeesNoArray (codes "ptides") d) refl
+pub version_of-emptied : (d : Data) → version_of (without_items d) ≡ version_of d
+version_of-emptied d = rw (field-emptied whole whole-SeesNoArray (codes "ptides") d) refl
 
-head_of-without_items : (v : Version) (d : Data) → head_of v (without_items d) ≡ head_of v d
+head_of-emptied : (v : Version) (d : Data) → head_of v (without_items d) ≡ head_of v d
 unfolding head_of
-head_of-without_items v d =
-    rw (has_members-without_items _ d, field-without_items whole whole-SeesNoArray (codes "ptides") d, field-without_items whole whole-SeesNoArray (codes "until") d, field-without_items whole whole-SeesNoArray (codes "clock_error") d) refl
+head_of-emptied v d =
+    rw (has_members-emptied _ d, field-emptied whole whole-SeesNoArray (codes "ptides") d, field-emptied whole whole-SeesNoArray (codes "until") d, field-emptied whole whole-SeesNoArray (codes "clock_error") d) refl
 
 -- ---- the arrays
 
@@ -154,10 +154,10 @@ same : (v : Version) {h h' : Option Head} {p p' : Option (Result (List (List ℕ
 same v {h' = h'} {p} {p'} {a} {a'} {w} {w'} {l} {l'} {r} hh hp ha hw hl hr =
     ap (λ x. from_lists v x p a w l r) hh ∙ ap (λ x. from_lists v h' x a w l r) hp ∙ ap (λ x. from_lists v h' p' x w l r) ha ∙ ap (λ x. from_lists v h' p' a' x l r) hw ∙ ap (λ x. from_lists v h' p' a' w' x r) hl ∙ ap (λ x. from_lists v h' p' a' w' l' x) hr
 
-pub document_with-without_items : (v : Version) (d : Data) → document_with v (without_items d) (arrays_of v (members_in d)) ≡ document_in v d
+pub document_with-emptied : (v : Version) (d : Data) → document_with v (without_items d) (arrays_of v (members_in d)) ≡ document_in v d
 unfolding document_with document_in
-document_with-without_items v d =
-    same v (head_of-without_items v d) (list_at-array as_str (codes "platforms") d) (list_at-array (actor_of v) (codes "actors") d) (list_at-array (wire_of v) (codes "wires") d) (list_at-array (link_of v) (codes "links") d) (pairs_in-pairs_of v d)
+document_with-emptied v d =
+    same v (head_of-emptied v d) (list_at-array as_str (codes "platforms") d) (list_at-array (actor_of v) (codes "actors") d) (list_at-array (wire_of v) (codes "wires") d) (list_at-array (link_of v) (codes "links") d) (pairs_in-pairs_of v d)
     ∙ in_turn v (head_of v d) (whole_file.array (codes "platforms") d) (whole_file.array (codes "actors") d) (whole_file.array (codes "wires") d) (whole_file.array (codes "links") d) (pairs_of v d)
 
 -- ---- the whole text
@@ -169,8 +169,8 @@ refused-text text e h other = let why = h other in ap (λ o. or_fault fault.NotJ
 pub document_of_text-apart : (v : Version) (text : List ℕ) (d left : Data) (a : Arrays) → read text ≡ Some d → left ≡ without_items d → a ≡ arrays_of v (members_in d) → version_of left ≡ v → document_of_text text ≡ document_with v left a
 unfolding document_of_text
 document_of_text-apart v text d left a found without apart is =
-    let version : version_of d ≡ v = sym (version_of-without_items d) ∙ ap version_of (sym without) ∙ is in
-    ap (λ o. or_fault fault.NotJson o >>= document_of) found ∙ ap (λ w. document_in w d) version ∙ sym (document_with-without_items v d) ∙ ap (λ l. document_with v l (arrays_of v (members_in d))) (sym without) ∙ ap (document_with v left) (sym apart)
+    let version : version_of d ≡ v = sym (version_of-emptied d) ∙ ap version_of (sym without) ∙ is in
+    ap (λ o. or_fault fault.NotJson o >>= document_of) found ∙ ap (λ w. document_in w d) version ∙ sym (document_with-emptied v d) ∙ ap (λ l. document_with v l (arrays_of v (members_in d))) (sym without) ∙ ap (document_with v left) (sym apart)
 
 pub is_second-Second : (v : Version) → is_second v ≡ true → v ≡ Second
 is_second-Second First e = absurd (true≢false (sym e))

@@ -72,12 +72,12 @@ cut limit e f bytes =
     ] refl
 
 -- the first bytes of a recording, one more than it may have, say what all of them say
-air_rows_of-fetched : (g : Graph) (bytes : List ℕ) → air_rows_of g (take 8388609 bytes) ≡ air_rows_of g bytes
+rows_of-fetched : (g : Graph) (bytes : List ℕ) → air_rows_of g (take 8388609 bytes) ≡ air_rows_of g bytes
 unfolding air_rows_of
-air_rows_of-fetched g bytes = cut 8388608 (Err airs.TooLong) (λ bs. air_after_header g (next st.StartRecord (strip_bom bs))) bytes
+rows_of-fetched g bytes = cut 8388608 (Err airs.TooLong) (λ bs. air_after_header g (next st.StartRecord (strip_bom bs))) bytes
 
 pub air_of-fetched : (g : Graph) (bytes : List ℕ) → air_of g (take 8388609 bytes) ≡ air_of g bytes
-air_of-fetched g bytes = ap (λ (rows : Result (List AirRow) AirFault). rows >>= λ rows. Ok (air_with g rows)) (air_rows_of-fetched g bytes)
+air_of-fetched g bytes = ap (λ (rows : Result (List AirRow) AirFault). rows >>= λ rows. Ok (air_with g rows)) (rows_of-fetched g bytes)
 
 pub rows_cause : (air : List ℕ) (tells : Contents) (p : Parts) (g : Graph) (f : RecordedFault) (r : Reading) → g ≡ p.graph → CauseOfRows Refused f tells g [] r → CauseOfNoAir (fault_of_rows f) air tells p r
 rows_cause air tells p g f r same cause = by_fault f (subst (λ (z : Graph). CauseOfRows Refused f tells z [] r) same cause)

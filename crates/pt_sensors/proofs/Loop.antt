@@ -15,9 +15,9 @@ abbrev pub prepend : List Row → Result (List Row) RowFault → Result (List Ro
 prepend front (Ok rows) = Ok (front ++ rows)
 prepend front (Err e) = Err e
 
-prepend-row_in_front : (front : List Row) (row : Row) (r : Result (List Row) RowFault) → prepend front (row_in_front row r) ≡ prepend (front ++ row ∷ []) r
-prepend-row_in_front front row (Ok rows) = ap Ok (sym (append_assoc front (row ∷ []) rows))
-prepend-row_in_front front row (Err e) = refl
+prepend-in_front : (front : List Row) (row : Row) (r : Result (List Row) RowFault) → prepend front (row_in_front row r) ≡ prepend (front ++ row ∷ []) r
+prepend-in_front front row (Ok rows) = ap Ok (sym (append_assoc front (row ∷ []) rows))
+prepend-in_front front row (Err e) = refl
 
 -- a record was found, and it is a row
 pub record More {R : Type 0} (rem : R → Option (List ℕ)) (reader : Reader R) (left n : ℕ) (row : Row) (front : List Row) (all : Result (List Row) RowFault) : Type 0 where
@@ -29,7 +29,7 @@ more_go : {R : Type 0} (rem : R → Option (List ℕ)) (reader : Reader R) (fiel
     → prepend front (goes_on n before (λ r. rows_from left (n + 1) (Some r)) o) ≡ all → More rem reader left n row front all
 more_go rem reader fields left n before row front all None f r was = absurd cc
 more_go rem reader fields left n before row front all (Some p) f r was =
-    record { plain = f.2; rows = rw (← prepend-row_in_front, f.3, f.4) (rw (← f.1, r) at was) }
+    record { plain = f.2; rows = rw (← prepend-in_front, f.3, f.4) (rw (← f.1, r) at was) }
 
 pub more : {R : Type 0} (rem : R → Option (List ℕ)) (reader : Reader R) (fields : List (List ℕ)) (left n : ℕ) (before : Option Row) (row : Row) (front : List Row) (all : Result (List Row) RowFault)
     (s : State) (xs : List ℕ) → Finds rem (next s xs) true reader fields → row_of n before fields ≡ Ok row

@@ -17,8 +17,8 @@ loop-bay-preserved g c =
       weight = ap (λ (xs : List StationView). order_weight (numbers xs)) c.push_reserved.ensures.items ∙ weighed c.loop-bay.stations.items c.into_station.result ∙ (λ i. inv.weight i + (ap (λ (v : StationView). 2 ^ v.platform.number) same ∙ sym bay.amount) i) ∙ sym c.merge.ensures.amount;
     }
 
-pub returns-clause-order_weight : goal.returns-clause-order_weight
-returns-clause-order_weight g c =
+pub returns-clause-weight : goal.returns-clause-weight
+returns-clause-weight g c =
     let inv = c.loop-bay.invariant in
     let none : vec_len c.loop-bay.bays ≡ 0 = c.in_default-pop.ensures.cases.0 in
     inv.weight ∙ c.audit.ensures.whole (omega arith)

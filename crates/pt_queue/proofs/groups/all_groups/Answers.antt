@@ -5,8 +5,8 @@ use Rattle.pt_queue.specs.Groups.{kind_groups}
 use Rattle.pt_queue.proofs.Tables.{few_groups, table_is}
 use Rattle.pt_queue.proofs.groups.all_groups.Goals as goal
 
-pub kind_groups-requires : goal.groups_of-requires
-kind_groups-requires c =
+pub groups_of-requires : goal.groups_of-requires
+groups_of-requires c =
     let same : c.as_slice-actor-items.result.now ≡ c.args.graph.now.actors = c.as_slice-actor-items.ensures in
     let below : c.loop-actor.actor-index < length c.as_slice-actor-items.result.now = c.loop-actor-test.true in
     record { few = few_groups c.args.graph.now c.as_slice-actor-items.result.now c.loop-actor.actor-index c.actor-item.result c.actor-item.result c.requires.lawful same below c.actor-item.is }
