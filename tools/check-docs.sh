@@ -5,8 +5,8 @@
 # Of the text it reads what is in backticks and the targets of links. A file is looked up from the top, from the
 # document's folder, in crates/ and in each crate; `crate::path::name` has to be declared in that crate's src/; in "clauses `A` and
 # `B` of `crate::name`", and in a table with the head `Crate | Function | Clause`, the crate has to have a clause of each name.
-# tools/check-names.py looks up the definitions, and checks that no two crates define one name. The last line is
-# `N passed, M failed`.
+# tools/check-names.py looks up the definitions, and checks that no two crates define one name. docs/ARCHITECTURE.md has a row for each
+# crate, and README.md and docs/TRUST.md name each library that the program is built with. The last line is `N passed, M failed`.
 # The back-quotes in the patterns are letters that are looked for.
 # shellcheck disable=SC2016
 set -u
@@ -22,7 +22,7 @@ judge() { # document, what it cites, whether that is there
         passed=$((passed + 1))
     else
         failed=$((failed + 1))
-        echo "failed: $1 cites $2, which isn't there"
+        echo "failed: $1: $2 isn't there"
     fi
 }
 
@@ -140,8 +140,18 @@ for document in ./*.md docs/*.md bench/*.md examples/README.md examples/*/README
     check_clauses "$document" "$line"
     check_tables_of_clauses "$document"
 done
+while IFS= read -r crate; do
+    grep -qF -- "| \`$crate\` |" docs/ARCHITECTURE.md
+    judge docs/ARCHITECTURE.md "a row for $crate" $?
+done <<<"$crates"
+while IFS= read -r library; do
+    for document in README.md docs/TRUST.md; do
+        grep -qF -- "\`$library\`" "$document"
+        judge "$document" "the library $library" $?
+    done
+done < <(sed 's/#.*//; s/^[^:]*://' crates.txt | tr -s ' ' '\n' | grep . | sort -u | grep -vxF -- "$crates")
 tools/count-definitions.py --check
-judge docs/PROOF-TOUR.md 'how many definitions have to be believed' $?
+judge docs/PROOF-TOUR.md 'the right count of definitions' $?
 found=$(tools/check-names.py)
 grep -v ' passed, ' <<<"$found"
 read -r more _ less _ <<<"${found##*$'\n'}"
