@@ -99,6 +99,10 @@ MISTAKES: dict[str, Callable[[Answer], Answer]] = {
 }
 
 
+class Found(BaseException):
+    """A difference was found, so that the rest of the graph needn't be tried."""
+
+
 class Soak(Case):
     """The comparisons, and the script around them."""
 
@@ -113,11 +117,6 @@ class Soak(Case):
         patch.start()
         self.addCleanup(patch.stop)
 
-    def differences(self, seed: int) -> int:
-        """How many differences the graph of a seed has."""
-        with mock.patch("builtins.print"):
-            return soak.graph(self.program, self.usage, seed, str(self.folder / "graph"))["differences"]
-
     def is_found(self, mistake: Callable[[Answer], Answer]) -> bool:
         """Whether one of the graphs shows a difference if the program makes this mistake."""
         really = subprocess.run
@@ -127,8 +126,13 @@ class Soak(Case):
             answer = mistake(Answer(command[1:], done.returncode, done.stdout.decode(), done.stderr.decode()))
             return subprocess.CompletedProcess(command, answer.status, answer.output.encode(), answer.notes.encode())
 
-        with mock.patch.object(judges.subprocess, "run", mistaken):
-            return any(self.differences(seed) for seed in SEEDS)
+        with mock.patch.object(judges.subprocess, "run", mistaken), mock.patch.object(soak, "report", side_effect=Found):
+            try:
+                for seed in SEEDS:
+                    soak.graph(self.program, self.usage, seed, str(self.folder / "graph"))
+            except Found:
+                return True
+        return False
 
     def test_mistakes(self) -> None:
         """Each mistake is found."""

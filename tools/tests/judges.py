@@ -37,14 +37,16 @@ class Result:
         tables, mark, log = self.output.partition("\nlog\n")
         return (tables + "\n", log) if mark else (self.output, None)
 
+    @functools.cached_property
     def claims(self):
-        """Each claim of the log with the reading at which it was made; none if there is no log."""
-        found, reading = collections.Counter(), ""
+        """Each claim of the log, as its line has it, with the reading at which it was made, in order; none if there is no log."""
+        found, reading = [], ""
         for line in (self.tables_and_log()[1] or "").splitlines():
-            word, *rest = line.split(",")
-            reading = rest[2] if word == "turn" else reading
-            found.update([(reading, *rest[1:])] if word == "claim" else [])
-        return found
+            if line.startswith("turn,"):
+                reading = line.split(",")[3]
+            elif line.startswith("claim,"):
+                found.append((reading, line.split(",", 2)[2]))
+        return sorted(found)
 
 
 def expect(what, wanted, found):
@@ -157,9 +159,10 @@ class Program:
         if self.firings is None:
             return
         readings = [(self.paced(name, cell, time), name, time, step) for name, cell, time, step in self.firings.firings]
-        wanted, found = collections.Counter((str(reading), name, str(time), str(step)) for reading, name, time, step in readings), result.claims()
-        if "--log" in result.words and found != wanted:
-            raise Difference(f"claims at other readings: {list((found - wanted) + (wanted - found))[:3]}")
+        if "--log" in result.words:
+            wanted = sorted((str(reading), f"{name},{time},{step}") for reading, name, time, step in readings)
+            if result.claims != wanted:
+                raise Difference(f"claims at other readings: {sorted(set(result.claims) ^ set(wanted))[:3]}")
         missed = [self.miss(name, time, step, reading) for reading, name, time, step in readings if self.actors[name]["kind"] == "actuator"]
         if sorted(line for lines in missed for line in lines) != sorted(result.notes.splitlines(keepends=True)):
             raise Difference("what a paced run missed isn't what its margins say")
@@ -227,7 +230,7 @@ class Program:
                 raise Difference(f"status {result.status}, {result.notes.strip() or 'no notes'}; by run {run.status}, {run.notes.strip() or 'no notes'}")
             if result.tables_and_log()[0] != run.tables_and_log()[0]:
                 raise Difference("the tables are not those of run")
-            if result.claims() != run.claims():
+            if result.claims != run.claims:
                 raise Difference("the claims are not those of run")
         if result.status == 4 and self.late_row is None:
             if result.output:
