@@ -23,6 +23,7 @@ fail() { # MESSAGE
 if [ $# -gt 1 ] || [[ ${1-} == -* ]]; then
     fail 'usage: tools/release.sh [FOLDER]'
 fi
+make_work
 folder=$(of_caller "${1:-$top/out}")
 version=$(cat VERSION) || fail 'the file VERSION is missing'
 case $(./ptides --version) in
@@ -30,9 +31,9 @@ case $(./ptides --version) in
     *$'\nprogram out/ptides, built here') fail 'the program of dist/ is released, and out/ptides goes before it here: remove out/ptides' ;;
     *) fail 'dist/ has no program of these sources: tools/ship.sh ships one' ;;
 esac
-make_work
-# What is installed can be read by everybody, whoever makes the archive.
+# What is installed can be read by everybody, whoever makes the archive, and no setting of tar or gzip changes a byte.
 umask 022
+unset TAR_OPTIONS GZIP
 tools/install.sh "$work/ptides-$version" >"$work/lines" || fail 'the archive can not be put together'
 archive=ptides-$version-linux-x86_64.tar.gz
 {

@@ -37,7 +37,7 @@ test_same_bytes() {
     chmod -R go-rwx "$other"
     touch "$other/crates/ptides/more" "$other/tools/ptides-of-mine" "$other/docs/.draft"
     mkdir "$work/folder"
-    (umask 077 && cd "$work" && attempt env -u HOME TZ=Asia/Tokyo LC_ALL=C.UTF-8 TAR_OPTIONS= GZIP= "$other/tools/release.sh" folder)
+    (umask 077 && cd "$work" && attempt env -u HOME TZ=Asia/Tokyo LC_ALL=C.UTF-8 TAR_OPTIONS=--format=pax GZIP=-1 "$other/tools/release.sh" folder)
     expect 'a build elsewhere: the same line' "$(cat "$work/line")" "$(cat "$work/output")"
     expect 'a build elsewhere: the same bytes' '' "$(cmp "$plain/out/$archive" "$work/folder/$archive" 2>&1)"
     expect 'a build elsewhere: the same digest' '' "$(cmp "$plain/out/$archive.sha256" "$work/folder/$archive.sha256" 2>&1)"
