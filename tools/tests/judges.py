@@ -13,7 +13,8 @@ import meanings
 MOST_SECONDS = 300
 # Of a graph with more firings the meaning is the program's alone.
 MOST_FIRINGS = 20_000
-EVENTS_ONLY = ("actuator", "send")
+# What can miss something.
+MISSING_KINDS = ("actuator", "send")
 
 
 class Difference(Exception):
@@ -212,7 +213,7 @@ class Program:
             raise Difference(f"status {result.status}, {result.notes.strip() or 'no notes'}")
         for line in result.notes.splitlines():
             found = re.fullmatch(r"missed (\w+) at (\d+)\.(\d+), reading (\d+) past (\d+)", line)
-            if not found or self.actors[found[1]]["kind"] not in EVENTS_ONLY:
+            if not found or self.actors[found[1]]["kind"] not in MISSING_KINDS:
                 raise Difference(f"the line {line}")
             reading, limit = int(found[4]), int(found[5])
             if limit != int(found[2]) + self.actors[found[1]]["slack"] or reading <= limit:

@@ -75,7 +75,7 @@ class Meaning:
             self.edges[source, output].append((target, port))
         for link in graph["links"]:
             self.edges[link["from"], 0].append((link["to"], 0))
-        self.ranks = self.ranks_of(graph)
+        self.ranks = self.ranks_of()
         # What waits, by tag and then by actor and port; and the tags, with the least first.
         self.waiting, self.tags, self.firings, self.events = {}, [], [], collections.defaultdict(list)
         self.states = {name: actor.get("start", 0) if actor["kind"] == "machine" else 0 for name, actor in self.actors.items()}
@@ -87,7 +87,7 @@ class Meaning:
         while self.tags:
             self.step(heapq.heappop(self.tags))
 
-    def ranks_of(self, graph):
+    def ranks_of(self):
         """The number of edges on the longest path of no delay that ends at each actor."""
         behind, before = collections.defaultdict(list), collections.Counter()
         for (source, _), targets in self.edges.items():
