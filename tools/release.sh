@@ -34,7 +34,7 @@ esac
 # What is installed can be read by everybody, whoever makes the archive, and no setting of tar or gzip changes a byte.
 umask 022
 unset TAR_OPTIONS GZIP
-tools/install.sh "$work/ptides-$version" >"$work/lines" || fail 'the archive can not be put together'
+tools/install.sh "$work/ptides-$version" >"$work/lines" || fail "the archive can't be put together"
 archive=ptides-$version-linux-x86_64.tar.gz
 {
     tar -C "$work" --format=ustar --sort=name --mtime="$TIME" --owner=0 --group=0 --numeric-owner -cf - "ptides-$version" |
@@ -42,5 +42,5 @@ archive=ptides-$version-linux-x86_64.tar.gz
         (cd "$work" && sha256sum "$archive" >"$archive.sha256") &&
         mkdir -p -- "$folder" &&
         mv -f -- "$work/$archive" "$work/$archive.sha256" "$folder"
-} || fail "the archive can not be written to $folder"
+} || fail "the archive can't be written to $folder"
 cat "$folder/$archive.sha256"

@@ -95,8 +95,8 @@ test_refusals() {
     done
     touch "$work/file"
     attempt "$plain/tools/release.sh" "$work/file/folder"
-    expect 'a folder that can not be made: status' 1 "$status"
-    expect 'a folder that can not be made: output' '' "$(cat "$work/output")"
+    expect "a folder that can't be made: status" 1 "$status"
+    expect "a folder that can't be made: output" '' "$(cat "$work/output")"
     mkdir -p "$plain/out"
     cp "$plain/dist/ptides" "$plain/out/ptides"
     attempt "$plain/tools/release.sh"
