@@ -68,6 +68,27 @@ def joined_chain(graph, length, tags):
     return graph.actuator("out", last)
 
 
+def token(graph, name, source, delay):
+    """A token that comes from `source` and goes round through a machine and a delay; gives the machine.
+
+    The machine's output 1 gives nothing: what it leads to waits for the token, and never gets an event from it."""
+    any_value = {"state": 0, "low": -FAR, "high": FAR, "next": 0, "emit": [0, 1]}
+    graph.add(f"m{name}", "merge", source, f"d{name}", n=2)
+    graph.add(f"x{name}", "machine", f"m{name}", start=0, outputs=2, rows=[any_value])
+    graph.add(f"d{name}", "delay", f"x{name}", d=delay)
+    return f"x{name}"
+
+
+def joined(graph, name, sources):
+    """All sources, joined by merges of eight to one."""
+    number = 0
+    while len(sources) > 1:
+        group, sources = sources[:8], sources[8:]
+        sources.append(graph.add(f"{name}{number}", "merge", *group, n=len(group)))
+        number += 1
+    return sources[0]
+
+
 # --- chains
 
 def chain(length=200, tags=100):
@@ -197,12 +218,7 @@ def decoys_before(chain=192, decoys=256, tags=20):
     graph = Graph()
     one, late = graph.sensor("one", [1]), graph.sensor("u", [], bound=FAR)
     layer = [graph.add(f"q{number}", "add", one, late) for number in range(decoys)]
-    number = 0
-    while len(layer) > 1:
-        group, layer = layer[:8], layer[8:]
-        layer.append(graph.add(f"m{number}", "merge", *group, n=len(group)))
-        number += 1
-    far = graph.add("far", "delay", layer[0], d=100 * FAR)
+    far = graph.add("far", "delay", joined(graph, "m", layer), d=100 * FAR)
     sensor = graph.sensor("s", every_1000(tags))
     last = graph.add("first", "merge", far, sensor, n=2)
     for number in range(chain):
@@ -265,6 +281,64 @@ def rings_beside(count=100, rounds=100, tags=100):
         graph.add(f"m{number}", "merge", start, f"d{number}", n=2)
         graph.add(f"d{number}", "delay", f"m{number}", d=UNTIL // rounds + number)
     joined_chain(graph, 20, tags)
+    return graph
+
+
+# --- holders
+
+def waiting_behind_a_ring(waiting=950, rounds=500):
+    """A token goes round in a ring, and many units wait for the unit that has it: their holder changes at each turn."""
+    graph = Graph()
+    ring = token(graph, "", graph.add("e", "every", start=0, period=2 * UNTIL), UNTIL // rounds)
+    end = graph.add("q", "every", start=UNTIL - 1, period=2 * UNTIL)
+    for number in range(waiting):
+        graph.add(f"w{number}", "merge", (ring, 1), end, n=2)
+    return graph
+
+
+def waiting_before_a_ring(waiting=950, rounds=500):
+    """The same, but the units that wait have the lowest numbers."""
+    graph = waiting_behind_a_ring(waiting, rounds)
+    graph.actors.sort(key=lambda actor: not actor["name"].startswith("w"))
+    return graph
+
+
+def waiting_behind_rings(rings=3, waiting=900, rounds=300):
+    """Several rings with a token each; units that wait behind the one and behind the other take turns."""
+    graph = Graph()
+    xs = [token(graph, str(k), graph.add(f"e{k}", "every", start=k, period=2 * UNTIL), UNTIL // rounds + k) for k in range(rings)]
+    end = graph.add("q", "every", start=UNTIL - 1, period=2 * UNTIL)
+    for number in range(waiting):
+        graph.add(f"w{number}", "merge", (xs[number % rings], 1), end, n=2)
+    return graph
+
+
+def two_groups(waiting=400, length=20, rounds=5):
+    """Units wait behind adders that fire in turn: behind one of both groups, then behind one of each group, and so on.
+
+    The two groups take turns in number. An output of all leads back to all, through a long delay, so each may hold up each."""
+    graph = Graph()
+    start = last = graph.add("t", "merge", graph.add("e", "every", start=0, period=2 * UNTIL), "d", n=2)
+    steps = []
+    for number in range(2 * length):
+        last = graph.add(f"x{number}", "add", last, start)
+        steps.append(last)
+    graph.add("d", "delay", last, d=UNTIL // rounds)
+    adders, groups = [], ([], [])
+    for number in range(length):
+        adders += [(f"h{number}", steps[2 * number], groups), (f"a{number}", steps[2 * number + 1], groups[:1]),
+                   (f"b{number}", steps[2 * number + 1], groups[1:])]
+    for name, _, leads_to in adders:
+        dropped = graph.add(f"d{name}", "above", name, limit=FAR)
+        for group in leads_to:
+            group.append(dropped)
+    fronts = [joined(graph, f"j{k}_", group) for k, group in enumerate(groups)]
+    # The first to fire have the highest numbers.
+    for name, step, _ in reversed(adders):
+        graph.add(name, "add", step, start)
+    end = graph.add("q", "every", start=UNTIL - 1, period=2 * UNTIL)
+    waits = [graph.add(f"w{number}", "merge", fronts[number % 2], end, "far", n=3) for number in range(waiting)]
+    graph.add("far", "delay", joined(graph, "k", waits), d=10 * UNTIL)
     return graph
 
 
@@ -434,7 +508,7 @@ def links_between_two(links=60, tags=150):
 
 
 SHAPES = {name: value for name, value in list(globals().items()) if inspect.isfunction(value) and
-          name not in ("every_1000", "joined_chain")}
+          name not in ("every_1000", "joined_chain", "token", "joined")}
 
 
 def sizes_of(shape):

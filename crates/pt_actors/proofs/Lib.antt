@@ -2,3 +2,4 @@ pub mod Means
 pub mod Totals
 pub mod Cells
 pub mod Guards
+pub mod Onto

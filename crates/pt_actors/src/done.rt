@@ -2,7 +2,7 @@
 
 ghost use Rattle.std.specs.Prelude.{◌≡◌};
 
-use pt_types::{Done as Record, Fired, Task};
+use pt_types::{Done as Record, Fired, Ports, Task};
 use std::marker::Model;
 
 /// A task and the result of its firing. Contracts see the plain record of both.
@@ -11,7 +11,7 @@ use std::marker::Model;
 /// is the kind of the task's actor is up to the caller, who has the graph.
 #[derive(Clone, Copy, Debug, PartialEq, Eq)]
 pub struct Done {
-    both: Record,
+    pub(crate) both: Record,
 }
 
 impl Model for Done {
@@ -25,13 +25,19 @@ impl Model for Done {
 }
 
 impl Done {
-    /// A task with the result of its firing.
-    pub(crate) fn new(task: Task, fired: Fired) -> Done
-        ensures task { result.task ≡ task }
-        ensures fired { result.fired ≡ fired }
+    /// A task that is still to be fired: its state, and no outputs.
+    #[inline(always)]
+    pub(crate) fn new(task: &Task) -> Done
+        ensures { result.task ≡ task.now }
     {
         Done {
-            both: Record { task, fired },
+            both: Record {
+                task: *task,
+                fired: Fired {
+                    state: task.state,
+                    outputs: Ports::new(),
+                },
+            },
         }
     }
 

@@ -1,17 +1,20 @@
 //! The result of a firing, for each kind of actor.
 
-ghost use Rattle.std.specs.Prelude.{◌≡◌, IsTrue, [], Some, ◌*ℤ◌, ◌+ℤ◌, ◌≤ℤ◌, int_div, int_lt, pos};
+ghost use Rattle.std.specs.Prelude.{◌≡◌, IsTrue, OnOk, [], Some, ◌*ℤ◌, ◌+ℤ◌, ◌≤ℤ◌, int_div, int_lt, pos};
 ghost use Rattle.pt_types.specs.Kinds.{kind_is_lawful};
 ghost use Rattle.pt_semantics.specs.Laws.{nearest};
-ghost use Rattle.pt_semantics.specs.Firing.{fired, gives, keep_if, lift};
+ghost use Rattle.pt_semantics.specs.Lists.{first_of};
+ghost use Rattle.pt_semantics.specs.Firing.{fired, gives, identity, keep_if, lift};
+ghost use Rattle.pt_actors.specs.Fired.{IsFiredOnto};
 
 use crate::arithmetic::{difference, or_zero, scaled, sum};
 use crate::done::Done;
-use crate::lanes::{lanes, lowest};
+use crate::lanes::{lowest, write_lanes};
 use crate::machine::machine;
 use crate::stored::block_value;
 use pt_blocks::Blocks;
-use pt_types::{Fired, Kind, Ports, Task};
+use pt_tags::Memory;
+use pt_types::{Done as Record, Fired, Kind, Ports, Task};
 
 /// Fires a task's actor, which is of this kind, and gives the task with the result.
 ///
@@ -22,8 +25,44 @@ pub fn fire(blocks: &Blocks, kind: &Kind, task: &Task) -> Done
     ensures task { result.task ≡ task.now }
     ensures fired { result.fired ≡ fired kind.now task.now.state task.now.inputs }
 {
-    let fired = fired(Some(blocks), kind, task.state, &task.inputs);
-    Done::new(*task, fired)
+    let mut done = Done::new(task);
+    fire_done(blocks, kind, &mut done);
+    done
+}
+
+/// Fires a task's actor, as `fire`, and appends the task with the result to `results`, where the outputs are written in place.
+pub fn fire_onto(
+    blocks: &Blocks,
+    kind: &Kind,
+    task: &Task,
+    results: &mut Vec<Done>,
+) -> Result<(), Memory>
+    requires { IsTrue (kind_is_lawful kind.now) }
+    ensures { OnOk result (IsFiredOnto kind.now task.now results.old.items results.new.items) }
+{
+    let place = results.len();
+    results.push(Done::new(task))?;
+    fire_done(blocks, kind, &mut results[place]);
+    Ok(())
+}
+
+/// Fires the actor of a task, which is of this kind, and writes the result beside the task.
+fn fire_done(blocks: &Blocks, kind: &Kind, done: &mut Done)
+    requires { IsTrue (kind_is_lawful kind.now) }
+    ensures task { done.new.task ≡ done.old.task }
+    ensures fired { done.new.fired ≡ fired kind.now done.old.task.state done.old.task.inputs }
+{
+    let Record {
+        task,
+        fired: result,
+    } = &mut done.both;
+    result.state = fired(
+        Some(blocks),
+        kind,
+        task.state,
+        &task.inputs,
+        &mut result.outputs,
+    );
 }
 
 /// The state and the outputs of a firing with this state and these inputs. Stored functions are not called.
@@ -34,64 +73,89 @@ pub fn fire_kind(kind: &Kind, state: i64, inputs: &Ports) -> Fired
     requires { IsTrue (kind_is_lawful kind.now) }
     ensures { result ≡ fired kind.now state inputs.now }
 {
-    fired(None, kind, state, inputs)
+    let mut outputs = Ports::new();
+    let state = fire_into(kind, state, inputs, &mut outputs);
+    Fired { state, outputs }
 }
 
-/// The result of a firing; stored functions are called if `blocks` is given.
-fn fired(blocks: Option<&Blocks>, kind: &Kind, state: i64, inputs: &Ports) -> Fired
+/// Writes the outputs of a firing, as `fire_kind` gives them, over `outputs`, and returns the state after it.
+pub fn fire_into(kind: &Kind, state: i64, inputs: &Ports, outputs: &mut Ports) -> i64
     requires { IsTrue (kind_is_lawful kind.now) }
-    ensures { result ≡ fired kind.now state inputs.now }
+    ensures state { result ≡ (fired kind.now state inputs.now).state }
+    ensures outputs { outputs.new ≡ (fired kind.now state inputs.now).outputs }
+{
+    fired(None, kind, state, inputs, outputs)
+}
+
+/// Writes the outputs of a firing, and returns the state after it; stored functions are called if `blocks` is given.
+fn fired(
+    blocks: Option<&Blocks>,
+    kind: &Kind,
+    state: i64,
+    inputs: &Ports,
+    outputs: &mut Ports,
+) -> i64
+    requires { IsTrue (kind_is_lawful kind.now) }
+    ensures state { result ≡ (fired kind.now state inputs.now).state }
+    ensures outputs { outputs.new ≡ (fired kind.now state inputs.now).outputs }
 {
     match kind {
         Kind::Sensor { .. } | Kind::Receive | Kind::Send { .. } | Kind::Delay { .. } => {
-            gives(state, inputs.get(0))
+            gives(outputs, state, inputs.get(0))
         }
-        Kind::Actuator { .. } => gives(state, None),
-        Kind::Scale { num, den } => gives(state, scale(inputs.get(0), *num, *den)),
-        Kind::Shift { by } => gives(state, shift(inputs.get(0), *by)),
-        Kind::Add => gives(
-            state,
-            Some(sum(or_zero(inputs.get(0)), or_zero(inputs.get(1)))),
-        ),
-        Kind::Sub => gives(
-            state,
-            Some(difference(or_zero(inputs.get(0)), or_zero(inputs.get(1)))),
-        ),
-        Kind::Above { limit } => gives(state, above(inputs.get(0), *limit)),
-        Kind::Merge { .. } => gives(state, lowest(&inputs.values())),
-        Kind::Count => gives_state(sum(state, 1)),
-        Kind::Sum => gives_state(sum(state, or_zero(inputs.get(0)))),
-        Kind::Latch => latch(state, inputs),
+        Kind::Actuator { .. } => gives(outputs, state, None),
+        Kind::Scale { num, den } => gives(outputs, state, scale(inputs.get(0), *num, *den)),
+        Kind::Shift { by } => gives(outputs, state, shift(inputs.get(0), *by)),
+        Kind::Add => {
+            let total = sum(or_zero(inputs.get(0)), or_zero(inputs.get(1)));
+            gives(outputs, state, Some(total))
+        }
+        Kind::Sub => {
+            let rest = difference(or_zero(inputs.get(0)), or_zero(inputs.get(1)));
+            gives(outputs, state, Some(rest))
+        }
+        Kind::Above { limit } => gives(outputs, state, above(inputs.get(0), *limit)),
+        Kind::Merge { .. } => gives(outputs, state, merged(inputs)),
+        Kind::Count => gives_state(outputs, sum(state, 1)),
+        Kind::Sum => gives_state(outputs, sum(state, or_zero(inputs.get(0)))),
+        Kind::Latch => latch(state, inputs, outputs),
         Kind::Machine { rows, .. } => {
-            machine(blocks, rows.as_slice(), state, or_zero(inputs.get(0)))
+            let value = or_zero(inputs.get(0));
+            machine(blocks, rows.as_slice(), state, value, outputs)
         }
-        Kind::Every { .. } => begin(state),
+        Kind::Every { .. } => begin(state, outputs),
         Kind::Block { block, law } => {
             let (a, b) = (or_zero(inputs.get(0)), or_zero(inputs.get(1)));
-            gives(state, Some(block_value(blocks, *block, *law, a, b)))
+            gives(
+                outputs,
+                state,
+                Some(block_value(blocks, *block, *law, a, b)),
+            )
         }
-        Kind::Lanes { cells } => Fired {
-            state,
-            outputs: lanes(cells.as_slice(), inputs),
-        },
+        Kind::Lanes { cells } => {
+            write_lanes(cells.as_slice(), inputs, outputs);
+            state
+        }
     }
 }
 
-/// This state, and this value at output 0.
-fn gives(state: i64, value: Option<i64>) -> Fired
-    ensures { result ≡ gives state value }
+/// Writes this value as output 0, and returns this state.
+#[inline(always)]
+fn gives(outputs: &mut Ports, state: i64, value: Option<i64>) -> i64
+    ensures state { result ≡ state }
+    ensures outputs { outputs.new ≡ (gives state value).outputs }
 {
-    Fired {
-        state,
-        outputs: Ports::first(value),
-    }
+    *outputs = Ports::first(value);
+    state
 }
 
-/// This state, and the same value at output 0.
-fn gives_state(state: i64) -> Fired
-    ensures { result ≡ gives state (Some state) }
+/// Writes this state as output 0, and returns it.
+#[inline(always)]
+fn gives_state(outputs: &mut Ports, state: i64) -> i64
+    ensures state { result ≡ state }
+    ensures outputs { outputs.new ≡ (gives state (Some state)).outputs }
 {
-    gives(state, Some(state))
+    gives(outputs, state, Some(state))
 }
 
 fn scale(a: Option<i64>, num: i64, den: i64) -> Option<i64>
@@ -122,24 +186,32 @@ fn above(a: Option<i64>, limit: i64) -> Option<i64>
     }
 }
 
+/// The value of the lowest input that has one.
+#[inline(never)]
+fn merged(inputs: &Ports) -> Option<i64>
+    ensures { result ≡ first_of identity inputs.now }
+{
+    lowest(&inputs.values())
+}
+
 /// Stores the value of input 0, and gives the stored value if input 1 has one.
-fn latch(state: i64, inputs: &Ports) -> Fired
-    ensures { result ≡ fired Kind.Latch state inputs.now }
+fn latch(state: i64, inputs: &Ports, outputs: &mut Ports) -> i64
+    ensures state { result ≡ (fired Kind.Latch state inputs.now).state }
+    ensures outputs { outputs.new ≡ (fired Kind.Latch state inputs.now).outputs }
 {
     let kept = inputs.get(0).unwrap_or(state);
     let shown = match inputs.get(1) {
         Some(_) => Some(kept),
         None => None,
     };
-    gives(kept, shown)
+    gives(outputs, kept, shown)
 }
 
 /// Gives its count, and starts the next period through its hidden output 1.
-fn begin(state: i64) -> Fired
-    ensures { result ≡ fired (Kind.Every 0 0) state [] }
+fn begin(state: i64, outputs: &mut Ports) -> i64
+    ensures state { result ≡ (fired (Kind.Every 0 0) state []).state }
+    ensures outputs { outputs.new ≡ (fired (Kind.Every 0 0) state []).outputs }
 {
-    Fired {
-        state: sum(state, 1),
-        outputs: Ports::from_values([Some(state), Some(0), None, None, None, None, None, None]),
-    }
+    *outputs = Ports::from_values([Some(state), Some(0), None, None, None, None, None, None]);
+    sum(state, 1)
 }

@@ -57,8 +57,16 @@ fn total(values: &[Option<i64>]) -> i128
     total
 }
 
-/// The outputs of the cells: each gives the sum of its inputs that are present.
-pub(crate) fn lanes(cells: &[u32], inputs: &Ports) -> Ports
+/// Writes the outputs of the cells: each gives the sum of its inputs that are present.
+#[inline(never)]
+pub(crate) fn write_lanes(cells: &[u32], inputs: &Ports, outputs: &mut Ports)
+    ensures { outputs.new ≡ eight (lane_outputs cells.now inputs.now) }
+{
+    *outputs = lanes(cells, inputs);
+}
+
+/// The outputs of the cells.
+fn lanes(cells: &[u32], inputs: &Ports) -> Ports
     ensures { result ≡ eight (lane_outputs cells.now inputs.now) }
 {
     let inputs = inputs.values();

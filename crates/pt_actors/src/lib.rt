@@ -16,7 +16,7 @@ mod stored;
 mod tasks;
 
 pub use done::Done;
-pub use firing::{fire, fire_kind};
+pub use firing::{fire, fire_into, fire_kind, fire_onto};
 pub use law::law_value;
 pub use pt_types::{Fired, Ports as Inputs, Task};
 pub use tasks::Tasks;

@@ -11,22 +11,31 @@ ghost use Rattle.pt_semantics.specs.Firing.{emitted_by, guard_holds, machine_ste
 
 use crate::stored::block_value;
 use pt_blocks::Blocks;
-use pt_types::{Fired, Law, MachineRow, Ports};
+use pt_types::{Law, MachineRow, Ports};
 
-/// The result of a machine's step for a state and a value: that of the first row that fits, or no change and no output.
-pub(crate) fn machine(blocks: Option<&Blocks>, rows: &[MachineRow], state: i64, a: i64) -> Fired
+/// A machine's step for a state and a value, by the first row that fits: writes its outputs, and returns the next state. If no
+/// row fits there is no change and no output.
+#[inline(never)]
+pub(crate) fn machine(
+    blocks: Option<&Blocks>,
+    rows: &[MachineRow],
+    state: i64,
+    a: i64,
+    outputs: &mut Ports,
+) -> i64
     requires { All (λ (row : MachineRow). IsTrue (guard_is_lawful row.guard)) rows.now }
-    ensures { result ≡ machine_step state (first_of (row_fits state a) rows.now) }
+    ensures state { result ≡ (machine_step state (first_of (row_fits state a) rows.now)).state }
+    ensures outputs { outputs.new ≡ (machine_step state (first_of (row_fits state a) rows.now)).outputs }
 {
     match fitting_row(blocks, rows, state, a) {
-        Some(row) => Fired {
-            state: row.next,
-            outputs: emitted(row.emit),
-        },
-        None => Fired {
-            state,
-            outputs: Ports::new(),
-        },
+        Some(row) => {
+            *outputs = emitted(row.emit);
+            row.next
+        }
+        None => {
+            *outputs = Ports::new();
+            state
+        }
     }
 }
 

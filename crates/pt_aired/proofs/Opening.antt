@@ -1,9 +1,11 @@
 -- Before the first round.
-use Rattle.std.proofs.Common.{◌≡◌, ◌∙◌, ℕ, zero, suc, ◌<◌, List, [], Some, length, replicate, slice_get, refl, sym, ap, subst}
+use Rattle.std.proofs.Common.{◌≡◌, ◌∙◌, ℕ, zero, suc, ◌<◌, ◌≤◌, List, [], ◌∷◌, Some, length, replicate, slice_get, slice_index_or, refl, sym, ap, subst, arith}
 use Rattle.std.proofs.lemmas.List.{length-replicate}
 use Rattle.pt_tags.specs.declared.message.Message.{Message}
 use Rattle.pt_types.specs.declared.firing.Done.{Done}
 use Rattle.pt_types.specs.declared.rows.Row.{Row}
+use Rattle.pt_types.specs.declared.graph.Graph.{Graph}
+use Rattle.pt_types.specs.Lookups.{platform_of}
 use Rattle.pt_semantics.specs.Lists.{Each}
 use Rattle.pt_semantics.specs.Visits.{together_at_start}
 use Rattle.pt_semantics.specs.Wired.{IsWired}
@@ -11,9 +13,10 @@ use Rattle.pt_semantics.proofs.LawfulEdges.{wired}
 use Rattle.pt_semantics.proofs.Lookups.{none_some, same_some}
 use Rattle.pt_offsets.specs.Plans.{Parts}
 use Rattle.pt_air.specs.declared.air.Air.{Air}
+use Rattle.pt_airways.specs.declared.in_air.InAir.{InAir}
 use Rattle.pt_airways.specs.Arrivals.{AirwayView, empty_airway}
 use Rattle.pt_turn.specs.Platforms.{PlatformView}
-use Rattle.pt_flights.specs.Moments.{IsLeastNumber, IsMoment}
+use Rattle.pt_flights.specs.Moments.{ArriveFrom, IsLeastNumber, IsMoment}
 use Rattle.pt_skies.specs.Sky.{sky_at_start}
 use Rattle.pt_skies.proofs.Ended.{replays_begin}
 use Rattle.pt_together.specs.Shown.{AreShown}
@@ -31,6 +34,19 @@ one_of (suc n) (suc i) x y e = one_of n i x y e
 all_empty : (n : ℕ) → Each (λ (pipe : List Message). pipe ≡ []) (replicate n [])
 all_empty zero = tt
 all_empty (suc n) = (refl, all_empty n)
+
+-- no message arrives before time 0
+all_zero : (n i : ℕ) → ◌≡◌ {A = ℕ} (slice_index_or (replicate n 0) i 0) 0
+all_zero zero i = refl
+all_zero (suc n) zero = refl
+all_zero (suc n) (suc i) = all_zero n i
+
+pub from_zero : (g : Graph) (count : ℕ) (times : List ℕ) (airways : List AirwayView) → times ≡ replicate count 0 → ArriveFrom g times airways
+from_zero g count times airways is = λ l link a at at_a. each (slice_index_or times (platform_of g link.to) 0) (ap (λ (ts : List ℕ). slice_index_or ts (platform_of g link.to) 0) is ∙ all_zero count (platform_of g link.to)) a.on_way
+  where
+    each : (time : ℕ) → time ≡ 0 → (ms : List InAir) → Each (λ (m : InAir). time ≤ m.arrives) ms
+    each time none [] = tt
+    each time none (m ∷ ms) = (omega (arith, none), each time none ms)
 
 -- with an empty pipe and an empty airway for each link
 module _ (plan : Parts) (rows : ℕ → List Row) (air : Air) (platforms : List PlatformView) (airways : List AirwayView) (pipes : List (List Message)) (results : List (List Done)) (new : AreOpened plan rows platforms pipes results)

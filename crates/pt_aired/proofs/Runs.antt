@@ -75,6 +75,7 @@ module _ (plan : Parts) (rows : ℕ → List Row) (air : Air) (count now : ℕ) 
       kept_turns = h.shown.kept_turns;
       states = h.shown.states;
       faults = λ i v at. ((λ none m mem home. (h.answered i v at m mem home).0 ∙ ap is_fault none), none_answered i v at);
+      late = λ i v at m mem home. (h.answered i v at m mem home).1;
     };
     ends = so;
     legal = λ i v at.

@@ -12,18 +12,20 @@ use Rattle.pt_offsets.specs.Plans.{IsAdmitted, Parts}
 use Rattle.pt_turn.specs.declared.fault.TurnFault.{TurnFault}
 use Rattle.pt_turn.specs.Platforms.{PlatformView, state_at}
 use Rattle.pt_turn.specs.All.{AreAll, histories_of}
+use Rattle.pt_turn.specs.Turned.{is_late}
 use Rattle.pt_skies.specs.Flights.{IsWholeReplay}
 use Rattle.pt_skies.specs.Sky.{Sky}
 use Rattle.pt_together.specs.Asked.{EndsAt}
 
--- the platforms are as a whole replayed run leaves them: their recorded turns and states are those of its rounds, and a platform
--- has a fault exactly if one of its turns in the last round had
+-- the platforms are as a whole replayed run leaves them: their recorded turns and states are those of its rounds, a platform has
+-- a fault exactly if one of its turns in the last round had, and that turn was late exactly if the fault is that of a late message
 pub record IsAfterReplay (plan : Parts) (rows : ℕ → List Row) (level : ℕ → ℕ) (air : Air) (platforms : List PlatformView) : Type 0 where
   pub sky : Sky
   pub run : IsWholeReplay plan.graph level air rows sky
   pub kept_turns : (i : ℕ) (v : PlatformView) → slice_get platforms i ≡ Some v → v.turns ≡ kept (sky.did i)
   pub states : (i : ℕ) (v : PlatformView) → slice_get platforms i ≡ Some v → sky.at i ≡ state_at v
   pub faults : (i : ℕ) (v : PlatformView) → slice_get platforms i ≡ Some v → (v.fault ≡ None) ↔ ((m : Made) → IsIn m run.made → m.platform ≡ i → m.fault ≡ false)
+  pub late : (i : ℕ) (v : PlatformView) → slice_get platforms i ≡ Some v → (m : Made) → IsIn m run.made → m.platform ≡ i → m.late ≡ is_late v.fault
 
 -- all platforms of a plan, after a replayed run over these rows, with these lags and transits
 pub record HaveFlown (plan : Parts) (level : ℕ → ℕ) (rows : ℕ → List Row) (air : Air) (platforms : List PlatformView) (fault : Option (ℕ × TurnFault)) : Type 0 where

@@ -4,7 +4,7 @@ ghost use Rattle.std.specs.Prelude.{◌≡◌, IfOk, ℕ, List, Some};
 ghost use Rattle.pt_types.specs.declared.rows.Row.{Row};
 ghost use Rattle.pt_causality.specs.Ranked.{level_of};
 ghost use Rattle.pt_offsets.specs.Plans.{Parts};
-ghost use Rattle.pt_flights.specs.Moments.{IsLeastNumber, IsMoment};
+ghost use Rattle.pt_flights.specs.Moments.{ArriveFrom, IsLeastNumber, IsMoment};
 ghost use Rattle.pt_together.specs.Asked.{result_lists};
 ghost use Rattle.pt_aired.specs.HaveFlown.{HaveFlown};
 ghost use Rattle.pt_aired.specs.Passing.{PipesAreEmpty, IsBeforeFlights};
@@ -31,6 +31,7 @@ const MOST_ROUNDS: u128 = 1_000_000_000_000_000_000_000;
 pub fn go_on(
     platforms: &mut [Platform],
     airways: &mut [Airway],
+    arrivals: &mut [u64],
     pipes: &mut [Pipe],
     results: &mut [Vec<Done>],
     desk: &mut Desk,
@@ -38,13 +39,15 @@ pub fn go_on(
     air: &Air,
     begins: u64,
 ) -> Result<Option<(u32, TurnFault)>, Memory>
-    requires begun { (plan : Parts) × (rows : ℕ → List Row) × IsBeforeFlights plan rows air.now 0 begins platforms.old airways.old (result_lists results.old) × PipesAreEmpty plan.graph pipes.old }
+    requires begun { (plan : Parts) × (rows : ℕ → List Row) × IsBeforeFlights plan rows air.now 0 begins platforms.old airways.old (result_lists results.old) × PipesAreEmpty plan.graph pipes.old × ArriveFrom plan.graph arrivals.old airways.old }
     ensures flown { IfOk result (λ fault. (plan : Parts) (rows : ℕ → List Row) → IsBeforeFlights plan rows air.now 0 begins platforms.old airways.old (result_lists results.old) →
         HaveFlown plan (level_of plan.ranks) rows air.now platforms.new fault) }
 {
     let mut now = begins;
     for _round in 0..MOST_ROUNDS {
-        let quiet = pass(platforms, airways, pipes, results, desk, blocks, air, now)?;
+        let quiet = pass(
+            platforms, airways, arrivals, pipes, results, desk, blocks, air, now,
+        )?;
         if let Some(fault) = first_fault(platforms) {
             return Ok(Some(fault));
         }

@@ -8,6 +8,7 @@ ghost use Rattle.pt_post.specs.Posted.{AreDone};
 ghost use Rattle.pt_turn.specs.Platforms.{level_at, state_at};
 ghost use Rattle.pt_turn.specs.Turned.{MayCome};
 ghost use Rattle.pt_visits.specs.Pipes.{arriving};
+ghost use Rattle.pt_flights.specs.Moments.{ArriveFrom};
 ghost use Rattle.pt_flights.specs.Skies.{come_on, map_from};
 ghost use Rattle.pt_together.specs.Asked.{result_lists};
 ghost use Rattle.pt_aired.specs.Passing.{PipesAreEmpty, HasFlown, HavePassedInAir, IsBeforeFlights};
@@ -27,6 +28,7 @@ use pt_visits::Desk;
 fn fly_one(
     platform: &mut Platform,
     airways: &mut [Airway],
+    arrivals: &mut [u64],
     pipes: &mut [Pipe],
     results: &mut Vec<Done>,
     desk: &mut Desk,
@@ -36,6 +38,7 @@ fn fly_one(
 ) -> Result<bool, Memory>
     requires no_fault { platform.old.fault ≡ None }
     requires airways { length airways.old ≡ length platform.old.plan.graph.links }
+    requires arrivals { ArriveFrom platform.old.plan.graph arrivals.old airways.old }
     requires pipes { length pipes.old ≡ length platform.old.plan.graph.links }
     requires empty { Each (λ pipe. pipe ≡ []) pipes.old }
     requires transits { length air.now.transits ≡ length platform.old.plan.graph.links }
@@ -43,18 +46,23 @@ fn fly_one(
     requires taken { MayCome platform.old.plan.graph (level_at platform.old) platform.old.number (state_at platform.old)
         (arriving platform.old.plan.graph platform.old.number 0 (map_from (come_on platform.old.plan.graph platform.old.number now) 0 airways.old)) }
     ensures flown { IfOk result (λ still. HasFlown air.now now results.old.items results.new.items platform.old platform.new airways.old airways.new still) }
+    ensures arrivals { OnOk result (ArriveFrom platform.old.plan.graph arrivals.new airways.new) }
     ensures pipes { OnOk result (pipes.new ≡ pipes.old) }
 {
     let closed = platform.closed();
-    fly(platform, airways, pipes, results, desk, blocks, air, now)?;
+    fly(
+        platform, airways, arrivals, pipes, results, desk, blocks, air, now,
+    )?;
     Ok(platform.closed() == closed && was_quiet(platform))
 }
 
 /// A round at a true time, in microseconds: each platform that is not finished makes a flight, in order. Returns whether the
-/// round was quiet. The pipes, which carry messages within a flight, are empty before it and after it.
+/// round was quiet. The pipes, which carry messages within a flight, are empty before it and after it. No message arrives at a
+/// platform before its time in `arrivals`.
 pub fn pass(
     platforms: &mut [Platform],
     airways: &mut [Airway],
+    arrivals: &mut [u64],
     pipes: &mut [Pipe],
     results: &mut [Vec<Done>],
     desk: &mut Desk,
@@ -62,9 +70,11 @@ pub fn pass(
     air: &Air,
     now: u64,
 ) -> Result<bool, Memory>
-    requires begun { (plan : Parts) × (rows : ℕ → List Row) × (count : ℕ) × IsBeforeFlights plan rows air.now count now platforms.old airways.old (result_lists results.old) × PipesAreEmpty plan.graph pipes.old }
+    requires begun { (plan : Parts) × (rows : ℕ → List Row) × (count : ℕ) × IsBeforeFlights plan rows air.now count now platforms.old airways.old (result_lists results.old) × PipesAreEmpty plan.graph pipes.old × ArriveFrom plan.graph arrivals.old airways.old }
     ensures passed { IfOk result (λ quiet. (plan : Parts) (rows : ℕ → List Row) (count : ℕ) (s : IsBeforeFlights plan rows air.now count now platforms.old airways.old (result_lists results.old)) →
         HavePassedInAir plan rows air.now now s.sky (length platforms.old) platforms.new airways.new (result_lists results.new) quiet) }
+    ensures arrivals { OnOk result ((plan : Parts) (rows : ℕ → List Row) (count : ℕ) → IsBeforeFlights plan rows air.now count now platforms.old airways.old (result_lists results.old) →
+        ArriveFrom plan.graph arrivals.old airways.old → ArriveFrom plan.graph arrivals.new airways.new) }
     ensures pipes { OnOk result (pipes.new ≡ pipes.old) }
 {
     let mut quiet = true;
@@ -75,6 +85,7 @@ pub fn pass(
         let still = fly_one(
             &mut platforms[i],
             airways,
+            arrivals,
             pipes,
             &mut results[i],
             desk,

@@ -10,7 +10,7 @@ ghost use Rattle.pt_aired.specs.HaveFlown.{HaveFlown};
 
 use crate::after::Aired;
 use crate::going_on::{go_on, time_after};
-use crate::starting::airways;
+use crate::starting::{airways, arrivals};
 use pt_air::Air;
 use pt_blocks::Blocks;
 use pt_tags::Memory;
@@ -42,6 +42,7 @@ pub fn aired(
     let mut platforms = platforms;
     let links = platforms[0].plan().graph().links.as_slice().len();
     let mut airways = airways(alloc, links)?;
+    let mut arrivals = arrivals(alloc, platforms.len())?;
     let mut pipes = pipes(alloc, links)?;
     let mut results = no_results(alloc, platforms.as_slice())?;
     let mut desk = Desk::new(alloc);
@@ -49,6 +50,7 @@ pub fn aired(
     let fault = go_on(
         platforms.as_mut_slice(),
         airways.as_mut_slice(),
+        arrivals.as_mut_slice(),
         pipes.as_mut_slice(),
         results.as_mut_slice(),
         &mut desk,

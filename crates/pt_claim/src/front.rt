@@ -1,7 +1,8 @@
 //! The safe units to claim next.
 
-ghost use Rattle.std.specs.Prelude.{◌≡◌, ◌<◌, ◌+◌, ◌⊎◌, [], Some, IfOk, true, false, drop, length};
+ghost use Rattle.std.specs.Prelude.{◌≡◌, ◌<◌, ◌+◌, ◌⊎◌, [], Some, IfOk, IfSome, true, false, drop, length};
 ghost use Rattle.pt_types.specs.Lawful.{IsLawful};
+ghost use Rattle.pt_semantics.specs.Units.{HasEvent};
 ghost use Rattle.pt_causality.specs.Delays.{AreLeast, IsUnit, least_of};
 ghost use Rattle.pt_offsets.specs.Plans.{AreOffsets};
 ghost use Rattle.pt_queue.specs.Events.{waiting_in, IsLeastTag};
@@ -9,13 +10,13 @@ ghost use Rattle.pt_state.specs.State.{busy_in, IsSound};
 ghost use Rattle.pt_claim.specs.Fronts.{AreFirst, AreFront, IsNextSafe, IsTaken, one_of};
 
 use crate::order::put;
-use crate::safe::is_safe;
+use crate::safe::{is_refused, is_safe};
 use arrayvec::ArrayVec;
 use pt_causality::Least;
 use pt_offsets::Offsets;
 use pt_queue::Waiting;
 use pt_state::Fields;
-use pt_types::Graph;
+use pt_types::{Graph, Unit};
 
 /// The safe units to claim next, in order, at most 64, and how many of them are taken.
 #[derive(Drop)]
@@ -26,7 +27,19 @@ pub struct Front {
     pub more: bool,
 }
 
+/// The unit that was last found to hold up another one, if it has events, with its least tag.
+fn holder_of(fields: &Fields, graph: &Graph, unit: Unit) -> Option<Waiting>
+    requires sound { IsSound graph.now fields.now }
+    ensures { IfSome result (λ w. HasEvent graph.now (waiting_in fields.now.queue.events) w.unit w.tag) }
+{
+    let holder = fields.queue.last_holder(unit)?;
+    let tag = fields.queue.least(holder)?;
+    Some(Waiting { unit: holder, tag })
+}
+
 /// Adds a unit that has events, if it is safe, to those to claim next.
+///
+/// `ahead` is a unit with events that may hold up this one, and so is the result for the next unit.
 fn add_unit(
     fields: &Fields,
     graph: &Graph,
@@ -34,21 +47,29 @@ fn add_unit(
     offsets: &Offsets,
     reading: u64,
     waiting: Waiting,
+    ahead: Option<Waiting>,
     units: &mut ArrayVec<Waiting, 64>,
-)
+) -> Option<Waiting>
     requires lawful { IsLawful graph.now }
     requires sound { IsSound graph.now fields.now }
     requires least { AreLeast graph.now (least_of least.now) }
     requires offsets { AreOffsets graph.now offsets.now }
     requires unit { IsUnit graph.now waiting.unit }
     requires tag { IsLeastTag graph.now (waiting_in fields.now.queue.events) waiting.unit (Some waiting.tag) }
+    requires ahead { IfSome ahead (λ w. HasEvent graph.now (waiting_in fields.now.queue.events) w.unit w.tag) }
     requires first { AreFirst graph.now (waiting_in fields.now.queue.events) (busy_in fields.now.open_claims.items) reading waiting.unit.actor waiting.unit.group units.old.items }
-    ensures { AreFirst graph.now (waiting_in fields.now.queue.events) (busy_in fields.now.open_claims.items) reading waiting.unit.actor (waiting.unit.group + 1) units.new.items }
+    ensures first { AreFirst graph.now (waiting_in fields.now.queue.events) (busy_in fields.now.open_claims.items) reading waiting.unit.actor (waiting.unit.group + 1) units.new.items }
+    ensures ahead { IfSome result (λ w. HasEvent graph.now (waiting_in fields.now.queue.events) w.unit w.tag) }
 {
     let Waiting { unit, tag } = waiting;
-    if is_safe(fields, graph, least, offsets, reading, unit, tag) {
-        put(units, Waiting { unit, tag });
+    if is_refused(fields, graph, least, offsets, reading, unit, tag, ahead) {
+        return ahead;
     }
+    if !is_safe(fields, graph, least, offsets, reading, unit, tag) {
+        return holder_of(fields, graph, unit);
+    }
+    put(units, Waiting { unit, tag });
+    Some(Waiting { unit, tag })
 }
 
 /// Replaces the list by the first safe units in order, at most 64. Searches the units that have events.
@@ -67,8 +88,11 @@ fn fill(
     ensures { AreFirst graph.now (waiting_in fields.now.queue.events) (busy_in fields.now.open_claims.items) reading (length graph.now.actors) 0 units.new.items }
 {
     units.clear();
+    let mut ahead = None;
     for waiting in fields.queue.waiting() {
-        add_unit(fields, graph, least, offsets, reading, *waiting, units);
+        ahead = add_unit(
+            fields, graph, least, offsets, reading, *waiting, ahead, units,
+        );
     }
 }
 

@@ -1,10 +1,13 @@
 //! Whether a unit is safe.
 
-ghost use Rattle.std.specs.Prelude.{◌≡◌, ◌≤◌, ◌↔◌, Some, true};
+ghost use Rattle.std.specs.Prelude.{◌≡◌, ◌≤◌, ◌↔◌, ℕ, IfSome, Option, Some, true};
 ghost use Rattle.std.specs.List.{list_any};
 ghost use Rattle.pt_types.specs.Lawful.{IsLawful};
+ghost use Rattle.pt_types.specs.declared.firing.Task.{Task};
+ghost use Rattle.pt_types.specs.declared.graph.Unit.{Unit as Part};
 ghost use Rattle.pt_semantics.specs.Paced.{paced_by};
 ghost use Rattle.pt_semantics.specs.Safe.{IsSafe};
+ghost use Rattle.pt_semantics.specs.Units.{HasEvent};
 ghost use Rattle.pt_causality.specs.Delays.{AreLeast, IsUnit, least_of};
 ghost use Rattle.pt_offsets.specs.Plans.{AreOffsets};
 ghost use Rattle.pt_queue.specs.Events.{waiting_in, IsLeastTag};
@@ -13,7 +16,7 @@ ghost use Rattle.pt_claim.specs.Safe.{may_lead_to};
 
 use pt_causality::Least;
 use pt_offsets::Offsets;
-use pt_queue::reaches;
+use pt_queue::{Waiting, reaches};
 use pt_state::{Fields, OpenClaim, OpenClaims};
 use pt_tags::Tag;
 use pt_types::{Graph, Unit};
@@ -45,6 +48,57 @@ fn is_held_up(claims: &OpenClaims, least: &Least, unit: Unit, tag: Tag) -> bool
         .iter()
         .chain(back)
         .any(|claim| leads_to(least, unit, tag, claim))
+}
+
+/// Whether an event of the unit `ahead`, at its tag, leads to another unit at the tag or before.
+fn is_behind(
+    fields: &Fields,
+    graph: &Graph,
+    least: &Least,
+    unit: Unit,
+    tag: Tag,
+    ahead: Option<Waiting>,
+) -> bool
+    requires sound { IsSound graph.now fields.now }
+    requires least { AreLeast graph.now (least_of least.now) }
+    requires unit { IsUnit graph.now unit }
+    requires ahead { IfSome ahead (λ w. HasEvent graph.now (waiting_in fields.now.queue.events) w.unit w.tag) }
+    ensures { (busy : Part → Option Task) → (r : ℕ) → result ≡ true → IsSafe graph.now (waiting_in fields.now.queue.events) busy r unit tag → ⊥ }
+{
+    let Some(other) = ahead else {
+        return false;
+    };
+    if other.unit == unit {
+        return false;
+    }
+    reaches(least.get(other.unit, unit), other.tag, tag)
+}
+
+/// Whether a unit is refused at once: it isn't due at the reading (in microseconds), or the unit `ahead`, which has an event
+/// at its tag, holds it up.
+///
+/// Of many units that wait behind one, only the first is asked what held it up last.
+pub fn is_refused(
+    fields: &Fields,
+    graph: &Graph,
+    least: &Least,
+    offsets: &Offsets,
+    reading: u64,
+    unit: Unit,
+    tag: Tag,
+    ahead: Option<Waiting>,
+) -> bool
+    requires sound { IsSound graph.now fields.now }
+    requires least { AreLeast graph.now (least_of least.now) }
+    requires offsets { AreOffsets graph.now offsets.now }
+    requires unit { IsUnit graph.now unit }
+    requires ahead { IfSome ahead (λ w. HasEvent graph.now (waiting_in fields.now.queue.events) w.unit w.tag) }
+    ensures { result ≡ true → IsSafe graph.now (waiting_in fields.now.queue.events) (busy_in fields.now.open_claims.items) reading unit tag → ⊥ }
+{
+    if is_due(offsets.of_unit(unit), tag, reading) {
+        return is_behind(fields, graph, least, unit, tag, ahead);
+    }
+    true
 }
 
 /// Whether a unit is safe to process at a reading (in microseconds), where `tag` is the least tag of its events.

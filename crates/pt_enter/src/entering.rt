@@ -1,6 +1,6 @@
 //! The rows of sensors that enter in a turn.
 
-ghost use Rattle.std.specs.Prelude.{◌≡◌, ℕ, ◌+◌, ◌<◌, ◌≤◌, ◌++◌, ◌∷◌, [], List as Sequence, drop, length, map, vec_len, vec_capacity};
+ghost use Rattle.std.specs.Prelude.{◌≡◌, ℕ, ◌+◌, ◌<◌, ◌≤◌, ◌++◌, ◌∷◌, [], true, false, List as Sequence, drop, length, map, vec_len, vec_capacity};
 ghost use Rattle.pt_types.specs.declared.firing.OnLink.{OnLink};
 ghost use Rattle.pt_semantics.specs.Entering.{after_rows, all_due, due, not_due};
 ghost use Rattle.pt_semantics.specs.Floor.{NothingThere};
@@ -42,9 +42,27 @@ fn enter_row(queue: &mut Queue, sensor: u32, row: Row, kept: &mut Vec<RowAt>)
     }
 }
 
+/// Whether there is a row at an index and it is seen by a reading, in microseconds. If not, none is due from there on.
+#[inline(always)]
+pub fn is_seen(rows: &[Row], index: usize, reading: u64) -> bool
+    ensures none { result ≡ false → due reading (drop index rows.now) ≡ [] }
+    ensures left { result ≡ false → not_due reading (drop index rows.now) ≡ drop index rows.now }
+    ensures some { result ≡ true → 0 < length (due reading (drop index rows.now)) }
+{
+    if rows.len() <= index {
+        return false;
+    }
+    let row = rows[index];
+    if row.seen > reading {
+        return false;
+    }
+    true
+}
+
 /// Of the rows after the first `entered`, those seen by the reading enter, in order, up to the first that is not. Returns
-/// how many rows of the sensor have entered then.
-fn enter_due(
+/// how many rows of the sensor have entered then. Not inlined, so that sensors without such rows take a few instructions each.
+#[inline(never)]
+fn enter_seen(
     queue: &mut Queue,
     sensor: u32,
     rows: &[Row],
@@ -74,6 +92,36 @@ fn enter_due(
         enter_row(queue, sensor, row, kept);
     }
     rows.len()
+}
+
+/// Of the rows after the first `entered`, those seen by the reading enter, in order, up to the first that is not. Returns
+/// how many rows of the sensor have entered then. Mostly there are none.
+fn enter_due(
+    queue: &mut Queue,
+    sensor: u32,
+    rows: &[Row],
+    entered: usize,
+    reading: u64,
+    kept: &mut Vec<RowAt>,
+) -> usize
+    requires entered { entered ≤ length rows.now }
+    requires times { TimesRise (drop entered rows.now) }
+    requires actor { sensor < length queue.old.groups }
+    requires absent { NothingThere (waiting_in queue.old.events) (seen_at sensor (due reading (drop entered rows.now))) }
+    requires spare { length (due reading (drop entered rows.now)) ≤ queue.old.spare }
+    requires kept { vec_len kept.old + length (due reading (drop entered rows.now)) ≤ vec_capacity kept.old }
+    ensures waits { waiting_in queue.new.events ≡ added (waiting_in queue.old.events) (seen_at sensor (due reading (drop entered rows.now))) }
+    ensures spare { queue.new.spare + length (due reading (drop entered rows.now)) ≡ queue.old.spare }
+    ensures groups { queue.new.groups ≡ queue.old.groups }
+    ensures rows { kept.new.items ≡ kept.old.items ++ map (at_sensor sensor) (due reading (drop entered rows.now)) }
+    ensures kept { (vec_capacity kept.old ≤ vec_capacity kept.new) × (vec_len kept.new ≡ vec_len kept.old + length (due reading (drop entered rows.now))) }
+    ensures left { drop result rows.now ≡ not_due reading (drop entered rows.now) }
+    ensures within { result ≤ length rows.now }
+{
+    if !is_seen(rows, entered, reading) {
+        return entered;
+    }
+    enter_seen(queue, sensor, rows, entered, reading, kept)
 }
 
 /// All rows seen by a reading (in microseconds) enter, sensor by sensor in the order of the graph. They become waiting

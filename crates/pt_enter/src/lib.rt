@@ -7,4 +7,4 @@
 
 mod entering;
 
-pub use entering::enter;
+pub use entering::{enter, is_seen};

@@ -28,7 +28,7 @@ all_pass : (now : ℕ) (ms : List InAir) → Each (λ (m : InAir). nat_le m.arri
 all_pass now [] h = refl
 all_pass now (m ∷ ms) h = rw h.0 (ap (λ (z : List InAir). m ∷ z) (all_pass now ms h.1))
 
-none_passes : (now : ℕ) (ms : List InAir) → Each (λ (m : InAir). now < m.arrives) ms → filter (λ (m : InAir). nat_le m.arrives now) ms ≡ []
+pub none_passes : (now : ℕ) (ms : List InAir) → Each (λ (m : InAir). now < m.arrives) ms → filter (λ (m : InAir). nat_le m.arrives now) ms ≡ []
 none_passes now [] h = refl
 none_passes now (m ∷ ms) h =
     let later : nat_le m.arrives now ≡ false = lt-leb m.arrives now h.0 in

@@ -96,6 +96,16 @@ module _ (air : Air) (g : Graph) (now l : ℕ) (below : l < length g.links) (bef
     emptied = stored_in (λ k pipe. []) l pipes (map_from (λ k pipe. []) 0 piped) p left (omega (arith, below, h.counts.1)) h.emptied none;
   }
 
+  -- there is no message in the next pipe
+  pub none_put : get_or pipes l p ≡ [] → PutsTo air g now (l + 1) before airways piped pipes
+  none_put none = record {
+    counts = h.counts;
+    ahead = ap (drop 1) both;
+    put = kept (λ k. put_link air g now k (slice_index_or piped k [])) l airways airways (map_from (λ k. put_link air g now k (slice_index_or piped k [])) 0 before) a (omega (arith, below, h.counts.0)) (omega (arith, below, h.counts.0)) h.put a
+        (sym (ap (λ (ms : List Message). put_link air g now l ms (get_or airways l a)) (sym next_pipe ∙ none)));
+    emptied = kept (λ k pipe. []) l pipes pipes (map_from (λ k pipe. []) 0 piped) p (omega (arith, below, h.counts.1)) (omega (arith, below, h.counts.1)) h.emptied p none;
+  }
+
 pub all_empty : {A B : Type 0} (n : ℕ) (xs : List A) → map_from {A = A} {B = List B} (λ k x. []) n xs ≡ map (λ x. []) xs
 all_empty n [] = refl
 all_empty {A} {B} n (x ∷ xs) = ap (λ (z : List (List B)). [] ∷ z) (all_empty (suc n) xs)

@@ -1,6 +1,9 @@
 -- The next true time at which something can happen.
-use Rattle.std.specs.Prelude.{◌≡◌, ◌≤◌, ◌⊎◌, ℕ, List, None, Option, Some, false, slice_get}
-use Rattle.pt_semantics.specs.Lists.{IsIn}
+use Rattle.std.specs.Prelude.{◌≡◌, ◌≤◌, ◌⊎◌, ℕ, List, None, Option, Some, false, slice_get, slice_index_or}
+use Rattle.pt_types.specs.declared.graph.Graph.{Graph}
+use Rattle.pt_types.specs.declared.graph.Link.{Link}
+use Rattle.pt_types.specs.Lookups.{platform_of}
+use Rattle.pt_semantics.specs.Lists.{Each, IsIn}
 use Rattle.pt_semantics.specs.Paced.{IsCandidate}
 use Rattle.pt_air.specs.declared.air.Air.{Air}
 use Rattle.pt_airways.specs.declared.in_air.InAir.{InAir}
@@ -29,3 +32,8 @@ IsMoment air platforms airways time = OfOne (IsReading air) platforms time ⊎ O
 abbrev pub IsLeastNumber : (ℕ → Type 0) → Option ℕ → Type 0
 IsLeastNumber P None = (n : ℕ) → P n → ⊥
 IsLeastNumber P (Some n) = P n × ((other : ℕ) → P other → n ≤ other)
+
+-- no message arrives at a platform before the time that the list has for this platform, or 0 if it has none
+abbrev pub ArriveFrom : Graph → List ℕ → List AirwayView → Type 0
+ArriveFrom g times airways = (l : ℕ) (link : Link) (a : AirwayView) → slice_get g.links l ≡ Some link → slice_get airways l ≡ Some a →
+    Each (λ (m : InAir). slice_index_or times (platform_of g link.to) 0 ≤ m.arrives) a.on_way

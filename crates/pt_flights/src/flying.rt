@@ -1,14 +1,17 @@
 //! A flight.
 
-ghost use Rattle.std.specs.Prelude.{◌≡◌, [], None, OnOk, length};
+ghost use Rattle.std.specs.Prelude.{◌≡◌, ◌<◌, [], None, IfOk, OnOk, false, length, true};
 ghost use Rattle.pt_semantics.specs.Lists.{Each};
 ghost use Rattle.pt_post.specs.Posted.{AreDone};
 ghost use Rattle.pt_turn.specs.Platforms.{level_at, state_at};
+ghost use Rattle.pt_turn.specs.Rested.{HasRested};
 ghost use Rattle.pt_turn.specs.Turned.{MayCome};
 ghost use Rattle.pt_visits.specs.Pipes.{arriving};
 ghost use Rattle.pt_flights.specs.Flights.{IsFlight};
-ghost use Rattle.pt_flights.specs.Skies.{come_on, lag_of, map_from};
+ghost use Rattle.pt_flights.specs.Moments.{ArriveFrom};
+ghost use Rattle.pt_flights.specs.Skies.{come_on, lag_of, left_on, map_from, reading_at};
 
+use crate::arrivals::{arrival_at, update_arrivals};
 use crate::landing::land;
 use crate::launching::launch;
 use pt_actors::Done;
@@ -20,17 +23,82 @@ use pt_tags::Memory;
 use pt_turn::Platform;
 use pt_visits::{Desk, visit};
 
+/// Quick path: with no result and before the next arrival, tries an idle turn, and returns whether it made one. If not,
+/// nothing changes.
+fn rests(
+    platform: &mut Platform,
+    results: &[Done],
+    arrival: u64,
+    now: u64,
+    reading: u64,
+) -> Result<bool, Memory>
+    requires no_fault { platform.old.fault ≡ None }
+    ensures rested { IfOk result (λ rested. rested ≡ true → (results.now ≡ []) × (now < arrival) × HasRested platform.old platform.new reading) }
+    ensures awake { IfOk result (λ rested. rested ≡ false → platform.new ≡ platform.old) }
+{
+    if !results.is_empty() {
+        return Ok(false);
+    }
+    if arrival <= now {
+        return Ok(false);
+    }
+    platform.rest(reading)
+}
+
+/// A flight with all its steps, at this reading of the platform's clock: messages that have arrived are taken, and those that
+/// are sent are put on their way. Returns whether there were any to send.
+fn full_flight(
+    platform: &mut Platform,
+    airways: &mut [Airway],
+    arrivals: &[u64],
+    pipes: &mut [Pipe],
+    results: &mut Vec<Done>,
+    desk: &mut Desk,
+    blocks: &Blocks,
+    air: &Air,
+    now: u64,
+    reading: u64,
+) -> Result<bool, Memory>
+    requires no_fault { platform.old.fault ≡ None }
+    requires airways { length airways.old ≡ length platform.old.plan.graph.links }
+    requires arrivals { ArriveFrom platform.old.plan.graph arrivals.now airways.old }
+    requires pipes { length pipes.old ≡ length platform.old.plan.graph.links }
+    requires empty { Each (λ pipe. pipe ≡ []) pipes.old }
+    requires transits { length air.now.transits ≡ length platform.old.plan.graph.links }
+    requires done { AreDone platform.old.plan.graph results.old.items }
+    requires taken { MayCome platform.old.plan.graph (level_at platform.old) platform.old.number (state_at platform.old)
+        (arriving platform.old.plan.graph platform.old.number 0 (map_from (come_on platform.old.plan.graph platform.old.number now) 0 airways.old)) }
+    requires reading { reading ≡ reading_at air.now platform.old.number now }
+    ensures flown { OnOk result (IsFlight air.now now results.old.items results.new.items platform.old platform.new airways.old airways.new) }
+    ensures pipes { OnOk result (pipes.new ≡ pipes.old) }
+    ensures none { IfOk result (λ sent. sent ≡ false → airways.new ≡ map_from (left_on platform.old.plan.graph platform.old.number now) 0 airways.old) }
+{
+    let number = platform.number();
+    land(
+        platform.plan().graph(),
+        number,
+        airways,
+        arrivals,
+        pipes,
+        now,
+    );
+    visit(platform, pipes, results, desk, blocks, reading, PLACES)?;
+    launch(platform.plan().graph(), air, pipes, airways, now)
+}
+
 /// Visits a platform at a true time, in microseconds: it takes the messages that have arrived, link by link, at most 64 from
 /// each, makes one turn at the reading of its clock with the pending results, and at most 64 messages on each link are put on
 /// their way. It claims at most 64 tasks, which are fired: `results` then has their results, for the next visit.
 ///
-/// The pipes carry messages within this call; they are empty before it and after it.
+/// The pipes carry messages within this call; they are empty before it and after it. `arrivals` has a time for each platform
+/// before which no message arrives there, so most visits in which nothing happens look at no link.
 ///
 /// No further visit may follow if the platform then has a `fault`, or if memory ran out: messages already taken are lost
 /// then. An arrival that does not fit in 64 bits counts as out of memory.
 pub fn fly(
     platform: &mut Platform,
     airways: &mut [Airway],
+    arrivals: &mut [u64],
     pipes: &mut [Pipe],
     results: &mut Vec<Done>,
     desk: &mut Desk,
@@ -40,6 +108,7 @@ pub fn fly(
 ) -> Result<(), Memory>
     requires no_fault { platform.old.fault ≡ None }
     requires airways { length airways.old ≡ length platform.old.plan.graph.links }
+    requires arrivals { ArriveFrom platform.old.plan.graph arrivals.old airways.old }
     requires pipes { length pipes.old ≡ length platform.old.plan.graph.links }
     requires empty { Each (λ pipe. pipe ≡ []) pipes.old }
     requires transits { length air.now.transits ≡ length platform.old.plan.graph.links }
@@ -47,13 +116,28 @@ pub fn fly(
     requires taken { MayCome platform.old.plan.graph (level_at platform.old) platform.old.number (state_at platform.old)
         (arriving platform.old.plan.graph platform.old.number 0 (map_from (come_on platform.old.plan.graph platform.old.number now) 0 airways.old)) }
     ensures flown { OnOk result (IsFlight air.now now results.old.items results.new.items platform.old platform.new airways.old airways.new) }
+    ensures arrivals { OnOk result (ArriveFrom platform.old.plan.graph arrivals.new airways.new) }
     ensures pipes { OnOk result (pipes.new ≡ pipes.old) }
 {
     let number = platform.number();
-    land(platform.plan().graph(), number, airways, pipes, now);
+    let arrival = arrival_at(arrivals, number);
     let reading = now.saturating_sub(lag_of(air, number));
-    visit(platform, pipes, results, desk, blocks, reading, PLACES)?;
-    launch(platform.plan().graph(), air, pipes, airways, now)
+    let rested = rests(platform, results.as_slice(), arrival, now, reading)?;
+    if rested {
+        return Ok(());
+    }
+    let sent = full_flight(
+        platform, airways, arrivals, pipes, results, desk, blocks, air, now, reading,
+    )?;
+    update_arrivals(
+        platform.plan().graph(),
+        airways,
+        arrivals,
+        sent,
+        arrival,
+        now,
+    );
+    Ok(())
 }
 
 /// How far the clock of a platform lags behind true time, in microseconds.

@@ -3,8 +3,10 @@
 ghost use Rattle.std.specs.Prelude.{◌≡◌, [], drop, length, map, take};
 ghost use Rattle.pt_semantics.specs.Lists.{Each};
 ghost use Rattle.pt_airways.specs.declared.in_air.InAir.{InAir};
+ghost use Rattle.pt_flights.specs.Moments.{ArriveFrom};
 ghost use Rattle.pt_flights.specs.Skies.{came, come_on, left_on, map_from};
 
+use crate::arrivals::arrival_at;
 use pt_airways::Airway;
 use pt_links::{PLACES, Pipe};
 use pt_types::Graph;
@@ -24,14 +26,25 @@ fn land_from(airway: &mut Airway, pipe: &mut Pipe, now: u64)
 }
 
 /// Moves the messages that have arrived at a platform from the airways into the pipes of their links, which are empty, as
-/// many as each pipe holds.
-pub fn land(graph: &Graph, number: u32, airways: &mut [Airway], pipes: &mut [Pipe], now: u64)
+/// many as each pipe holds. `arrivals` has a time for each platform before which no message arrives there.
+pub fn land(
+    graph: &Graph,
+    number: u32,
+    airways: &mut [Airway],
+    arrivals: &[u64],
+    pipes: &mut [Pipe],
+    now: u64,
+)
     requires airways { length airways.old ≡ length graph.now.links }
+    requires arrivals { ArriveFrom graph.now arrivals.now airways.old }
     requires pipes { length pipes.old ≡ length graph.now.links }
     requires empty { Each (λ pipe. pipe ≡ []) pipes.old }
     ensures pipes { pipes.new ≡ map_from (come_on graph.now number now) 0 airways.old }
     ensures airways { airways.new ≡ map_from (left_on graph.now number now) 0 airways.old }
 {
+    if now < arrival_at(arrivals, number) {
+        return;
+    }
     let links = graph.links.as_slice();
     for l in 0..links.len() {
         if graph.platform_of(links[l].to) == number {

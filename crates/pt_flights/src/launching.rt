@@ -1,6 +1,6 @@
 //! Messages that are put on their way.
 
-ghost use Rattle.std.specs.Prelude.{◌≡◌, [], OnOk, length, map, slice_index_or};
+ghost use Rattle.std.specs.Prelude.{◌≡◌, [], IfOk, OnOk, false, length, map, slice_index_or};
 ghost use Rattle.pt_flights.specs.Skies.{map_from, put_all, put_link};
 
 use pt_air::Air;
@@ -26,23 +26,29 @@ fn launch_from(
     Ok(())
 }
 
-/// Puts all messages in the pipes on their way.
+/// Puts all messages in the pipes on their way, and returns whether there were any.
 pub fn launch(
     graph: &Graph,
     air: &Air,
     pipes: &mut [Pipe],
     airways: &mut [Airway],
     now: u64,
-) -> Result<(), Memory>
+) -> Result<bool, Memory>
     requires airways { length airways.old ≡ length graph.now.links }
     requires pipes { length pipes.old ≡ length graph.now.links }
     requires transits { length air.now.transits ≡ length graph.now.links }
     ensures airways { OnOk result (airways.new ≡ map_from (λ l. put_link air.now graph.now now l (slice_index_or pipes.old l [])) 0 airways.old) }
     ensures pipes { OnOk result (pipes.new ≡ map (λ pipe. []) pipes.old) }
+    ensures none { IfOk result (λ launched. launched ≡ false → airways.new ≡ airways.old) }
 {
     let links = graph.links.as_slice();
     let transits = air.transits.as_slice();
+    let mut launched = false;
     for l in 0..links.len() {
+        if pipes[l].peek().is_none() {
+            continue;
+        }
+        launched = true;
         let recorded = transits[l].as_slice();
         launch_from(
             &mut pipes[l],
@@ -52,5 +58,5 @@ pub fn launch(
             now,
         )?;
     }
-    Ok(())
+    Ok(launched)
 }

@@ -30,7 +30,7 @@ pub(crate) fn in_order<J: Run, C: Clock>(
     mut stations: Vec<Station<J, C>>,
 ) -> Result<Vec<Station<J, C>>, Memory>
     requires count { vec_len stations ≡ length (plan_graph J.plan).platforms }
-    requires order_weight { order_weight (numbers stations.items) + 1 ≡ 2 ^ vec_len stations }
+    requires weight { order_weight (numbers stations.items) + 1 ≡ 2 ^ vec_len stations }
     ensures count { IfOk result (λ v. vec_len v ≡ vec_len stations) }
     ensures order { IfOk result (λ v. numbers v.items ≡ count_up (vec_len stations)) }
 {

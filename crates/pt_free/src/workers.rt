@@ -401,7 +401,7 @@ pub(crate) fn unlock_all<J: Run, L: Ledger, B: Boards, C: Clock>(
     requires parts { vec_len bays ≡ total.now.parts }
     requires none { (all.parts ≡ 0) × (all.amount ≡ 0) }
     ensures parts { IfOk result (λ v. vec_len v ≡ total.now.parts) }
-    ensures order_weight { IfOk result (λ v. order_weight (numbers v.items) ≡ total.now.amount) }
+    ensures weight { IfOk result (λ v. order_weight (numbers v.items) ≡ total.now.amount) }
 {
     let mut crews = unlock_crews(alloc, crews)?;
     let Ok(mut stations) = Vec::with_capacity(alloc, bays.len()) else {

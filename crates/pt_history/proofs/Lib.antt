@@ -13,3 +13,7 @@ pub mod DoneLists
 pub mod Ended
 pub mod InTurn
 pub mod Matching
+pub mod Blocks
+pub mod ValuesAt
+pub mod Starts
+pub mod LastTwo

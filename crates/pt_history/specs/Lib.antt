@@ -8,3 +8,7 @@ pub mod Tasks
 pub mod Works
 pub mod WorkWhole
 pub mod WorkLists
+pub mod Indices
+pub mod IndicesWhole
+pub mod Recents
+pub mod HeadsWhole

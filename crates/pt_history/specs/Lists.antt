@@ -1,5 +1,5 @@
 -- Lists of lists, and a list cut into pieces.
-use Rattle.std.specs.Prelude.{◌≡◌, ℕ, ◌≤◌, List, [], ◌∷◌, take, drop}
+use Rattle.std.specs.Prelude.{◌≡◌, ℕ, ◌≤◌, List, [], ◌∷◌, ◌++◌, take, drop}
 
 -- lists, and the room left for more items and lists
 pub record RoomyLists (X : Type 0) : Type 0 where
@@ -28,3 +28,8 @@ pieces from (e ∷ ends) xs = drop from (take e xs) ∷ pieces e ends xs
 abbrev pub Rises : ℕ → List ℕ → ℕ → Type 0
 Rises from [] n = from ≡ n
 Rises from (e ∷ ends) n = (from ≤ e) × Rises e ends n
+
+-- where lists end, by where they start: each but the last ends where the next one starts, and the last after `total` items
+abbrev pub ends_of : List ℕ → ℕ → List ℕ
+ends_of [] total = []
+ends_of (start ∷ starts) total = starts ++ total ∷ []

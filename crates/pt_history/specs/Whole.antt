@@ -1,5 +1,5 @@
 -- The invariant of a history.
-use Rattle.std.specs.Prelude.{◌+◌, ◌≤◌, length, vec_capacity, vec_len}
+use Rattle.std.specs.Prelude.{◌≤◌, length}
 use Rattle.pt_history.specs.declared.history.History.TheInside.{Inside}
 use Rattle.pt_history.specs.Keeping.{HasRoomFor, Lists, TellQuiet, turns_from}
 use Rattle.pt_history.specs.Turns.{RoomyTurns}
@@ -14,7 +14,7 @@ roomy_turns h = record { turns = turns_from (lists_of h) 0 h.heads.items; room =
 
 -- each turn has its five lists, the promised room is allocated, and the two flags say which of the last two turns are quiet
 pub record IsWhole (h : Inside) : Type 0 where
-  pub heads : vec_len h.heads + h.room.turns ≤ vec_capacity h.heads
+  pub heads : h.room.turns ≤ h.heads.spare
   pub posted : HasRoomFor (length h.heads.items) h.room.turns h.room.posted h.work.posted
   pub rows : HasRoomFor (length h.heads.items) h.room.turns h.room.rows h.rows
   pub taken : HasRoomFor (length h.heads.items) h.room.turns h.room.taken h.taken

@@ -2,29 +2,33 @@
 
 ghost use Rattle.std.specs.Prelude.{◌≡◌, ◌+◌, ◌<◌, ◌≤◌, ◌-◌, ◌^◌, ◌++◌, ◌∷◌, [], IsOk, OnErr, OnOk, length, max, slice_index, slice_set};
 
-use crate::pieces::widened;
+use crate::repeats::Repeats;
 use pt_tags::Memory;
 use std::alloc::Global;
 use std::marker::Model;
 
-/// The index at which each list ends, and room reserved for more lists.
+/// Where each list starts and ends, and room reserved for more lists.
+///
+/// Most lists are empty, so many start where the one before them does.
 #[derive(Drop)]
 pub(crate) struct Ends {
-    ends: Vec<u32>,
-    /// The number of items in all lists.
+    /// The index at which each list starts.
+    starts: Repeats<u32>,
+    /// The number of items in all lists: the end of the last list.
     total: usize,
-    spare: usize,
+    /// Whether the last list is empty; `false` without lists.
+    empty: bool,
 }
 
 impl Model for Ends {
-    ghost use Rattle.std.specs.Prelude.{◌+◌, ◌<◌, ◌≤◌, ◌^◌, vec_len, vec_capacity};
-    ghost use Rattle.pt_history.specs.Lists.{RoomyEnds};
+    ghost use Rattle.std.specs.Prelude.{◌≡◌, ◌-◌, ◌<◌, ◌^◌, ◌++◌, ◌∷◌, [], Some, true, length, slice_get, slice_index_or};
+    ghost use Rattle.pt_history.specs.Lists.{RoomyEnds, ends_of};
 
     ghost Value = { RoomyEnds };
 
-    ghost view = { λ e. record { ends = e.ends.items; total = e.total; spare = e.spare } };
+    ghost view = { λ e. record { ends = ends_of e.starts.items e.total; total = e.total; spare = e.starts.spare } };
 
-    ghost invariant = { λ e. (vec_len e.ends + e.spare ≤ vec_capacity e.ends) × (e.total < 2 ^ 32) };
+    ghost invariant = { λ e. (slice_index_or (e.starts.items ++ e.total ∷ []) 0 0 ≡ 0) × (e.total < 2 ^ 32) × (e.empty ≡ true → slice_get e.starts.items (length e.starts.items - 1) ≡ Some e.total) };
 }
 
 impl Ends {
@@ -33,13 +37,14 @@ impl Ends {
         ensures { result ≡ record { ends = []; total = 0; spare = 0 } }
     {
         Ends {
-            ends: Vec::new(alloc),
+            starts: Repeats::new(alloc),
             total: 0,
-            spare: 0,
+            empty: false,
         }
     }
 
-    /// Reserves room for at least `lists` more lists. If memory runs out, nothing changes.
+    /// Reserves room for at least `lists` more lists. If memory runs out, or the number of lists could reach 2^32, it fails
+    /// and nothing changes.
     pub fn reserve(&mut self, lists: usize) -> Result<(), Memory>
         ensures ends { self.new.ends ≡ self.old.ends }
         ensures total { self.new.total ≡ self.old.total }
@@ -47,8 +52,7 @@ impl Ends {
         ensures unchanged { OnErr result (self.new ≡ self.old) }
         ensures there { lists ≤ self.old.spare → IsOk result × (self.new ≡ self.old) }
     {
-        self.spare = widened(&mut self.ends, self.spare, lists)?;
-        Ok(())
+        self.starts.reserve(lists)
     }
 
     /// Begins an empty list at the end. Allocates nothing.
@@ -58,8 +62,12 @@ impl Ends {
         ensures total { self.new.total ≡ self.old.total }
         ensures room { self.new.spare + 1 ≡ self.old.spare }
     {
-        self.ends.push_reserved(self.total as u32);
-        self.spare -= 1;
+        if self.empty {
+            self.starts.again();
+        } else {
+            self.empty = true;
+            self.starts.push(self.total as u32);
+        }
     }
 
     /// Makes the last list end `more` items later. Allocates nothing.
@@ -71,15 +79,14 @@ impl Ends {
         ensures room { self.new.spare ≡ self.old.spare }
     {
         self.total += more;
-        let last = self.ends.len() - 1;
-        self.ends[last] = self.total as u32;
+        self.empty = false;
     }
 
     /// The number of lists.
     pub fn len(&self) -> usize
         ensures { result ≡ length self.now.ends }
     {
-        self.ends.len()
+        self.starts.len()
     }
 
     /// The number of items in all lists.
@@ -94,11 +101,7 @@ impl Ends {
         requires { number < length self.now.ends }
         ensures { result ≡ slice_index (0 ∷ self.now.ends) number }
     {
-        if number == 0 {
-            0
-        } else {
-            self.ends[number - 1] as usize
-        }
+        self.starts.get(number) as usize
     }
 
     /// The index at which a list ends.
@@ -106,6 +109,10 @@ impl Ends {
         requires { number < length self.now.ends }
         ensures { result ≡ slice_index self.now.ends number }
     {
-        self.ends[number] as usize
+        if self.starts.len() - number == 1 {
+            self.total
+        } else {
+            self.starts.get(number + 1) as usize
+        }
     }
 }

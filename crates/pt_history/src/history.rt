@@ -1,6 +1,6 @@
 //! The recorded turns of a platform.
 
-ghost use Rattle.std.specs.Prelude.{◌≡◌, ◌↔◌, ◌+◌, ◌-◌, ◌<◌, ◌≤◌, ◌++◌, ◌∷◌, [], IsOk, MatchOption, OnErr, OnOk, Some, length, option_map, slice_get, take, true};
+ghost use Rattle.std.specs.Prelude.{◌≡◌, ◌↔◌, ◌+◌, ◌-◌, ◌<◌, ◌≤◌, ◌++◌, ◌∷◌, [], IsOk, MatchOption, OnErr, OnOk, Some, false, length, option_map, slice_get, take, true};
 ghost use Rattle.std.specs.List.{flat_map};
 ghost use Rattle.pt_history.specs.Lists.{on_last};
 ghost use Rattle.pt_semantics.specs.Turn.{is_quiet};
@@ -12,6 +12,7 @@ ghost use Rattle.pt_history.specs.Tasks.{mark_of};
 use crate::Pieces;
 use crate::claims::Mark;
 use crate::head::Head;
+use crate::heads::Heads;
 use crate::room::Room;
 use crate::work_lists::WorkLists;
 use pt_tags::Memory;
@@ -24,7 +25,7 @@ use std::marker::Model;
 /// A run of quiet turns, in which nothing happened, is recorded as one turn with a count.
 #[derive(Drop)]
 pub struct History {
-    heads: Vec<Head>,
+    heads: Heads,
     /// What was claimed and posted.
     work: WorkLists,
     rows: Pieces<RowAt>,
@@ -56,7 +57,7 @@ impl History {
         ensures room { result.room ≡ record { turns = 0; posted = 0; rows = 0; taken = 0; claimed = 0; sent = 0 } }
     {
         History {
-            heads: Vec::new(alloc),
+            heads: Heads::new(alloc),
             work: WorkLists::new(alloc),
             rows: Pieces::new(alloc),
             taken: Pieces::new(alloc),
@@ -92,9 +93,7 @@ impl History {
             return Ok(());
         }
         let room = self.room.or_more(room);
-        if self.heads.reserve(room.turns).is_err() {
-            return Err(Memory);
-        }
+        self.heads.reserve(room.turns)?;
         self.work.reserve(room.claimed, room.posted, room.turns)?;
         self.rows.reserve(room.rows, room.turns)?;
         self.taken.reserve(room.taken, room.turns)?;
@@ -111,14 +110,38 @@ impl History {
         ensures turns { self.new.turns ≡ kept_with self.old.turns (fresh reading) }
         ensures room { self.new.room ≡ record self.old.room { turns = self.old.room.turns - 1 } }
     {
-        let head = Head {
-            first: reading,
-            last: reading,
-            count: 1,
-        };
+        let head = Head::single(reading);
         match self.run() {
-            Some(run) => self.join(run, head),
+            Some(run) => {
+                self.join(run, head);
+                self.room.turns -= 1;
+            }
             None => self.add(head),
+        }
+    }
+
+    /// Does the same as `begin`, but needs no room if two turns are joined; returns `false` and changes nothing if a turn is
+    /// to be added and there is no room for it. Allocates nothing.
+    pub fn rest(&mut self, reading: u64) -> bool
+        ensures turns { result ≡ true → self.new.turns ≡ kept_with self.old.turns (fresh reading) }
+        ensures room { result ≡ true → record self.new.room { turns = self.old.room.turns } ≡ self.old.room }
+        ensures used { self.old.room.turns ≤ self.new.room.turns + 1 }
+        ensures unchanged { result ≡ false → self.new ≡ self.old }
+        ensures why { result ≡ false → self.old.room.turns ≡ 0 }
+    {
+        let head = Head::single(reading);
+        match self.run() {
+            Some(run) => {
+                self.join(run, head);
+                true
+            }
+            None => {
+                if self.room.turns == 0 {
+                    return false;
+                }
+                self.add(head);
+                true
+            }
         }
     }
 
@@ -128,7 +151,7 @@ impl History {
         ensures turns { self.new.turns ≡ self.old.turns ++ quiet head.first head.last head.count ∷ [] }
         ensures room { self.new.room ≡ record self.old.room { turns = self.old.room.turns - 1 } }
     {
-        self.heads.push_reserved(head);
+        self.heads.push(head);
         self.room.turns -= 1;
         self.work.begin();
         self.rows.begin();
@@ -140,15 +163,11 @@ impl History {
 
     /// Replaces the last two turns, which are quiet, by their joined run and a new quiet turn.
     fn join(&mut self, run: Head, head: Head)
-        requires room { 0 < self.old.room.turns }
-        requires joins { Joins self.old.turns (length self.old.turns - 2) run }
+        requires { Joins self.old.turns (length self.old.turns - 2) run }
         ensures turns { self.new.turns ≡ take (length self.old.turns - 2) self.old.turns ++ quiet run.first run.last run.count ∷ quiet head.first head.last head.count ∷ [] }
-        ensures room { self.new.room ≡ record self.old.room { turns = self.old.room.turns - 1 } }
+        ensures room { self.new.room ≡ self.old.room }
     {
-        let last = self.heads.len() - 1;
-        self.heads[last - 1] = run;
-        self.heads[last] = head;
-        self.room.turns -= 1;
+        self.heads.replace(run, head);
     }
 
     /// The joined head of the last two turns, if both are quiet and their count fits; else `None`.
@@ -174,8 +193,8 @@ impl History {
         if !self.last_quiet {
             return None;
         }
-        let first = self.heads[before];
-        let second = self.heads[last];
+        let first = self.heads.get(before);
+        let second = self.heads.get(last);
         match first.count.checked_add(second.count) {
             None => None,
             Some(count) => Some(Head {
@@ -266,7 +285,7 @@ impl History {
         requires { number < length self.now.turns }
         ensures { option_map (λ turn. turn.first) (slice_get self.now.turns number) ≡ Some result }
     {
-        self.heads[number].first
+        self.heads.get(number).first
     }
 
     /// The last reading of a recorded turn, in microseconds.
@@ -274,7 +293,7 @@ impl History {
         requires { number < length self.now.turns }
         ensures { option_map (λ turn. turn.last) (slice_get self.now.turns number) ≡ Some result }
     {
-        self.heads[number].last
+        self.heads.get(number).last
     }
 
     /// How many turns a recorded turn stands for.
@@ -282,7 +301,7 @@ impl History {
         requires { number < length self.now.turns }
         ensures { option_map (λ turn. turn.count) (slice_get self.now.turns number) ≡ Some result }
     {
-        self.heads[number].count
+        self.heads.get(number).count
     }
 
     /// How many results were posted in a recorded turn.

@@ -1,7 +1,8 @@
 //! The history of a platform: what it posted, entered, took, claimed and sent in each turn.
 //!
 //! Each of the five lists is stored flat for all turns: its items one after another, and the index at which each turn's
-//! part ends. Of claims and results only the values that are there are stored, and a result refers to its claim (`Work`).
+//! part starts (`Ends`). Of claims and results only the values that are there are stored, and a result refers to its claim
+//! (`Work`). Readings and starts mostly repeat those of the turn before, and equal neighbours are stored once (`Repeats`).
 //! A run of quiet turns is stored as one turn: `begin` joins the last two as defined in pt_semantics.
 //! Memory is reserved before a turn, so that a turn allocates nothing.
 //!
@@ -12,9 +13,12 @@ mod cells;
 mod claims;
 mod ends;
 mod head;
+mod heads;
 mod history;
+mod indices;
 mod miss;
 mod pieces;
+mod repeats;
 mod room;
 mod work;
 mod work_lists;

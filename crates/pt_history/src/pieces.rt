@@ -14,7 +14,7 @@ pub(crate) const MOST_ITEMS: usize = 4_294_967_296;
 
 /// A list of lists, with room reserved for more items and lists. Contracts see `lists`, `spare_items` and `spare_lists`.
 ///
-/// The lists `[1, 2]`, `[]` and `[3]` are stored as the items 1, 2, 3 and the ends 2, 2, 3.
+/// The lists `[1, 2]`, `[]` and `[3]` are stored as the items 1, 2, 3, and start at 0, 2 and 2.
 #[derive(Drop)]
 pub struct Pieces<T> {
     items: Vec<T>,

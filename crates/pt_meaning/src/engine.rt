@@ -16,7 +16,7 @@ use crate::emission::emit;
 use crate::opening::opening;
 use crate::pending::Pending;
 use crate::world::Waiting;
-use pt_actors::fire_kind;
+use pt_actors::fire_into;
 use pt_sensors::SensorRows;
 use pt_tags::{Memory, Tag};
 use pt_types::{Actor, ActorFiring, Edge, Graph, Kind, Ports};
@@ -95,10 +95,8 @@ fn fire(graph: &Graph, states: &[i64], firing: &mut ActorFiring)
 {
     let before = states[firing.actor as usize];
     let kind = &graph.actors.as_slice()[firing.actor as usize].kind;
-    let fired = fire_kind(kind, before, &firing.inputs);
     firing.before = before;
-    firing.after = fired.state;
-    firing.outputs = fired.outputs;
+    firing.after = fire_into(kind, before, &firing.inputs, &mut firing.outputs);
 }
 
 /// Sets the state of an actor.

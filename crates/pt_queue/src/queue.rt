@@ -184,6 +184,11 @@ impl Queue {
         )
     }
 
+    /// The unit that was last found to hold up this one; `None` if none ever was. It may have let go since.
+    pub fn last_holder(&self, unit: Unit) -> Option<Unit> {
+        self.holders.of(unit)
+    }
+
     /// The number of actors of the graph. Each event waits at one of them, at one of eight inputs.
     pub fn actors(&self) -> usize
         ensures actors { result ≡ length self.now.groups }

@@ -1,6 +1,6 @@
 -- What the first bytes of a content say of the whole of it, and what was asked for.
 use Rattle.std.proofs.Common.{◌≡◌, ℕ, List, [], ◌∷◌, ◌++◌, ◌+◌, ◌<◌, ◌≤◌, Option, Some, None, IfSome, take, sym, subst, ◌∙◌, ap, append_assoc, refl, length, get_or, ⊎_elim, arith}
-use Rattle.std.proofs.lemmas.List.{take_more}
+use Rattle.std.proofs.lemmas.List.{take_all, take_more}
 use Rattle.std.proofs.lemmas.Grind.{common_steps}
 use Rattle.pt_io.specs.Causes.{Rose}
 use Rattle.pt_types.specs.declared.graph.Graph.{Graph}
@@ -61,3 +61,7 @@ asks_at_most g n first asked now lt was asks =
     (λ (none : Asks asked now []). (n, subst (Asks first now) (append_none (files_before g n)) (asks_more first asked now (files_before g n) [] was none)))
     (λ (file : Asks asked now (file_of (kind_of g n))). (n + 1, asks_files g n first asked now lt was file))
     asks
+
+-- after the files of all actors
+pub asks_all : (g : Graph) (n : ℕ) (first now : Option (List (List ℕ))) → length g.actors ≤ n → Asks first now (files_before g n) → Asks first now (sensor_files g.actors)
+asks_all g n first now whole was = subst (Asks first now) (ap sensor_files (take_all n g.actors whole)) was

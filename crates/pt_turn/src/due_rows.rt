@@ -5,11 +5,25 @@ ghost use Rattle.pt_semantics.specs.Entering.{all_due, due};
 ghost use Rattle.pt_state.specs.State.{left_in};
 ghost use Rattle.pt_state.specs.Sensors.{AreSensors};
 
+use pt_enter::is_seen;
 use pt_state::Sensor;
 use pt_types::{Graph, Row};
 
-/// How many of the rows after the first `entered` are seen by a reading, in microseconds.
+/// How many of the rows after the first `entered` are seen by a reading, in microseconds. Mostly there are none.
+#[inline(always)]
 fn count_seen(rows: &[Row], entered: usize, reading: u64) -> usize
+    requires { entered ≤ length rows.now }
+    ensures { result ≡ length (due reading (drop entered rows.now)) }
+{
+    if !is_seen(rows, entered, reading) {
+        return 0;
+    }
+    count_on(rows, entered, reading)
+}
+
+/// The same, row by row. Not inlined, since most turns have no such row.
+#[inline(never)]
+fn count_on(rows: &[Row], entered: usize, reading: u64) -> usize
     requires { entered ≤ length rows.now }
     ensures { result ≡ length (due reading (drop entered rows.now)) }
 {

@@ -1,7 +1,9 @@
 //! Turns in which nothing happens.
 
-ghost use Rattle.std.specs.Prelude.{◌≡◌, None, IfOk, OnErr, true, false};
+ghost use Rattle.std.specs.Prelude.{◌≡◌, ◌≤◌, None, IfOk, OnErr, OnOk, true, false};
+ghost use Rattle.pt_semantics.specs.Kept.{kept_with};
 ghost use Rattle.pt_semantics.specs.Paced.{IsNextReading};
+ghost use Rattle.pt_history.specs.Turns.{fresh};
 ghost use Rattle.pt_turn.specs.Platforms.{state_at};
 ghost use Rattle.pt_turn.specs.Rested.{HasRested, IsAwake};
 
@@ -9,7 +11,7 @@ use crate::kept_turn::raised_to;
 use crate::memory::keep_room;
 use crate::platform::Platform;
 use pt_claim::next_reading;
-use pt_history::Room;
+use pt_history::{History, Room};
 use pt_tags::Memory;
 
 /// Room for one turn in which nothing happens.
@@ -54,10 +56,23 @@ impl Platform {
         if next <= reading {
             return Ok(false);
         }
-        keep_room(&mut self.history, ONE_TURN)?;
-        self.history.begin(reading);
+        keep_quiet(&mut self.history, reading)?;
         self.fields.reading = Some(reading);
         self.room = None;
         Ok(true)
     }
+}
+
+/// Records a turn at a reading, in microseconds, in which nothing happens. If memory runs out, nothing changes.
+fn keep_quiet(history: &mut History, reading: u64) -> Result<(), Memory>
+    ensures turns { OnOk result (history.new.turns ≡ kept_with history.old.turns (fresh reading)) }
+    ensures sent { OnOk result (history.old.room.sent ≤ history.new.room.sent) }
+    ensures refused { OnErr result (history.new ≡ history.old) }
+{
+    if history.rest(reading) {
+        return Ok(());
+    }
+    keep_room(history, ONE_TURN)?;
+    history.begin(reading);
+    Ok(())
 }

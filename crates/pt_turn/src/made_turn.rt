@@ -1,6 +1,6 @@
 //! A turn, run and recorded.
 
-ghost use Rattle.std.specs.Prelude.{◌≡◌, ◌+◌, ◌*◌, ◌≤◌, ℕ, Some, length};
+ghost use Rattle.std.specs.Prelude.{◌≡◌, ◌+◌, ◌*◌, ◌≤◌, ◌++◌, ℕ, Some, length};
 ghost use Rattle.pt_state.specs.State.{rows_at_sensors, IsSound};
 ghost use Rattle.pt_state.specs.Sensors.{AreSensors};
 ghost use Rattle.pt_take.specs.Taken.{Basis};
@@ -16,7 +16,18 @@ use pt_actors::{Done, Tasks};
 use pt_history::History;
 use pt_offsets::Plan;
 use pt_state::Fields;
-use pt_types::OnLink;
+use pt_types::{OnLink, Task};
+
+/// Appends these tasks, one by one, since mostly there is one or none.
+#[inline(always)]
+fn hand_on(tasks: &mut Tasks, claimed: &[Task])
+    requires { length claimed.now ≤ tasks.old.spare }
+    ensures { tasks.new.tasks ≡ tasks.old.tasks ++ claimed.now }
+{
+    for task in claimed {
+        tasks.push(*task);
+    }
+}
 
 /// Makes a turn at a reading (in microseconds) that is not before the last, records it, and appends its claims to `tasks`.
 /// Returns the fault of the turn, if it has one. Allocates nothing.
@@ -52,7 +63,7 @@ pub fn make(
         fields, plan, number, closing, reading, dones, messages, most, lists,
     );
     let fault = fault_of(plan, ending, last, lists.taken.as_slice());
-    tasks.extend(lists.claimed.as_slice());
+    hand_on(tasks, lists.claimed.as_slice());
     keep(history, reading, lists);
     fault
 }

@@ -122,6 +122,7 @@ fn ahead(asked: Room) -> Room
 
 /// Makes sure that a history has at least this much room. If it has less, room for later turns is reserved too, so that
 /// most turns reserve nothing; if memory does not suffice for that, only this much.
+#[inline(always)]
 pub fn keep_room(history: &mut History, room: Room) -> Result<(), Memory>
     ensures wider { HistoryIsWider history.old history.new }
     ensures met { OnOk result (larger history.new.room room ≡ history.new.room) }
@@ -132,6 +133,18 @@ pub fn keep_room(history: &mut History, room: Room) -> Result<(), Memory>
     if history.has_room(room) {
         return Ok(());
     }
+    widen_ahead(history, room)
+}
+
+/// Reserves this much room in a history, and room for later turns; if memory does not suffice for that, only this much. Not
+/// inlined, since most turns have room.
+#[inline(never)]
+fn widen_ahead(history: &mut History, room: Room) -> Result<(), Memory>
+    ensures wider { HistoryIsWider history.old history.new }
+    ensures met { OnOk result (larger history.new.room room ≡ history.new.room) }
+    ensures room { OnOk result ((history.new.room ≡ larger history.old.room room) ⊎ (history.new.room ≡ larger history.old.room (ahead_of room))) }
+    ensures refused { OnErr result (history.new ≡ history.old) }
+{
     if history.reserve(ahead(room)).is_ok() {
         return Ok(());
     }

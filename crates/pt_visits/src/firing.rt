@@ -3,9 +3,11 @@
 ghost use Rattle.std.specs.Prelude.{◌≡◌, OnOk, map};
 ghost use Rattle.pt_types.specs.declared.firing.Done.{Done as Finished};
 ghost use Rattle.pt_types.specs.Lawful.{IsLawful};
+ghost use Rattle.pt_types.specs.Lookups.{kind_of};
+ghost use Rattle.pt_actors.specs.Fired.{IsFiredOnto};
 ghost use Rattle.pt_post.specs.Posted.{AreDone, IsDone};
 
-use pt_actors::{Done, Task, fire};
+use pt_actors::{Done, Task, fire, fire_onto};
 use pt_blocks::Blocks;
 use pt_tags::Memory;
 use pt_types::{Graph, Kind};
@@ -22,6 +24,22 @@ pub fn fire_one(blocks: &Blocks, graph: &Graph, task: &Task) -> Done
     }
 }
 
+/// Fires a task, as `fire_one`, and appends its result.
+fn fire_next(
+    blocks: &Blocks,
+    graph: &Graph,
+    task: &Task,
+    results: &mut Vec<Done>,
+) -> Result<(), Memory>
+    requires lawful { IsLawful graph.now }
+    ensures { OnOk result (IsFiredOnto (kind_of graph.now task.now.actor) task.now results.old.items results.new.items) }
+{
+    match graph.actors.as_slice().get(task.actor as usize) {
+        Some(actor) => fire_onto(blocks, &actor.kind, task, results),
+        None => fire_onto(blocks, &Kind::Receive, task, results),
+    }
+}
+
 /// Fires these tasks in order, and replaces `results` by their results.
 pub fn fire_all(
     blocks: &Blocks,
@@ -35,9 +53,7 @@ pub fn fire_all(
 {
     results.clear();
     for task in tasks {
-        if results.push(fire_one(blocks, graph, task)).is_err() {
-            return Err(Memory);
-        }
+        fire_next(blocks, graph, task, results)?;
     }
     Ok(())
 }

@@ -14,8 +14,8 @@ use Rattle.pt_aired.proofs.going_on.go_on.Goals.{then-quiet+in_ok-now, else-quie
 pub pass-requires : goal.pass-requires
 pass-requires g c = record {
   begun =
-      let (plan, rows, start, empty) = c.requires.begun in
-      (plan, rows, c.loop-round._round, c.loop-round.invariant.stands plan rows start, subst (PipesAreEmpty plan.graph) (sym c.loop-round.invariant.pipes) empty);
+      let (plan, rows, start, empty, from) = c.requires.begun in
+      (plan, rows, c.loop-round._round, c.loop-round.invariant.stands plan rows start, subst (PipesAreEmpty plan.graph) (sym c.loop-round.invariant.pipes) empty, c.loop-round.invariant.arrivals plan rows start from);
 }
 
 pub returns-in-Some : goal.returns-in-Some
@@ -37,7 +37,7 @@ returns-then-are_finished g c = record {
 pub time_after-requires : goal.time_after-requires
 time_after-requires g c = record {
   some =
-      let (plan, rows, start, empty) = c.requires.begun in
+      let (plan, rows, start, empty, from) = c.requires.begun in
       let s = c.loop-round.invariant.stands plan rows start in
       moment_after_quiet plan rows c.args.air.now c.loop-round._round c.loop-round.now c.loop-round.platforms c.loop-round.airways (result_lists c.loop-round.results) s c.pass.new.platforms c.pass.new.airways (result_lists c.pass.new.results) c.in_ok-quiet.quiet
       (c.in_ok-quiet.ensures.passed plan rows c.loop-round._round s)
@@ -53,12 +53,13 @@ loop-round-preserved g c = record {
       c.if-quiet.now c.in_default.ensures (λ done. false≢true (sym c.if-are_finished.false ∙ c.are_finished.ensures.1 done))
       (elim c.if-quiet.branch [ then-quiet+in_ok-now w ↦ λ e. subst (λ n. IsLeastNumber (IsMoment c.args.air.now c.pass.new.platforms c.pass.new.airways) (Some n)) (sym w.now-is) w.in_ok-now.ensures | else-quiet w ↦ λ e. absurd (false≢true (sym w.if-quiet.false ∙ e)) ])
       (elim c.if-quiet.branch [ then-quiet+in_ok-now w ↦ λ e. absurd (false≢true (sym e ∙ w.if-quiet.true)) | else-quiet w ↦ λ e. w.now-is ]);
+  arrivals = λ plan rows start from. c.in_ok-quiet.ensures.arrivals plan rows c.loop-round._round (c.loop-round.invariant.stands plan rows start) (c.loop-round.invariant.arrivals plan rows start from);
   pipes = c.in_ok-quiet.ensures.pipes ∙ c.loop-round.invariant.pipes;
 }
 
 pub unreachable-requires : goal.unreachable-requires
 unreachable-requires g c =
-    let (plan, rows, start, empty) = c.requires.begun in
+    let (plan, rows, start, empty, from) = c.requires.begun in
     let s = c.loop-round.invariant.stands plan rows start in
     let most = replays_end plan.graph (level_of plan.ranks) c.args.air.now rows s.rounds c.loop-round.now s.sky (wired plan.graph s.admitted.lawful) s.admitted.levels s.fit s.run in
     let few = rounds_are_few plan.graph rows s.admitted.lawful s.fit in

@@ -1,6 +1,7 @@
 use Rattle.std.proofs.Common.{◌≡◌, ◌-◌, ℕ, List}
 use Rattle.pt_types.specs.declared.rows.Row.{Row}
 use Rattle.pt_offsets.specs.Plans.{Parts}
+use Rattle.pt_flights.specs.Moments.{ArriveFrom}
 use Rattle.pt_together.specs.Asked.{result_lists}
 use Rattle.pt_aired.specs.Passing.{IsBeforeFlights}
 use Rattle.pt_aired.proofs.going_on.go_on.Given as goal
@@ -9,6 +10,8 @@ abbrev pub invariant-loop-round : goal.invariant-loop-round
 invariant-loop-round g l = record {
   stands : (plan : Parts) (rows : ℕ → List Row) → IsBeforeFlights plan rows l.air 0 l.fn.begins l.fn.platforms l.fn.airways (result_lists l.fn.results) →
       IsBeforeFlights plan rows l.air l._round l.now l.platforms l.airways (result_lists l.results);
+  arrivals : (plan : Parts) (rows : ℕ → List Row) → IsBeforeFlights plan rows l.air 0 l.fn.begins l.fn.platforms l.fn.airways (result_lists l.fn.results) →
+      ArriveFrom plan.graph l.fn.arrivals l.fn.airways → ArriveFrom plan.graph l.arrivals l.airways;
   pipes : l.pipes ≡ l.fn.pipes;
 }
 

@@ -12,5 +12,6 @@ returns-then-closed g c =
         flown = flown;
         still_is = ((λ e. (sym same ∙ e, sym c.closed.ensures ∙ (same_test c.closed.result c.closed-closed.result c.if-closed.true ∙ c.closed-closed.ensures))), (λ both. same ∙ both.0));
       };
+      arrivals = c.in_ok-fly.ensures.arrivals;
       pipes = c.in_ok-fly.ensures.pipes;
     }

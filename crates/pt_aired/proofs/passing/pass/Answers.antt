@@ -10,6 +10,7 @@ use Rattle.pt_semantics.specs.Lists.{Each}
 use Rattle.pt_semantics.proofs.Lookups.{same_some}
 use Rattle.pt_post.specs.Posted.{AreDone}
 use Rattle.pt_offsets.specs.Plans.{Parts}
+use Rattle.pt_flights.specs.Moments.{ArriveFrom}
 use Rattle.pt_turn.specs.Platforms.{PlatformView, state_at}
 use Rattle.pt_together.specs.Asked.{result_lists}
 use Rattle.pt_together.proofs.Listed.{list_at}
@@ -25,6 +26,7 @@ here platforms i v d lt = same_some (get_or platforms i v) (get_or platforms i d
 pub loop-i-init : goal.loop-i-init
 loop-i-init g c = record {
   passed = λ plan rows count s. none_passed plan rows c.args.air.now count c.args.now c.args.platforms.now c.args.airways.now (result_lists c.args.results.now) s;
+  arrivals = λ plan rows count s from. from;
   pipes = refl;
 }
 
@@ -37,12 +39,13 @@ loop-i-preserved-then-finished g c = record {
       (get_or c.loop-i.platforms c.loop-i.i c.index-platforms-i.result)
       (slice_get-get_or c.loop-i.platforms c.loop-i.i c.index-platforms-i.result lt)
       (c.finished.ensures.0 c.if-finished.true));
+  arrivals = c.loop-i.invariant.arrivals;
   pipes = c.loop-i.invariant.pipes;
 }
 
 pub fly_one-requires : goal.fly_one-requires
 fly_one-requires g c =
-    let (plan, rows, count, s, empty) = c.requires.begun in
+    let (plan, rows, count, s, empty, from) = c.requires.begun in
     let lt : c.loop-i.i < length c.loop-i.platforms = omega (arith, c.loop-i-test.true, c.loop-i.auto.platforms) in
     let h = c.loop-i.invariant.passed plan rows count s in
     let v : PlatformView = get_or c.loop-i.platforms c.loop-i.i c.index-platforms-i-in-loop-i.result in
@@ -53,6 +56,7 @@ fly_one-requires g c =
     record {
       no_fault = not_faulty plan rows c.args.air.now count c.args.now c.args.platforms.now c.args.airways.now (result_lists c.args.results.now) s c.loop-i.i c.loop-i.platforms c.loop-i.airways (result_lists c.loop-i.results) c.loop-i.quiet h v there;
       airways = h.shown.links ∙ links;
+      arrivals = subst (λ (p : Parts). ArriveFrom p.graph c.loop-i.arrivals c.loop-i.airways) (sym (h.shown.all.plans c.loop-i.i v there)) (c.loop-i.invariant.arrivals plan rows count s from);
       pipes = ap length c.loop-i.invariant.pipes ∙ empty.0 ∙ links;
       empty = subst (Each (λ (pipe : List Message). pipe ≡ [])) (sym c.loop-i.invariant.pipes) empty.1;
       transits = s.transits ∙ links;
@@ -80,6 +84,11 @@ loop-i-preserved g c = record {
       c.in_ok-still.ensures.flown
       (elim c.if-quiet.branch [ then-quiet w ↦ λ e. (w.if-quiet.true, sym w.quiet-is ∙ e) | else-quiet w ↦ λ e. absurd (false≢true (sym w.if-quiet.false ∙ (sym w.quiet-is ∙ e))) ])
       (elim c.if-quiet.branch [ then-quiet w ↦ λ e. inr (sym w.quiet-is ∙ e) | else-quiet w ↦ λ e. inl w.if-quiet.false ])));
+  arrivals = λ plan rows count s from.
+      let lt : c.loop-i.i < length c.loop-i.platforms = omega (arith, c.loop-i-test.true, c.loop-i.auto.platforms) in
+      let v : PlatformView = get_or c.loop-i.platforms c.loop-i.i c.index-platforms-i-in-loop-i.result in
+      let there = slice_get-get_or c.loop-i.platforms c.loop-i.i c.index-platforms-i-in-loop-i.result lt in
+      subst (λ (p : Parts). ArriveFrom p.graph c.fly_one.new.arrivals c.fly_one.new.airways) ((c.loop-i.invariant.passed plan rows count s).shown.all.plans c.loop-i.i v there) c.in_ok-still.ensures.arrivals;
   pipes = c.in_ok-still.ensures.pipes ∙ c.loop-i.invariant.pipes;
 }
 

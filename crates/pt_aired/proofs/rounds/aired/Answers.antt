@@ -5,7 +5,7 @@ use Rattle.pt_together.specs.Asked.{result_lists}
 use Rattle.pt_together.proofs.First.{opened, written}
 use Rattle.pt_aired.specs.HaveFlown.{HaveFlown}
 use Rattle.pt_aired.specs.Passing.{PipesAreEmpty}
-use Rattle.pt_aired.proofs.Opening.{empty, some_lent, stands_lent}
+use Rattle.pt_aired.proofs.Opening.{empty, from_zero, some_lent, stands_lent}
 use Rattle.pt_aired.proofs.rounds.aired.Goals as goal
 
 pub time_after-requires : goal.time_after-requires
@@ -30,9 +30,10 @@ go_on-requires g c = record {
         rows,
         stands_lent plan rows c.args.air.now c.args.platforms.items c.in_ok-airways.airways.items c.in_ok-pipes.pipes.items (result_lists c.in_ok-results.results.items) new (length c.as_slice-links.result.now) c.in_ok-pipes.ensures c.in_ok-airways.ensures c.requires.transits
             c.as_slice-2.result.now c.as_mut_slice.result.now c.as_slice-3.result.now c.as_mut_slice-2.result.now c.as_slice-2.ensures.value c.as_slice-3.ensures.value
-            c.in_ok-begins.begins (result_lists c.as_mut_slice-4.result.now) c.in_ok-begins.ensures c.as_mut_slice.ensures.value c.as_mut_slice-2.ensures.value (ap result_lists c.as_mut_slice-4.ensures.value),
-        subst (PipesAreEmpty plan.graph) (sym c.as_mut_slice-3.ensures.value)
+            c.in_ok-begins.begins (result_lists c.as_mut_slice-5.result.now) c.in_ok-begins.ensures c.as_mut_slice.ensures.value c.as_mut_slice-2.ensures.value (ap result_lists c.as_mut_slice-5.ensures.value),
+        subst (PipesAreEmpty plan.graph) (sym c.as_mut_slice-4.ensures.value)
             (empty plan rows c.args.air.now c.args.platforms.items c.in_ok-airways.airways.items c.in_ok-pipes.pipes.items (result_lists c.in_ok-results.results.items) new (length c.as_slice-links.result.now) c.in_ok-pipes.ensures c.in_ok-airways.ensures c.requires.transits),
+        from_zero plan.graph _ c.as_mut_slice-3.result.now c.as_mut_slice-2.result.now (c.as_mut_slice-3.ensures.value ∙ c.in_ok-arrivals.ensures),
       );
 }
 
@@ -47,5 +48,5 @@ returns g c = record {
       (c.in_ok-fault.ensures.flown plan rows
       (stands_lent plan rows c.args.air.now c.args.platforms.items c.in_ok-airways.airways.items c.in_ok-pipes.pipes.items (result_lists c.in_ok-results.results.items) new (length c.as_slice-links.result.now) c.in_ok-pipes.ensures c.in_ok-airways.ensures c.requires.transits
       c.as_slice-2.result.now c.as_mut_slice.result.now c.as_slice-3.result.now c.as_mut_slice-2.result.now c.as_slice-2.ensures.value c.as_slice-3.ensures.value
-      c.in_ok-begins.begins (result_lists c.as_mut_slice-4.result.now) c.in_ok-begins.ensures c.as_mut_slice.ensures.value c.as_mut_slice-2.ensures.value (ap result_lists c.as_mut_slice-4.ensures.value)));
+      c.in_ok-begins.begins (result_lists c.as_mut_slice-5.result.now) c.in_ok-begins.ensures c.as_mut_slice.ensures.value c.as_mut_slice-2.ensures.value (ap result_lists c.as_mut_slice-5.ensures.value)));
 }

@@ -7,12 +7,18 @@ use Rattle.pt_claim.proofs.SafeTags.{only_tag}
 use Rattle.pt_claim.proofs.Fronts.{first_put, first_skip}
 use Rattle.pt_claim.proofs.front.add_unit.Goals as goal
 
-pub returns-then-is_safe : goal.returns-then-is_safe
-returns-then-is_safe c = first_put c.args.graph.now (waiting_in c.args.fields.now.queue.events) (busy_in c.args.fields.now.open_claims.items) c.args.reading c.args.waiting.unit.actor c.args.waiting.unit.group c.args.waiting.tag c.args.units.now.items c.put.new.units.items
-    c.requires.first c.requires.unit (c.is_safe.ensures.0 c.if-is_safe.true) c.put.ensures
-
-pub returns-else-is_safe : goal.returns-else-is_safe
-returns-else-is_safe c = first_skip c.args.graph.now (waiting_in c.args.fields.now.queue.events) (busy_in c.args.fields.now.open_claims.items) c.args.reading c.args.waiting.unit.actor c.args.waiting.unit.group c.args.units.now.items c.requires.first
+pub returns-then-is_refused-clause-first : goal.returns-then-is_refused-clause-first
+returns-then-is_refused-clause-first c = first_skip c.args.graph.now (waiting_in c.args.fields.now.queue.events) (busy_in c.args.fields.now.open_claims.items) c.args.reading c.args.waiting.unit.actor c.args.waiting.unit.group c.args.units.now.items c.requires.first
     (λ t safe.
     let same = only_tag c.args.graph.now (waiting_in c.args.fields.now.queue.events) (busy_in c.args.fields.now.open_claims.items) c.args.reading c.args.waiting.unit t c.args.waiting.tag safe c.requires.tag in
-    false≢true (sym c.if-is_safe.false ∙ c.is_safe.ensures.1 (subst (IsSafe c.args.graph.now (waiting_in c.args.fields.now.queue.events) (busy_in c.args.fields.now.open_claims.items) c.args.reading c.args.waiting.unit) same safe)))
+    c.is_refused.ensures c.if-is_refused.true (subst (IsSafe c.args.graph.now (waiting_in c.args.fields.now.queue.events) (busy_in c.args.fields.now.open_claims.items) c.args.reading c.args.waiting.unit) same safe))
+
+pub returns-then-not-is_safe-clause-first : goal.returns-then-not-is_safe-clause-first
+returns-then-not-is_safe-clause-first c = first_skip c.args.graph.now (waiting_in c.args.fields.now.queue.events) (busy_in c.args.fields.now.open_claims.items) c.args.reading c.args.waiting.unit.actor c.args.waiting.unit.group c.args.units.now.items c.requires.first
+    (λ t safe.
+    let same = only_tag c.args.graph.now (waiting_in c.args.fields.now.queue.events) (busy_in c.args.fields.now.open_claims.items) c.args.reading c.args.waiting.unit t c.args.waiting.tag safe c.requires.tag in
+    false≢true (sym c.if-not-is_safe.true ∙ c.is_safe.ensures.1 (subst (IsSafe c.args.graph.now (waiting_in c.args.fields.now.queue.events) (busy_in c.args.fields.now.open_claims.items) c.args.reading c.args.waiting.unit) same safe)))
+
+pub returns-clause-first : goal.returns-clause-first
+returns-clause-first c = first_put c.args.graph.now (waiting_in c.args.fields.now.queue.events) (busy_in c.args.fields.now.open_claims.items) c.args.reading c.args.waiting.unit.actor c.args.waiting.unit.group c.args.waiting.tag c.args.units.now.items c.put.new.units.items
+    c.requires.first c.requires.unit (c.is_safe.ensures.0 c.if-not-is_safe.false) c.put.ensures

@@ -1,49 +1,81 @@
-use Rattle.std.proofs.Common.{◌≡◌, ◌-◌, ℕ, List, [], Ok, Err, length, sym, ap, ap₂, subst, ◌∙◌}
-use Rattle.std.specs.Prelude.{OnOk, Result, slice_index_or}
-use Rattle.pt_tags.specs.declared.message.Message.{Message}
+use Rattle.std.proofs.Common.{◌≡◌, ◌-◌, ◌<◌, ℕ, None, length, refl, sym, ap, subst, ◌∙◌}
+use Rattle.std.specs.Prelude.{slice_index_or}
 use Rattle.pt_types.specs.declared.graph.Graph.{Graph}
 use Rattle.pt_offsets.specs.Plans.{Parts}
-use Rattle.pt_airways.specs.Arrivals.{AirwayView}
-use Rattle.pt_visits.specs.Visited.{IsVisited}
-use Rattle.pt_flights.specs.Skies.{come_on, left_on, map_from, put_link, reading_at}
-use Rattle.pt_flights.proofs.Flown.{as_before, flight_of, length-emptied}
+use Rattle.pt_post.specs.Posted.{AreDone}
+use Rattle.pt_turn.specs.Platforms.{PlatformView, level_at, state_at}
+use Rattle.pt_turn.specs.Rested.{HasRested}
+use Rattle.pt_turn.specs.Turned.{MayCome}
+use Rattle.pt_visits.specs.Pipes.{arriving}
+use Rattle.pt_flights.specs.Flights.{IsFlight, flown_on}
+use Rattle.pt_flights.specs.Moments.{ArriveFrom}
+use Rattle.pt_flights.specs.Skies.{come_on, left_on, map_from, reading_at}
 use Rattle.pt_flights.proofs.Replacing.{length-map_from}
-use Rattle.pt_visits.specs.Pipes.{emptied}
+use Rattle.pt_flights.proofs.Resting.{all_left, before_arrivals, rested_flight}
 use Rattle.pt_flights.proofs.flying.fly.Goals as goal
 
-on_result : {T E P Q : Type 0} (r : Result T E) → (P → Q) → OnOk r P → OnOk r Q
-on_result (Ok x) f h = f h
-on_result (Err x) f h = tt
-
-pub returns-clause-flown : goal.returns-clause-flown
-returns-clause-flown g c =
-    let graph : c.graph.result.now ≡ c.args.platform.now.plan.graph = c.graph.ensures.value ∙ ap (λ (p : Parts). p.graph) (c.deref.ensures ∙ c.plan.ensures) in
-    let after : c.graph-2.result.now ≡ c.args.platform.now.plan.graph = c.graph-2.ensures.value ∙ ap (λ (p : Parts). p.graph) (c.deref-2.ensures ∙ c.plan-2.ensures ∙ c.in_ok-visit.ensures.visited.stays.plan) in
-    let come : c.land.new.pipes ≡ map_from (come_on c.args.platform.now.plan.graph c.args.platform.now.number c.args.now) 0 c.args.airways.now =
-    c.land.ensures.pipes ∙ ap₂ (λ (a : Graph) (i : ℕ). map_from (come_on a i c.args.now) 0 c.args.airways.now) graph c.number-number.ensures in
-    let left : c.land.new.airways ≡ map_from (left_on c.args.platform.now.plan.graph c.args.platform.now.number c.args.now) 0 c.args.airways.now =
-    c.land.ensures.airways ∙ ap₂ (λ (a : Graph) (i : ℕ). map_from (left_on a i c.args.now) 0 c.args.airways.now) graph c.number-number.ensures in
+pub full_flight-requires : goal.full_flight-requires
+full_flight-requires g c =
+    let same : c.args.platform.now ≡ c.rests.new.platform = sym (c.in_ok-rested.ensures.awake c.if-rested.false) in
     let reading : c.saturating_sub-reading.result ≡ reading_at c.args.air.now c.args.platform.now.number c.args.now =
     c.saturating_sub-reading.ensures ∙ ap (λ (n : ℕ). c.args.now - n) c.lag_of.ensures ∙ ap (λ (i : ℕ). reading_at c.args.air.now i c.args.now) c.number-number.ensures in
-    let visited : IsVisited 64 (reading_at c.args.air.now c.args.platform.now.number c.args.now) c.args.results.now.items c.visit.new.results.items c.args.platform.now c.visit.new.platform (map_from (come_on c.args.platform.now.plan.graph c.args.platform.now.number c.args.now) 0 c.args.airways.now) c.visit.new.pipes =
-    subst (λ (ps : List (List Message)). IsVisited 64 (reading_at c.args.air.now c.args.platform.now.number c.args.now) c.args.results.now.items c.visit.new.results.items c.args.platform.now c.visit.new.platform ps c.visit.new.pipes) come
-    (subst (λ (r : ℕ). IsVisited 64 r c.args.results.now.items c.visit.new.results.items c.args.platform.now c.visit.new.platform c.land.new.pipes c.visit.new.pipes) reading c.in_ok-visit.ensures.visited) in
-    on_result c.launch.result
-    (λ put. flight_of c.args.air.now c.args.now c.args.results.now.items c.visit.new.results.items c.args.platform.now c.visit.new.platform c.args.airways.now c.launch.new.airways c.visit.new.pipes visited
-    (put ∙ ap₂ (λ (a : Graph) (airways : List AirwayView). map_from (λ k. put_link c.args.air.now a c.args.now k (slice_index_or c.visit.new.pipes k [])) 0 airways) after left))
-    c.launch.ensures.airways
+    record {
+      no_fault = subst (λ (v : PlatformView). v.fault ≡ None) same c.requires.no_fault;
+      airways = subst (λ (v : PlatformView). length c.args.airways.now ≡ length v.plan.graph.links) same c.requires.airways;
+      arrivals = subst (λ (v : PlatformView). ArriveFrom v.plan.graph c.args.arrivals.now c.args.airways.now) same c.requires.arrivals;
+      pipes = subst (λ (v : PlatformView). length c.args.pipes.now ≡ length v.plan.graph.links) same c.requires.pipes;
+      empty = c.requires.empty;
+      transits = subst (λ (v : PlatformView). length c.args.air.now.transits ≡ length v.plan.graph.links) same c.requires.transits;
+      done = subst (λ (v : PlatformView). AreDone v.plan.graph c.args.results.now.items) same c.requires.done;
+      taken = subst (λ (v : PlatformView). MayCome v.plan.graph (level_at v) v.number (state_at v) (arriving v.plan.graph v.number 0 (map_from (come_on v.plan.graph v.number c.args.now) 0 c.args.airways.now))) same c.requires.taken;
+      reading = reading ∙ ap (λ (v : PlatformView). reading_at c.args.air.now v.number c.args.now) same;
+    }
 
-pub returns-clause-pipes : goal.returns-clause-pipes
-returns-clause-pipes g c =
-    let graph : c.graph.result.now ≡ c.args.platform.now.plan.graph = c.graph.ensures.value ∙ ap (λ (p : Parts). p.graph) (c.deref.ensures ∙ c.plan.ensures) in
-    let visited = c.in_ok-visit.ensures.visited in
-    let count : length c.visit.new.pipes ≡ length c.args.pipes.now =
-    visited.sent.count
-    ∙ ap (λ (ps : List (List Message)). length (emptied c.args.platform.now.plan.graph c.args.platform.now.number 0 ps)) c.land.ensures.pipes
-    ∙ length-emptied c.args.platform.now.plan.graph c.args.platform.now.number 0 (map_from (come_on c.graph.result.now c.number-number.result c.args.now) 0 c.args.airways.now)
-    ∙ length-map_from (come_on c.graph.result.now c.number-number.result c.args.now) 0 c.args.airways.now
-    ∙ c.requires.airways
-    ∙ sym c.requires.pipes in
-    on_result c.launch.result
-    (λ none. none ∙ as_before c.visit.new.pipes c.args.pipes.now c.requires.empty count)
-    c.launch.ensures.pipes
+pub update_arrivals-requires : goal.update_arrivals-requires
+update_arrivals-requires g c =
+    let same = c.in_ok-rested.ensures.awake c.if-rested.false in
+    let flown : IsFlight c.args.air.now c.args.now c.args.results.now.items c.full_flight.new.results.items c.args.platform.now c.full_flight.new.platform c.args.airways.now c.full_flight.new.airways =
+    subst (λ (v : PlatformView). IsFlight c.args.air.now c.args.now c.args.results.now.items c.full_flight.new.results.items v c.full_flight.new.platform c.args.airways.now c.full_flight.new.airways) same c.in_ok-sent.ensures.flown in
+    let graph : c.graph.result.now ≡ c.args.platform.now.plan.graph = c.graph.ensures.value ∙ ap (λ (p : Parts). p.graph) (c.deref.ensures ∙ c.plan.ensures ∙ flown.visited.stays.plan) in
+    record {
+      airways = ap length flown.airways
+          ∙ length-map_from (flown_on c.args.air.now c.args.platform.now.plan.graph c.args.platform.now.number c.args.now flown.visited.turn.sent) 0 c.args.airways.now
+          ∙ c.requires.airways
+          ∙ ap (λ (h : Graph). length h.links) (sym graph);
+      still = λ none early.
+          let arrival : c.arrival_at-arrival.result ≡ slice_index_or c.args.arrivals.now c.args.platform.now.number 0 =
+          c.arrival_at-arrival.ensures ∙ ap (λ (i : ℕ). slice_index_or c.args.arrivals.now i 0) c.number-number.ensures in
+          let stay : c.full_flight.new.airways ≡ c.args.airways.now =
+          subst (λ (v : PlatformView). c.full_flight.new.airways ≡ map_from (left_on v.plan.graph v.number c.args.now) 0 c.args.airways.now) same (c.in_ok-sent.ensures.none none)
+          ∙ all_left c.args.platform.now.plan.graph c.args.platform.now.number c.args.now 0 c.args.airways.now
+          (before_arrivals c.args.platform.now.plan.graph c.args.platform.now.number c.args.now c.args.arrivals.now c.args.airways.now c.requires.arrivals (subst (λ (n : ℕ). c.args.now < n) arrival early)) in
+          subst (λ (h : Graph). ArriveFrom h c.args.arrivals.now c.full_flight.new.airways) (sym graph) (subst (ArriveFrom c.args.platform.now.plan.graph c.args.arrivals.now) (sym stay) c.requires.arrivals);
+    }
+
+pub returns : goal.returns
+returns g c =
+    let same = c.in_ok-rested.ensures.awake c.if-rested.false in
+    let flown : IsFlight c.args.air.now c.args.now c.args.results.now.items c.full_flight.new.results.items c.args.platform.now c.full_flight.new.platform c.args.airways.now c.full_flight.new.airways =
+    subst (λ (v : PlatformView). IsFlight c.args.air.now c.args.now c.args.results.now.items c.full_flight.new.results.items v c.full_flight.new.platform c.args.airways.now c.full_flight.new.airways) same c.in_ok-sent.ensures.flown in
+    let graph : c.graph.result.now ≡ c.args.platform.now.plan.graph = c.graph.ensures.value ∙ ap (λ (p : Parts). p.graph) (c.deref.ensures ∙ c.plan.ensures ∙ flown.visited.stays.plan) in
+    record {
+      flown = flown;
+      arrivals = subst (λ (h : Graph). ArriveFrom h c.update_arrivals.new.arrivals c.full_flight.new.airways) graph c.update_arrivals.ensures;
+      pipes = c.in_ok-sent.ensures.pipes;
+    }
+
+pub returns-then-rested : goal.returns-then-rested
+returns-then-rested g c =
+    let reading : c.saturating_sub-reading.result ≡ reading_at c.args.air.now c.args.platform.now.number c.args.now =
+    c.saturating_sub-reading.ensures ∙ ap (λ (n : ℕ). c.args.now - n) c.lag_of.ensures ∙ ap (λ (i : ℕ). reading_at c.args.air.now i c.args.now) c.number-number.ensures in
+    let arrival : c.arrival_at-arrival.result ≡ slice_index_or c.args.arrivals.now c.args.platform.now.number 0 =
+    c.arrival_at-arrival.ensures ∙ ap (λ (i : ℕ). slice_index_or c.args.arrivals.now i 0) c.number-number.ensures in
+    let (none, early, rested) = c.in_ok-rested.ensures.rested c.if-rested.true in
+    record {
+      flown = rested_flight c.args.air.now c.args.now c.args.results.now.items c.args.platform.now c.rests.new.platform c.args.airways.now
+          (before_arrivals c.args.platform.now.plan.graph c.args.platform.now.number c.args.now c.args.arrivals.now c.args.airways.now c.requires.arrivals (subst (λ (n : ℕ). c.args.now < n) arrival early))
+          (sym c.as_slice.ensures.value ∙ none)
+          (subst (HasRested c.args.platform.now c.rests.new.platform) reading rested);
+      arrivals = c.requires.arrivals;
+      pipes = refl;
+    }

@@ -1,9 +1,10 @@
 use Rattle.std.proofs.Common.{◌≡◌, ◌+◌, ◌<◌, Some, List, [], length, get_or, set, subst, sym, ap, ◌∙◌, arith}
-use Rattle.std.specs.Prelude.{slice_get}
+use Rattle.std.specs.Prelude.{slice_get, slice_index_or}
 use Rattle.std.proofs.lemmas.Option.{slice_get-get_or}
 use Rattle.pt_types.specs.declared.graph.Link.{Link}
 use Rattle.pt_types.specs.Lookups.{platform_of}
 use Rattle.pt_airways.specs.Arrivals.{AirwayView}
+use Rattle.pt_flights.proofs.Resting.{all_left, all_none, before_arrivals, no_pipes}
 use Rattle.pt_flights.proofs.Moving.{LandsTo, one_lands, one_waits}
 use Rattle.pt_flights.proofs.landing.land.Goals as goal
 use Rattle.pt_flights.proofs.landing.land.Goals.{then-platform_of-number, else-platform_of-number}
@@ -31,3 +32,13 @@ loop-l-preserved c =
           subst (LandsTo c.args.graph.now c.args.number c.args.now (c.loop-l.l + 1) c.args.airways.now c.if-platform_of-number.airways) (sym w.pipes-is)
           (subst (λ (airways : List AirwayView). LandsTo c.args.graph.now c.args.number c.args.now (c.loop-l.l + 1) c.args.airways.now airways c.loop-l.pipes) (sym w.airways-is) waits)
     ]
+
+-- before the next arrival no message has come
+pub returns-then-now-arrival_at : goal.returns-then-now-arrival_at
+returns-then-now-arrival_at c =
+    let early : c.args.now < slice_index_or c.args.arrivals.now c.args.number 0 = omega (arith, c.if-now-arrival_at.true, c.arrival_at.ensures) in
+    let none = before_arrivals c.args.graph.now c.args.number c.args.now c.args.arrivals.now c.args.airways.now c.requires.arrivals early in
+    record {
+      pipes = sym (all_none c.args.graph.now c.args.number c.args.now 0 c.args.airways.now none ∙ no_pipes c.args.airways.now c.args.pipes.now (c.requires.airways ∙ sym c.requires.pipes) c.requires.empty);
+      airways = sym (all_left c.args.graph.now c.args.number c.args.now 0 c.args.airways.now none);
+    }

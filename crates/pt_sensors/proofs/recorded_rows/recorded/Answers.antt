@@ -2,7 +2,7 @@ use Rattle.std.proofs.Common.{◌≡◌, ◌<◌, ◌≤◌, ◌+◌, ◌∙◌,
 use Rattle.pt_sensors.specs.declared.sensor_rows.SensorRows.{SensorRows}
 use Rattle.pt_sensors.specs.Recorded.{RowsOfKind}
 use Rattle.pt_types.specs.Lookups.{kind_of}
-use Rattle.pt_sensors.proofs.Asking.{asks_files, asks_at_most}
+use Rattle.pt_sensors.proofs.Asking.{asks_all, asks_files, asks_at_most}
 use Rattle.pt_sensors.proofs.Recording.{AreFirstRows, first_rows_more, fit_rows, later}
 use Rattle.pt_sensors.proofs.recorded_rows.recorded.Goals as goal
 
@@ -47,3 +47,8 @@ pub returns-clause-fit : goal.returns-clause-fit
 returns-clause-fit g c =
     let whole : length c.args.graph.now.actors ≤ c.loop-number.number = search rules in
     λ refused. fit_rows (g.S.Source.tells c.args.source.now) c.args.graph.now c.loop-number.all.items c.loop-number.number (subst (λ l. AreFirstRows l (g.S.Source.tells c.args.source.now) c.args.graph.now c.loop-number.all.items c.loop-number.number) refused c.loop-number.invariant.rows) whole
+
+pub returns-clause-asks_all : goal.returns-clause-asks_all
+returns-clause-asks_all g c =
+    let whole : length c.args.graph.now.actors ≤ c.loop-number.number = search rules in
+    asks_all c.args.graph.now c.loop-number.number (g.S.Source.asked c.args.source.now) (g.S.Source.asked c.loop-number.source) whole c.loop-number.invariant.asks

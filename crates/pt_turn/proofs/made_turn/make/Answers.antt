@@ -23,5 +23,5 @@ returns-clause-kept g c = record {
   full = c.turn-ending.ensures.full;
   names = subst (λ (ms : List OnLink). IsFaultOf c.args.plan.now.graph c.args.fields.now.reading ms c.turn-ending.result c.fault_of-fault.result) c.as_slice.ensures.value c.fault_of-fault.ensures;
   turns = c.keep.ensures.turns;
-  tasks = c.extend.ensures.tasks ∙ ap (λ (ts : List Task). c.args.tasks.now.tasks ++ ts) c.as_slice-2.ensures.value;
+  tasks = c.hand_on.ensures ∙ ap (λ (ts : List Task). c.args.tasks.now.tasks ++ ts) c.as_slice-2.ensures.value;
 }

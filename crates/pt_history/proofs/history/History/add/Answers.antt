@@ -10,7 +10,7 @@ returns-clause-turns c =
     let p = lists_of c.self.inside in
     let q : Lists = record { posted = c.begin.new.self.posted.lists; rows = c.begin-2.new.self.lists; taken = c.begin-3.new.self.lists; claimed = c.begin.new.self.claimed.lists; sent = c.begin-4.new.self.lists } in
     let inv = c.self.invariant in
-    ap (λ hs. turns_from q 0 hs) c.push_reserved.ensures.items
+    ap (λ hs. turns_from q 0 hs) c.push.ensures.items
     ∙ turns_begin p q c.self.inside.heads.items c.args.head
     (record { posted = inv.posted.lists; rows = inv.rows.lists; taken = inv.taken.lists; claimed = inv.claimed.lists; sent = inv.sent.lists })
     (record { posted = c.begin.ensures.posted; rows = c.begin-2.ensures.lists; taken = c.begin-3.ensures.lists; claimed = c.begin.ensures.claimed; sent = c.begin-4.ensures.lists })

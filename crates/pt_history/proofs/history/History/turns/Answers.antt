@@ -5,4 +5,4 @@ use Rattle.pt_history.proofs.Reading.{length-turns}
 use Rattle.pt_history.proofs.history.History.turns.Goals as goal
 
 pub returns : goal.returns
-returns c = c.len.ensures ∙ c.self.inside.heads.ok.0 ∙ sym (length-turns (lists_of c.self.inside) 0 c.self.inside.heads.items) ∙ ap (λ (v : RoomyTurns). length v.turns) c.self.view_is
+returns c = c.len.ensures ∙ sym (length-turns (lists_of c.self.inside) 0 c.self.inside.heads.items) ∙ ap (λ (v : RoomyTurns). length v.turns) c.self.view_is

@@ -14,7 +14,7 @@ use Rattle.pt_turn.proofs.Rooms.{raised_rises}
 use Rattle.pt_turn.proofs.platform.Platform.rest.Goals as goal
 
 pub invariant_of-self : goal.invariant_of-self
-invariant_of-self c = subst (λ h. IsPlatform (record c.self-2.inside { history = h })) (sym c.in_err-keep_room.ensures.refused) c.self-2.invariant
+invariant_of-self c = subst (λ h. IsPlatform (record c.self-2.inside { history = h })) (sym c.in_err-keep_quiet.ensures.refused) c.self-2.invariant
 
 pub invariant_of-self-2 : goal.invariant_of-self-2
 invariant_of-self-2 c =
@@ -23,13 +23,12 @@ invariant_of-self-2 c =
     let same : view_of p ≡ c.args.self.now = c.self-2.view_is ∙ c.find_next-next.ensures.same in
     let next : IsNextReading (platform_graph p) p.number (state_at (view_of p)) c.find_next-next.result = subst (λ (v : PlatformView). IsNextReading v.plan.graph v.number (state_at v) c.find_next-next.result) (sym same) c.find_next-next.ensures.next in
     let rises : (q : ℕ) → p.fields.reading ≡ Some q → q ≤ r = λ q is. subst (λ n. q ≤ n) (sym c.raised_to-reading.ensures) (raised_rises p.fields.reading c.args.reading q is) in
-    let turns : c.begin.new.self.turns ≡ kept_with p.history.turns (fresh r) = c.begin.ensures.turns ∙ ap (λ (ts : List Turn). kept_with ts (fresh r)) c.keep_room.ensures.wider.turns in
-    let room : c.begin.new.self.room.sent ≡ c.keep_room.new.history.room.sent = ap (λ z. z.sent) c.begin.ensures.room in
-    let sent : length p.fields.outbox.items ≤ c.begin.new.self.room.sent = omega (arith, room, c.keep_room.ensures.wider.sent, c.self-2.invariant.sent) in
-    let done = has_rested p r 1 c.find_next-next.result c.begin.new.self [] c.self-2.invariant next c.if-next-reading.false rises turns sent c.raised_to-reading.type_inv in
+    let turns : c.keep_quiet.new.history.turns ≡ kept_with p.history.turns (fresh r) = c.in_ok-keep_quiet.ensures.turns in
+    let sent : length p.fields.outbox.items ≤ c.keep_quiet.new.history.room.sent = omega (arith, c.in_ok-keep_quiet.ensures.sent, c.self-2.invariant.sent) in
+    let done = has_rested p r 1 c.find_next-next.result c.keep_quiet.new.history [] c.self-2.invariant next c.if-next-reading.false rises turns sent c.raised_to-reading.type_inv in
     let no_fault : p.fault ≡ None = ap (λ (v : PlatformView). v.fault) same ∙ c.requires.no_fault in
-    subst (λ (fault : Option TurnFault). IsPlatform (after p (record p.fields { reading = Some r }) c.begin.new.self p.lists fault p.next)) (sym no_fault)
-    (is_again p r 1 [] [] (record p.fields { reading = Some r }) c.begin.new.self p.lists None p.next [] [] c.self-2.invariant no_fault done c.self-2.invariant.next)
+    subst (λ (fault : Option TurnFault). IsPlatform (after p (record p.fields { reading = Some r }) c.keep_quiet.new.history p.lists fault p.next)) (sym no_fault)
+    (is_again p r 1 [] [] (record p.fields { reading = Some r }) c.keep_quiet.new.history p.lists None p.next [] [] c.self-2.invariant no_fault done c.self-2.invariant.next)
 
 pub returns-clause-rested : goal.returns-clause-rested
 returns-clause-rested c = λ yes.
@@ -38,17 +37,16 @@ returns-clause-rested c = λ yes.
     let same : view_of p ≡ c.args.self.now = c.self-2.view_is ∙ c.find_next-next.ensures.same in
     let next : IsNextReading (platform_graph p) p.number (state_at (view_of p)) c.find_next-next.result = subst (λ (v : PlatformView). IsNextReading v.plan.graph v.number (state_at v) c.find_next-next.result) (sym same) c.find_next-next.ensures.next in
     let rises : (q : ℕ) → p.fields.reading ≡ Some q → q ≤ r = λ q is. subst (λ n. q ≤ n) (sym c.raised_to-reading.ensures) (raised_rises p.fields.reading c.args.reading q is) in
-    let turns : c.begin.new.self.turns ≡ kept_with p.history.turns (fresh r) = c.begin.ensures.turns ∙ ap (λ (ts : List Turn). kept_with ts (fresh r)) c.keep_room.ensures.wider.turns in
-    let room : c.begin.new.self.room.sent ≡ c.keep_room.new.history.room.sent = ap (λ z. z.sent) c.begin.ensures.room in
-    let sent : length p.fields.outbox.items ≤ c.begin.new.self.room.sent = omega (arith, room, c.keep_room.ensures.wider.sent, c.self-2.invariant.sent) in
-    let done : (most : ℕ) → IsDone p r most [] [] (record p.fields { reading = Some r }) c.begin.new.self p.lists None [] [] = λ most. has_rested p r most c.find_next-next.result c.begin.new.self [] c.self-2.invariant next c.if-next-reading.false rises turns sent c.raised_to-reading.type_inv in
-    let turned = λ (most : ℕ). is_turned p r c.args.reading most [] [] (record p.fields { reading = Some r }) c.begin.new.self p.lists None [] [] c.raised_to-reading.ensures (done most) in
+    let turns : c.keep_quiet.new.history.turns ≡ kept_with p.history.turns (fresh r) = c.in_ok-keep_quiet.ensures.turns in
+    let sent : length p.fields.outbox.items ≤ c.keep_quiet.new.history.room.sent = omega (arith, c.in_ok-keep_quiet.ensures.sent, c.self-2.invariant.sent) in
+    let done : (most : ℕ) → IsDone p r most [] [] (record p.fields { reading = Some r }) c.keep_quiet.new.history p.lists None [] [] = λ most. has_rested p r most c.find_next-next.result c.keep_quiet.new.history [] c.self-2.invariant next c.if-next-reading.false rises turns sent c.raised_to-reading.type_inv in
+    let turned = λ (most : ℕ). is_turned p r c.args.reading most [] [] (record p.fields { reading = Some r }) c.keep_quiet.new.history p.lists None [] [] c.raised_to-reading.ensures (done most) in
     let len : length c.self.inside.fields.outbox.items ≡ 0 = eqb-true (length c.self.inside.fields.outbox.items) 0 (sym c.is_empty.ensures ∙ c.if-not-is_empty.false) in
     let empty : c.self.inside.fields.outbox.items ≡ [] = no_members c.self.inside.fields.outbox.items len in
     let outbox : p.fields.outbox.items ≡ [] = ap (λ (v : PlatformView). v.outbox) (same ∙ sym c.self.view_is) ∙ empty in
     let no_fault : p.fault ≡ None = ap (λ (v : PlatformView). v.fault) same ∙ c.requires.no_fault in
-    subst (λ (fault : Option TurnFault). HasRested c.args.self.now (view_of (after p (record p.fields { reading = Some r }) c.begin.new.self p.lists fault None)) c.args.reading) (sym no_fault)
-    (subst (λ (v : PlatformView). HasRested v (view_of (after p (record p.fields { reading = Some r }) c.begin.new.self p.lists None None)) c.args.reading) same (record {
+    subst (λ (fault : Option TurnFault). HasRested c.args.self.now (view_of (after p (record p.fields { reading = Some r }) c.keep_quiet.new.history p.lists fault None)) c.args.reading) (sym no_fault)
+    (subst (λ (v : PlatformView). HasRested v (view_of (after p (record p.fields { reading = Some r }) c.keep_quiet.new.history p.lists None None)) c.args.reading) same (record {
       made = λ most. (turned most).0;
       idle = λ most. sym (turned most).1;
       stays = (turned 1).2;

@@ -5,7 +5,7 @@ use Rattle.pt_semantics.specs.Meaning.{added}
 use Rattle.pt_semantics.specs.Rows.{TimesRise}
 use Rattle.pt_queue.specs.Events.{waiting_in}
 use Rattle.pt_state.specs.Sensors.{at_sensor, seen_at}
-use Rattle.pt_enter.proofs.entering.enter_due.Given as goal
+use Rattle.pt_enter.proofs.entering.enter_seen.Given as goal
 
 abbrev pub invariant-loop-index : goal.invariant-loop-index
 invariant-loop-index l = record {
