@@ -3,9 +3,10 @@
 # each definition and each clause.
 #
 # Of the text it reads what is in backticks and the targets of links. A file is looked up from the top, from the
-# document's folder, in crates/ and in each crate; `crate::path::name` has to be declared in that crate's src/; in "`NAME` in
-# `FILE.antt`" the file has to have the name; in "clauses `A` and `B` of `crate::name`", and in a table with the head
-# `Crate | Function | Clause`, the crate has to have a clause of each name. The last line is `N passed, M failed`.
+# document's folder, in crates/ and in each crate; `crate::path::name` has to be declared in that crate's src/; in "clauses `A` and
+# `B` of `crate::name`", and in a table with the head `Crate | Function | Clause`, the crate has to have a clause of each name.
+# tools/check-names.py looks up the definitions, and checks that no two crates define one name. docs/ARCHITECTURE.md has a row for each
+# crate, and README.md and docs/TRUST.md name each library that the program is built with. The last line is `N passed, M failed`.
 # The back-quotes in the patterns are letters that are looked for.
 # shellcheck disable=SC2016
 set -u
@@ -21,7 +22,7 @@ judge() { # document, what it cites, whether that is there
         passed=$((passed + 1))
     else
         failed=$((failed + 1))
-        echo "failed: $1 cites $2, which isn't there"
+        echo "failed: $1: $2 isn't there"
     fi
 }
 
@@ -55,25 +56,9 @@ is_clause() { # crates, name
     return 1
 }
 
-# Whether a file of definitions, whose path may be cut short, has the name.
-has_definition() { # file, name
-    local files
-    mapfile -t files < <(compgen -G "$1"; compgen -G "crates/$1"; compgen -G "crates/*/$1"; compgen -G "crates/*/specs/$1")
-    [ ${#files[@]} -gt 0 ] && grep -qw -- "$2" "${files[@]}"
-}
-
 # The names in backticks of a text, one a line.
 quoted() {
     grep -oE '`[^`]+`' | tr -d '`'
-}
-
-check_definitions() { # document, its prose in one line
-    local found name file
-    while IFS= read -r found; do
-        { read -r name; read -r file; } < <(quoted <<<"$found")
-        has_definition "$file" "$name"
-        judge "$1" "$name in $file" $?
-    done < <(grep -oE '`[A-Za-z_]+` in `[A-Za-z_/]+\.antt`' <<<"$2" | sort -u)
 }
 
 check_clauses() { # document, its prose in one line
@@ -152,11 +137,25 @@ for document in ./*.md docs/*.md bench/*.md examples/README.md examples/*/README
         judge "$document" "$target#$anchor" $?
     done < <(grep -oE '\]\([^)]*#[^)]+' <<<"$prose" | sed 's/^](//' | grep -v '^http' | sort -u)
     line=$(tr -s '\n ' ' ' <<<"$prose")
-    check_definitions "$document" "$line"
     check_clauses "$document" "$line"
     check_tables_of_clauses "$document"
 done
+while IFS= read -r crate; do
+    grep -qF -- "| \`$crate\` |" docs/ARCHITECTURE.md
+    judge docs/ARCHITECTURE.md "a row for $crate" $?
+done <<<"$crates"
+while IFS= read -r library; do
+    for document in README.md docs/TRUST.md; do
+        grep -qF -- "\`$library\`" "$document"
+        judge "$document" "the library $library" $?
+    done
+done < <(sed 's/#.*//; s/^[^:]*://' crates.txt | tr -s ' ' '\n' | grep . | sort -u | grep -vxF -- "$crates")
 tools/count-definitions.py --check
-judge docs/PROOF-TOUR.md 'how many definitions have to be believed' $?
+judge docs/PROOF-TOUR.md 'the right count of definitions' $?
+found=$(tools/check-names.py)
+grep -v ' passed, ' <<<"$found"
+read -r more _ less _ <<<"${found##*$'\n'}"
+passed=$((passed + more))
+failed=$((failed + less))
 echo "$passed passed, $failed failed"
 [ "$failed" -eq 0 ]

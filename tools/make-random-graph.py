@@ -19,6 +19,8 @@ BLOCKS = ["least", "greatest", "clip100", "dead5", "mean"]
 INPUTS = {"sensor": 0, "receive": 0, "every": 0, "add": 2, "sub": 2, "latch": 2, "block": 2}
 MIDDLE = ["scale", "shift", "add", "sub", "above", "merge", "delay", "count", "sum", "latch", "machine", "block", "lanes", "every"]
 GREATEST = 2**63 - 1
+# The greatest time that a file can state.
+MOST = 10**15
 
 
 class Graph:
@@ -247,12 +249,43 @@ def write(graph, folder):
             file.writelines(",".join(map(str, row)) + end for row in rows)
 
 
-def make(seed, folder, version=None):
-    """Writes the graph of a seed. If it is asked for version 1 the graph is of that version, unless it has too many actors for it."""
+def stretch(graph, factor):
+    """Makes all times of a graph greater by a factor."""
+    graph.until, graph.clock_error = graph.until * factor, graph.clock_error * factor
+    graph.pairs = {ends: error * factor for ends, error in graph.pairs.items()}
+    for link in graph.links:
+        link["delay"] *= factor
+    for actor in graph.actors:
+        actor.update((member, min(actor[member] * factor, MOST)) for member in ("bound", "slack", "d", "period") if member in actor)
+        if actor["kind"] == "every":
+            actor["start"] *= factor
+    for rows in graph.rows.values():
+        rows[:] = [[time * factor, seen * factor, value] for time, seen, value in rows]
+
+
+def make_far(graph, pick):
+    """Gives a graph greater times, or some delays that lead past the horizon, or a platform on which nothing is."""
+    if len(graph.platforms) < 16 and pick.random() < 0.2:
+        graph.platforms.insert(pick.randint(0, len(graph.platforms)), "void")
+    if pick.random() < 0.6:
+        stretch(graph, pick.choice([7, 10**4, 10**9, 10**10]))
+    for actor in graph.actors:
+        if actor["kind"] == "delay" and pick.random() < 0.2:
+            actor["d"] = pick.choice([graph.until, graph.until + 1, MOST])
+
+
+def make(seed, folder, version=None, far=False):
+    """Writes the graph of a seed. If it is asked for version 1 the graph is of that version, unless it has too many actors for it. If it
+    is asked to be far its times go up to the greatest ones that a file can state."""
     graph = Graph(random.Random(seed))
     graph.version = version or graph.version
     build(graph)
+    if far:
+        make_far(graph, random.Random(seed))
     set_slacks(graph)
+    if far and any(actor.get(member, 0) > MOST for actor in graph.actors for member in ("slack", "d")):
+        make(seed, folder, version)
+        return
     if graph.pick.random() < 1 / 16:
         make_a_row_late(graph)
     write(graph, folder)

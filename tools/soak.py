@@ -1,7 +1,8 @@
-"""Called by soak.sh, whose head says what it does: soak.py SECONDS PROGRAM FOLDER SEED."""
+"""Called by soak.sh, whose head says what it does: soak.py SECONDS PROGRAM FOLDER SEED JOBS."""
 import collections
-import importlib.util
+import itertools
 import json
+import multiprocessing
 import os
 import random
 import re
@@ -14,329 +15,235 @@ import time
 
 sys.path.insert(0, os.path.join(os.path.dirname(os.path.abspath(__file__)), "tests"))
 import airs  # noqa: E402
+from judges import Difference, Program, expect  # noqa: E402
+from margins import MOST, Numbers, random_graph  # noqa: E402
 
-MOST_SECONDS = 300
 WORKERS = [1, 2, 3, 4, 5, 7, 8, 16, 33, 64]
-LINES = {1: "usage: .*", 2: "graph: .*", 3: "sensor .*", 6: r"long \w+", 7: "read fault: .*", 8: "write fault", 9: "memory"}
+SECONDS_BETWEEN_SUMMARIES = 300
+# A run by the machine's clock takes as long as its horizon.
+LONGEST_BY_MACHINE = 3000
+MOST_VISITS = 3000
 
 
-class Difference(Exception):
-    """What differs, in one line."""
+class Cases:
+    """All cases of one graph. Each method raises the first difference that it finds."""
 
+    def __init__(self, program, clocks, pick):
+        self.program, self.graph, self.clocks, self.pick = program, program.graph, clocks, pick
+        self.counts = collections.Counter()
+        # What was written under each clock, whatever the number of workers.
+        self.answers = {}
 
-class Result:
-    """How a command ended, and what it wrote."""
+    def all(self):
+        """The cases, in the order in which they are tried."""
+        return [self.margins, self.meaning, self.texts, self.runs, self.slacks, self.too_little_slack, self.empty_file, self.replays]
 
-    def __init__(self, program, folder, words):
-        self.words = words
-        try:
-            done = subprocess.run([program, *words], cwd=folder, stdin=subprocess.DEVNULL, capture_output=True, timeout=MOST_SECONDS)
-        except subprocess.TimeoutExpired:
-            raise Difference(f"it takes more than {MOST_SECONDS} seconds") from None
-        self.status, self.output, self.notes = done.returncode, done.stdout.decode(), done.stderr.decode()
-        self.ending = (self.status, self.notes)
+    def last(self):
+        """A time by which all is over: the horizon and the greatest offset."""
+        return self.graph["until"] + max([0, *self.program.offsets.values()])
 
-    def tables_and_log(self):
-        tables, mark, log = self.output.partition("\nlog\n")
-        return (tables + "\n", log) if mark else (self.output, None)
+    def margins(self):
+        expect("check", (0, self.program.numbers.margins(), ""), self.program.call("check", "graph.json"))
 
+    def meaning(self):
+        self.counts["meanings"] += self.program.meaning.status == 0 and self.program.firings is not None
 
-class Program:
-    """The lawful graph of a folder, with its rows and its meaning."""
+    def texts(self):
+        """The graph as a file of version 2 is what Python's `json` writes, says the same of itself, and is the same graph."""
+        text = json.dumps({"clock_errors": [], **self.graph, "ptides": 2}, sort_keys=True, separators=(",", ":")) + "\n"
+        for file in ("graph.json", "migrated.json"):
+            expect("migrate", (0, text, ""), self.program.call("migrate", file))
+            self.program.write("migrated.json", text)
+        log = ["--log"] * (self.pick.random() < 0.5)
+        run = self.program.call("run", "graph.json", *log)
+        expect("the run of the text", run.whole, self.program.call("run", "migrated.json", *log))
 
-    def __init__(self, program, folder):
-        self.program, self.folder = program, folder
-        with open(os.path.join(folder, "graph.json"), encoding="ascii") as file:
-            self.graph = json.load(file)
-        self.actors = {actor["name"]: actor for actor in self.graph["actors"]}
-        self.errors = {frozenset(entry[:2]): entry[2] for entry in self.graph.get("clock_errors", [])}
-        self.bounds = {link["to"]: self.bound(link) for link in self.graph["links"]}
-        self.network = airs.Network(self.graph)
-        self.late_row = self.first_late_row()
-        margins = self.call("check", "graph.json")
-        if margins.ending != (0, ""):
-            raise Difference(f"check ends with {margins.status}: {margins.notes.strip()}")
-        lines = (line.split(",") for line in margins.output.splitlines()[1:])
-        self.offsets = {name: int(offset) for name, offset, _ in lines if offset != "-"}
-        self.meaning = self.call("meaning", "graph.json")
-        if self.meaning.ending not in ((0, ""), (6, "long meaning\n")):
-            raise Difference(f"meaning ends with {self.meaning.status}: {self.meaning.notes.strip()}")
+    def clocks_and_steps(self):
+        """Clocks, each with how often a graph runs under it. Steps are small or great beside the horizon."""
+        for clock in self.clocks:
+            if clock.startswith("step:"):
+                for _ in range(2):
+                    least = self.last() // MOST_VISITS + 1
+                    step = self.pick.choice([least, least, 5 * least, self.pick.randint(1, 300) * least, self.last() + 1])
+                    yield f"step:{self.pick.choice([0, 0, 1, step, self.pick.randint(0, self.last())])}:{min(step, MOST)}", 2
+            elif clock == "paced":
+                yield clock, 3
+            elif self.last() <= LONGEST_BY_MACHINE:
+                yield clock, 2
 
-    def call(self, *words):
-        return Result(self.program, self.folder, words)
+    def runs(self):
+        """Each run is right; its log is lawful; under other clocks than that of the machine the number of workers changes nothing."""
+        for clock, times in self.clocks_and_steps():
+            for workers in self.pick.sample(WORKERS, times):
+                log = self.pick.random() < 0.6
+                result = self.program.call("run", "graph.json", "--workers", str(workers), "--clock", clock, *["--log"] * log)
+                self.counts["runs"] += 1
+                self.counts["late messages"] += self.program.judge(result, clock)
+                self.same((clock, log), result)
+                self.audit(result)
 
-    def bound(self, link):
-        ends = frozenset(self.actors[link[end]]["platform"] for end in ("from", "to"))
-        return self.actors[link["from"]]["slack"] + link["delay"] + self.errors.get(ends, self.graph["clock_error"])
+    def same(self, key, result):
+        clock, log = key
+        if clock != "machine":
+            for what, found in ((clock, result.ending), ((clock, log), result.output)):
+                if self.answers.setdefault(what, found) != found:
+                    raise Difference("another text or status than with another number of workers")
 
-    def first_late_row(self):
-        """The line of the first row that is late, in the order of the graph; None if no row is."""
-        for actor in self.graph["actors"]:
-            if actor["kind"] == "sensor":
-                with open(os.path.join(self.folder, actor["file"]), encoding="ascii") as file:
-                    rows = [list(map(int, line.split(","))) for line in file.read().split("\n")[1:] if line.strip()]
-                for number, (row, seen, _) in enumerate(rows, 1):
-                    if row <= self.graph["until"] and seen > row + actor["bound"]:
-                        return f"late {actor['name']} row {number}, seen {seen} past {row + actor['bound']}\n"
-        return None
+    def audit(self, result):
+        """Of a graph with a late row each file is refused for that row."""
+        if "--log" in result.words and result.status in (0, 5):
+            self.program.judge_by_audit(result, self.pick)
+            self.counts["lawful logs"] += 1
+        elif self.program.late_row and not self.counts["refused audits"]:
+            expect("audit", (4, "", self.program.late_row), self.program.call("audit", "graph.json", "graph.json"))
+            self.counts["refused audits"] += 1
 
-    def judge(self, result, clock):
-        """Raises a difference if the run isn't right. Gives whether a message was late."""
-        if (result.status == 4 and result.notes == self.late_row) != (self.late_row is not None):
-            raise Difference(f"status {result.status}, {result.notes.strip() or 'no notes'}; first late row: {self.late_row}")
-        if result.status in (0, 5):
-            self.judge_tables(result)
-            self.judge_misses(result)
-            return False
-        if result.output:
-            raise Difference(f"output at status {result.status}")
-        if result.status == 4 and self.late_row is None:
-            self.judge_late_message(result.notes)
-            if clock == "paced":
-                raise Difference(f"{result.notes.strip()} under the paced clock")
-            return True
-        if result.status not in (4, 6) or (result.status == 6 and not re.fullmatch(LINES[6] + "\n", result.notes)):
-            raise Difference(f"status {result.status}, {result.notes.strip() or 'no notes'}")
-        if result.status == 6 and self.meaning.status != 6 and "lanes" not in (actor["kind"] for actor in self.graph["actors"]):
-            raise Difference(f"{result.notes.strip()}, and meaning ends with {self.meaning.status}")
-        return False
+    def slacks(self):
+        """The least slacks are those of the documents. With them the graph can run and nothing is missed, and the slacks are the same."""
+        slacks = self.program.numbers.least_slacks()
+        text = "actor,slack\n" + "".join(f"{name},{slack}\n" for name, slack in slacks.items())
+        expect("slacks", (0, text, ""), self.program.call("slacks", "graph.json"))
+        if max([0, *slacks.values()]) > MOST:
+            return
+        graph = self.with_slacks("slacked.json", slacks)
+        expect("check with the least slacks", (0, Numbers(graph).margins(), ""), self.program.call("check", "slacked.json"))
+        expect("slacks once more", (0, text, ""), self.program.call("slacks", "slacked.json"))
+        run = self.program.call("run", "slacked.json")
+        if self.program.late_row:
+            expect("run with the least slacks", (4, "", self.program.late_row), run)
+        elif run.status != 6 and self.program.meaning.status != 6:
+            expect("run with the least slacks", (0, self.program.meaning.output, ""), run)
+        self.counts["slacks"] += 1
 
-    def judge_tables(self, result):
-        tables, log = result.tables_and_log()
-        if self.meaning.status == 0 and tables != self.meaning.output:
-            raise Difference("the tables are not those of the meaning")
-        if (log is not None) != ("--log" in result.words):
-            raise Difference("a log that wasn't asked for, or none")
-        if log is not None and "".join(self.misses_of(log)) != result.notes:
-            raise Difference("the lines of what was missed are not those that follow from the log")
+    def with_slacks(self, file, slacks):
+        """Writes a file with these slacks."""
+        graph = {**self.graph, "actors": [{**actor, "slack": slacks[actor["name"]]} if actor["name"] in slacks else actor for actor in self.graph["actors"]]}
+        self.program.write(file, json.dumps(graph))
+        return graph
 
-    def judge_by_audit(self, result, pick):
-        """Raises a difference if the audit doesn't find the log lawful, or still does with a line less."""
-        lines = result.output.splitlines(keepends=True)
-        place = pick.randrange(len(lines))
-        shorter = lines[:place] + lines[place + 1:]
-        for text, wanted in (result.output, (0, "lawful\n")), ("".join(shorter), (10, "")):
-            with open(os.path.join(self.folder, "log"), "w", encoding="ascii") as file:
-                file.write(text)
-            found = self.call("audit", "graph.json", "log")
-            # A quiet turn less is often as lawful.
-            if (found.status, found.output) != wanted and not (wanted[0] == 10 and lines[place].startswith("turn,") and found.status == 0):
-                raise Difference(f"audit ends with {found.status}: {found.output.strip()}{found.notes.strip()}")
+    def too_little_slack(self):
+        """With one less than the least slack of a sender the graph is refused, at the first sender that can't send."""
+        slacks = self.program.numbers.least_slacks()
+        some = [name for name in self.program.numbers.senders if 0 < slacks[name] <= MOST]
+        if some and max(slacks.values()) <= MOST:
+            slacks[self.pick.choice(some)] -= 1
+            self.with_slacks("less.json", slacks)
+            line = self.program.numbers.infeasible(slacks)
+            for words in (["check", "less.json"], ["run", "less.json"]):
+                expect("too little slack", (2, "", line), self.program.call(*words))
 
-    def misses_of(self, log):
-        """The lines of what was missed by a log. Raises a difference if a unit is claimed before its offset is over."""
-        reading, claims = 0, {}
-        for line in log.splitlines():
-            word, *rest = line.split(",")
-            if word == "turn":
-                platform, reading = rest[0], int(rest[2])
-            elif word == "claim":
-                number, name, row, step = rest
-                claims[platform, number] = name, int(row), step
-                offset = self.offsets.get(name)
-                # The offset of lanes is the greatest of their cells.
-                if offset is not None and self.actors[name]["kind"] != "lanes" and reading <= int(row) + offset:
-                    raise Difference(f"{name} is claimed at {row}.{step} too early, at reading {reading}")
-            elif word == "post":
-                name, row, step = claims.pop((platform, rest[0]))
-                if self.actors[name]["kind"] == "actuator":
-                    yield from self.miss(name, row, step, reading)
-            elif word == "sent" and rest[1] != "end":
-                yield from self.miss(rest[0], int(rest[1]), rest[2], reading)
-        if claims:
-            raise Difference("a claim is never posted")
+    def empty_file(self):
+        """A file of a sensor that is empty is refused, unless a row of an earlier sensor is late."""
+        sensors = [actor for actor in self.graph["actors"] if actor["kind"] == "sensor"]
+        if not sensors or self.pick.random() < 0.7:
+            return
+        chosen = self.pick.randrange(len(sensors))
+        actors = [{**actor, "file": "empty.csv"} if actor is sensors[chosen] else actor for actor in self.graph["actors"]]
+        self.program.write("empty.csv", "")
+        self.program.write("empty.json", json.dumps({**self.graph, "actors": actors}))
+        header = (3, "", f"sensor {sensors[chosen]['name']}: header\n")
+        lines = [line for line in map(self.program.late_row_of, sensors[:chosen]) if line]
+        expect("an empty file", (4, "", lines[0]) if lines else header, self.program.call("run", "empty.json"))
+        expect("an empty file", header, self.program.call("meaning", "empty.json"))
 
-    def miss(self, name, row, step, reading):
-        limit = row + self.actors[name]["slack"]
-        if reading > limit:
-            yield f"missed {name} at {row}.{step}, reading {reading} past {limit}\n"
-
-    def judge_misses(self, result):
-        if (result.status == 5) != bool(result.notes):
-            raise Difference(f"status {result.status}, {result.notes.strip() or 'no notes'}")
-        events = {tuple(line.split(",")[:3]) for line in self.meaning.output.splitlines()}
-        for line in result.notes.splitlines():
-            found = re.fullmatch(r"missed (\w+) at (\d+)\.(\d+), reading (\d+) past (\d+)", line)
-            if not found or self.actors[found[1]]["kind"] not in ("actuator", "send"):
-                raise Difference(f"the line {line}")
-            reading, limit = int(found[4]), int(found[5])
-            if limit != int(found[2]) + self.actors[found[1]]["slack"] or reading <= limit:
-                raise Difference(f"the numbers of {line}")
-            if self.meaning.status == 0 and self.actors[found[1]]["kind"] == "actuator" and found.groups()[:3] not in events:
-                raise Difference(f"no event of the meaning: {line}")
-
-    def judge_replay(self, result, breach, run):
-        """Raises a difference if a replay isn't right, by the first row that is past a bound and a paced run. Gives whether a message was late.
-
-        Both are with a log or both without one.
-        """
-        if breach is None or self.late_row is not None:
-            if result.ending != run.ending:
-                raise Difference(f"status {result.status}, {result.notes.strip() or 'no notes'}; by run {run.status}, {run.notes.strip() or 'no notes'}")
-            (tables, log), (wanted, other) = result.tables_and_log(), run.tables_and_log()
-            if tables != wanted or self.claims_of(log) != self.claims_of(other):
-                raise Difference("the tables are not those of run" if tables != wanted else "the claims are not those of run")
-        if result.status == 4 and self.late_row is None:
-            if result.output:
-                raise Difference("output at status 4")
-            self.judge_late_message(result.notes, f", air row {breach}")
-            return True
-        return self.judge(result, "replay")
-
-    def claims_of(self, log):
-        """Each claim of a log with the reading at which it was made; none if there is no log."""
-        found, reading = collections.Counter(), ""
-        for line in (log or "").splitlines():
-            word, *rest = line.split(",")
-            reading = rest[2] if word == "turn" else reading
-            found.update([(reading, *rest[1:])] if word == "claim" else [])
-        return found
-
-    def judge_late_message(self, notes, end=""):
-        found = re.fullmatch(rf"late (\w+) at (\d+)\.(\d+), reading (\d+) past (\d+){end}\n", notes)
-        if not found or found[1] not in self.bounds:
-            raise Difference(f"status 4, {notes.strip() or 'no notes'}")
-        reading, limit = int(found[4]), int(found[5])
-        if limit != int(found[2]) + self.bounds[found[1]] or reading <= limit:
-            raise Difference(f"the numbers of {notes.strip()}")
+    def replays(self):
+        """Over random networks, within the bounds and past them, and by the head alone."""
+        if " | replay GRAPH " not in self.program.usage:
+            return
+        run = self.program.call("run", "graph.json", "--log")
+        within, past = airs.within(self.pick, self.program.network), [airs.past(self.pick, self.program.network) for _ in range(2)]
+        for rows in ([], within, *past):
+            with open(os.path.join(self.program.folder, "air.csv"), "wb") as file:
+                file.write(airs.spelled(rows, self.pick))
+            words, breach = ["replay", "graph.json", "air.csv", "--log"], self.program.network.breach(rows)
+            result = self.program.call(*words, "--workers", "1")
+            self.counts["replays"] += 1
+            self.counts["breaches"] += breach is not None
+            self.counts["late messages"] += self.program.judge_replay(result, breach, run)
+            expect("another number of workers", result.whole, self.program.call(*words, "--workers", str(self.pick.choice(WORKERS[1:]))))
+            self.audit(result)
 
 
 def usage_of(program):
     return subprocess.run([program], stdin=subprocess.DEVNULL, capture_output=True, check=False).stderr.decode()
 
 
-def clocks_of(program):
+def clocks_of(program, usage):
     """The clocks that the usage line names, as they are written there."""
-    line = usage_of(program)
-    found = re.search(r"--clock ([^\]]*)\]", line)
+    found = re.search(r"--clock ([^\]]*)\]", usage)
     if not found:
         sys.exit(f"{program} names no clock in its usage line")
     return found[1].split("|")
 
 
-def runs_of(clocks, pick):
-    """The words of the runs of one graph, by their clock."""
-    for clock in clocks:
-        if clock.startswith("step:"):
-            for _ in range(2):
-                start, step = pick.choice([0, 0, 1, 1000]), pick.choice([1, 3, 10, 100, 1000, 10**6])
-                for workers in pick.sample(WORKERS, 2):
-                    yield f"step:{start}:{step}", workers, pick.random() < 0.7
-        else:
-            for workers in pick.sample(WORKERS, 3 if clock == "paced" else 4):
-                yield clock, workers, pick.random() < 0.7
+def report(seed, program, what):
+    """Keeps the folder of a difference with all that is needed to see it again, and prints where."""
+    kept = tempfile.mkdtemp(prefix="ptides-soak-")
+    shutil.copytree(program.folder, kept, dirs_exist_ok=True)
+    words = " ".join(program.words)
+    with open(os.path.join(kept, "difference"), "w", encoding="utf-8") as file:
+        file.write(f"SEED={seed}\n{what}\n{program.program} {words}\n")
+    print(f"difference: SEED={seed}: {what}: {words} in {kept}", flush=True)
 
 
-class Soak:
-    """All graphs and runs, and what was counted of them."""
-
-    def __init__(self, program, folder):
-        self.program, self.folder = program, folder
-        self.clocks = clocks_of(program)
-        self.audits, self.replays = (f" | {command} GRAPH " in usage_of(program) for command in ("audit", "replay"))
-        self.graphs = self.runs = self.late_messages = self.audited = self.replayed = self.breaches = self.differences = 0
-        self.statuses = collections.Counter()
-
-    def report(self, seed, place, words, what):
-        self.differences += 1
-        kept = tempfile.mkdtemp(prefix="ptides-soak-")
-        shutil.copytree(place, kept, dirs_exist_ok=True)
-        with open(os.path.join(kept, "difference"), "w", encoding="utf-8") as file:
-            file.write(f"seed {seed}\n{what}\n{' '.join([self.program, *words])}\n")
-        print(f"difference: {what}: {' '.join(words)} in {kept}", flush=True)
-
-    def graph(self, seed, make, end):
-        """Makes the graph of a seed, and all its runs until the time is over."""
-        place, words, endings = os.path.join(self.folder, "graph"), ["check", "graph.json"], {}
-        shutil.rmtree(place, ignore_errors=True)
-        make(seed, place)
-        self.graphs += 1
+def graph(name, usage, seed, place):
+    """All cases of the graph of a seed. Gives what was counted."""
+    shutil.rmtree(place, ignore_errors=True)
+    random_graph.make(seed, place, far=seed % 4 == 0)
+    program = Program(name, place)
+    program.usage = usage
+    cases = Cases(program, clocks_of(name, usage), random.Random(seed))
+    for case in cases.all():
         try:
-            program = Program(self.program, place)
-        except Difference as what:
-            self.report(seed, place, words, what)
-            return
-        for clock, workers, log in runs_of(self.clocks, random.Random(seed)):
-            if time.monotonic() > end:
-                return
-            words = ["run", "graph.json", "--workers", str(workers), "--clock", clock] + ["--log"] * log
-            try:
-                self.one(program, words, clock, log, endings)
-            except Difference as what:
-                self.report(seed, place, words, what)
-        if self.replays:
-            self.replay(program, seed, end)
-
-    def replay(self, program, seed, end):
-        """Replays a graph over random networks, within the bounds and past them."""
-        pick, words = random.Random(seed), ["run", "graph.json", "--log"]
-        try:
-            run = program.call(*words)
-            for number in range(4):
-                if time.monotonic() > end:
-                    return
-                rows = (airs.past if number % 2 else airs.within)(pick, program.network)
-                with open(os.path.join(program.folder, "air.csv"), "wb") as file:
-                    file.write(airs.spelled(rows, pick))
-                words = ["replay", "graph.json", "air.csv", "--log"]
-                self.one_replay(program, words, program.network.breach(rows), run, pick)
-        except Difference as what:
-            self.report(seed, program.folder, words, what)
-
-    def one_replay(self, program, words, breach, run, pick):
-        result = program.call(*words, "--workers", "1")
-        other = program.call(*words, "--workers", str(pick.choice(WORKERS[1:])))
-        if (other.ending, other.output) != (result.ending, result.output):
-            raise Difference("another text or status than with another number of workers")
-        self.replayed += 1
-        self.breaches += breach is not None
-        self.late_messages += program.judge_replay(result, breach, run)
-        if self.audits and result.status in (0, 5):
-            program.judge_by_audit(result, random.Random(self.replayed))
-            self.audited += 1
-
-    def one(self, program, words, clock, log, endings):
-        result = program.call(*words)
-        self.runs += 1
-        self.statuses[result.status] += 1
-        self.late_messages += program.judge(result, clock)
-        if self.audits and log and result.status in (0, 5):
-            program.judge_by_audit(result, random.Random(self.runs))
-            self.audited += 1
-        if clock != "machine":
-            # Under the other clocks the number of workers changes nothing.
-            for key, found in (((clock,), result.ending), ((clock, log), result.output)):
-                if endings.setdefault(key, found) != found:
-                    raise Difference("another text or status than with another number of workers")
-
-    def summary(self):
-        statuses = ", ".join(f"{count} with {status}" for status, count in sorted(self.statuses.items()))
-        print(f"{self.graphs} graphs, {self.runs} runs under {' and '.join(self.clocks)}: {statuses or 'none ended'}; "
-              f"{self.replayed} replays, {self.breaches} of them past a bound; "
-              f"{self.late_messages} late messages, {self.audited} logs are lawful, {self.differences} differences")
+            case()
+        except (Difference, LookupError, ValueError) as what:
+            cases.counts["differences"] += 1
+            report(seed, program, what if isinstance(what, Difference) else f"what it writes can't be read: {what!r}")
+    statuses = {f"status {status}": count for status, count in program.statuses.items()}
+    return cases.counts + collections.Counter({"graphs": 1, "cases": program.calls, **statuses})
 
 
-def generator():
-    """The function `make` of make-random-graph.py."""
-    file = os.path.join(os.path.dirname(os.path.abspath(__file__)), "make-random-graph.py")
-    specification = importlib.util.spec_from_file_location("make_random_graph", file)
-    module = importlib.util.module_from_spec(specification)
-    specification.loader.exec_module(module)
-    return module.make
+def work(name, usage, folder, seeds, end, results):
+    """Tries the graphs of some seeds, one after the other, until the time is over."""
+    for seed in seeds:
+        if time.monotonic() > end:
+            break
+        results.put(graph(name, usage, seed, os.path.join(folder, "graph")))
+    results.put(None)
+
+
+def summary(clocks, counts):
+    statuses = ", ".join(f"{counts[word]} with {word[7:]}" for word in sorted(counts, key=lambda word: (len(word), word)) if word.startswith("status "))
+    print(f"{counts['graphs']} graphs, {counts['cases']} cases: {statuses or 'none ended'}; {counts['meanings']} meanings worked out, "
+          f"{counts['runs']} runs under {' and '.join(clocks)}, {counts['slacks']} with the least slacks, "
+          f"{counts['replays']} replays, {counts['breaches']} of them past a bound, "
+          f"{counts['late messages']} late messages, {counts['lawful logs']} logs are lawful, {counts['differences']} differences", flush=True)
 
 
 def main():
     # Nothing is left beside the scripts, and no run goes on if this is ended.
     sys.dont_write_bytecode = True
     signal.signal(signal.SIGTERM, lambda *_: sys.exit(143))
-    seconds, program, folder, seed = int(sys.argv[1]), sys.argv[2], sys.argv[3], int(sys.argv[4])
-    end = time.monotonic() + seconds
-    make, soak = generator(), Soak(program, folder)
-    while time.monotonic() < end:
-        soak.graph(seed, make, end)
-        seed += 1
-    soak.summary()
-    sys.exit(1 if soak.differences else 0)
+    seconds, program, folder, seed, jobs = int(sys.argv[1]), sys.argv[2], sys.argv[3], int(sys.argv[4]), int(sys.argv[5])
+    usage = usage_of(program)
+    clocks, counts = clocks_of(program, usage), collections.Counter()
+    begin = shown = time.monotonic()
+    results = multiprocessing.SimpleQueue()
+    for job in range(jobs):
+        place = os.path.join(folder, str(job))
+        seeds = itertools.count(seed + job, jobs)
+        multiprocessing.Process(target=work, args=(program, usage, place, seeds, begin + seconds, results), daemon=True).start()
+    try:
+        while jobs:
+            found = results.get()
+            jobs -= found is None
+            counts.update(found or {})
+            if time.monotonic() > shown + SECONDS_BETWEEN_SUMMARIES:
+                shown = time.monotonic()
+                summary(clocks, counts)
+    finally:
+        summary(clocks, counts)
+    sys.exit(1 if counts["differences"] else 0)
 
 
 if __name__ == "__main__":

@@ -10,10 +10,10 @@ import sys
 
 sys.path.insert(0, os.path.join(os.path.dirname(os.path.abspath(__file__)), "tests"))
 import airs  # noqa: E402
+import judges  # noqa: E402
 import testers  # noqa: E402
 from slow_logs import Cost, every, ring, write_graph  # noqa: E402
 
-soak = testers.module("soak")
 HEAD = b"what,name,value\n"
 MOST_TIME, MOST_MEMORY = 2.0, 2.0
 
@@ -38,7 +38,7 @@ class Case:
     """A graph in a folder with a paced run of it."""
 
     def __init__(self, tester, folder):
-        self.tester, self.program = tester, soak.Program(tester.program, folder)
+        self.tester, self.program = tester, judges.Program(tester.program, folder)
         self.folder, self.network = folder, self.program.network
         self.run = self.program.call("run", "graph.json", "--log")
 
@@ -52,13 +52,13 @@ class Case:
             one, many, plain = (self.program.call(*each) for each in ([*words, "1"], [*words, "64"], words[:3]))
             self.program.judge_replay(one, breach, self.run)
             if (many.ending, many.output) != (one.ending, one.output):
-                raise soak.Difference("another text or status by 64 workers")
+                raise judges.Difference("another text or status by 64 workers")
             if (plain.ending, plain.output) != (one.ending, one.tables_and_log()[0]):
-                raise soak.Difference("another text or status without --log")
+                raise judges.Difference("another text or status without --log")
             if one.status in (0, 5):
                 self.lawful(one.output)
             fault = None
-        except soak.Difference as difference:
+        except judges.Difference as difference:
             fault = str(difference)
         tester.expect(f"{what} in {self.folder}", None, fault, data)
         return one.status
@@ -69,7 +69,7 @@ class Case:
             file.write(log)
         found = self.program.call("audit", "graph.json", path)
         if (found.status, found.output) != (0, "lawful\n"):
-            raise soak.Difference(f"audit ends with {found.status}: {found.output.strip()}{found.notes.strip()}")
+            raise judges.Difference(f"audit ends with {found.status}: {found.output.strip()}{found.notes.strip()}")
 
 
 def cases(tester, seed, count):
