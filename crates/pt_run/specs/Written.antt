@@ -90,12 +90,6 @@ pub record IsRun (tells : Contents) (g : Graph) (workers : ℕ) (clock : ClockCh
   pub graph : plan.graph ≡ g
   pub finished : IsFinishedRun tells (clocking workers clock left) plan log left.platforms left.misses text
 
--- what `meaning` must write for this graph: the tables of its meaning, whatever the bounds of its sensors
-pub record IsMeant (tells : Contents) (g : Graph) (text : List ℕ) : Type 0 where
-  pub rows : ℕ → List Row
-  pub sensors : AreRows tells g rows
-  pub tables : IsTables g rows (FitOnAll g) text
-
 -- what `check` must write for this graph: each sender can send in time, and the text has the offset and margin of each actor
 pub record IsChecked (g : Graph) (text : List ℕ) : Type 0 where
   pub feasible : IsFeasible g
@@ -104,27 +98,3 @@ pub record IsChecked (g : Graph) (text : List ℕ) : Type 0 where
   pub offsets : (a : ℕ) → HasActorOffset g a (offset a)
   pub margins : (a : ℕ) → HasMargin g a (margin a)
   pub lines : text ≡ margins_text g offset margin
-
--- what a command must write for a graph without a free cycle, and what it leaves
-abbrev pub WritesText : Command → Contents → Graph → Leaves → List ℕ → Type 0
-WritesText (Run workers clock log) tells g left text = IsRun tells g workers clock log left text
-WritesText Check tells g left text = HasNothing left × IsChecked g text
-WritesText Meaning tells g left text = HasNothing left × IsMeant tells g text
-WritesText Slacks tells g left text = HasNothing left × IsSlacked g text
-
--- what a command must write for a graph, which has no free cycle, and what it leaves
-abbrev pub Writes : Command → Contents → Graph → Leaves → List ℕ → Type 0
-Writes command tells g left text = NoFreeCycle g × WritesText command tells g left text
-
--- what a command must write for the graph file with this name, and what it leaves
-abbrev pub WritesOver : Command → Contents → List Named → List ℕ → Leaves → List ℕ → Type 0
-WritesOver command tells blocks name left text = GraphWith tells blocks name (λ g. Writes command tells g left text)
-
--- the bytes written, if known, grew by such a text
-abbrev pub Wrote : Command → Contents → List Named → List ℕ → Leaves → Option (List ℕ) → Option (List ℕ) → Type 0
-Wrote command tells blocks name left before now = (text : List ℕ) × WritesOver command tells blocks name left text × Appends before now text
-
--- the bytes written, if known, grew by a prefix of such a text, and no misses are given
-abbrev pub WrotePart : Command → Contents → List Named → List ℕ → Leaves → Option (List ℕ) → Option (List ℕ) → Type 0
-WrotePart command tells blocks name left before now =
-    (left.misses ≡ []) × (misses : List Miss) × (text : List ℕ) × WritesOver command tells blocks name (record left { misses = misses }) text × AppendsPart before now text

@@ -26,14 +26,16 @@ use Rattle.pt_run.specs.declared.fault.Fault.{Fault}
 use Rattle.pt_run.specs.declared.fault.Fault.TheVariants as fault
 use Rattle.pt_run.specs.declared.words.Command.{Command}
 use Rattle.pt_run.specs.declared.words.Command.TheVariants.{Run, Check, Meaning, Slacks}
-use Rattle.pt_run.specs.Causes.{MeansLong, Writing}
+use Rattle.pt_run.specs.Causes.{Writing}
 use Rattle.pt_run.specs.Auditing.{Accepts, IsUnlawful, LastFails, OnLog}
 use Rattle.pt_air.specs.declared.fault.AirFault.{AirFault}
 use Rattle.pt_air.specs.AirOf.{air_of}
 use Rattle.pt_run.specs.Headline.{RunWith}
 use Rattle.pt_run.specs.Replaying.{OnAir}
 use Rattle.pt_run.specs.Words.{Order, over, make, migrate, audit, replay, paced_run}
+use Rattle.pt_run.specs.Complete.{OnPlatform}
 use Rattle.pt_run.specs.Written.{GraphWith, Leaves}
+use Rattle.pt_run.proofs.ByFault.{MeansLong}
 
 -- the words are a command on a graph file, `migrate`, `audit` and `replay` included, and a fact holds of the file's name
 abbrev pub OverFile : Option Order → (List ℕ → Type 0) → Type 0
@@ -84,10 +86,6 @@ IsAccepted command g = NoFreeCycle g × (AsksFeasible command → IsFeasible g)
 abbrev pub IsNotPaced : Command → Type 0
 IsNotPaced (Run workers clock log) = clock ≢ Paced
 IsNotPaced _ = ⊥
-
--- a fact holds of this platform of those that are left, which is one of this graph
-abbrev pub OnPlatform : Leaves → Graph → ℕ → (PlatformView → Type 0) → Type 0
-OnPlatform left g platform Fact = (v : PlatformView) × (slice_get left.platforms platform ≡ Some v) × (v.plan.graph ≡ g) × Fact v
 
 -- a command that reads the sensors' files: `run`, which refuses late rows, or `meaning`, which accepts them
 abbrev pub OfRows : Command → (LateRows → Type 0) → Type 0
