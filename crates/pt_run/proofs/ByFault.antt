@@ -1,5 +1,5 @@
 -- How a call ends, by its fault: what the stages of `IsDue` come to for each fault (`DueEnds`).
-use Rattle.std.specs.Prelude.{◌≡◌, ◌⊎◌, ℕ, Bool, true, false, List, [], ◌∷◌, Option, Some, None, Ok, Err, IfSome}
+use Rattle.std.specs.Prelude.{◌≡◌, ℕ, Bool, true, false, List, [], ◌∷◌, Option, Some, None, Err, IfSome}
 use Rattle.pt_io.specs.Causes.{Appends, AppendsPart, Rose}
 use Rattle.pt_types.specs.declared.graph.Graph.{Graph}
 use Rattle.pt_types.specs.declared.rows.Row.{Row}

@@ -1,6 +1,6 @@
 -- The table of causes: for each answer, why it came. The order matters: of a graph, an answer further down has none of the
 -- causes before it.
-use Rattle.std.specs.Prelude.{◌≡◌, ◌≢◌, ◌↔◌, ℕ, ℤ, List, [], ◌∷◌, Option, Some, None, Err, IfSome, flat_map, slice_get}
+use Rattle.std.specs.Prelude.{◌≡◌, ◌≢◌, ◌↔◌, ℕ, ℤ, List, [], ◌∷◌, Option, Some, None, Err, IfSome, flat_map}
 use Rattle.pt_io.specs.Causes.{Rose}
 use Rattle.pt_types.specs.declared.graph.Graph.{Graph}
 use Rattle.pt_audit.specs.declared.verdict.Verdict.{Verdict}
@@ -19,7 +19,7 @@ use Rattle.pt_sensors.specs.declared.recorded_fault.LateRows.TheVariants.{Refuse
 use Rattle.pt_sensors.specs.Asked.{Contents, ReadFails, Reading}
 use Rattle.pt_sensors.specs.Recorded.{SensorFails, SensorLate, SensorUnread}
 use Rattle.pt_tags.specs.declared.tag.Tag.{Tag}
-use Rattle.pt_turn.specs.Platforms.{PlatformView, state_at}
+use Rattle.pt_turn.specs.Platforms.{state_at}
 use Rattle.pt_turn.specs.Running.{ShowsLate, ShowsLong}
 use Rattle.pt_words.specs.declared.orders.ClockChoice.TheVariants.{Paced}
 use Rattle.pt_run.specs.declared.fault.Fault.{Fault}

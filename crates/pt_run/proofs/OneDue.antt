@@ -1,5 +1,5 @@
 -- Two answers that are due to one order over known files.
-use Rattle.std.proofs.Common.{◌≡◌, ◌⊎◌, ◌∙◌, ℕ, ℤ, Bool, true, false, List, [], ◌∷◌, Option, Some, None, Result, Ok, Err, IfSome, refl, sym, ap, subst, inl, inr, ⊎_elim}
+use Rattle.std.proofs.Common.{◌≡◌, ◌⊎◌, ◌∙◌, ℕ, ℤ, Bool, true, false, List, [], ◌∷◌, Option, Some, None, Result, Ok, Err, IfSome, refl, sym, subst, inl, inr, ⊎_elim}
 use Rattle.pt_types.specs.declared.graph.Graph.{Graph}
 use Rattle.pt_types.specs.declared.rows.Row.{Row}
 use Rattle.pt_blocks.specs.Blocks.{AreBlocks}
@@ -16,14 +16,11 @@ use Rattle.pt_causality.specs.Ranked.{IsFreeCycle}
 use Rattle.pt_offsets.specs.Margins.{IsFirstInfeasible}
 use Rattle.pt_offsets.specs.Plans.{IsAdmitted, Parts}
 use Rattle.pt_sensors.specs.declared.fault.RowFault.{RowFault}
-use Rattle.pt_sensors.specs.declared.recorded_fault.LateRows.{LateRows}
 use Rattle.pt_sensors.specs.declared.recorded_fault.LateRows.TheVariants.{Refused, Taken}
 use Rattle.pt_sensors.specs.Asked.{Contents}
 use Rattle.pt_sensors.specs.Places.{of_run}
 use Rattle.pt_sensors.specs.Recorded.{AllPass, AreRows, SensorFails, SensorLate}
-use Rattle.pt_air.specs.declared.fault.AirFault.{AirFault}
 use Rattle.pt_air.specs.AirOf.{air_of}
-use Rattle.pt_audit.specs.declared.verdict.Verdict.{Verdict}
 use Rattle.pt_words.specs.declared.orders.ClockChoice.{ClockChoice}
 use Rattle.pt_words.specs.declared.orders.ClockChoice.TheVariants.{Paced}
 use Rattle.pt_run.specs.declared.fault.Fault.{Fault}
@@ -32,21 +29,19 @@ use Rattle.pt_run.specs.declared.words.Command.{Command}
 use Rattle.pt_run.specs.declared.words.Command.TheVariants.{Run, Check, Meaning, Slacks}
 use Rattle.pt_run.specs.Agreeing.{TellsAll}
 use Rattle.pt_run.specs.Auditing.{Accepts, IsUnlawful, lawful_line}
-use Rattle.pt_run.specs.Causes.{IsTooLongForAll}
 use Rattle.pt_run.proofs.CauseFields.{AsksFeasible, OfRows}
-use Rattle.pt_run.specs.Complete.{CanBegin}
-use Rattle.pt_run.specs.Due.{AfterAdmission, AfterCycles, AfterFile, AfterOffsets, AfterRows, Answer, HasReplayedBy, HasRunBy, IsAudited, IsDue, IsDueFor, IsDueTo, IsJudgedBy, IsMeantBy, IsReplayed, IsReplayedBy, IsSlackedBy, OnlyPuts, UnlessMemory}
+use Rattle.pt_run.specs.Due.{AfterAdmission, AfterCycles, AfterFile, AfterOffsets, AfterRows, Answer, HasRunBy, IsAudited, IsDue, IsDueFor, IsDueTo, IsJudgedBy, IsMeantBy, IsReplayed, IsReplayedBy, IsSlackedBy, OnlyPuts, UnlessMemory}
 use Rattle.pt_run.specs.Exact.{GraphKnown, IsAlike, IsCutShort, IsDecided, IsExact, IsKnown, RowsKnown}
 use Rattle.pt_run.specs.Making.{IsMadeRun}
 use Rattle.pt_run.specs.Migrating.{IsMigrated}
 use Rattle.pt_run.specs.Replaying.{has_replayed}
 use Rattle.pt_run.specs.RunsAgreeing.{TellsSensors}
-use Rattle.pt_run.specs.Words.{Order, over, make, migrate, audit, replay, paced_run, refused_as}
+use Rattle.pt_run.specs.Words.{Order, over, make, migrate, audit, replay, refused_as}
 use Rattle.pt_run.specs.Written.{FitOnAll, IsChecked, IsTables, has_run}
-use Rattle.pt_run.proofs.ByCause.{CanAudit, CanReadAir, ComesByCause, Defines, ReadsRows, WantsAir, WantsGraph, WantsLog, WantsMemory, WantsRows}
+use Rattle.pt_run.proofs.ByCause.{CanAudit, ComesByCause, Defines, ReadsRows, WantsAir, WantsGraph, WantsLog, WantsRows}
 use Rattle.pt_run.proofs.CallsAgreeing.{of_bytes}
 use Rattle.pt_run.proofs.Complete.{ok_err, same_ok, too_late}
-use Rattle.pt_run.proofs.OneCause.{fails_all, fails_rows, meant_long}
+use Rattle.pt_run.proofs.OneCause.{fails_rows, meant_long}
 use Rattle.pt_run.proofs.Stages.{by_admission, by_cycles, by_file, by_offsets, by_puts, by_rows, not_true, with_fault}
 
 -- a call that was cut short

@@ -32,7 +32,7 @@ use Rattle.pt_run.specs.declared.words.Command.TheVariants.{Run}
 use Rattle.pt_run.specs.Due.{AfterAdmission, Answer, IsDueFor, RefusedWith, UnlessMemory}
 use Rattle.pt_run.specs.Faults.{fault_of_plan, fault_of_rows}
 use Rattle.pt_run.specs.Headline.{LeavesRun, PutsMeaning, stop_of}
-use Rattle.pt_run.specs.Written.{Leaves, clocking, has_run, leaves_nothing}
+use Rattle.pt_run.specs.Written.{Leaves, clocking, has_run}
 use Rattle.pt_run.specs.Causes.{Writing}
 use Rattle.pt_run.specs.Texts.{HasEnded, IsStopped, IsUnplanned, LeftAll, WroteRun, left_with, left_by_run}
 use Rattle.pt_run.proofs.Ending.{has_nothing}

@@ -1,6 +1,5 @@
 -- How `audit` ends, and which files it asks for.
-use Rattle.std.specs.Prelude.{◌≡◌, ◌⊎◌, ◌++◌, ℕ, Bool, true, false, List, [], ◌∷◌, Option, Some, None, Result, Ok, Err, IfSome, codes}
-use Rattle.pt_io.specs.Causes.{Appends, AppendsPart, Rose}
+use Rattle.std.specs.Prelude.{◌≡◌, ◌⊎◌, ◌++◌, ℕ, List, [], ◌∷◌, Option, Some, None, IfSome, codes}
 use Rattle.pt_types.specs.declared.graph.Graph.{Graph}
 use Rattle.pt_types.specs.declared.rows.Row.{Row}
 use Rattle.pt_blocks.specs.declared.blocks.Named.{Named}
@@ -14,13 +13,10 @@ use Rattle.pt_audit.specs.declared.verdict.Verdict.{Verdict}
 use Rattle.pt_audit.specs.declared.verdict.Verdict.TheVariants.{Fine, Table}
 use Rattle.pt_run.specs.declared.fault.Fault.{Fault}
 use Rattle.pt_run.specs.declared.fault.Fault.TheVariants as fault
-use Rattle.pt_run.specs.declared.outcome.Ending.{Ending}
-use Rattle.pt_run.specs.Causes.{Writing}
-use Rattle.pt_run.specs.Headline.{RunWith}
 use Rattle.pt_run.specs.Runs.{RunOver}
-use Rattle.pt_run.specs.Texts.{AsksFor, AsksInOrder, OrMemory, PutBy, left_by}
+use Rattle.pt_run.specs.Texts.{AsksFor, AsksInOrder}
 use Rattle.pt_run.specs.Words.{paced_run}
-use Rattle.pt_run.specs.Written.{GraphWith, HasNothing, Leaves, leaves_nothing}
+use Rattle.pt_run.specs.Written.{GraphWith}
 
 -- the line `lawful`
 abbrev pub lawful_line : List ℕ

@@ -1,28 +1,13 @@
 -- The cause of each fault.
-use Rattle.std.specs.Prelude.{◌≡◌, ◌*◌, ℕ, List, [], ◌∷◌, length, Option, Some, None, IfSome, Err}
-use Rattle.pt_io.specs.Causes.{Rose}
+use Rattle.std.specs.Prelude.{◌≡◌, ◌*◌, ℕ, List, [], length, Option, None, IfSome, Err}
 use Rattle.pt_types.specs.declared.graph.Graph.{Graph}
 use Rattle.pt_types.specs.declared.rows.Row.{Row}
 use Rattle.pt_blocks.specs.declared.blocks.Named.{Named}
 use Rattle.pt_graph.specs.GraphOf.{graph_of}
-use Rattle.pt_semantics.specs.Cycles.{NoFreeCycle}
-use Rattle.pt_semantics.specs.Offsets.{IsFeasible}
-use Rattle.pt_offsets.specs.Plans.{Parts}
-use Rattle.pt_causality.specs.Ranked.{IsFreeCycle}
-use Rattle.pt_offsets.specs.Margins.{IsFirstInfeasible}
-use Rattle.pt_slacks.specs.Rings.{IsRing}
-use Rattle.pt_sensors.specs.declared.recorded_fault.LateRows.TheVariants.{Refused, Taken}
 use Rattle.pt_sensors.specs.Asked.{Contents, ReadFails, Reading}
-use Rattle.pt_sensors.specs.Recorded.{AreRows, SensorFails, SensorLate, SensorUnread}
-use Rattle.pt_turn.specs.declared.fault.TurnFault.{TurnFault}
-use Rattle.pt_turn.specs.declared.fault.TurnFault.TheVariants as turn
-use Rattle.pt_words.specs.declared.orders.ClockChoice.{ClockChoice}
-use Rattle.pt_run.specs.Runs.{HasRun}
 use Rattle.pt_run.specs.declared.fault.Fault.{Fault}
 use Rattle.pt_run.specs.declared.fault.Fault.TheVariants as fault
-use Rattle.pt_run.specs.declared.words.Command.{Command}
-use Rattle.pt_run.specs.declared.words.Command.TheVariants.{Run, Check, Meaning, Slacks}
-use Rattle.pt_run.specs.Written.{GraphWith, HasNothing, IsTooLong, Leaves, clocking}
+use Rattle.pt_run.specs.Written.{IsTooLong}
 use Rattle.pt_types.specs.Limits.{most_claims}
 
 -- why the graph file with this name gave no graph

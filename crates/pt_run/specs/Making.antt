@@ -1,6 +1,5 @@
 -- How a run of a made input ends, and how any call ends.
 use Rattle.std.specs.Prelude.{◌≡◌, ℕ, List, [], ◌∷◌, Option, None, Some, flat_map, length}
-use Rattle.pt_io.specs.Causes.{Appends, AppendsPart, Rose}
 use Rattle.pt_blocks.specs.declared.blocks.Named.{Named}
 use Rattle.pt_history.specs.declared.miss.Miss.{Miss}
 use Rattle.pt_semantics.specs.Meaning.{ActorFiring, IsMeaning}
@@ -14,11 +13,9 @@ use Rattle.pt_rounds.specs.HaveRun.{HaveRun}
 use Rattle.pt_made.specs.Input.{made_graph, made_rows}
 use Rattle.pt_made.specs.Summary.{summary}
 use Rattle.pt_run.specs.declared.fault.Fault.{Fault}
-use Rattle.pt_run.specs.declared.fault.Fault.TheVariants as fault
 use Rattle.pt_run.specs.Causes.{Writing}
 use Rattle.pt_run.specs.Auditing.{AsksAudit}
 use Rattle.pt_run.specs.Replaying.{AsksReplay}
-use Rattle.pt_run.specs.Written.{HasNothing, Leaves}
 use Rattle.pt_run.specs.Telling.{Tells, TellsBy}
 use Rattle.pt_run.specs.Texts.{AsksBy}
 use Rattle.pt_run.specs.Words.{Order, over, make, migrate, audit, replay, paced_run}

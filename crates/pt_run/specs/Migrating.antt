@@ -1,16 +1,10 @@
 -- How `migrate` ends.
-use Rattle.std.specs.Prelude.{◌≡◌, ◌≤◌, ◌++◌, ℕ, List, [], ◌∷◌, Option, Some, None, Ok, length}
-use Rattle.pt_io.specs.Causes.{Appends, AppendsPart, Rose}
+use Rattle.std.specs.Prelude.{◌≡◌, ◌≤◌, ◌++◌, ℕ, List, [], ◌∷◌, Ok, length}
 use Rattle.pt_types.specs.declared.graph.Graph.{Graph}
 use Rattle.pt_types.specs.Limits.{most_graph_bytes}
 use Rattle.pt_blocks.specs.declared.blocks.Named.{Named}
 use Rattle.pt_graph.specs.GraphOf.{graph_of}
 use Rattle.pt_graph_writer.specs.Text.{graph_text}
-use Rattle.pt_sensors.specs.Asked.{Contents, Reading}
-use Rattle.pt_run.specs.declared.fault.Fault.{Fault}
-use Rattle.pt_run.specs.declared.fault.Fault.TheVariants as fault
-use Rattle.pt_run.specs.Causes.{CauseOfGraph, Writing}
-use Rattle.pt_run.specs.Written.{GraphWith, HasNothing, Leaves}
 
 -- some file defines the graph
 abbrev pub IsDefined : List Named → Graph → Type 0

@@ -1,11 +1,9 @@
 -- What a command must write.
 use Rattle.std.specs.Prelude.{◌≡◌, ◌≤◌, ◌*◌, [], ℕ, ℤ, Bool, true, false, List, length, Option, None, Some, Ok, IfSome}
-use Rattle.pt_io.specs.Causes.{Appends, AppendsPart}
 use Rattle.pt_types.specs.declared.graph.Graph.{Graph}
 use Rattle.pt_types.specs.declared.rows.Row.{Row}
 use Rattle.pt_blocks.specs.declared.blocks.Named.{Named}
 use Rattle.pt_graph.specs.GraphOf.{graph_of}
-use Rattle.pt_semantics.specs.Cycles.{NoFreeCycle}
 use Rattle.pt_semantics.specs.Ranks.{AreRanks}
 use Rattle.pt_semantics.specs.Meaning.{ActorFiring, IsMeaning, IsLonger}
 use Rattle.pt_semantics.specs.Tables.{tables_text}
@@ -14,19 +12,15 @@ use Rattle.pt_history.specs.declared.miss.Miss.{Miss}
 use Rattle.pt_turn.specs.Platforms.{PlatformView}
 use Rattle.pt_offsets.specs.Plans.{Parts}
 use Rattle.pt_offsets.specs.Margins.{HasActorOffset, HasMargin}
-use Rattle.pt_slacks.specs.Text.{IsSlacked}
 use Rattle.pt_tables.specs.Margins.{margins_text}
 use Rattle.pt_sensors.specs.Asked.{Contents}
 use Rattle.pt_sensors.specs.Places.{of_run}
-use Rattle.pt_sensors.specs.Recorded.{AreRows}
 use Rattle.pt_io.specs.Told.{ClockView}
 use Rattle.pt_words.specs.declared.orders.ClockChoice.{ClockChoice}
 use Rattle.pt_run.specs.Readings.{Clocking}
 use Rattle.pt_run.specs.Runs.{IsFinishedRun}
 use Rattle.pt_run.specs.declared.fault.Fault.{Fault}
 use Rattle.pt_run.specs.declared.fault.Fault.TheVariants as fault
-use Rattle.pt_run.specs.declared.words.Command.{Command}
-use Rattle.pt_run.specs.declared.words.Command.TheVariants.{Run, Check, Meaning, Slacks}
 use Rattle.pt_types.specs.Limits.{most_claims}
 
 -- the graph file with this name, if its content is known, defines a graph, and a fact holds of that graph

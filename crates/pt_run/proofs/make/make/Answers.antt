@@ -1,4 +1,4 @@
-use Rattle.std.proofs.Common.{rules, ◌≡◌, ◌∙◌, ap, List, ℕ}
+use Rattle.std.proofs.Common.{rules, ◌∙◌, ap, List, ℕ}
 use Rattle.std.specs.Prelude.{string_bytes}
 use Rattle.pt_io.specs.Causes.{AppendsPart, Rose}
 use Rattle.pt_run.specs.Causes.{Writing}
