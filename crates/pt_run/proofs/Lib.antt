@@ -44,3 +44,4 @@ pub mod CallsAgreeing
 pub mod ReplaysAgreeing
 pub mod Stages
 pub mod DueEnds
+pub mod OfDue
