@@ -32,7 +32,7 @@ over_graph tells g h workers others log left other text written same files a b =
     (texts.0, texts.1, (left_agree tells c d a.plan b.plan left.platforms other.platforms None None refl refl graphs told a.finished.run b.finished.run).0)
 
 pub runs_agree : RunsAgree
-runs_agree workers others log tells blocks name left other text written all (g, read, (free, run)) (h, read2, (free2, run2)) =
+runs_agree workers others log tells blocks name left other text written all (g, read, run) (h, read2, run2) =
     let one = defined blocks (tells name) all.bytes g all.told read in
     let two = defined blocks (tells name) all.bytes h all.told read2 in
     over_graph tells g h workers others log left other text written (same_ok g h (sym one ∙ two)) (all.files g one) run run2

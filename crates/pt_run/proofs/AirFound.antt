@@ -9,13 +9,13 @@ use Rattle.pt_air.specs.declared.fault.AirFault.{AirFault}
 use Rattle.pt_air.specs.AirOf.{air_of}
 use Rattle.pt_run.specs.declared.fault.Fault.{Fault}
 use Rattle.pt_run.specs.declared.fault.Fault.TheVariants as fault
-use Rattle.pt_run.specs.Auditing.{is_before_last}
-use Rattle.pt_run.specs.Causes.{IsCause, Writing}
-use Rattle.pt_run.specs.Exact.{CanReadAir, WantsAir}
+use Rattle.pt_run.specs.Causes.{Writing}
+use Rattle.pt_run.proofs.ByCause.{CanReadAir, WantsAir}
 use Rattle.pt_run.specs.Headline.{RunWith}
-use Rattle.pt_run.specs.Replaying.{EndsReplay, LeavesReplay, OnAir}
+use Rattle.pt_run.specs.Replaying.{LeavesReplay, OnAir}
 use Rattle.pt_run.specs.Words.{Order, paced_run}
 use Rattle.pt_run.specs.Written.{Leaves}
+use Rattle.pt_run.proofs.ByFault.{EndsReplay, IsCause, is_before_last}
 use Rattle.pt_run.proofs.Auditing.{not_before}
 use Rattle.pt_run.proofs.Begun.{only_unread}
 use Rattle.pt_run.proofs.Complete.{agrees, ok_err, this_graph}

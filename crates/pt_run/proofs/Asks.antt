@@ -1,10 +1,12 @@
 -- What a source was asked for.
-use Rattle.std.proofs.Common.{◌≡◌, ◌≢◌, ◌⊎◌, ℕ, Bool, true, false, if◌then◌else◌, List, [], ◌∷◌, Option, Some, None, Result, Ok, Err, IfErr, IfSome, refl, sym, ap, subst, ◌∙◌, inl, inr, ⊎_elim}
+use Rattle.std.proofs.Common.{◌≡◌, ◌≢◌, ◌⊎◌, ℕ, Bool, true, false, if◌then◌else◌, List, [], ◌∷◌, Option, Some, None, Result, Ok, Err, IfSome, refl, sym, ap, subst, ◌∙◌, inl, inr, ⊎_elim}
 use Rattle.std.specs.Prelude.{String, string_bytes}
 use Rattle.std.specs.declared.alloc.Global.{Global}
 use Rattle.pt_types.specs.declared.graph.Graph.{Graph}
+use Rattle.pt_types.specs.declared.rows.Row.{Row}
 use Rattle.pt_blocks.specs.declared.blocks.Named.{Named}
 use Rattle.pt_graph.specs.GraphOf.{graph_of}
+use Rattle.pt_sensors.specs.declared.recorded_fault.LateRows.TheVariants.{Taken}
 use Rattle.pt_sensors.specs.declared.recorded_fault.RecordedFault.{RecordedFault}
 use Rattle.pt_sensors.specs.declared.recorded_fault.RecordedFault.TheVariants as rows
 use Rattle.pt_sensors.specs.Asked.{Asks, AsksFiles, AsksOrNot, Contents, Reading, files_before}
@@ -19,14 +21,15 @@ use Rattle.pt_run.specs.declared.outcome.Ending.{Ending}
 use Rattle.pt_run.specs.declared.words.Command.{Command}
 use Rattle.pt_run.specs.declared.words.Command.TheVariants.{Run, Check, Meaning, Slacks}
 use Rattle.pt_run.specs.Causes.{CauseOfGraph, Writing}
+use Rattle.pt_run.specs.Due.{AfterRows, AnswersAsDue, Answer, IsMeantBy, UnlessMemory}
 use Rattle.pt_run.specs.Faults.{fault_of_rows}
 use Rattle.pt_run.specs.Making.{AsksOf}
-use Rattle.pt_run.specs.Texts.{Answers, AsksAfterGraph, AsksFor, AsksInOrder, EndsOver, HasEnded, MeaningFails, PutBy, fault_in, files_for, is_refused}
+use Rattle.pt_run.specs.Texts.{AsksAfterGraph, AsksFor, AsksInOrder, PutsOrTells, HasEnded, PutBy, fault_in, files_for, is_refused}
 use Rattle.pt_run.specs.Auditing.{AsksAudit}
 use Rattle.pt_run.specs.Replaying.{AsksReplay}
 use Rattle.pt_run.specs.Words.{Order, audit, make, migrate, over, replay}
-use Rattle.pt_run.specs.Written.{Leaves}
-use Rattle.pt_run.proofs.Ending.{never}
+use Rattle.pt_run.specs.Written.{FitOnAll, IsTables, leaves_nothing}
+use Rattle.pt_run.proofs.Stages.{IsPastFile, by_puts, by_rows}
 
 -- nothing was asked for
 pub asks_nothing : (c : Command) (outcome : Option Fault) (g : Graph) (before now : Option (List (List ℕ))) → now ≡ before → AsksFor c outcome g before now
@@ -73,32 +76,27 @@ pub run_asks : (ran : Result Ran RunFault) (o : Ending) (w : Writing) (workers :
     AsksFor (Run workers clock log) o.fault g before now
 run_asks ran o w workers clock log g plan_graph before now same h files = not_refused o.fault g before now (begun ran o w h) (subst (λ z. AsksFiles z before now) same files)
 
--- `meaning` reads the files of a graph without a cycle that takes no time
-pub meaning_asks : (tells : Contents) (g : Graph) (r : Reading) (made : Result (String Global) Fault) (before now : Option (List (List ℕ))) → IfErr made (λ f. MeaningFails f tells g r) → AsksFiles g before now → AsksFor Meaning (fault_in made) g before now
-meaning_asks tells g r made before now fails files = not_refused (fault_in made) g before now (of made fails) files
-  where
-    by_fault : (f : Fault) → MeaningFails f tells g r → is_refused (Some f) ≡ false
-    by_fault fault.Usage h = refl
-    by_fault (fault.Graph e) h = refl
-    by_fault (fault.Cycle actors) h = absurd h
-    by_fault (fault.Infeasible send offset slack) h = absurd h
-    by_fault (fault.Ring sends gain) h = absurd h
-    by_fault fault.ReadLog h = absurd h
-    by_fault (fault.Unlawful v) h = absurd h
-    by_fault (fault.LateAir platform actor tag reading limit row) h = absurd h
-    by_fault (fault.Air e) h = absurd h
-    by_fault fault.ReadAir h = absurd h
-    by_fault (fault.Sensor actor e) h = refl
-    by_fault (fault.LateRow actor row seen limit) h = refl
-    by_fault (fault.LateMessage platform actor tag reading limit) h = refl
-    by_fault (fault.Long platform) h = refl
-    by_fault (fault.Read sensor) h = refl
-    by_fault fault.Write h = refl
-    by_fault fault.Memory h = refl
+-- a meaning whose rows were read is not refused before
+module _ (f : Fault) (r : Reading) (tells : Contents) (g : Graph) where
+  abbrev refused : Answer
+  refused = record { fault = Some f; left = leaves_nothing; read = r; wrote = record { before = 0; now = 0; written_before = None; written_now = None } }
 
-    of : (m : Result (String Global) Fault) → IfErr m (λ f. MeaningFails f tells g r) → is_refused (fault_in m) ≡ false
+  rows_read : UnlessMemory refused (λ a. AfterRows Taken tells g [] a (λ rows. IsMeantBy g rows a)) → is_refused (Some f) ≡ false
+  rows_read (inl out) = ap is_refused out.0
+  rows_read (inr k) =
+      by_rows tells refused (λ o. is_refused o ≡ false) Taken g [] (λ rows. IsMeantBy g rows refused) k (λ actor out is. refl) (λ actor e out is. refl) (λ actor row seen limit out is late. refl) (λ rows are pass h. last rows h)
+    where
+      last : (rows : ℕ → List Row) → IsMeantBy g rows refused → is_refused (Some f) ≡ false
+      last rows (inl h) = ap is_refused h.0.0
+      last rows (inr h) = by_puts tells refused (λ o. is_refused o ≡ false) (IsTables g rows (FitOnAll g)) h.1 (λ text is all. refl) (λ rose text is part. refl)
+
+-- `meaning` reads the files of a graph without a cycle that takes no time
+pub meaning_asks : (tells : Contents) (g : Graph) (r : Reading) (made : Result (String Global) Fault) (before now : Option (List (List ℕ))) → AnswersAsDue string_bytes made r (λ a. AfterRows Taken tells g [] a (λ rows. IsMeantBy g rows a)) → AsksFiles g before now → AsksFor Meaning (fault_in made) g before now
+meaning_asks tells g r made before now due files = not_refused (fault_in made) g before now (of made due) files
+  where
+    of : (m : Result (String Global) Fault) → AnswersAsDue string_bytes m r (λ a. AfterRows Taken tells g [] a (λ rows. IsMeantBy g rows a)) → is_refused (fault_in m) ≡ false
     of (Ok text) h = refl
-    of (Err f) h = by_fault f h
+    of (Err f) h = rows_read f r tells g (h (refused f r tells g) refl (refl, (refl, refl), refl))
 
 -- a run asks for the same files by any clock
 pub whatever_clock : (command : Command) (workers : ℕ) (clock other : ClockChoice) (log : Bool) (outcome : Option Fault) (g : Graph) (before now : Option (List (List ℕ))) → command ≡ Run workers clock log → AsksFor (Run workers other log) outcome g before now → AsksFor command outcome g before now
@@ -120,7 +118,7 @@ memory_asks Meaning f g before now (n, h) = by_bool (is_refused (Some f)) h
     by_bool false asks = (n, asks)
 
 -- an answer asks for no file while it is given
-pub answer_asks : (c : Command) (made : Result (String Global) Fault) (o : Ending) (w : Writing) (g : Graph) (before now : Option (List (List ℕ))) → Answers made o w → AsksFor c (fault_in made) g before now → AsksFor c o.fault g before now
+pub answer_asks : (c : Command) (made : Result (String Global) Fault) (o : Ending) (w : Writing) (g : Graph) (before now : Option (List (List ℕ))) → PutsOrTells string_bytes made o w → AsksFor c (fault_in made) g before now → AsksFor c o.fault g before now
 answer_asks c (Ok text) o w g before now h asks = by_outcome o.fault h.1
   where
     wrote : (d : Command) → AsksFor d None g before now → AsksFor d (Some fault.Write) g before now
@@ -139,33 +137,15 @@ answer_asks c (Err f) o w g before now h asks =
     h.1
 
 -- what was asked for in all, where a command over a graph asked for files of its sensors
-pub asked_in_order : (c : Command) (outcome : Option Fault) (left : Leaves) (tells told : Contents) (blocks : List Named) (name : List ℕ) (g : Graph) (r : Reading) (w : Writing) (first asked now : Option (List (List ℕ))) → IfSome (tells name) (λ bytes. graph_of blocks bytes ≡ Ok g)
-    → EndsOver outcome left c told g r w → Asks first asked (name ∷ []) → AsksFor c outcome g asked now → AsksInOrder outcome c tells blocks name first now
-asked_in_order c outcome left tells told blocks name g r w first asked now read ends graph files = by_outcome outcome ends (g, read, (files.0, asks_more first asked now (name ∷ []) (files_for c outcome g files.0) graph files.1))
+pub asked_in_order : (c : Command) (outcome : Option Fault) (tells : Contents) (blocks : List Named) (name : List ℕ) (g : Graph) (first asked now : Option (List (List ℕ))) → IfSome (tells name) (λ bytes. graph_of blocks bytes ≡ Ok g) → IsPastFile outcome → Asks first asked (name ∷ []) →
+    AsksFor c outcome g asked now → AsksInOrder outcome c tells blocks name first now
+asked_in_order c outcome tells blocks name g first asked now read past graph files = by_outcome outcome past (g, read, (files.0, asks_more first asked now (name ∷ []) (files_for c outcome g files.0) graph files.1))
   where
-    by_fault : (f : Fault) → EndsOver (Some f) left c told g r w → AsksAfterGraph (Some f) c tells blocks name first now → AsksInOrder (Some f) c tells blocks name first now
-    by_fault (fault.Graph e) h all = absurd ((never c left told g r).1 e h.0.1)
-    by_fault (fault.Read None) h all = absurd ((never c left told g r).2 h.0.1)
-    by_fault fault.Memory h all = inr (inr all)
-    by_fault fault.Usage h all = all
-    by_fault (fault.Cycle actors) h all = all
-    by_fault (fault.Infeasible send offset slack) h all = all
-    by_fault (fault.Ring sends gain) h all = all
-    by_fault fault.ReadLog h all = all
-    by_fault (fault.Unlawful v) h all = all
-    by_fault (fault.LateAir platform actor tag reading limit row) h all = all
-    by_fault (fault.Air e) h all = all
-    by_fault fault.ReadAir h all = all
-    by_fault (fault.Sensor actor e) h all = all
-    by_fault (fault.LateRow actor row seen limit) h all = all
-    by_fault (fault.LateMessage platform actor tag reading limit) h all = all
-    by_fault (fault.Long platform) h all = all
-    by_fault (fault.Read (Some actor)) h all = all
-    by_fault fault.Write h all = all
-
-    by_outcome : (o : Option Fault) → EndsOver o left c told g r w → AsksAfterGraph o c tells blocks name first now → AsksInOrder o c tells blocks name first now
-    by_outcome None h all = all
-    by_outcome (Some f) h all = by_fault f h all
+    by_outcome : (o : Option Fault) → IsPastFile o → AsksAfterGraph o c tells blocks name first now → AsksInOrder o c tells blocks name first now
+    by_outcome (Some (fault.Graph f)) past all = absurd past
+    by_outcome (Some (fault.Read None)) past all = absurd past
+    by_outcome (Some fault.Memory) past all = inr (inr all)
+    by_outcome o past all = all
 
 -- and where there was no graph
 pub asked_for_graph : (c : Command) (outcome : Option Fault) (f told : Fault) (tells : Contents) (blocks : List Named) (name : List ℕ) (r : Reading) (first now : Option (List (List ℕ))) → outcome ≡ Some told → (told ≡ f) ⊎ (told ≡ fault.Memory) →

@@ -16,13 +16,14 @@ use Rattle.pt_audit.specs.LawfulLogs.{IsLawfulLog}
 use Rattle.pt_audit.specs.declared.verdict.Verdict.{Verdict}
 use Rattle.pt_run.specs.declared.fault.Fault.{Fault}
 use Rattle.pt_run.specs.declared.fault.Fault.TheVariants as fault
-use Rattle.pt_run.specs.Auditing.{Accepts, EndsAudit, IsUnlawful, OnLog, Refuses}
+use Rattle.pt_run.specs.Auditing.{Accepts, IsUnlawful, OnLog, Refuses}
 use Rattle.pt_run.specs.Causes.{Writing}
 use Rattle.pt_run.specs.Complete.{CanBegin}
-use Rattle.pt_run.specs.Exact.{CanAudit, WantsLog}
+use Rattle.pt_run.proofs.ByCause.{CanAudit, WantsLog}
 use Rattle.pt_run.specs.Headline.{RunWith}
 use Rattle.pt_run.specs.Words.{Order}
 use Rattle.pt_run.specs.Written.{Leaves}
+use Rattle.pt_run.proofs.ByFault.{EndsAudit}
 use Rattle.pt_run.proofs.Auditing.{not_before}
 use Rattle.pt_run.proofs.Complete.{agrees, ok_err, same_ok, too_late}
 use Rattle.pt_run.proofs.OneCause.{fails_all, late_all}

@@ -5,10 +5,6 @@ use Rattle.pt_types.specs.declared.graph.Graph.{Graph}
 use Rattle.pt_types.specs.declared.rows.Row.{Row}
 use Rattle.pt_blocks.specs.declared.blocks.Named.{Named}
 use Rattle.pt_graph.specs.GraphOf.{graph_of}
-use Rattle.pt_history.specs.declared.miss.Miss.{Miss}
-use Rattle.pt_semantics.specs.Cycles.{NoFreeCycle}
-use Rattle.pt_semantics.specs.Offsets.{IsFeasible}
-use Rattle.pt_offsets.specs.Faults.{CauseOfPlan}
 use Rattle.pt_offsets.specs.declared.fault.PlanFault.{PlanFault}
 use Rattle.pt_offsets.specs.declared.fault.PlanFault.TheVariants as plan
 use Rattle.pt_offsets.specs.Plans.{IsAdmitted, Parts}
@@ -17,150 +13,46 @@ use Rattle.pt_sensors.specs.declared.recorded_fault.RecordedFault.TheVariants as
 use Rattle.pt_sensors.specs.declared.recorded_fault.LateRows.TheVariants.{Refused}
 use Rattle.pt_sensors.specs.Asked.{Asks, AsksFiles, AsksOrNot, Contents, ReadFails, Reading, files_before}
 use Rattle.pt_sensors.specs.Places.{of_run}
-use Rattle.pt_sensors.specs.Recorded.{AllPass, AreRows, CauseOfRows, SensorFails, SensorLate, SensorUnread}
+use Rattle.pt_sensors.specs.Recorded.{AllPass, AreRows, CauseOfRows, SensorUnread}
 use Rattle.pt_sensors.proofs.Asking.{append_none, asks_more, read_after}
 use Rattle.pt_run.specs.declared.fault.Fault.{Fault}
 use Rattle.pt_run.specs.declared.fault.Fault.TheVariants as fault
 use Rattle.pt_run.specs.declared.outcome.Ending.{Ending}
-use Rattle.pt_run.specs.Auditing.{Accepts, AnswersAudit, AsksAudit, AsksJudged, AsksLast, AsksToLast, CauseOfRefusal, EndsAudit, EndsJudged, IsUnlawful, LastFails, OnLog, PlanWith, lawful_line}
+use Rattle.pt_run.specs.Auditing.{Accepts, AsksAudit, AsksJudged, AsksLast, AsksToLast, CauseOfRefusal, LastFails, OnLog, lawful_line}
 use Rattle.pt_run.specs.Causes.{CauseOfGraph, Writing}
+use Rattle.pt_run.specs.Due.{AfterRows, Answer, AnswersAsDue, IsAudited, IsJudgedBy, UnlessMemory, WithPlan}
 use Rattle.pt_run.specs.Faults.{fault_of_plan, fault_of_rows}
-use Rattle.pt_run.specs.Headline.{RunWith}
 use Rattle.pt_run.specs.Runs.{RunOver}
-use Rattle.pt_run.specs.Telling.{Tells, TellsBy}
-use Rattle.pt_run.specs.Texts.{AsksFor, AsksInOrder, IsUnplanned, PutBy, fault_in, files_for, left_by}
+use Rattle.pt_run.specs.Texts.{AsksFor, AsksInOrder, PutsOrTells, IsUnplanned, PutBy, fault_in, files_for, left_by}
 use Rattle.pt_run.specs.Words.{paced_run}
-use Rattle.pt_run.specs.Written.{HasNothing, Leaves, leaves_nothing}
 use Rattle.pt_run.proofs.Asks.{asked_for_graph, asked_in_order, asks_nothing, memory_asks}
-use Rattle.pt_run.proofs.Ending.{ends_file}
-use Rattle.pt_run.proofs.Told.{of_none, told_file}
+use Rattle.pt_run.proofs.Ending.{given_due}
+use Rattle.pt_run.proofs.Stages.{IsPastFile}
 
 pub not_before : false ≡ true → ⊥
 not_before e = cc
 
 -- the graph was read from the file of this name
-module _ (name log : List ℕ) (left : Leaves) (tells : Contents) (blocks : List Named) (g : Graph) (first asked now : Option (List (List ℕ))) (start before last : ℕ) (w : Writing) (read : IfSome (tells name) (λ bytes. graph_of blocks bytes ≡ Ok g)) (asks : Asks first asked (name ∷ [])) where
-  abbrev inner : Reading
-  inner = record { asked_before = asked; asked_now = now; before = before; now = last }
-
-  abbrev outer : Reading
-  outer = record { asked_before = first; asked_now = now; before = start; now = last }
-
-  over_file : (Fact Other : Parts → (ℕ → List Row) → Type 0) → ((p : Parts) (rows : ℕ → List Row) → Fact p rows → Other p rows) → PlanWith tells g Fact → RunWith tells blocks name Other
-  over_file Fact Other to h = record {
-    plan = h.plan;
-    file = subst (λ (z : Graph). IfSome (tells name) (λ bytes. graph_of blocks bytes ≡ Ok z)) (sym h.graph) read;
-    over = record { admitted = h.over.admitted; rows = h.over.rows; sensors = h.over.sensors; in_time = h.over.in_time; went = to h.plan (of_run h.plan.graph h.over.rows) h.over.went };
-  }
-
-  same_over : (Fact : Parts → (ℕ → List Row) → Type 0) → PlanWith tells g Fact → RunWith tells blocks name Fact
-  same_over Fact h = over_file Fact Fact (λ p rows k. k) h
-
-  pub ends_audit : start ≤ before → (o : Option Fault) → EndsJudged o left log tells g inner w → EndsAudit o left name log tells blocks outer w
-  ends_audit grew o h = by_outcome o h
-    where
-      log_fails : (p : Graph) → LastFails p [] log inner → LastFails p (name ∷ []) log outer
-      log_fails p (n, failed) = (n, read_after (name ∷ []) (files_before p n) log first asked now start before last asks grew failed)
-
-      by_outcome : (o : Option Fault) → EndsJudged o left log tells g inner w → EndsAudit o left name log tells blocks outer w
-      by_outcome None k = (k.0, same_over (OnLog tells log Accepts) k.1, k.2)
-      by_outcome (Some fault.Write) k = (k.0, same_over (OnLog tells log Accepts) k.1, k.2, k.3)
-      by_outcome (Some (fault.Unlawful v)) k = (k.0, same_over (OnLog tells log (λ p rows bytes. IsUnlawful p rows bytes v)) k.1, k.2)
-      by_outcome (Some fault.ReadLog) k = (k.0, over_file (λ p rows. LastFails p.graph [] log inner) (λ p rows. LastFails p.graph (name ∷ []) log outer) (λ p rows failed. log_fails p.graph failed) k.1, k.2)
-      by_outcome (Some fault.Memory) k = k
-      by_outcome (Some (fault.Graph f)) k = (k.0, k.1, ends_file paced_run (Some (fault.Graph f)) left tells tells blocks name g first asked now start before last w refl read asks grew k.2)
-      by_outcome (Some (fault.Cycle actors)) k = (k.0, k.1, ends_file paced_run (Some (fault.Cycle actors)) left tells tells blocks name g first asked now start before last w refl read asks grew k.2)
-      by_outcome (Some (fault.Infeasible send offset slack)) k = (k.0, k.1, ends_file paced_run (Some (fault.Infeasible send offset slack)) left tells tells blocks name g first asked now start before last w refl read asks grew k.2)
-      by_outcome (Some (fault.Read sensor)) k = (k.0, k.1, ends_file paced_run (Some (fault.Read sensor)) left tells tells blocks name g first asked now start before last w refl read asks grew k.2)
-      by_outcome (Some (fault.Sensor actor f)) k = (k.0, k.1, ends_file paced_run (Some (fault.Sensor actor f)) left tells tells blocks name g first asked now start before last w refl read asks grew k.2)
-      by_outcome (Some (fault.LateRow actor row seen limit)) k = (k.0, k.1, ends_file paced_run (Some (fault.LateRow actor row seen limit)) left tells tells blocks name g first asked now start before last w refl read asks grew k.2)
-      by_outcome (Some fault.Usage) k = absurd (not_before k.0)
-      by_outcome (Some (fault.Ring sends gain)) k = absurd (not_before k.0)
-      by_outcome (Some (fault.LateAir platform actor tag reading limit row)) k = absurd (not_before k.0)
-      by_outcome (Some (fault.Air e)) k = absurd (not_before k.0)
-      by_outcome (Some fault.ReadAir) k = absurd (not_before k.0)
-      by_outcome (Some (fault.LateMessage platform actor tag reading limit)) k = absurd (not_before k.0)
-      by_outcome (Some (fault.Long platform)) k = absurd (not_before k.0)
-
+module _ (name log : List ℕ) (tells : Contents) (blocks : List Named) (g : Graph) (first asked now : Option (List (List ℕ))) (read : IfSome (tells name) (λ bytes. graph_of blocks bytes ≡ Ok g)) (asks : Asks first asked (name ∷ [])) where
   asks_to_log : AsksLast log g asked now → AsksToLast tells blocks name log first now
   asks_to_log (n, k) = (g, read, (n, asks_more first asked now (name ∷ []) (files_before g n ++ log ∷ []) asks k))
 
-  pub asks_audit : (o : Option Fault) → EndsJudged o left log tells g inner w → AsksJudged o log g asked now → AsksAudit o name log tells blocks first now
-  asks_audit None k h = asks_to_log h
-  asks_audit (Some fault.Write) k h = asks_to_log h
-  asks_audit (Some (fault.Unlawful v)) k h = asks_to_log h
-  asks_audit (Some fault.ReadLog) k h = asks_to_log h
-  asks_audit (Some fault.Memory) k h =
+  pub asks_audit : (o : Option Fault) → IsPastFile o → AsksJudged o log g asked now → AsksAudit o name log tells blocks first now
+  asks_audit None past h = asks_to_log h
+  asks_audit (Some fault.Write) past h = asks_to_log h
+  asks_audit (Some (fault.Unlawful v)) past h = asks_to_log h
+  asks_audit (Some fault.ReadLog) past h = asks_to_log h
+  asks_audit (Some fault.Memory) past h =
       ⊎_elim
       (λ (files : AsksFor paced_run (Some fault.Memory) g asked now). inl (inr (inr (g, read, (files.0, asks_more first asked now (name ∷ []) (files_for paced_run (Some fault.Memory) g files.0) asks files.1)))))
       (λ (all : AsksLast log g asked now). inr (asks_to_log all))
       h
-  asks_audit (Some (fault.Graph f)) k h = asked_in_order paced_run (Some (fault.Graph f)) left tells tells blocks name g inner w first asked now read k.2 asks h
-  asks_audit (Some (fault.Cycle actors)) k h = asked_in_order paced_run (Some (fault.Cycle actors)) left tells tells blocks name g inner w first asked now read k.2 asks h
-  asks_audit (Some (fault.Infeasible send offset slack)) k h = asked_in_order paced_run (Some (fault.Infeasible send offset slack)) left tells tells blocks name g inner w first asked now read k.2 asks h
-  asks_audit (Some (fault.Read sensor)) k h = asked_in_order paced_run (Some (fault.Read sensor)) left tells tells blocks name g inner w first asked now read k.2 asks h
-  asks_audit (Some (fault.Sensor actor f)) k h = asked_in_order paced_run (Some (fault.Sensor actor f)) left tells tells blocks name g inner w first asked now read k.2 asks h
-  asks_audit (Some (fault.LateRow actor row seen limit)) k h = asked_in_order paced_run (Some (fault.LateRow actor row seen limit)) left tells tells blocks name g inner w first asked now read k.2 asks h
-  asks_audit (Some fault.Usage) k h = absurd (not_before k.0)
-  asks_audit (Some (fault.Ring sends gain)) k h = absurd (not_before k.0)
-  asks_audit (Some (fault.LateAir platform actor tag reading limit row)) k h = absurd (not_before k.0)
-  asks_audit (Some (fault.Air e)) k h = absurd (not_before k.0)
-  asks_audit (Some fault.ReadAir) k h = absurd (not_before k.0)
-  asks_audit (Some (fault.LateMessage platform actor tag reading limit)) k h = absurd (not_before k.0)
-  asks_audit (Some (fault.Long platform)) k h = absurd (not_before k.0)
-
-  nothing_left : (o : Option Fault) → EndsJudged o left log tells g inner w → HasNothing left
-  nothing_left None k = k.0
-  nothing_left (Some fault.Write) k = k.0
-  nothing_left (Some (fault.Unlawful v)) k = k.0
-  nothing_left (Some fault.ReadLog) k = k.0
-  nothing_left (Some fault.Memory) k = k.0
-  nothing_left (Some (fault.Graph f)) k = k.1
-  nothing_left (Some (fault.Cycle actors)) k = k.1
-  nothing_left (Some (fault.Infeasible send offset slack)) k = k.1
-  nothing_left (Some (fault.Read sensor)) k = k.1
-  nothing_left (Some (fault.Sensor actor f)) k = k.1
-  nothing_left (Some (fault.LateRow actor row seen limit)) k = k.1
-  nothing_left (Some fault.Usage) k = k.1
-  nothing_left (Some (fault.Ring sends gain)) k = k.1
-  nothing_left (Some (fault.LateAir platform actor tag reading limit row)) k = k.1
-  nothing_left (Some (fault.Air e)) k = k.1
-  nothing_left (Some fault.ReadAir) k = k.1
-  nothing_left (Some (fault.LateMessage platform actor tag reading limit)) k = k.1
-  nothing_left (Some (fault.Long platform)) k = k.1
-
-  pub tells_audit : (o : Option Fault) (misses : List Miss) (notes : Writing) → EndsJudged o left log tells g inner w → Tells o misses (Some g) notes → TellsBy o misses left.platforms (Some (paced_run, name)) tells blocks notes
-  tells_audit o misses notes k h = told_file paced_run o misses left.platforms tells blocks name g notes read (of_none left g (nothing_left o k)) h
+  asks_audit (Some f) past h = asked_in_order paced_run (Some f) tells blocks name g first asked now read past asks h
 
 -- the graph file gave no graph
 module _ (name log : List ℕ) (tells : Contents) (blocks : List Named) (r : Reading) (f told : Fault) (tell : (told ≡ f) ⊎ (told ≡ fault.Memory)) (cause : CauseOfGraph f tells blocks name r) where
   by_told : (Fact : Fault → Type 0) → Fact f → Fact fault.Memory → Fact told
   by_told Fact fits memory = ⊎_elim (λ (same : told ≡ f). subst Fact (sym same) fits) (λ (none : told ≡ fault.Memory). subst Fact (sym none) memory) tell
-
-  pub graph_refused : (o : Ending) (w : Writing) → left_by o ≡ leaves_nothing → o.fault ≡ Some told → w.written_now ≡ w.written_before → EndsAudit o.fault (left_by o) name log tells blocks r w
-  graph_refused o w none is still =
-      subst (λ left. EndsAudit o.fault left name log tells blocks r w) (sym none) (subst (λ e. EndsAudit e leaves_nothing name log tells blocks r w) (sym is)
-      (by_told (λ e. EndsAudit (Some e) leaves_nothing name log tells blocks r w) (by_fault f cause) ((refl, refl), still)))
-    where
-      by_fault : (e : Fault) → CauseOfGraph e tells blocks name r → EndsAudit (Some e) leaves_nothing name log tells blocks r w
-      by_fault (fault.Graph e) k = (refl, (refl, refl), (k, (refl, refl), still))
-      by_fault (fault.Read None) k = (refl, (refl, refl), (k, (refl, refl), still))
-      by_fault fault.Memory k = ((refl, refl), still)
-      by_fault fault.Usage k = absurd k
-      by_fault (fault.Cycle actors) k = absurd k
-      by_fault (fault.Infeasible send offset slack) k = absurd k
-      by_fault (fault.Ring sends gain) k = absurd k
-      by_fault (fault.LateAir platform actor tag reading limit row) k = absurd k
-      by_fault (fault.Air e) k = absurd k
-      by_fault fault.ReadAir k = absurd k
-      by_fault (fault.Sensor actor e) k = absurd k
-      by_fault (fault.LateRow actor row seen limit) k = absurd k
-      by_fault (fault.LateMessage platform actor tag reading limit) k = absurd k
-      by_fault (fault.Long platform) k = absurd k
-      by_fault (fault.Read (Some actor)) k = absurd k
-      by_fault fault.ReadLog k = absurd k
-      by_fault (fault.Unlawful v) k = absurd k
-      by_fault fault.Write k = absurd k
 
   pub graph_asked : (o : Option Fault) (before now : Option (List (List ℕ))) → o ≡ Some told → (f ≢ fault.Memory → Asks before now (name ∷ [])) → AsksOrNot before now (name ∷ []) → AsksAudit o name log tells blocks before now
   graph_asked o before now is one asks =
@@ -189,63 +81,44 @@ module _ (name log : List ℕ) (tells : Contents) (blocks : List Named) (r : Rea
       by_fault (fault.Unlawful v) k h = absurd k
       by_fault fault.Write k h = absurd k
 
--- over a graph
-module _ (log : List ℕ) (tells : Contents) (g : Graph) (r : Reading) (w : Writing) where
-  -- the log was judged
-  module _ (p : Parts) (admitted : IsAdmitted p) (same : p.graph ≡ g) where
-    free : NoFreeCycle g
-    free = subst NoFreeCycle same admitted.no_free_cycle
+-- a log of this plan that was judged
+module _ (log : List ℕ) (tells : Contents) (p : Parts) (r : Reading) where
+  -- the rows of its sensors or the log were refused
+  pub refusal_due : {X : Type 0} (text : X → List ℕ) (f : Fault) → CauseOfRefusal f log tells p r → AnswersAsDue text (Err f) r (λ a. AfterRows Refused tells p.graph [] a (λ rows. IsJudgedBy log tells p.graph [] a p (of_run p.graph rows)))
+  refusal_due text (fault.Unlawful v) k a is out = inr (inr (inr (inr (k.rows, k.sensors, k.in_time, inr (inl (v, out, k.went))))))
+  refusal_due text fault.ReadLog k a is out = inr (inr (inr (inr (k.rows, k.sensors, k.in_time, inl (out, subst (LastFails p.graph [] log) (sym is) k.went)))))
+  refusal_due text (fault.Read (Some actor)) k a is out = inr (inl (actor, out, subst (SensorUnread Refused tells p.graph actor []) (sym is) k))
+  refusal_due text (fault.Sensor actor f) k a is out = inr (inr (inl (actor, f, out, k)))
+  refusal_due text (fault.LateRow actor row seen limit) k a is out = inr (inr (inr (inl (actor, row, seen, limit, out, refl, k))))
+  refusal_due text fault.Memory k a is out = inl out
+  refusal_due text f k a is out = absurd k
 
-    feasible : IsFeasible g
-    feasible = subst IsFeasible same admitted.feasible
+  -- the log is lawful
+  pub lawful_due : {X : Type 0} (x : X) → RunOver tells p (OnLog tells log Accepts p) → AnswersAsDue (λ (unit : X). lawful_line) (Ok x) r (λ a. AfterRows Refused tells p.graph [] a (λ rows. IsJudgedBy log tells p.graph [] a p (of_run p.graph rows)))
+  lawful_due x k a is puts = inr (inr (inr (inr (k.rows, k.sensors, k.in_time, inr (inr (k.went, puts))))))
 
-    over_plan : (Fact : Parts → (ℕ → List Row) → Type 0) → RunOver tells p (Fact p) → PlanWith tells g Fact
-    over_plan Fact h = record { plan = p; graph = same; over = h }
+  -- it was judged
+  judged_due : {X : Type 0} (judged : Result X Fault) → IfOk judged (λ unit. RunOver tells p (OnLog tells log Accepts p)) → IfErr judged (λ f. CauseOfRefusal f log tells p r) →
+      AnswersAsDue (λ (unit : X). lawful_line) judged r (λ a. AfterRows Refused tells p.graph [] a (λ rows. IsJudgedBy log tells p.graph [] a p (of_run p.graph rows)))
+  judged_due (Ok x) lawful cause = lawful_due x lawful
+  judged_due {X} (Err f) lawful cause = refusal_due (λ (unit : X). lawful_line) f cause
 
-    refused : (f : Fault) → w.written_now ≡ w.written_before → CauseOfRefusal f log tells p r → EndsJudged (Some f) leaves_nothing log tells g r w
-    refused (fault.Unlawful v) still k = ((refl, refl), over_plan (OnLog tells log (λ q rows bytes. IsUnlawful q rows bytes v)) k, still)
-    refused fault.ReadLog still k = ((refl, refl), over_plan (λ q rows. LastFails q.graph [] log r) k, still)
-    refused (fault.Read (Some actor)) still k = (refl, (refl, refl), ((free, (feasible, subst (λ (z : Graph). SensorUnread Refused tells z actor [] r) same k, (refl, refl))), still))
-    refused (fault.Sensor actor f) still k = (refl, (refl, refl), ((free, (feasible, subst (λ (z : Graph). SensorFails Refused tells z actor f) same k, (refl, refl))), still))
-    refused (fault.LateRow actor row seen limit) still k = (refl, (refl, refl), ((free, (feasible, subst (λ (z : Graph). SensorLate tells z actor row seen limit) same k, (refl, refl))), still))
-    refused fault.Memory still k = ((refl, refl), still)
-    refused (fault.Read None) still k = absurd k
-    refused fault.Usage still k = absurd k
-    refused (fault.Graph f) still k = absurd k
-    refused (fault.Cycle actors) still k = absurd k
-    refused (fault.Infeasible send offset slack) still k = absurd k
-    refused (fault.Ring sends gain) still k = absurd k
-    refused (fault.LateAir platform actor tag reading limit row) still k = absurd k
-    refused (fault.Air e) still k = absurd k
-    refused fault.ReadAir still k = absurd k
-    refused (fault.LateMessage platform actor tag reading limit) still k = absurd k
-    refused (fault.Long platform) still k = absurd k
-    refused fault.Write still k = absurd k
-
-    pub ends_judged : {X : Type 0} (judged : Result X Fault) (o : Ending) → IfOk judged (λ unit. RunOver tells p (OnLog tells log Accepts p)) → IfErr judged (λ f. CauseOfRefusal f log tells p r) → AnswersAudit judged o w → EndsJudged o.fault (left_by o) log tells g r w
-    ends_judged (Ok unit) o lawful cause h = subst (λ left. EndsJudged o.fault left log tells g r w) (sym h.0) (by_outcome o.fault h.1)
-      where
-        by_outcome : (e : Option Fault) → PutBy e lawful_line w → EndsJudged e leaves_nothing log tells g r w
-        by_outcome None put = ((refl, refl), over_plan (OnLog tells log Accepts) lawful, put)
-        by_outcome (Some e) put = subst (λ f. EndsJudged (Some f) leaves_nothing log tells g r w) (sym put.0) ((refl, refl), over_plan (OnLog tells log Accepts) lawful, put.1, put.2)
-    ends_judged (Err f) o lawful cause h = subst (λ left. EndsJudged o.fault left log tells g r w) (sym h.0)
-        (⊎_elim
-        (λ (is : o.fault ≡ Some f). subst (λ e. EndsJudged e leaves_nothing log tells g r w) (sym is) (refused f h.2 cause))
-        (λ (is : o.fault ≡ Some fault.Memory). subst (λ e. EndsJudged e leaves_nothing log tells g r w) (sym is) ((refl, refl), h.2))
-        h.1)
-
-  -- the graph has no plan
-  pub unplanned_audit : (o : Ending) → IsUnplanned g o → w.written_now ≡ w.written_before → EndsJudged o.fault (left_by o) log tells g r w
-  unplanned_audit o (none, f, cause, is) still = subst (λ left. EndsJudged o.fault left log tells g r w) (sym none)
-      (⊎_elim
-      (λ (it : o.fault ≡ Some (fault_of_plan f)). subst (λ e. EndsJudged e leaves_nothing log tells g r w) (sym it) (by_fault f cause))
-      (λ (it : o.fault ≡ Some fault.Memory). subst (λ e. EndsJudged e leaves_nothing log tells g r w) (sym it) ((refl, refl), still))
-      is)
+  -- over the graph of the plan
+  pub audited : {X : Type 0} (w : Writing) (judged : Result X Fault) (g : Graph) (o : Ending) → IsAdmitted p → p.graph ≡ g → IfOk judged (λ unit. RunOver tells p (OnLog tells log Accepts p)) → IfErr judged (λ f. CauseOfRefusal f log tells p r) →
+      PutsOrTells (λ (unit : X). lawful_line) judged o w → UnlessMemory (record { fault = o.fault; left = left_by o; read = r; wrote = w }) (IsAudited log tells g [])
+  audited {X} w judged g o admitted same lawful cause h =
+      subst (λ z. UnlessMemory (record { fault = o.fault; left = left_by o; read = r; wrote = w }) (IsAudited log tells z [])) same
+      (on_graph (record { fault = o.fault; left = left_by o; read = r; wrote = w }) (given_due o r w (λ (unit : X). lawful_line) judged (λ a. AfterRows Refused tells p.graph [] a (λ rows. IsJudgedBy log tells p.graph [] a p (of_run p.graph rows))) (judged_due judged lawful cause) h))
     where
-      by_fault : (e : PlanFault) → CauseOfPlan e g → EndsJudged (Some (fault_of_plan e)) leaves_nothing log tells g r w
-      by_fault (plan.Cycle actors) k = (refl, (refl, refl), ((k, (refl, refl)), still))
-      by_fault (plan.Infeasible send offset slack) k = (refl, (refl, refl), ((k.0, (k.1, (refl, refl))), still))
-      by_fault plan.Memory k = ((refl, refl), still)
+      on_graph : (a : Answer) → UnlessMemory a (λ a. AfterRows Refused tells p.graph [] a (λ rows. IsJudgedBy log tells p.graph [] a p (of_run p.graph rows))) → UnlessMemory a (IsAudited log tells p.graph [])
+      on_graph a (inl out) = inl out
+      on_graph a (inr k) = inr (inr (admitted.no_free_cycle, inr (admitted.feasible, planned k)))
+        where
+          planned : AfterRows Refused tells p.graph [] a (λ rows. IsJudgedBy log tells p.graph [] a p (of_run p.graph rows)) → AfterRows Refused tells p.graph [] a (λ rows. WithPlan p.graph (λ plan. IsJudgedBy log tells p.graph [] a plan (of_run p.graph rows)))
+          planned (inl k) = inl k
+          planned (inr (inl k)) = inr (inl k)
+          planned (inr (inr (inl k))) = inr (inr (inl k))
+          planned (inr (inr (inr (rows, are, pass, k)))) = inr (inr (inr (rows, are, pass, (p, refl, admitted, k))))
 
 -- What is asked for.
 
@@ -306,7 +179,7 @@ rows_cause log tells p g f r same cause = by_fault f (subst (λ (z : Graph). Cau
     by_fault (rows.Late actor row seen limit) k = k.1
 
 -- nothing more is asked for once the log is judged
-pub judged_asks : {X : Type 0} (judged : Result X Fault) (o : Ending) (w : Writing) (log : List ℕ) (g h : Graph) (before now : Option (List (List ℕ))) → h ≡ g → AnswersAudit judged o w → AsksJudged (fault_in judged) log h before now → AsksJudged o.fault log g before now
+pub judged_asks : {X : Type 0} (judged : Result X Fault) (o : Ending) (w : Writing) (log : List ℕ) (g h : Graph) (before now : Option (List (List ℕ))) → h ≡ g → PutsOrTells (λ (unit : X). lawful_line) judged o w → AsksJudged (fault_in judged) log h before now → AsksJudged o.fault log g before now
 judged_asks {X} judged o w log g h before now same answers asks = by_judged judged answers (subst (λ (z : Graph). AsksJudged (fault_in judged) log z before now) same asks)
   where
     by_put : (e : Option Fault) → PutBy e lawful_line w → AsksLast log g before now → AsksJudged e log g before now
@@ -332,7 +205,7 @@ judged_asks {X} judged o w log g h before now same answers asks = by_judged judg
     by_memory (fault.Long platform) k = inl (memory_asks paced_run (fault.Long platform) g before now k)
     by_memory (fault.Read sensor) k = inl (memory_asks paced_run (fault.Read sensor) g before now k)
 
-    by_judged : (j : Result X Fault) → AnswersAudit j o w → AsksJudged (fault_in j) log g before now → AsksJudged o.fault log g before now
+    by_judged : (j : Result X Fault) → PutsOrTells (λ (unit : X). lawful_line) j o w → AsksJudged (fault_in j) log g before now → AsksJudged o.fault log g before now
     by_judged (Ok unit) a k = by_put o.fault a.1 k
     by_judged (Err f) a k =
         ⊎_elim

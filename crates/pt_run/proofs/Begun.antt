@@ -10,11 +10,11 @@ use Rattle.pt_sensors.specs.Asked.{Contents, Reading}
 use Rattle.pt_sensors.specs.Recorded.{SensorFails, SensorLate}
 use Rattle.pt_run.specs.declared.fault.Fault.{Fault}
 use Rattle.pt_run.specs.declared.fault.Fault.TheVariants as fault
-use Rattle.pt_run.specs.Auditing.{is_before_last}
-use Rattle.pt_run.specs.Causes.{IsCause, Writing}
+use Rattle.pt_run.specs.Causes.{Writing}
 use Rattle.pt_run.specs.Complete.{CanBegin}
 use Rattle.pt_run.specs.Words.{paced_run}
 use Rattle.pt_run.specs.Written.{Leaves}
+use Rattle.pt_run.proofs.ByFault.{IsCause, is_before_last}
 use Rattle.pt_run.proofs.Auditing.{not_before}
 use Rattle.pt_run.proofs.Complete.{no_fault, sensor_fails, sensor_late, this_graph, too_late}
 

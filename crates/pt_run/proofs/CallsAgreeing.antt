@@ -21,17 +21,17 @@ use Rattle.pt_words.specs.declared.orders.ClockChoice.TheVariants.{Machine, Pace
 use Rattle.pt_run.specs.Agreeing.{TellsAll}
 use Rattle.pt_run.specs.CallsAgreeing.{CallsAgree, EndAlike, IsFixed, IsUndisturbed}
 use Rattle.pt_run.specs.Causes.{Writing}
-use Rattle.pt_run.specs.Exact.{Defines, IsExact, ReadsRows, WantsGraph, WantsRows}
+use Rattle.pt_run.proofs.ByCause.{ComesByCause, Defines, ReadsRows, WantsGraph, WantsRows}
 use Rattle.pt_run.specs.Headline.{stop_of}
 use Rattle.pt_run.specs.RunsAgreeing.{TellsSensors}
 use Rattle.pt_run.specs.Runs.{HasRun, IsFinishedRun}
 use Rattle.pt_run.specs.Statuses.{status_of, status_of_fault}
-use Rattle.pt_run.specs.Texts.{EndsBy}
 use Rattle.pt_run.specs.Words.{over}
 use Rattle.pt_run.specs.Written.{HasNothing, Leaves, clocking, has_run}
 use Rattle.pt_run.specs.declared.fault.Fault.{Fault}
 use Rattle.pt_run.specs.declared.fault.Fault.TheVariants as fault
 use Rattle.pt_run.specs.declared.words.Command.TheVariants.{Run}
+use Rattle.pt_run.proofs.ByFault.{EndsBy}
 use Rattle.pt_run.proofs.DueEnds.{due_ends}
 use Rattle.pt_run.proofs.Exact.{exact}
 use Rattle.pt_run.proofs.RunsAgreeing.{runs_agree, texts_agree}
@@ -83,7 +83,7 @@ module _ (clock : ClockChoice) (log : Bool) (tells : Contents) (blocks : List Na
 
   -- the answer of any other undisturbed call has the same status
   abbrev Decides : Fault → Type 0
-  Decides f = (workers : ℕ) (o : Option Fault) → IsExact o (Some (over (Run workers clock log) name)) tells blocks → IsUndisturbed o → (e : Fault) × (o ≡ Some e) × (status_of_fault e ≡ status_of_fault f) × (has_run (Some e) ≡ false)
+  Decides f = (workers : ℕ) (o : Option Fault) → ComesByCause o (Some (over (Run workers clock log) name)) tells blocks → IsUndisturbed o → (e : Fault) × (o ≡ Some e) × (status_of_fault e ≡ status_of_fault f) × (has_run (Some e) ≡ false)
 
   -- a call that was refused for a cause in its files
   record Refuses (o : Option Fault) (left : Leaves) (w : Writing) : Type 0 where

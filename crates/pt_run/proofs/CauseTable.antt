@@ -32,15 +32,17 @@ use Rattle.pt_turn.specs.Platforms.{state_at}
 use Rattle.pt_turn.specs.Running.{Shows, ShowsLate, ShowsLong}
 use Rattle.pt_words.specs.declared.orders.ClockChoice.{ClockChoice}
 use Rattle.pt_words.specs.declared.orders.ClockChoice.TheVariants.{Paced}
-use Rattle.pt_run.specs.Causes.{CauseOfText, IsCause, MeansLong, RunStops, Writing}
-use Rattle.pt_run.specs.CauseTable.{AsksFeasible, CauseTable, IsAccepted, IsNotPaced, IsRunCommand, OfRows, OnPlatform, OverAir, OverFile, OverGraph, OverLog}
-use Rattle.pt_run.specs.Making.{Ends}
+use Rattle.pt_run.specs.Causes.{Writing}
+use Rattle.pt_run.proofs.ByFault.{MeansLong}
+use Rattle.pt_run.specs.Complete.{OnPlatform}
+use Rattle.pt_run.proofs.CauseFields.{AsksFeasible, CauseTable, IsAccepted, IsNotPaced, IsRunCommand, OfRows, OverAir, OverFile, OverGraph, OverLog}
 use Rattle.pt_run.specs.Statuses.{status_of, status_of_fault}
 use Rattle.pt_run.specs.Auditing.{Accepts, IsUnlawful, LastFails, OnLog}
 use Rattle.pt_run.specs.Headline.{RunWith}
 use Rattle.pt_run.specs.Replaying.{LeavesReplay, OnAir}
 use Rattle.pt_run.specs.Words.{Order, over, make, migrate, audit, replay, paced_run}
-use Rattle.pt_run.specs.Written.{GraphWith, Leaves, WritesText}
+use Rattle.pt_run.specs.Written.{GraphWith, Leaves}
+use Rattle.pt_run.proofs.ByFault.{CauseOfText, Ends, IsCause, RunStops, WritesText}
 use Rattle.pt_run.proofs.Auditing.{not_before}
 use Rattle.pt_run.proofs.Replayed.{stopped_in_air, unwritten_in_air}
 

@@ -35,12 +35,13 @@ use Rattle.pt_sensors.specs.declared.recorded_fault.LateRows.TheVariants.{Refuse
 use Rattle.pt_sensors.specs.Asked.{Contents, Reading}
 use Rattle.pt_sensors.specs.Places.{of_run}
 use Rattle.pt_sensors.specs.Recorded.{AreRows, InTime, RowsOfKind, SensorFails, SensorLate}
+use Rattle.pt_run.proofs.ByFault.{CauseOf, Ends, EndsBy, RunStops}
 use Rattle.pt_run.proofs.RunsAgreeing.{rows_are_one}
 use Rattle.pt_run.specs.Runs.{IsFinishedRun}
 use Rattle.pt_run.specs.declared.fault.Fault.{Fault}
 use Rattle.pt_run.specs.declared.fault.Fault.TheVariants as fault
 use Rattle.pt_run.specs.declared.words.Command.TheVariants.{Run}
-use Rattle.pt_run.specs.Causes.{CauseOf, RunStops, Writing}
+use Rattle.pt_run.specs.Causes.{Writing}
 use Rattle.pt_run.specs.Complete.{CanBegin, EndsAsShown, FitsClaims, IsComplete, IsCompleteByAnyClock, StatusIsMeant}
 use Rattle.pt_run.specs.Written.{GraphWith, Leaves, Means, clocking}
 use Rattle.pt_run.proofs.CauseTable.{never_paced, stopped as stopped_at}
@@ -51,8 +52,6 @@ use Rattle.pt_words.specs.declared.orders.ClockChoice.{ClockChoice}
 use Rattle.pt_words.specs.declared.orders.ClockChoice.TheVariants.{Paced}
 use Rattle.pt_run.specs.Readings.{Clocking}
 use Rattle.pt_run.specs.Statuses.{status_of}
-use Rattle.pt_run.specs.Texts.{EndsBy}
-use Rattle.pt_run.specs.Making.{Ends}
 use Rattle.pt_run.specs.Words.{Order}
 use Rattle.pt_types.specs.Limits.{most_claims}
 

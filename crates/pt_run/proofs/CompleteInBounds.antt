@@ -23,17 +23,16 @@ use Rattle.pt_air.specs.declared.fault.AirFault.{AirFault}
 use Rattle.pt_air.specs.AirOf.{air_of}
 use Rattle.pt_run.specs.declared.fault.Fault.{Fault}
 use Rattle.pt_run.specs.declared.fault.Fault.TheVariants as fault
-use Rattle.pt_run.specs.Causes.{IsCause, Writing}
-use Rattle.pt_run.specs.Auditing.{is_before_last}
+use Rattle.pt_run.specs.Causes.{Writing}
 use Rattle.pt_run.specs.Complete.{CanBegin, FitsClaims, StatusIsMeant}
 use Rattle.pt_run.specs.Headline.{RunWith}
 use Rattle.pt_run.specs.InBounds.{CanReplay, DoAsPaced, IsCompleteInBounds}
-use Rattle.pt_run.specs.Making.{Ends}
-use Rattle.pt_run.specs.Replaying.{EndsReplay, LeavesReplay, OnAir, stop_of_replay}
+use Rattle.pt_run.specs.Replaying.{LeavesReplay, OnAir, stop_of_replay}
 use Rattle.pt_run.specs.Runs.{log_if}
 use Rattle.pt_run.specs.Statuses.{status_of}
 use Rattle.pt_run.specs.Words.{Order, paced_run}
 use Rattle.pt_run.specs.Written.{Leaves}
+use Rattle.pt_run.proofs.ByFault.{Ends, EndsReplay, IsCause, is_before_last}
 use Rattle.pt_run.proofs.Auditing.{not_before}
 use Rattle.pt_run.proofs.Begun.{only_unread}
 use Rattle.pt_run.proofs.Complete.{agrees, by_misses, by_platform, meaning, ok_err, one_meaning, same_ok, this_graph}

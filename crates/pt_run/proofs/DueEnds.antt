@@ -5,7 +5,6 @@ use Rattle.pt_io.specs.Causes.{Appends, AppendsPart, Rose}
 use Rattle.pt_types.specs.declared.graph.Graph.{Graph}
 use Rattle.pt_types.specs.declared.rows.Row.{Row}
 use Rattle.pt_blocks.specs.declared.blocks.Named.{Named}
-use Rattle.pt_graph_text.specs.declared.fault.GraphFault.{GraphFault}
 use Rattle.pt_graph.specs.GraphOf.{graph_of}
 use Rattle.pt_history.specs.declared.miss.Miss.{Miss}
 use Rattle.pt_semantics.specs.Cycles.{NoFreeCycle}
@@ -16,9 +15,8 @@ use Rattle.pt_offsets.specs.Margins.{IsFirstInfeasible}
 use Rattle.pt_offsets.specs.Plans.{IsAdmitted, Parts}
 use Rattle.pt_slacks.specs.Text.{IsSlacked}
 use Rattle.pt_sensors.specs.declared.fault.RowFault.{RowFault}
-use Rattle.pt_sensors.specs.declared.recorded_fault.LateRows.{LateRows}
 use Rattle.pt_sensors.specs.declared.recorded_fault.LateRows.TheVariants.{Refused, Taken}
-use Rattle.pt_sensors.specs.Asked.{Contents, ReadFails, Reading}
+use Rattle.pt_sensors.specs.Asked.{Contents, Reading}
 use Rattle.pt_sensors.specs.Places.{of_run}
 use Rattle.pt_sensors.specs.Recorded.{AllPass, AreRows, SensorFails, SensorLate, SensorUnread}
 use Rattle.pt_air.specs.AirOf.{air_of}
@@ -29,17 +27,17 @@ use Rattle.pt_run.specs.declared.fault.Fault.{Fault}
 use Rattle.pt_run.specs.declared.fault.Fault.TheVariants as fault
 use Rattle.pt_run.specs.declared.words.Command.{Command}
 use Rattle.pt_run.specs.declared.words.Command.TheVariants.{Run, Check, Meaning, Slacks}
-use Rattle.pt_run.specs.Auditing.{Accepts, EndsAudit, IsUnlawful, LastFails, OnLog, lawful_line}
+use Rattle.pt_run.specs.Auditing.{Accepts, IsUnlawful, LastFails, OnLog, lawful_line}
 use Rattle.pt_run.specs.Causes.{Writing}
-use Rattle.pt_run.specs.Due.{AfterAdmission, AfterCycles, AfterFile, AfterOffsets, AfterRows, Answer, HasRunBy, IsDue, IsDueFor, IsDueTo, IsJudgedBy, IsMeantBy, IsReplayedBy, IsSlackedBy, OnlyPuts, PutsText, RefusedWith, WithPlan}
+use Rattle.pt_run.specs.Due.{AfterAdmission, AfterOffsets, AfterRows, Answer, HasRunBy, IsDue, IsDueFor, IsDueTo, IsJudgedBy, IsMeantBy, IsReplayedBy, IsSlackedBy, OnlyPuts, PutsText, RefusedWith}
 use Rattle.pt_run.specs.Headline.{PutsMeaning, RunWith, stop_of}
-use Rattle.pt_run.specs.Making.{Ends, EndsMade, IsMadeRun}
-use Rattle.pt_run.specs.Migrating.{EndsMigrated, IsMigrated}
-use Rattle.pt_run.specs.Replaying.{EndsReplay, LeavesReplay, OnAir, has_replayed}
+use Rattle.pt_run.specs.Making.{IsMadeRun}
+use Rattle.pt_run.specs.Migrating.{IsMigrated}
+use Rattle.pt_run.specs.Replaying.{LeavesReplay, OnAir, has_replayed}
 use Rattle.pt_run.specs.Runs.{HasRun, RunsPaced, WentBy, log_if}
-use Rattle.pt_run.specs.Texts.{EndsBy}
 use Rattle.pt_run.specs.Words.{Order, over, make, migrate, audit, replay, paced_run}
-use Rattle.pt_run.specs.Written.{FitOnAll, HasNothing, IsChecked, IsRun, IsTables, Leaves, Writes, clocking}
+use Rattle.pt_run.specs.Written.{FitOnAll, HasNothing, IsChecked, IsRun, IsTables, Leaves, clocking}
+use Rattle.pt_run.proofs.ByFault.{Ends, EndsAudit, EndsBy, EndsMade, EndsMigrated, EndsReplay, Writes}
 use Rattle.pt_run.proofs.Finished.{missed_as_meant}
 use Rattle.pt_run.proofs.Stages.{by_admission, by_cycles, by_file, by_offsets, by_puts, by_rows, not_true, with_fault}
 

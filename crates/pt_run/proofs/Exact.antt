@@ -33,14 +33,12 @@ use Rattle.pt_run.specs.declared.fault.Fault.{Fault}
 use Rattle.pt_run.specs.declared.fault.Fault.TheVariants as fault
 use Rattle.pt_run.specs.declared.words.Command.{Command}
 use Rattle.pt_run.specs.declared.words.Command.TheVariants.{Run, Check, Meaning, Slacks}
-use Rattle.pt_run.specs.Causes.{CauseOf, CauseOfCheck, CauseOfMeaning, CauseOfNoSlacks, CauseOfRun, CauseOfText, IsTooLongForAll, Writing}
-use Rattle.pt_run.specs.CauseTable.{AsksFeasible, OfRows}
-use Rattle.pt_run.specs.Exact.{CanAudit, Defines, IsExact, WantsGraph, WantsMemory, WantsRows}
-use Rattle.pt_run.specs.Making.{Ends}
-use Rattle.pt_run.specs.Migrating.{EndsMigrated}
-use Rattle.pt_run.specs.Texts.{EndsBy}
+use Rattle.pt_run.specs.Causes.{IsTooLongForAll, Writing}
+use Rattle.pt_run.proofs.CauseFields.{AsksFeasible, OfRows}
+use Rattle.pt_run.proofs.ByCause.{CanAudit, ComesByCause, Defines, WantsGraph, WantsMemory, WantsRows}
 use Rattle.pt_run.specs.Words.{Order, audit, make, migrate, over, paced_run, refused_as, replay}
-use Rattle.pt_run.specs.Written.{GraphWith, IsMeant, Leaves, Writes, clocking}
+use Rattle.pt_run.specs.Written.{GraphWith, Leaves, clocking}
+use Rattle.pt_run.proofs.ByFault.{CauseOf, CauseOfCheck, CauseOfMeaning, CauseOfNoSlacks, CauseOfRun, CauseOfText, Ends, EndsBy, EndsMigrated, IsMeant, Writes}
 use Rattle.pt_run.proofs.Audited.{Audited, audited, finds_lawful, finds_unlawful, finds_verdict}
 use Rattle.pt_run.proofs.AirFound.{finds_air}
 use Rattle.pt_run.proofs.Complete.{agrees, ok_err, same_ok, too_late}
@@ -386,7 +384,7 @@ module _ (tells : Contents) (g : Graph) (outcome : Option Fault) where
       long_meaning rows are too_long (long is fit h) = inl is
       long_meaning rows are too_long (whole fit had meant slacked) = let (text, all) = meant refl in absurd (meant_long tells g text rows told are all too_long)
 
-pub exact : (o : Option Fault) (left : Leaves) (order : Option Order) (tells : Contents) (blocks : List Named) (r : Reading) (w : Writing) → Ends o left order tells blocks r w → IsExact o order tells blocks
+pub exact : (o : Option Fault) (left : Leaves) (order : Option Order) (tells : Contents) (blocks : List Named) (r : Reading) (w : Writing) → Ends o left order tells blocks r w → ComesByCause o order tells blocks
 exact o left order tells blocks r w ends = record {
   usage = λ none. usage left tells blocks r w o (subst (λ z. Ends o left z tells blocks r w) none ends);
   graph = λ command f d. no_graph command f d;

@@ -3,15 +3,12 @@ use Rattle.std.proofs.Common.{◌≡◌, ◌≢◌, ◌↔◌, ℕ, ◌+◌, Boo
 use Rattle.std.specs.Prelude.{nat_lt, string_bytes}
 use Rattle.std.proofs.lemmas.Bool.Decides.{nat_tests}
 use Rattle.std.proofs.lemmas.List.{length-take, take_all}
-use Rattle.pt_io.specs.Causes.{Appends, AppendsPart}
+use Rattle.pt_io.specs.Causes.{Appends, AppendsPart, Rose}
 use Rattle.csv.specs.Reading.{strip_bom}
 use Rattle.csv.specs.declared.parser.State.TheVariants as st
 use Rattle.pt_types.specs.declared.graph.Graph.{Graph}
 use Rattle.pt_types.specs.declared.rows.Row.{Row}
-use Rattle.pt_semantics.specs.Cycles.{NoFreeCycle}
-use Rattle.pt_semantics.specs.Offsets.{IsFeasible}
 use Rattle.pt_causality.specs.Ranked.{level_of}
-use Rattle.pt_offsets.specs.Faults.{CauseOfPlan}
 use Rattle.pt_offsets.specs.declared.fault.PlanFault.{PlanFault}
 use Rattle.pt_offsets.specs.declared.fault.PlanFault.TheVariants as plan
 use Rattle.pt_offsets.specs.Plans.{IsAdmitted, Parts}
@@ -27,7 +24,7 @@ use Rattle.pt_sensors.specs.declared.sensor_rows.SensorRows.{SensorRows}
 use Rattle.pt_sensors.specs.Listed.{rows_for}
 use Rattle.pt_sensors.specs.RowsOf.{next}
 use Rattle.pt_sensors.specs.Places.{of_run as rows_of_run}
-use Rattle.pt_sensors.specs.Recorded.{CauseOfRows, SensorFails, SensorLate, SensorUnread}
+use Rattle.pt_sensors.specs.Recorded.{CauseOfRows}
 use Rattle.pt_air.specs.declared.air.Air.{Air}
 use Rattle.pt_air.specs.declared.fault.AirFault.{AirFault}
 use Rattle.pt_air.specs.declared.fault.AirFault.TheVariants as airs
@@ -43,16 +40,18 @@ use Rattle.pt_run.specs.declared.outcome.Ending.{Ending}
 use Rattle.pt_run.specs.declared.plan_run.RunFault.{RunFault}
 use Rattle.pt_run.specs.declared.plan_run.RunFault.TheVariants as stop
 use Rattle.pt_run.specs.declared.replay.Stopped.{Stopped}
-use Rattle.pt_run.specs.Auditing.{AsksLast, LastFails, PlanWith}
+use Rattle.pt_run.specs.Auditing.{AsksLast}
 use Rattle.pt_run.specs.Causes.{Writing}
+use Rattle.pt_run.specs.Due.{AfterRows, Answer, HasReplayedBy, IsReplayed, IsReplayedBy, UnlessMemory, WithPlan}
 use Rattle.pt_run.specs.Faults.{fault_of_air, fault_of_plan, fault_of_rows}
 use Rattle.pt_run.specs.Flown.{CauseOfNoAir, EndsAsReplayed, FinishedReplay, HasReplayed, IsOfReplay, IsRecorded, NamesRow, StopsInAir, StopsReplay, stop_in}
 use Rattle.pt_run.specs.Headline.{PutsMeaning}
-use Rattle.pt_run.specs.Replaying.{AsksReplayed, EndsReplayed, LeavesReplay, OnAir}
+use Rattle.pt_run.specs.Replaying.{AsksReplayed, LeavesReplay, OnAir, has_replayed}
 use Rattle.pt_run.specs.Runs.{IsOutput, IsStop, IsTold, RunOver}
 use Rattle.pt_run.specs.Texts.{IsUnplanned, LeftAll, WroteRun, left_by, left_by_run}
 use Rattle.pt_run.specs.Words.{paced_run}
-use Rattle.pt_run.specs.Written.{leaves_nothing}
+use Rattle.pt_run.specs.Written.{Leaves}
+use Rattle.pt_run.proofs.Ending.{has_nothing}
 use Rattle.pt_run.proofs.Asks.{asks_nothing, memory_asks}
 use Rattle.pt_run.proofs.FlownInBounds.{never_late}
 
@@ -199,121 +198,108 @@ puts log ran p rows recorded Put (flown, told) put =
     let text = told.text rows finished in
     record { fit = flown.fit; firings = text.0; meaning = text.1; text = subst Put text.2 put; held = told.held }
 
--- over a graph
-module _ (air : List ℕ) (log : Bool) (tells : Contents) (g : Graph) (r : Reading) (w : Writing) where
-  -- the replay of its plan
-  module _ (p : Parts) (admitted : IsAdmitted p) (same : p.graph ≡ g) where
-    free : NoFreeCycle g
-    free = subst NoFreeCycle same admitted.no_free_cycle
+-- a replay of a plan
+module _ (air : List ℕ) (log : Bool) (tells : Contents) (p : Parts) (r : Reading) (w : Writing) where
+  -- it ended so with this fault, or without one
+  abbrev Due : Option Fault → Leaves → Type 0
+  Due o left = UnlessMemory (record { fault = o; left = left; read = r; wrote = w }) (IsReplayed air log tells p.graph [])
 
-    feasible : IsFeasible g
-    feasible = subst IsFeasible same admitted.feasible
+  -- what follows from admitted rows
+  past_rows : (a : Answer) → UnlessMemory a (λ a. AfterRows Refused tells p.graph [] a (λ rows. IsReplayedBy air log tells p.graph [] a p (rows_of_run p.graph rows))) → IsAdmitted p → UnlessMemory a (IsReplayed air log tells p.graph [])
+  past_rows a (inl out) admitted = inl out
+  past_rows a (inr k) admitted = inr (inr (admitted.no_free_cycle, inr (admitted.feasible, planned k)))
+    where
+      planned : AfterRows Refused tells p.graph [] a (λ rows. IsReplayedBy air log tells p.graph [] a p (rows_of_run p.graph rows)) → AfterRows Refused tells p.graph [] a (λ rows. WithPlan p.graph (λ plan. IsReplayedBy air log tells p.graph [] a plan (rows_of_run p.graph rows)))
+      planned (inl h) = inl h
+      planned (inr (inl h)) = inr (inl h)
+      planned (inr (inr (inl h))) = inr (inr (inl h))
+      planned (inr (inr (inr (rows, are, pass, h)))) = inr (inr (inr (rows, are, pass, (p, refl, admitted, h))))
 
-    over_plan : (Fact : Parts → (ℕ → List Row) → Type 0) → RunOver tells p (Fact p) → PlanWith tells g Fact
-    over_plan Fact h = record { plan = p; graph = same; over = h }
+  -- it ran
+  flew : (o : Option Fault) (left : Leaves) (Fact : Parts → (ℕ → List Row) → Air → Type 0) → RunOver tells p (OnAir tells air Fact p) → has_replayed o ≡ true → (o ≡ Some fault.Write → Rose w.before w.now) →
+      ((rows : ℕ → List Row) (recorded : Air) → Fact p rows recorded → LeavesReplay log o left w p rows recorded) → Due o left
+  flew o left Fact h has rose to =
+      let ran : HasReplayedBy air log tells (record { fault = o; left = left; read = r; wrote = w }) p (rows_of_run p.graph h.rows) = record {
+        ran = has;
+        leaves = record { recorded = h.went.recorded; file = h.went.file; bounds = h.went.bounds; fact = to (rows_of_run p.graph h.rows) h.went.recorded h.went.fact };
+        failed = rose;
+      } in
+      inr (inr (h.admitted.no_free_cycle, inr (h.admitted.feasible, inr (inr (inr (h.rows, h.sensors, h.in_time, (p, refl, h.admitted, inr (inr ran))))))))
 
-    on_air : (Fact Other : Parts → (ℕ → List Row) → Air → Type 0) → ((rows : ℕ → List Row) (recorded : Air) → Fact p rows recorded → Other p rows recorded) → RunOver tells p (OnAir tells air Fact p) → PlanWith tells g (OnAir tells air Other)
-    on_air Fact Other to h = over_plan (OnAir tells air Other) (record {
-      admitted = h.admitted;
-      rows = h.rows;
-      sensors = h.sensors;
-      in_time = h.in_time;
-      went = record { recorded = h.went.recorded; file = h.went.file; bounds = h.went.bounds; fact = to (rows_of_run p.graph h.rows) h.went.recorded h.went.fact };
-    })
+  wrote : (ran : Ran) (o : Ending) → HasReplayed tells air p log ran → WroteRun ran o w → Due o.fault (left_by o)
+  wrote ran o run h =
+      ⊎_elim
+      (λ all. subst (Due o.fault) (sym all.1) (subst (λ f. Due f (left_by_run ran.misses.items ran.platforms.items)) (sym all.0) (done all.2)))
+      (λ part. subst (Due o.fault) (sym part.1) (subst (λ f. Due f (left_by_run [] ran.platforms.items)) (sym part.0) (partly part.2 part.3)))
+      h
+    where
+      done : Appends w.written_before w.written_now (string_bytes ran.text) → Due None (left_by_run ran.misses.items ran.platforms.items)
+      done put = flew None (left_by_run ran.misses.items ran.platforms.items) (FinishedReplay log ran) run refl (λ e. absurd cc) (λ rows recorded k. record {
+        flown = k.0;
+        written = λ e. puts log ran p rows recorded (Appends w.written_before w.written_now) k put;
+        misses = λ e. k.1.misses;
+        part = λ e. absurd cc;
+        unwritten = λ ne. absurd (ne refl);
+        no_misses = λ ne. absurd (ne refl);
+        breach = tt;
+      })
 
-    wrote : (ran : Ran) (o : Ending) → HasReplayed tells air p log ran → WroteRun ran o w → EndsReplayed o.fault (left_by o) air log tells g r w
-    wrote ran o run h =
-        ⊎_elim
-        (λ all. subst (λ left. EndsReplayed o.fault left air log tells g r w) (sym all.1) (subst (λ f. EndsReplayed f (left_by_run ran.misses.items ran.platforms.items) air log tells g r w) (sym all.0) (done all.2)))
-        (λ part. subst (λ left. EndsReplayed o.fault left air log tells g r w) (sym part.1) (subst (λ f. EndsReplayed f (left_by_run [] ran.platforms.items) air log tells g r w) (sym part.0) (part.2, partly part.3)))
-        h
-      where
-        done : Appends w.written_before w.written_now (string_bytes ran.text) → PlanWith tells g (OnAir tells air (LeavesReplay log None (left_by_run ran.misses.items ran.platforms.items) w))
-        done put = on_air (FinishedReplay log ran) (LeavesReplay log None (left_by_run ran.misses.items ran.platforms.items) w) (λ rows recorded k. record {
-          flown = k.0;
-          written = λ e. puts log ran p rows recorded (Appends w.written_before w.written_now) k put;
-          misses = λ e. k.1.misses;
-          part = λ e. absurd cc;
-          unwritten = λ ne. absurd (ne refl);
-          no_misses = λ ne. absurd (ne refl);
-          breach = tt;
-        }) run
+      partly : Rose w.before w.now → AppendsPart w.written_before w.written_now (string_bytes ran.text) → Due (Some fault.Write) (left_by_run [] ran.platforms.items)
+      partly rose put = flew (Some fault.Write) (left_by_run [] ran.platforms.items) (FinishedReplay log ran) run refl (λ e. rose) (λ rows recorded k. record {
+        flown = k.0;
+        written = λ e. absurd cc;
+        misses = λ e. absurd cc;
+        part = λ e. puts log ran p rows recorded (AppendsPart w.written_before w.written_now) k put;
+        unwritten = λ ne. absurd (ne refl);
+        no_misses = λ ne. refl;
+        breach = tt;
+      })
 
-        partly : AppendsPart w.written_before w.written_now (string_bytes ran.text) → PlanWith tells g (OnAir tells air (LeavesReplay log (Some fault.Write) (left_by_run [] ran.platforms.items) w))
-        partly put = on_air (FinishedReplay log ran) (LeavesReplay log (Some fault.Write) (left_by_run [] ran.platforms.items) w) (λ rows recorded k. record {
-          flown = k.0;
+  module _ (admitted : IsAdmitted p) (still : w.written_now ≡ w.written_before) where
+    halted : (f : Fault) (ps : List PlatformView) → StopsReplay f ps air tells p r → Due (Some f) (left_by_run [] ps)
+    halted (fault.Long (Some platform)) ps k =
+        flew (Some (fault.Long (Some platform))) (left_by_run [] ps) (λ q rows recorded. HaveFlown q (level_of q.ranks) rows recorded ps (Some (platform, turn.Long))) k refl (λ e. absurd cc) (λ rows recorded flown. record {
+          flown = flown;
           written = λ e. absurd cc;
           misses = λ e. absurd cc;
-          part = λ e. puts log ran p rows recorded (AppendsPart w.written_before w.written_now) k put;
-          unwritten = λ ne. absurd (ne refl);
+          part = λ e. absurd cc;
+          unwritten = λ ne. still;
           no_misses = λ ne. refl;
           breach = tt;
-        }) run
+        })
+    halted (fault.LateAir platform actor tag reading limit row) ps k =
+        flew (Some (fault.LateAir platform actor tag reading limit row)) (left_by_run [] ps) (λ q rows recorded. HaveFlown q (level_of q.ranks) rows recorded ps (Some (platform, turn.Late actor tag reading limit)) × (recorded.breach ≡ Some row)) k refl (λ e. absurd cc)
+        (λ rows recorded late. record {
+          flown = late.0;
+          written = λ e. absurd cc;
+          misses = λ e. absurd cc;
+          part = λ e. absurd cc;
+          unwritten = λ ne. still;
+          no_misses = λ ne. refl;
+          breach = late.1;
+        })
+    halted (fault.Air f) ps (none, k) = past_rows (record { fault = Some (fault.Air f); left = left_by_run [] ps; read = r; wrote = w }) (inr (inr (inr (inr (k.rows, k.sensors, k.in_time, inr (inl (f, (refl, (refl, none), still), k.went))))))) admitted
+    halted fault.ReadAir ps (none, k) = past_rows (record { fault = Some fault.ReadAir; left = left_by_run [] ps; read = r; wrote = w }) (inr (inr (inr (inr (k.rows, k.sensors, k.in_time, inl ((refl, (refl, none), still), k.went)))))) admitted
+    halted (fault.Read (Some actor)) ps (none, k) = past_rows (record { fault = Some (fault.Read (Some actor)); left = left_by_run [] ps; read = r; wrote = w }) (inr (inl (actor, (refl, (refl, none), still), k))) admitted
+    halted (fault.Sensor actor f) ps (none, k) = past_rows (record { fault = Some (fault.Sensor actor f); left = left_by_run [] ps; read = r; wrote = w }) (inr (inr (inl (actor, f, (refl, (refl, none), still), k)))) admitted
+    halted (fault.LateRow actor row seen limit) ps (none, k) = past_rows (record { fault = Some (fault.LateRow actor row seen limit); left = left_by_run [] ps; read = r; wrote = w }) (inr (inr (inr (inl (actor, row, seen, limit, (refl, (refl, none), still), refl, k))))) admitted
+    halted fault.Memory ps (none, k) = inl (refl, (refl, none), still)
+    halted f ps (none, k) = absurd k
 
-    module _ (still : w.written_now ≡ w.written_before) where
-      halted : (f : Fault) (ps : List PlatformView) → StopsReplay f ps air tells p r → EndsReplayed (Some f) (left_by_run [] ps) air log tells g r w
-      halted (fault.Long (Some platform)) ps k =
-          on_air (λ q rows recorded. HaveFlown q (level_of q.ranks) rows recorded ps (Some (platform, turn.Long))) (LeavesReplay log (Some (fault.Long (Some platform))) (left_by_run [] ps) w) (λ rows recorded flown. record {
-            flown = flown;
-            written = λ e. absurd cc;
-            misses = λ e. absurd cc;
-            part = λ e. absurd cc;
-            unwritten = λ ne. still;
-            no_misses = λ ne. refl;
-            breach = tt;
-          }) k
-      halted (fault.LateAir platform actor tag reading limit row) ps k =
-          on_air (λ q rows recorded. HaveFlown q (level_of q.ranks) rows recorded ps (Some (platform, turn.Late actor tag reading limit)) × (recorded.breach ≡ Some row))
-          (LeavesReplay log (Some (fault.LateAir platform actor tag reading limit row)) (left_by_run [] ps) w) (λ rows recorded late. record {
-            flown = late.0;
-            written = λ e. absurd cc;
-            misses = λ e. absurd cc;
-            part = λ e. absurd cc;
-            unwritten = λ ne. still;
-            no_misses = λ ne. refl;
-            breach = late.1;
-          }) k
-      halted (fault.Air f) ps k = ((refl, k.0), over_plan (λ q rows. IfSome (tells air) (λ bytes. air_of q.graph bytes ≡ Err f)) k.1, still)
-      halted fault.ReadAir ps k = ((refl, k.0), over_plan (λ q rows. LastFails q.graph [] air r) k.1, still)
-      halted (fault.Read (Some actor)) ps k = (refl, (refl, k.0), ((free, (feasible, subst (λ (z : Graph). SensorUnread Refused tells z actor [] r) same k.1, (refl, k.0))), still))
-      halted (fault.Sensor actor f) ps k = (refl, (refl, k.0), ((free, (feasible, subst (λ (z : Graph). SensorFails Refused tells z actor f) same k.1, (refl, k.0))), still))
-      halted (fault.LateRow actor row seen limit) ps k = (refl, (refl, k.0), ((free, (feasible, subst (λ (z : Graph). SensorLate tells z actor row seen limit) same k.1, (refl, k.0))), still))
-      halted fault.Memory ps k = ((refl, k.0), still)
-      halted (fault.Long None) ps k = absurd k.1
-      halted (fault.Read None) ps k = absurd k.1
-      halted fault.Usage ps k = absurd k.1
-      halted (fault.Graph f) ps k = absurd k.1
-      halted (fault.Cycle actors) ps k = absurd k.1
-      halted (fault.Infeasible send offset slack) ps k = absurd k.1
-      halted (fault.Ring sends gain) ps k = absurd k.1
-      halted (fault.LateMessage platform actor tag reading limit) ps k = absurd k.1
-      halted fault.ReadLog ps k = absurd k.1
-      halted (fault.Unlawful v) ps k = absurd k.1
-      halted fault.Write ps k = absurd k.1
+    reported : (f : Fault) (ps : List PlatformView) (o : Ending) → StopsReplay f ps air tells p r → LeftAll f ps o → Due o.fault (left_by o)
+    reported f ps o k h =
+        ⊎_elim
+        (λ is. subst (Due o.fault) (sym is.1) (subst (λ e. Due e (left_by_run [] ps)) (sym is.0) (halted f ps k)))
+        (λ memory. inl (memory.0, has_nothing o [] [] memory.1, still))
+        h
 
-      reported : (f : Fault) (ps : List PlatformView) (o : Ending) → StopsReplay f ps air tells p r → LeftAll f ps o → EndsReplayed o.fault (left_by o) air log tells g r w
-      reported f ps o k h =
-          ⊎_elim
-          (λ is. subst (λ left. EndsReplayed o.fault left air log tells g r w) (sym is.1) (subst (λ e. EndsReplayed e (left_by_run [] ps) air log tells g r w) (sym is.0) (halted f ps k)))
-          (λ memory. subst (λ left. EndsReplayed o.fault left air log tells g r w) (sym memory.1) (subst (λ e. EndsReplayed e leaves_nothing air log tells g r w) (sym memory.0) ((refl, refl), still)))
-          h
-
-    pub ends_replayed : (ran : Result Ran Stopped) (o : Ending) → IfOk ran (HasReplayed tells air p log) → IfErr ran (λ s. StopsReplay s.fault s.platforms.items air tells p r) → EndsAsReplayed ran o w → EndsReplayed o.fault (left_by o) air log tells g r w
-    ends_replayed (Ok ran) o run stops h = wrote ran o run h
-    ends_replayed (Err s) o run stops h = reported h.1 s.fault s.platforms.items o stops h.0
-
-  -- the graph has no plan
-  pub unplanned_replay : (o : Ending) → IsUnplanned g o → w.written_now ≡ w.written_before → EndsReplayed o.fault (left_by o) air log tells g r w
-  unplanned_replay o (none, f, cause, is) still = subst (λ left. EndsReplayed o.fault left air log tells g r w) (sym none)
-      (⊎_elim
-      (λ (it : o.fault ≡ Some (fault_of_plan f)). subst (λ e. EndsReplayed e leaves_nothing air log tells g r w) (sym it) (by_fault f cause))
-      (λ (it : o.fault ≡ Some fault.Memory). subst (λ e. EndsReplayed e leaves_nothing air log tells g r w) (sym it) ((refl, refl), still))
-      is)
+  pub replay_due : (g : Graph) → IsAdmitted p → p.graph ≡ g → (ran : Result Ran Stopped) (o : Ending) → IfOk ran (HasReplayed tells air p log) → IfErr ran (λ s. StopsReplay s.fault s.platforms.items air tells p r) → EndsAsReplayed ran o w →
+      UnlessMemory (record { fault = o.fault; left = left_by o; read = r; wrote = w }) (IsReplayed air log tells g [])
+  replay_due g admitted same ran o run stops h = subst (λ z. UnlessMemory (record { fault = o.fault; left = left_by o; read = r; wrote = w }) (IsReplayed air log tells z [])) same (by_ran ran run stops h)
     where
-      by_fault : (e : PlanFault) → CauseOfPlan e g → EndsReplayed (Some (fault_of_plan e)) leaves_nothing air log tells g r w
-      by_fault (plan.Cycle actors) k = (refl, (refl, refl), ((k, (refl, refl)), still))
-      by_fault (plan.Infeasible send offset slack) k = (refl, (refl, refl), ((k.0, (k.1, (refl, refl))), still))
-      by_fault plan.Memory k = ((refl, refl), still)
+      by_ran : (ran : Result Ran Stopped) → IfOk ran (HasReplayed tells air p log) → IfErr ran (λ s. StopsReplay s.fault s.platforms.items air tells p r) → EndsAsReplayed ran o w → Due o.fault (left_by o)
+      by_ran (Ok ran) run stops h = wrote ran o run h
+      by_ran (Err s) run stops h = reported admitted h.1 s.fault s.platforms.items o stops h.0
 
 -- What is asked for.
 

@@ -19,14 +19,13 @@ use Rattle.pt_run.specs.declared.fault.Fault.TheVariants as fault
 use Rattle.pt_run.specs.declared.words.Command.TheVariants.{Run}
 use Rattle.pt_run.specs.Causes.{Writing}
 use Rattle.pt_run.specs.Headline.{Headline, IsHeadline, LeavesRun, PutsMeaning, RunWith, stop_of}
-use Rattle.pt_run.specs.Making.{Ends}
-use Rattle.pt_run.specs.Texts.{EndsBy}
 use Rattle.pt_run.specs.Words.{Order}
 use Rattle.pt_run.specs.Written.{GraphWith, HasNothing, Leaves, clocking, has_run}
+use Rattle.pt_run.proofs.ByFault.{Ends, EndsBy}
 use Rattle.pt_run.proofs.CauseTable.{never_paced}
 
 -- the text of a run that finished, as it was put
-pub puts : (tells : Contents) (left : Leaves) (workers : ℕ) (clock : ClockChoice) (log : Bool) (plan : Parts) (misses : List Miss) (text : List ℕ) (Put : List ℕ → Type 0) →
+puts : (tells : Contents) (left : Leaves) (workers : ℕ) (clock : ClockChoice) (log : Bool) (plan : Parts) (misses : List Miss) (text : List ℕ) (Put : List ℕ → Type 0) →
     (done : IsFinishedRun tells (clocking workers clock left) plan log left.platforms misses text) → Put text → PutsMeaning plan (of_run plan.graph done.run.rows) log left.platforms Put
 puts tells left workers clock log plan misses text Put done put = record { fit = done.fit; firings = done.firings; meaning = done.meaning; text = subst Put done.written put; held = done.held }
 

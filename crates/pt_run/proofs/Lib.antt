@@ -1,3 +1,7 @@
+pub mod ByFault
+pub mod CauseFields
+pub mod ByCause
+pub mod OneDue
 pub mod Puts
 pub mod Telling
 pub mod Ending
@@ -40,4 +44,4 @@ pub mod CallsAgreeing
 pub mod ReplaysAgreeing
 pub mod Stages
 pub mod DueEnds
-pub mod EndsDue
+pub mod OfDue

@@ -1,5 +1,5 @@
 -- Runs over made inputs.
-use Rattle.std.proofs.Common.{◌≡◌, ◌≢◌, ℕ, suc, ◌+◌, ◌<◌, ◌≤◌, List, [], ◌∷◌, get_or, Option, None, Some, ℤ, pos, ◌-ℤ◌, ◌+ℤ◌, ◌<ℤ◌, length, option_map, slice_get, arith, append-nil, Bool, refl, sym, ap, subst, ◌∙◌, inl, ⊎_elim}
+use Rattle.std.proofs.Common.{◌≡◌, ◌≢◌, ℕ, suc, ◌+◌, ◌<◌, ◌≤◌, List, [], ◌∷◌, get_or, Option, None, Some, ℤ, pos, ◌-ℤ◌, ◌+ℤ◌, ◌<ℤ◌, length, option_map, slice_get, arith, append-nil, Bool, refl, sym, ap, subst, ◌∙◌, inl, ⊎_elim, inr}
 use Rattle.std.specs.Prelude.{MatchOption, String, flat_map}
 use Rattle.std.specs.declared.alloc.Global.{Global}
 use Rattle.std.proofs.lemmas.Int.{ints}
@@ -40,16 +40,22 @@ use Rattle.pt_made.proofs.Steady.{never_long}
 use Rattle.pt_made.proofs.Timely.{never_missed}
 use Rattle.pt_run.specs.declared.fault.Fault.{Fault}
 use Rattle.pt_turn.specs.All.{AreReady}
-use Rattle.pt_io.specs.Causes.{Appends}
+use Rattle.pt_io.specs.Causes.{Appends, AppendsPart, Rose}
 use Rattle.pt_words.specs.declared.orders.ClockChoice.{ClockChoice}
 use Rattle.pt_words.specs.Grammar as grammar
 use Rattle.pt_words.proofs.Numbers.{made_number}
 use Rattle.pt_run.specs.declared.words.Asked.{Asked}
 use Rattle.pt_run.specs.declared.words.Asked.TheVariants.{Make}
 use Rattle.pt_run.specs.declared.words.Command.TheVariants.{Run, Check, Meaning, Slacks}
+use Rattle.pt_run.specs.declared.outcome.Ending.{Ending}
+use Rattle.pt_run.specs.Texts.{left_by, left_by_run}
+use Rattle.pt_run.specs.Due.{IsDue}
+use Rattle.pt_run.specs.Written.{Leaves}
+use Rattle.pt_run.specs.Causes.{Writing}
+use Rattle.pt_run.specs.declared.fault.Fault.TheVariants as fault
 use Rattle.pt_run.specs.Asking.{in_words}
 use Rattle.pt_blocks.specs.declared.blocks.Named.{Named}
-use Rattle.pt_sensors.specs.Asked.{Contents}
+use Rattle.pt_sensors.specs.Asked.{Contents, Reading}
 use Rattle.pt_sensors.proofs.Asking.{asks_none}
 use Rattle.pt_run.specs.Making.{AsksOf, IsMadeRun}
 use Rattle.pt_run.specs.Telling.{Tells}
@@ -201,7 +207,7 @@ made_number_in words order n k says is = by_request (grammar.request_of_words wo
         same : (a b : ℕ) → Some (make a b) ≡ Some (make n k) → grammar.make a b ≡ grammar.make n k
         same a b h = cc
 
-order_is : (words : List (String Global)) (order : Option Asked) (n k : ℕ) → option_map in_words order ≡ order_of words → order ≡ Some (Make n k) → Some (make n k) ≡ order_of words
+pub order_is : (words : List (String Global)) (order : Option Asked) (n k : ℕ) → option_map in_words order ≡ order_of words → order ≡ Some (Make n k) → Some (make n k) ≡ order_of words
 order_is words order n k says is = sym (ap (option_map in_words) is) ∙ says
 
 -- it asks for no file
@@ -216,3 +222,9 @@ pub gathered_as : (plan other : Parts) (platforms views : List PlatformView) (fi
 gathered_as plan other platforms views firings same seen h rows finished =
     subst (λ (p : Parts). IsMeaning p.graph (rank_of p.ranks) rows firings) same
     (h rows (subst (λ (p : Parts). HaveFinished p rows views) (sym same) (subst (HaveFinished plan rows) (sym seen) finished)))
+
+-- a write of the summary failed
+pub made_part : (o : Ending) (number workers : ℕ) (platforms : List PlatformView) (text : List ℕ) (tells : Contents) (blocks : List Named) (r : Reading) (w : Writing) → o.fault ≡ Some fault.Write → left_by o ≡ left_by_run [] platforms → IsMadeRun number platforms text →
+    Rose w.before w.now → AppendsPart w.written_before w.written_now text → IsDue (Some (make number workers)) tells blocks (record { fault = o.fault; left = left_by o; read = r; wrote = w })
+made_part o number workers platforms text tells blocks r w is left made rose part =
+    inr (ap (λ (l : Leaves). l.misses) left, inr (is, rose, text, subst (λ (l : Leaves). IsMadeRun number l.platforms text) (sym left) made, part))

@@ -26,10 +26,10 @@ use Rattle.pt_sensors.specs.Asked.{Contents}
 use Rattle.pt_sensors.specs.Places.{of_run}
 use Rattle.pt_sensors.specs.Recorded.{AllPass, AreRows, HaveRows, InTime, IsLateRow, RowsOfKind, SensorFails, SensorLate}
 use Rattle.pt_run.specs.RunsAgreeing.{TellsSensors}
+use Rattle.pt_run.proofs.ByFault.{IsMeant}
 use Rattle.pt_run.proofs.RunsAgreeing.{rows_are_one}
 use Rattle.pt_run.specs.declared.fault.Fault.TheVariants as fault
 use Rattle.pt_run.specs.Causes.{IsTooLongForAll}
-use Rattle.pt_run.specs.Written.{IsMeant}
 use Rattle.pt_run.proofs.Complete.{agrees, ok_err, same_ok}
 use Rattle.pt_types.specs.Limits.{most_claims}
 

@@ -6,13 +6,11 @@ use Rattle.pt_offsets.specs.Plans.{Parts}
 use Rattle.pt_sensors.specs.Asked.{Contents, Reading}
 use Rattle.pt_run.specs.declared.fault.Fault.{Fault}
 use Rattle.pt_run.specs.declared.fault.Fault.TheVariants as fault
-use Rattle.pt_run.specs.Auditing.{EndsAudit}
 use Rattle.pt_run.specs.Causes.{Writing}
 use Rattle.pt_run.specs.Headline.{RunWith}
-use Rattle.pt_run.specs.Replaying.{EndsReplay}
-use Rattle.pt_run.specs.Texts.{EndsBy}
 use Rattle.pt_run.specs.Words.{paced_run}
 use Rattle.pt_run.specs.Written.{Leaves}
+use Rattle.pt_run.proofs.ByFault.{EndsAudit, EndsBy, EndsReplay}
 use Rattle.pt_run.proofs.Auditing.{not_before}
 
 -- the graph file defines an admitted graph, and its sensors' files have rows, none of which is late

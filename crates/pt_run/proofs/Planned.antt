@@ -1,26 +1,26 @@
 -- How a run over a graph ends, by how it ends over its plan.
-use Rattle.std.proofs.Common.{◌≡◌, ◌≢◌, ℕ, Bool, true, false, List, [], length, Option, Some, None, Result, Ok, Err, IfOk, IfErr, refl, sym, ap, subst, ◌∙◌, ⊎_elim}
-use Rattle.std.specs.Prelude.{String, string_bytes}
-use Rattle.std.specs.declared.alloc.Global.{Global}
+use Rattle.std.proofs.Common.{◌≡◌, ◌≢◌, ℕ, Bool, true, false, List, [], length, Option, Some, None, Result, Ok, Err, IfOk, IfErr, refl, sym, ap, subst, ◌∙◌, inl, inr, ⊎_elim}
+use Rattle.std.specs.Prelude.{string_bytes}
+use Rattle.pt_io.specs.Causes.{Appends, AppendsPart, Rose}
 use Rattle.pt_types.specs.declared.graph.Graph.{Graph}
-use Rattle.pt_semantics.specs.Cycles.{NoFreeCycle}
-use Rattle.pt_semantics.specs.Offsets.{IsFeasible}
-use Rattle.pt_semantics.specs.Ranks.{AreLevels}
-use Rattle.pt_semantics.proofs.Acyclic.{levels_forbid_cycles}
+use Rattle.pt_types.specs.declared.rows.Row.{Row}
+use Rattle.pt_history.specs.declared.miss.Miss.{Miss}
 use Rattle.pt_offsets.specs.Faults.{CauseOfPlan}
 use Rattle.pt_offsets.specs.declared.fault.PlanFault.{PlanFault}
 use Rattle.pt_offsets.specs.declared.fault.PlanFault.TheVariants as plan
 use Rattle.pt_offsets.specs.Plans.{IsAdmitted, Parts}
-use Rattle.pt_slacks.specs.Text.{IsSlacked}
 use Rattle.pt_sensors.specs.declared.recorded_fault.RecordedFault.{RecordedFault}
 use Rattle.pt_sensors.specs.declared.recorded_fault.RecordedFault.TheVariants as rows
 use Rattle.pt_sensors.specs.declared.recorded_fault.LateRows.TheVariants.{Refused}
 use Rattle.pt_sensors.specs.Asked.{Contents, Reading}
-use Rattle.pt_sensors.specs.Recorded.{CauseOfRows, SensorFails, SensorLate, SensorUnread}
+use Rattle.pt_sensors.specs.Places.{of_run}
+use Rattle.pt_turn.specs.Platforms.{PlatformView}
+use Rattle.pt_sensors.specs.Recorded.{CauseOfRows, SensorUnread}
 use Rattle.pt_run.specs.declared.plan_run.RunFault.{RunFault}
 use Rattle.pt_run.specs.declared.plan_run.RunFault.TheVariants as stop
 use Rattle.pt_run.specs.declared.finished_run.Ran.{Ran}
-use Rattle.pt_run.specs.Runs.{CauseOfStop, HasOutputs}
+use Rattle.pt_run.specs.Readings.{Clocking}
+use Rattle.pt_run.specs.Runs.{CauseOfStop, HasOutputs, HasRun, IsFinishedRun}
 use Rattle.pt_run.specs.declared.fault.Fault.{Fault}
 use Rattle.pt_run.specs.declared.fault.Fault.TheVariants as fault
 use Rattle.pt_io.specs.Told.{ClockView}
@@ -28,91 +28,115 @@ use Rattle.pt_words.specs.declared.orders.ClockChoice.{ClockChoice}
 use Rattle.pt_words.specs.declared.orders.ClockChoice.TheVariants.{Machine, Paced, Step}
 use Rattle.pt_run.specs.Clocks.{AreBackBy, AreBackAfterRun}
 use Rattle.pt_run.specs.declared.outcome.Ending.{Ending}
-use Rattle.pt_run.specs.declared.words.Command.TheVariants.{Check, Meaning, Run, Slacks}
+use Rattle.pt_run.specs.declared.words.Command.TheVariants.{Run}
+use Rattle.pt_run.specs.Due.{AfterAdmission, Answer, IsDueFor, RefusedWith, UnlessMemory}
 use Rattle.pt_run.specs.Faults.{fault_of_plan, fault_of_rows}
-use Rattle.pt_run.specs.Written.{IsChecked, IsMeant, Leaves, Writes, has_run, leaves_nothing}
-use Rattle.pt_run.specs.Causes.{CauseOf, Writing}
-use Rattle.pt_run.specs.Texts.{CheckFails, EndsOver, EndsPlan, HasEnded, IsStopped, IsUnplanned, MeaningFails, SlacksFail, WroteRun, left_with, left_by_run}
+use Rattle.pt_run.specs.Headline.{LeavesRun, PutsMeaning, stop_of}
+use Rattle.pt_run.specs.Written.{Leaves, clocking, has_run}
+use Rattle.pt_run.specs.Causes.{Writing}
+use Rattle.pt_run.specs.Texts.{HasEnded, IsStopped, IsUnplanned, LeftAll, WroteRun, left_with, left_by_run}
+use Rattle.pt_run.proofs.Ending.{has_nothing}
 
 -- what a call leaves, with what the clocks showed before its run and after it
 abbrev over : Leaves → List ClockView → List ClockView → Leaves
 over left before now = record { misses = left.misses; platforms = left.platforms; before = before; now = now }
 
--- a run that finished was written
-pub wrote_plan : (ran : Ran) (o : Ending) (before now : List ClockView) (workers : ℕ) (clock : ClockChoice) (log : Bool) (tells : Contents) (plan : Parts) (r : Reading) (w : Writing) →
-    HasOutputs tells (record { choice = clock; workers = workers; before = before; now = now }) plan log ran → WroteRun ran o w → EndsPlan o.fault (left_with o before now) workers clock log tells plan r w
-wrote_plan ran o before now workers clock log tells plan r w run h =
-    ⊎_elim
-    (λ all. subst (λ left. EndsPlan o.fault (over left before now) workers clock log tells plan r w) (sym all.1) (subst (λ f. EndsPlan f (over (left_by_run ran.misses.items ran.platforms.items) before now) workers clock log tells plan r w) (sym all.0) (string_bytes ran.text, run.0, all.2)))
-    (λ part. subst (λ left. EndsPlan o.fault (over left before now) workers clock log tells plan r w) (sym part.1) (subst (λ f. EndsPlan f (over (left_by_run [] ran.platforms.items) before now) workers clock log tells plan r w) (sym part.0) (part.2, refl, ran.misses.items, string_bytes ran.text, run.0, part.3)))
-    h
+-- the text of a run that finished, as it was put
+pub puts : (tells : Contents) (c : Clocking) (log : Bool) (plan : Parts) (platforms : List PlatformView) (misses : List Miss) (text : List ℕ) (Put : List ℕ → Type 0) → (done : IsFinishedRun tells c plan log platforms misses text) → Put text →
+    PutsMeaning plan (of_run plan.graph done.run.rows) log platforms Put
+puts tells c log plan platforms misses text Put done put = record { fit = done.fit; firings = done.firings; meaning = done.meaning; text = subst Put done.written put; held = done.held }
 
--- a run that did not finish is reported
-pub stopped_plan : (stopped : RunFault) (o : Ending) (before now : List ClockView) (workers : ℕ) (clock : ClockChoice) (log : Bool) (tells : Contents) (plan : Parts) (r : Reading) (w : Writing) →
-    CauseOfStop stopped tells (record { choice = clock; workers = workers; before = before; now = now }) plan r → IsStopped stopped o → w.written_now ≡ w.written_before → EndsPlan o.fault (left_with o before now) workers clock log tells plan r w
-stopped_plan (stop.Rows f) o before now workers clock log tells plan r w cause h still = subst (λ left. EndsPlan o.fault (over left before now) workers clock log tells plan r w) (sym h.1)
-    (⊎_elim
-    (λ (is : o.fault ≡ Some (fault_of_rows f)). subst (λ e. EndsPlan e (over leaves_nothing before now) workers clock log tells plan r w) (sym is) (by_rows f cause))
-    (λ (is : o.fault ≡ Some fault.Memory). subst (λ e. EndsPlan e (over leaves_nothing before now) workers clock log tells plan r w) (sym is) ((refl, refl), still))
-    h.0)
-  where
-    by_rows : (e : RecordedFault) → CauseOfRows Refused e tells plan.graph [] r → EndsPlan (Some (fault_of_rows e)) (over leaves_nothing before now) workers clock log tells plan r w
-    by_rows rows.Memory k = ((refl, refl), still)
-    by_rows (rows.Read sensor) k = (k, (refl, refl), still)
-    by_rows (rows.Sensor actor e) k = (k, (refl, refl), still)
-    by_rows (rows.Late actor row seen limit) k = (k.1, (refl, refl), still)
-stopped_plan (stop.Long platform platforms) o before now workers clock log tells plan r w cause h still =
-    ⊎_elim
-    (λ long. subst (λ left. EndsPlan o.fault (over left before now) workers clock log tells plan r w) (sym long.1) (subst (λ e. EndsPlan e (over (left_by_run [] platforms.items) before now) workers clock log tells plan r w) (sym long.0) (cause, refl, still)))
-    (λ memory. subst (λ left. EndsPlan o.fault (over left before now) workers clock log tells plan r w) (sym memory.1) (subst (λ e. EndsPlan e (over leaves_nothing before now) workers clock log tells plan r w) (sym memory.0) ((refl, refl), still)))
-    h
-stopped_plan (stop.Late platform actor tag reading limit platforms) o before now workers clock log tells plan r w cause h still =
-    ⊎_elim
-    (λ late. subst (λ left. EndsPlan o.fault (over left before now) workers clock log tells plan r w) (sym late.1) (subst (λ e. EndsPlan e (over (left_by_run [] platforms.items) before now) workers clock log tells plan r w) (sym late.0) (cause, refl, still)))
-    (λ memory. subst (λ left. EndsPlan o.fault (over left before now) workers clock log tells plan r w) (sym memory.1) (subst (λ e. EndsPlan e (over leaves_nothing before now) workers clock log tells plan r w) (sym memory.0) ((refl, refl), still)))
-    h
-stopped_plan stop.Memory o before now workers clock log tells plan r w cause h still =
-    subst (λ left. EndsPlan o.fault (over left before now) workers clock log tells plan r w) (sym h.1) (subst (λ e. EndsPlan e (over leaves_nothing before now) workers clock log tells plan r w) (sym h.0) ((refl, refl), still))
+-- a run of a plan by this clock
+module _ (workers : ℕ) (clock : ClockChoice) (log : Bool) (tells : Contents) (plan : Parts) (admitted : IsAdmitted plan) (r : Reading) (w : Writing) where
+  -- it ended so with this fault, or without one
+  abbrev Due : Option Fault → Leaves → Type 0
+  Due o left = UnlessMemory (record { fault = o; left = left; read = r; wrote = w }) (IsDueFor (Run workers clock log) tells plan.graph [])
 
--- over a plan, so over its graph
-pub ends_plan : (o : Option Fault) (left : Leaves) (workers : ℕ) (clock : ClockChoice) (log : Bool) (tells : Contents) (g : Graph) (plan : Parts) (r : Reading) (w : Writing) → IsAdmitted plan → plan.graph ≡ g →
-    EndsPlan o left workers clock log tells plan r w → EndsOver o left (Run workers clock log) tells g r w
-ends_plan o left workers clock log tells g plan r w admitted is ends = by_outcome o ends
-  where
-    free : NoFreeCycle g
-    free = subst NoFreeCycle is admitted.no_free_cycle
+  -- its platforms went
+  went : (o : Option Fault) (left : Leaves) (run : HasRun tells (clocking workers clock left) plan left.platforms (stop_of o)) → has_run o ≡ true → LeavesRun (clocking workers clock left) log o left w plan (of_run plan.graph run.rows) → (o ≡ Some fault.Write → Rose w.before w.now) → Due o left
+  went o left run has leaves rose =
+      inr (inr (admitted.no_free_cycle, inr (admitted.feasible, inr (inr (inr (run.rows, run.sensors, run.in_time, (plan, refl, admitted, record { ran = has; leaves = leaves; failed = rose; paced = run.went.paced })))))))
 
-    feasible : IsFeasible g
-    feasible = subst IsFeasible is admitted.feasible
+  finished : (left : Leaves) (text : List ℕ) → IsFinishedRun tells (clocking workers clock left) plan log left.platforms left.misses text → Appends w.written_before w.written_now text → Due None left
+  finished left text done put =
+      went None left done.run refl (record {
+        kept = done.run.went.kept;
+        readings = done.run.went.readings;
+        written = λ e. puts tells (clocking workers clock left) log plan left.platforms left.misses text (Appends w.written_before w.written_now) done put;
+        misses = λ e. done.missed;
+        part = λ e. absurd cc;
+        unwritten = λ ne. absurd (ne refl);
+        no_misses = λ ne. absurd (ne refl);
+      }) (λ e. absurd cc)
 
-    by_outcome : (e : Option Fault) → EndsPlan e left workers clock log tells plan r w → EndsOver e left (Run workers clock log) tells g r w
-    by_outcome None h = (h.0, (free, record { plan = plan; graph = is; finished = h.1 }), h.2)
-    by_outcome (Some fault.Write) h = (h.0, h.1, h.2, h.3, (free, record { plan = plan; graph = is; finished = h.4 }), h.5)
-    by_outcome (Some fault.Memory) h = h
-    by_outcome (Some (fault.Long (Some platform))) h = ((free, record { plan = plan; graph = is; run = h.0; no_misses = h.1 }), h.2)
-    by_outcome (Some (fault.LateMessage platform actor tag reading limit)) h = ((free, record { plan = plan; graph = is; run = h.0; no_misses = h.1 }), h.2)
-    by_outcome (Some (fault.Long None)) h = absurd h
-    by_outcome (Some (fault.Read (Some actor))) h = ((free, (feasible, subst (λ z. SensorUnread Refused tells z actor [] r) is h.0, h.1)), h.2)
-    by_outcome (Some (fault.Read None)) h = absurd h
-    by_outcome (Some (fault.Sensor actor f)) h = ((free, (feasible, subst (λ z. SensorFails Refused tells z actor f) is h.0, h.1)), h.2)
-    by_outcome (Some (fault.LateRow actor row seen limit)) h = ((free, (feasible, subst (λ z. SensorLate tells z actor row seen limit) is h.0, h.1)), h.2)
-    by_outcome (Some fault.Usage) h = absurd h
-    by_outcome (Some (fault.Graph f)) h = absurd h
-    by_outcome (Some (fault.Cycle actors)) h = absurd h
-    by_outcome (Some (fault.Infeasible send offset slack)) h = absurd h
-    by_outcome (Some (fault.Ring sends gain)) h = absurd h
-    by_outcome (Some fault.ReadLog) h = absurd h
-    by_outcome (Some (fault.Unlawful v)) h = absurd h
-    by_outcome (Some (fault.LateAir platform actor tag reading limit row)) h = absurd h
-    by_outcome (Some (fault.Air e)) h = absurd h
-    by_outcome (Some fault.ReadAir) h = absurd h
+  partly : (left : Leaves) (misses : List Miss) (text : List ℕ) → IsFinishedRun tells (clocking workers clock left) plan log left.platforms misses text → left.misses ≡ [] → Rose w.before w.now → AppendsPart w.written_before w.written_now text → Due (Some fault.Write) left
+  partly left misses text done none rose put =
+      went (Some fault.Write) left done.run refl (record {
+        kept = done.run.went.kept;
+        readings = done.run.went.readings;
+        written = λ e. absurd cc;
+        misses = λ e. absurd cc;
+        part = λ e. puts tells (clocking workers clock left) log plan left.platforms misses text (AppendsPart w.written_before w.written_now) done put;
+        unwritten = λ ne. absurd (ne refl);
+        no_misses = λ ne. none;
+      }) (λ e. rose)
 
--- a run that ended
-pub ended_plan : (ran : Result Ran RunFault) (o : Ending) (before now : List ClockView) (workers : ℕ) (clock : ClockChoice) (log : Bool) (tells : Contents) (plan : Parts) (r : Reading) (w : Writing) →
-    IfOk ran (HasOutputs tells (record { choice = clock; workers = workers; before = before; now = now }) plan log) → IfErr ran (λ f. CauseOfStop f tells (record { choice = clock; workers = workers; before = before; now = now }) plan r) → HasEnded ran o w →
-    EndsPlan o.fault (left_with o before now) workers clock log tells plan r w
-ended_plan (Ok ran) o before now workers clock log tells plan r w run cause h = wrote_plan ran o before now workers clock log tells plan r w run h
-ended_plan (Err f) o before now workers clock log tells plan r w run cause h = stopped_plan f o before now workers clock log tells plan r w cause h.0 h.1
+  wrote_plan : (ran : Ran) (o : Ending) (before now : List ClockView) → HasOutputs tells (record { choice = clock; workers = workers; before = before; now = now }) plan log ran → WroteRun ran o w → Due o.fault (left_with o before now)
+  wrote_plan ran o before now run h =
+      ⊎_elim
+      (λ all. subst (λ left. Due o.fault (over left before now)) (sym all.1) (subst (λ f. Due f (over (left_by_run ran.misses.items ran.platforms.items) before now)) (sym all.0) (finished (over (left_by_run ran.misses.items ran.platforms.items) before now) (string_bytes ran.text) run.0 all.2)))
+      (λ part. subst (λ left. Due o.fault (over left before now)) (sym part.1) (subst (λ f. Due f (over (left_by_run [] ran.platforms.items) before now)) (sym part.0) (partly (over (left_by_run [] ran.platforms.items) before now) ran.misses.items (string_bytes ran.text) run.0 refl part.2 part.3)))
+      h
+
+  -- its platforms were stopped
+  halted : (o : Option Fault) (platforms : List PlatformView) (before now : List ClockView) → w.written_now ≡ w.written_before → has_run o ≡ true → o ≢ None → o ≢ Some fault.Write → HasRun tells (record { choice = clock; workers = workers; before = before; now = now }) plan platforms (stop_of o) →
+      Due o (over (left_by_run [] platforms) before now)
+  halted o platforms before now still has some other run =
+      went o (over (left_by_run [] platforms) before now) run has (record {
+        kept = run.went.kept;
+        readings = run.went.readings;
+        written = λ e. absurd (some e);
+        misses = λ e. absurd (some e);
+        part = λ e. absurd (other e);
+        unwritten = λ ne. still;
+        no_misses = λ ne. refl;
+      }) (λ e. absurd (other e))
+
+  left_all : (f : Fault) (platforms : List PlatformView) (o : Ending) (before now : List ClockView) → w.written_now ≡ w.written_before → Due (Some f) (over (left_by_run [] platforms) before now) → LeftAll f platforms o → Due o.fault (left_with o before now)
+  left_all f platforms o before now still due h =
+      ⊎_elim
+      (λ is. subst (λ left. Due o.fault (over left before now)) (sym is.1) (subst (λ e. Due e (over (left_by_run [] platforms) before now)) (sym is.0) due))
+      (λ memory. inl (memory.0, has_nothing o before now memory.1, still))
+      h
+
+  -- its rows were refused
+  by_rows : (a : Answer) (f : RecordedFault) → a.read ≡ r → RefusedWith (fault_of_rows f) a → CauseOfRows Refused f tells plan.graph [] r → UnlessMemory a (IsDueFor (Run workers clock log) tells plan.graph [])
+  by_rows a rows.Memory is out k = inl out
+  by_rows a (rows.Read actor) is out k = inr (inr (admitted.no_free_cycle, inr (admitted.feasible, inl (actor, out, subst (SensorUnread Refused tells plan.graph actor []) (sym is) k))))
+  by_rows a (rows.Sensor actor e) is out k = inr (inr (admitted.no_free_cycle, inr (admitted.feasible, inr (inl (actor, e, out, k)))))
+  by_rows a (rows.Late actor row seen limit) is out k = inr (inr (admitted.no_free_cycle, inr (admitted.feasible, inr (inr (inl (actor, row, seen, limit, out, refl, k.1))))))
+
+  stopped_plan : (stopped : RunFault) (o : Ending) (before now : List ClockView) → CauseOfStop stopped tells (record { choice = clock; workers = workers; before = before; now = now }) plan r → IsStopped stopped o → w.written_now ≡ w.written_before → Due o.fault (left_with o before now)
+  stopped_plan (stop.Rows f) o before now cause h still =
+      ⊎_elim
+      (λ (is : o.fault ≡ Some (fault_of_rows f)). by_rows (record { fault = o.fault; left = left_with o before now; read = r; wrote = w }) f refl (is, has_nothing o before now h.1, still) cause)
+      (λ (is : o.fault ≡ Some fault.Memory). inl (is, has_nothing o before now h.1, still))
+      h.0
+  stopped_plan (stop.Long platform platforms) o before now cause h still =
+      left_all (fault.Long (Some platform)) platforms.items o before now still (halted (Some (fault.Long (Some platform))) platforms.items before now still refl (λ e. absurd cc) (λ e. absurd cc) cause) h
+  stopped_plan (stop.Late platform actor tag reading limit platforms) o before now cause h still =
+      left_all (fault.LateMessage platform actor tag reading limit) platforms.items o before now still (halted (Some (fault.LateMessage platform actor tag reading limit)) platforms.items before now still refl (λ e. absurd cc) (λ e. absurd cc) cause) h
+  stopped_plan stop.Memory o before now cause h still = inl (h.0, has_nothing o before now h.1, still)
+
+  -- over its graph
+  pub ended_run : (g : Graph) → plan.graph ≡ g → (ran : Result Ran RunFault) (o : Ending) (before now : List ClockView) → IfOk ran (HasOutputs tells (record { choice = clock; workers = workers; before = before; now = now }) plan log) →
+      IfErr ran (λ f. CauseOfStop f tells (record { choice = clock; workers = workers; before = before; now = now }) plan r) → HasEnded ran o w → UnlessMemory (record { fault = o.fault; left = left_with o before now; read = r; wrote = w }) (IsDueFor (Run workers clock log) tells g [])
+  ended_run g same ran o before now run cause h = subst (λ z. UnlessMemory (record { fault = o.fault; left = left_with o before now; read = r; wrote = w }) (IsDueFor (Run workers clock log) tells z [])) same (by_result ran run cause h)
+    where
+      by_result : (ran : Result Ran RunFault) → IfOk ran (HasOutputs tells (record { choice = clock; workers = workers; before = before; now = now }) plan log) → IfErr ran (λ f. CauseOfStop f tells (record { choice = clock; workers = workers; before = before; now = now }) plan r) → HasEnded ran o w →
+          Due o.fault (left_with o before now)
+      by_result (Ok ran) run cause h = wrote_plan ran o before now run h
+      by_result (Err f) run cause h = stopped_plan f o before now cause h.0 h.1
 
 -- unless memory ran out, the clocks come back
 pub back : {C : Type 0} (ran : Result Ran RunFault) (o : Ending) (w : Writing) (clock : ClockChoice) (before now : List C) → HasEnded ran o w → AreBackAfterRun ran clock before now → o.fault ≢ Some fault.Memory → AreBackBy clock o.fault before now
@@ -149,108 +173,15 @@ back (Err (stop.Late platform actor tag reading limit platforms)) o w Machine be
 back (Err stop.Memory) o w clock before now h kept never = absurd (never h.0.0)
 
 -- a graph without a plan was reported
-pub unplanned : (o : Ending) (before now : List ClockView) (workers : ℕ) (clock : ClockChoice) (log : Bool) (tells : Contents) (g : Graph) (r : Reading) (w : Writing) →
-    IsUnplanned g o → w.written_now ≡ w.written_before → EndsOver o.fault (left_with o before now) (Run workers clock log) tells g r w
-unplanned o before now workers clock log tells g r w (none, f, cause, is) still =
-    subst (λ left. EndsOver o.fault (over left before now) (Run workers clock log) tells g r w) (sym none) (⊎_elim
-    (λ (it : o.fault ≡ Some (fault_of_plan f)). subst (λ e. EndsOver e (over leaves_nothing before now) (Run workers clock log) tells g r w) (sym it) (by_fault f cause))
-    (λ (it : o.fault ≡ Some fault.Memory). subst (λ e. EndsOver e (over leaves_nothing before now) (Run workers clock log) tells g r w) (sym it) ((refl, refl), still))
-    is)
+pub unplanned : (o : Ending) (before now : List ClockView) (tells : Contents) (g : Graph) (r : Reading) (w : Writing) (Then : Answer → Parts → (ℕ → List Row) → Type 0) → IsUnplanned g o → w.written_now ≡ w.written_before →
+    UnlessMemory (record { fault = o.fault; left = left_with o before now; read = r; wrote = w }) (λ a. AfterAdmission tells g [] a (Then a))
+unplanned o before now tells g r w Then (none, f, cause, is) still =
+    ⊎_elim
+    (λ (it : o.fault ≡ Some (fault_of_plan f)). by_fault f it cause)
+    (λ (it : o.fault ≡ Some fault.Memory). inl (it, has_nothing o before now none, still))
+    is
   where
-    by_fault : (e : PlanFault) → CauseOfPlan e g → EndsOver (Some (fault_of_plan e)) (over leaves_nothing before now) (Run workers clock log) tells g r w
-    by_fault (plan.Cycle actors) k = ((k, (refl, refl)), still)
-    by_fault (plan.Infeasible send offset slack) k = ((k.0, (k.1, (refl, refl))), still)
-    by_fault plan.Memory k = ((refl, refl), still)
-
--- `check` over a graph that has levels
-pub checked : (g : Graph) (level : ℕ → ℕ) (made : Result (String Global) Fault) → AreLevels g level → IfOk made (λ text. IsChecked g (string_bytes text)) → IfOk made (λ text. (tells : Contents) → Writes Check tells g leaves_nothing (string_bytes text))
-checked g level (Ok text) levels h = λ tells. (levels_forbid_cycles g level levels, ((refl, refl), h))
-checked g level (Err f) levels h = tt
-
-pub check_fails : (g : Graph) (level : ℕ → ℕ) (made : Result (String Global) Fault) → AreLevels g level → IfErr made (λ f. CheckFails f g) → IfErr made (λ f. (tells : Contents) (r : Reading) → CauseOf Check f leaves_nothing tells g [] r)
-check_fails g level (Ok text) levels h = tt
-check_fails g level (Err f) levels h = λ tells r. by_fault f h tells r
-  where
-    free : NoFreeCycle g
-    free = levels_forbid_cycles g level levels
-
-    by_fault : (e : Fault) → CheckFails e g → (tells : Contents) (r : Reading) → CauseOf Check e leaves_nothing tells g [] r
-    by_fault (fault.Infeasible send offset slack) k tells r = (free, (k, (refl, refl)))
-    by_fault fault.Memory k tells r = (refl, refl)
-    by_fault (fault.Cycle actors) k tells r = absurd k
-    by_fault fault.Usage k tells r = absurd k
-    by_fault (fault.Ring sends gain) k tells r = absurd k
-    by_fault fault.ReadLog k tells r = absurd k
-    by_fault (fault.Unlawful v) k tells r = absurd k
-    by_fault (fault.LateAir platform actor tag reading limit row) k tells r = absurd k
-    by_fault (fault.Air e) k tells r = absurd k
-    by_fault fault.ReadAir k tells r = absurd k
-    by_fault (fault.Graph e) k tells r = absurd k
-    by_fault (fault.Sensor actor e) k tells r = absurd k
-    by_fault (fault.LateRow actor row seen limit) k tells r = absurd k
-    by_fault (fault.LateMessage platform actor tag reading limit) k tells r = absurd k
-    by_fault (fault.Long platform) k tells r = absurd k
-    by_fault (fault.Read sensor) k tells r = absurd k
-    by_fault fault.Write k tells r = absurd k
-
--- `meaning` over such a graph
-pub meant : (tells : Contents) (g : Graph) (level : ℕ → ℕ) (made : Result (String Global) Fault) → AreLevels g level → IfOk made (λ text. IsMeant tells g (string_bytes text)) → IfOk made (λ text. Writes Meaning tells g leaves_nothing (string_bytes text))
-meant tells g level (Ok text) levels h = (levels_forbid_cycles g level levels, ((refl, refl), h))
-meant tells g level (Err f) levels h = tt
-
-pub meaning_fails : (tells : Contents) (g : Graph) (r : Reading) (level : ℕ → ℕ) (made : Result (String Global) Fault) → AreLevels g level → IfErr made (λ f. MeaningFails f tells g r) → IfErr made (λ f. CauseOf Meaning f leaves_nothing tells g [] r)
-meaning_fails tells g r level (Ok text) levels h = tt
-meaning_fails tells g r level (Err f) levels h = by_fault f h
-  where
-    free : NoFreeCycle g
-    free = levels_forbid_cycles g level levels
-
-    by_fault : (e : Fault) → MeaningFails e tells g r → CauseOf Meaning e leaves_nothing tells g [] r
-    by_fault fault.Memory k = (refl, refl)
-    by_fault (fault.Cycle actors) k = absurd k
-    by_fault (fault.Infeasible send offset slack) k = (free, (k, (refl, refl)))
-    by_fault fault.Usage k = (free, (k, (refl, refl)))
-    by_fault (fault.Ring sends gain) k = (free, (k, (refl, refl)))
-    by_fault fault.ReadLog k = (free, (k, (refl, refl)))
-    by_fault (fault.Unlawful v) k = (free, (k, (refl, refl)))
-    by_fault (fault.LateAir platform actor tag reading limit row) k = (free, (k, (refl, refl)))
-    by_fault (fault.Air e) k = (free, (k, (refl, refl)))
-    by_fault fault.ReadAir k = (free, (k, (refl, refl)))
-    by_fault (fault.Graph e) k = (free, (k, (refl, refl)))
-    by_fault (fault.Sensor actor e) k = (free, (k, (refl, refl)))
-    by_fault (fault.LateRow actor row seen limit) k = (free, (k, (refl, refl)))
-    by_fault (fault.LateMessage platform actor tag reading limit) k = (free, (k, (refl, refl)))
-    by_fault (fault.Long platform) k = (free, (k, (refl, refl)))
-    by_fault (fault.Read sensor) k = (free, (k, (refl, refl)))
-    by_fault fault.Write k = (free, (k, (refl, refl)))
-
--- `slacks` over such a graph
-pub slacked : (g : Graph) (level : ℕ → ℕ) (made : Result (String Global) Fault) → AreLevels g level → IfOk made (λ text. IsSlacked g (string_bytes text)) → IfOk made (λ text. (tells : Contents) → Writes Slacks tells g leaves_nothing (string_bytes text))
-slacked g level (Ok text) levels h = λ tells. (levels_forbid_cycles g level levels, ((refl, refl), h))
-slacked g level (Err f) levels h = tt
-
-pub slacks_fail : (g : Graph) (level : ℕ → ℕ) (made : Result (String Global) Fault) → AreLevels g level → IfErr made (λ f. SlacksFail f g) → IfErr made (λ f. (tells : Contents) (r : Reading) → CauseOf Slacks f leaves_nothing tells g [] r)
-slacks_fail g level (Ok text) levels h = tt
-slacks_fail g level (Err f) levels h = λ tells r. by_fault f h tells r
-  where
-    free : NoFreeCycle g
-    free = levels_forbid_cycles g level levels
-
-    by_fault : (e : Fault) → SlacksFail e g → (tells : Contents) (r : Reading) → CauseOf Slacks e leaves_nothing tells g [] r
-    by_fault (fault.Ring sends gain) k tells r = (free, (k, (refl, refl)))
-    by_fault fault.ReadLog k tells r = absurd k
-    by_fault (fault.Unlawful v) k tells r = absurd k
-    by_fault (fault.LateAir platform actor tag reading limit row) k tells r = absurd k
-    by_fault (fault.Air e) k tells r = absurd k
-    by_fault fault.ReadAir k tells r = absurd k
-    by_fault fault.Memory k tells r = (refl, refl)
-    by_fault (fault.Cycle actors) k tells r = absurd k
-    by_fault (fault.Infeasible send offset slack) k tells r = absurd k
-    by_fault fault.Usage k tells r = absurd k
-    by_fault (fault.Graph e) k tells r = absurd k
-    by_fault (fault.Sensor actor e) k tells r = absurd k
-    by_fault (fault.LateRow actor row seen limit) k tells r = absurd k
-    by_fault (fault.LateMessage platform actor tag reading limit) k tells r = absurd k
-    by_fault (fault.Long platform) k tells r = absurd k
-    by_fault (fault.Read sensor) k tells r = absurd k
-    by_fault fault.Write k tells r = absurd k
+    by_fault : (e : PlanFault) → o.fault ≡ Some (fault_of_plan e) → CauseOfPlan e g → UnlessMemory (record { fault = o.fault; left = left_with o before now; read = r; wrote = w }) (λ a. AfterAdmission tells g [] a (Then a))
+    by_fault (plan.Cycle actors) it k = inr (inl (actors, (it, has_nothing o before now none, still), k))
+    by_fault (plan.Infeasible send offset slack) it k = inr (inr (k.0, inl (send, offset, slack, (it, has_nothing o before now none, still), k.1)))
+    by_fault plan.Memory it k = inl (it, has_nothing o before now none, still)

@@ -15,12 +15,12 @@ use Rattle.pt_aired.specs.HaveFlown.{HaveFlown}
 use Rattle.pt_run.specs.declared.fault.Fault.{Fault}
 use Rattle.pt_run.specs.declared.fault.Fault.TheVariants as fault
 use Rattle.pt_run.specs.Causes.{Writing}
-use Rattle.pt_run.specs.CauseTable.{OnPlatform}
+use Rattle.pt_run.specs.Complete.{OnPlatform}
 use Rattle.pt_run.specs.Headline.{RunWith}
-use Rattle.pt_run.specs.Making.{Ends}
-use Rattle.pt_run.specs.Replaying.{EndsReplay, IsReplayHeadline, LeavesReplay, OnAir, ReplayHeadline, has_replayed}
+use Rattle.pt_run.specs.Replaying.{IsReplayHeadline, LeavesReplay, OnAir, ReplayHeadline, has_replayed}
 use Rattle.pt_run.specs.Words.{Order}
 use Rattle.pt_run.specs.Written.{HasNothing, Leaves}
+use Rattle.pt_run.proofs.ByFault.{Ends, EndsReplay}
 use Rattle.pt_run.proofs.Auditing.{not_before}
 
 -- the platform that stopped a replay, as its recorded turns show

@@ -143,6 +143,6 @@ pub slack_rounds_miss_nothing : SlackRoundsMissNothing
 slack_rounds_miss_nothing g slack plan rows platforms fault least is run = none_missed g slack least plan rows platforms fault is run
 
 pub slack_runs_miss_nothing : SlackRunsMissNothing
-slack_runs_miss_nothing g slack workers log tells blocks name bytes text left least told defines (h, file, (free, run)) =
+slack_runs_miss_nothing g slack workers log tells blocks name bytes text left least told defines (h, file, run) =
     let same : h ≡ with_slacks g slack = sym (same_ok {E = GraphFault} (with_slacks g slack) h (agrees (graph_of blocks) (tells name) bytes (Ok (with_slacks g slack)) (Ok h) told (subst (λ z. IfSome z (λ bytes. graph_of blocks bytes ≡ Ok (with_slacks g slack))) (sym told) defines) file)) in
     run.finished.missed ∙ slack_rounds_miss_nothing g slack run.plan (of_run run.plan.graph run.finished.run.rows) left.platforms None least (run.graph ∙ same) (run.finished.run.went.paced refl)

@@ -1,5 +1,5 @@
 -- From stage to stage of what is due.
-use Rattle.std.proofs.Common.{◌≡◌, ◌⊎◌, ◌∙◌, ℕ, ℤ, ◌≤◌, Bool, true, false, List, [], ◌∷◌, Option, Some, None, Ok, Err, IfSome, refl, sym, ap, subst, inl, inr, ⊎_elim}
+use Rattle.std.proofs.Common.{◌≡◌, ◌⊎◌, ◌∙◌, ℕ, ℤ, ◌≤◌, Bool, true, false, List, [], ◌∷◌, Option, Some, None, Ok, Err, IfSome, sym, ap, subst, inl, inr, ⊎_elim}
 use Rattle.pt_io.specs.Causes.{Appends, AppendsPart, Rose}
 use Rattle.pt_types.specs.declared.graph.Graph.{Graph}
 use Rattle.pt_types.specs.declared.rows.Row.{Row}
@@ -19,14 +19,13 @@ use Rattle.pt_sensors.specs.Places.{of_run}
 use Rattle.pt_sensors.specs.Recorded.{AllPass, AreRows, SensorFails, SensorLate, SensorUnread}
 use Rattle.pt_slacks.specs.Text.{IsSlacked}
 use Rattle.pt_sensors.proofs.Asking.{read_after}
-use Rattle.pt_words.specs.declared.orders.ClockChoice.{ClockChoice}
 use Rattle.pt_run.specs.declared.fault.Fault.{Fault}
 use Rattle.pt_run.specs.declared.fault.Fault.TheVariants as fault
 use Rattle.pt_run.specs.declared.words.Command.{Command}
 use Rattle.pt_run.specs.declared.words.Command.TheVariants.{Run, Check, Meaning, Slacks}
 use Rattle.pt_run.specs.Auditing.{LastFails, lawful_line}
 use Rattle.pt_run.specs.Causes.{CauseOfGraph, Writing}
-use Rattle.pt_run.specs.Due.{AfterAdmission, AfterCycles, AfterFile, AfterOffsets, AfterRows, Answer, HasReplayedBy, HasRunBy, IsAudited, IsDueFor, IsDueTo, IsJudgedBy, IsMeantBy, IsReplayed, IsReplayedBy, IsSlackedBy, OnlyPuts, PutsText, RefusedWith, UnlessMemory, WithPlan}
+use Rattle.pt_run.specs.Due.{AfterAdmission, AfterCycles, AfterFile, AfterOffsets, AfterRows, Answer, HasRunBy, IsAudited, IsDueFor, IsDueTo, IsJudgedBy, IsMeantBy, IsReplayed, IsReplayedBy, IsSlackedBy, OnlyPuts, PutsText, RefusedWith, UnlessMemory, WithPlan}
 use Rattle.pt_run.specs.Replaying.{has_replayed}
 use Rattle.pt_run.specs.Telling.{AreOfGraph}
 use Rattle.pt_run.specs.Words.{over, audit, replay}

@@ -7,8 +7,7 @@ use Rattle.pt_turn.specs.All.{histories_of}
 use Rattle.pt_sensors.specs.Asked.{Contents}
 use Rattle.pt_words.specs.declared.orders.ClockChoice.TheVariants.{Paced}
 use Rattle.pt_run.specs.RunsAgreeing.{TellsSensors}
-use Rattle.pt_run.specs.declared.words.Command.TheVariants.{Run}
-use Rattle.pt_run.specs.Written.{Leaves, WritesOver}
+use Rattle.pt_run.specs.Written.{GraphWith, IsRun, Leaves}
 
 -- the contents of the graph file and, if it defines a graph, of the file of each sensor are known
 pub record TellsAll (tells : Contents) (blocks : List Named) (name : List ℕ) : Type 0 where
@@ -20,5 +19,5 @@ pub record TellsAll (tells : Contents) (blocks : List Named) (name : List ℕ) :
 -- workers
 abbrev pub RunsAgree : Type 0
 RunsAgree = (workers others : ℕ) (log : Bool) (tells : Contents) (blocks : List Named) (name : List ℕ) (left other : Leaves) (text written : List ℕ) → TellsAll tells blocks name →
-    WritesOver (Run workers Paced log) tells blocks name left text → WritesOver (Run others Paced log) tells blocks name other written →
+    GraphWith tells blocks name (λ g. IsRun tells g workers Paced log left text) → GraphWith tells blocks name (λ g. IsRun tells g others Paced log other written) →
     (text ≡ written) × (left.misses ≡ other.misses) × ((i : ℕ) → histories_of left.platforms i ≡ histories_of other.platforms i)

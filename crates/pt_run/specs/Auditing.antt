@@ -1,6 +1,5 @@
 -- How `audit` ends, and which files it asks for.
-use Rattle.std.specs.Prelude.{◌≡◌, ◌⊎◌, ◌++◌, ℕ, Bool, true, false, List, [], ◌∷◌, Option, Some, None, Result, Ok, Err, IfSome, codes}
-use Rattle.pt_io.specs.Causes.{Appends, AppendsPart, Rose}
+use Rattle.std.specs.Prelude.{◌≡◌, ◌⊎◌, ◌++◌, ℕ, List, [], ◌∷◌, Option, Some, None, IfSome, codes}
 use Rattle.pt_types.specs.declared.graph.Graph.{Graph}
 use Rattle.pt_types.specs.declared.rows.Row.{Row}
 use Rattle.pt_blocks.specs.declared.blocks.Named.{Named}
@@ -14,13 +13,10 @@ use Rattle.pt_audit.specs.declared.verdict.Verdict.{Verdict}
 use Rattle.pt_audit.specs.declared.verdict.Verdict.TheVariants.{Fine, Table}
 use Rattle.pt_run.specs.declared.fault.Fault.{Fault}
 use Rattle.pt_run.specs.declared.fault.Fault.TheVariants as fault
-use Rattle.pt_run.specs.declared.outcome.Ending.{Ending}
-use Rattle.pt_run.specs.Causes.{IsCause, Writing}
-use Rattle.pt_run.specs.Headline.{RunWith}
 use Rattle.pt_run.specs.Runs.{RunOver}
-use Rattle.pt_run.specs.Texts.{AsksFor, AsksInOrder, EndsOver, OrMemory, PutBy, left_by}
+use Rattle.pt_run.specs.Texts.{AsksFor, AsksInOrder}
 use Rattle.pt_run.specs.Words.{paced_run}
-use Rattle.pt_run.specs.Written.{GraphWith, HasNothing, Leaves, leaves_nothing}
+use Rattle.pt_run.specs.Written.{GraphWith}
 
 -- the line `lawful`
 abbrev pub lawful_line : List ℕ
@@ -57,30 +53,6 @@ OnLog tells log Fact plan rows = IfSome (tells log) (Fact plan rows)
 abbrev pub LastFails : Graph → List (List ℕ) → List ℕ → Reading → Type 0
 LastFails g others log r = (n : ℕ) × ReadFails (others ++ files_before g n) log r
 
--- a fault that comes before the last file is read
-abbrev pub is_before_last : Fault → Bool
-is_before_last (fault.Graph f) = true
-is_before_last (fault.Cycle actors) = true
-is_before_last (fault.Infeasible send offset slack) = true
-is_before_last (fault.Read sensor) = true
-is_before_last (fault.Sensor actor f) = true
-is_before_last (fault.LateRow actor row seen limit) = true
-is_before_last _ = false
-
--- how the command ends: with the line `lawful` for a lawful log, of which a prefix is there if a write fails; with the verdict on
--- any other log; or with no log. The graph file then defines an admitted graph, and its sensors' files have rows, none of which is
--- late. It ends with any other fault as a paced run ends with it, before the log is read, unless memory runs out. Nothing is left
-abbrev pub EndsAudit : Option Fault → Leaves → List ℕ → List ℕ → Contents → List Named → Reading → Writing → Type 0
-EndsAudit None left name log tells blocks r w = HasNothing left × RunWith tells blocks name (OnLog tells log Accepts) × Appends w.written_before w.written_now lawful_line
-EndsAudit (Some fault.Write) left name log tells blocks r w =
-    HasNothing left × RunWith tells blocks name (OnLog tells log Accepts) × Rose w.before w.now × AppendsPart w.written_before w.written_now lawful_line
-EndsAudit (Some (fault.Unlawful v)) left name log tells blocks r w =
-    HasNothing left × RunWith tells blocks name (OnLog tells log (λ plan rows bytes. IsUnlawful plan rows bytes v)) × (w.written_now ≡ w.written_before)
-EndsAudit (Some fault.ReadLog) left name log tells blocks r w =
-    HasNothing left × RunWith tells blocks name (λ plan rows. LastFails plan.graph (name ∷ []) log r) × (w.written_now ≡ w.written_before)
-EndsAudit (Some fault.Memory) left name log tells blocks r w = HasNothing left × (w.written_now ≡ w.written_before)
-EndsAudit (Some f) left name log tells blocks r w = (is_before_last f ≡ true) × HasNothing left × IsCause f left paced_run tells blocks name r w
-
 -- the graph file, files of sensors and then the last file were asked for
 abbrev pub AsksToLast : Contents → List Named → List ℕ → List ℕ → Option (List (List ℕ)) → Option (List (List ℕ)) → Type 0
 AsksToLast tells blocks name log before now = GraphWith tells blocks name (λ g. (n : ℕ) × Asks before now (name ∷ files_before g n ++ log ∷ []))
@@ -96,20 +68,6 @@ AsksAudit (Some fault.Memory) name log tells blocks before now = AsksInOrder (So
 AsksAudit (Some f) name log tells blocks before now = AsksInOrder (Some f) paced_run tells blocks name before now
 
 -- The same over a graph that was read.
-
--- a fact of an admitted plan of this graph and of the rows of its sensors' files, none of which is late
-pub record PlanWith (tells : Contents) (g : Graph) (Fact : Parts → (ℕ → List Row) → Type 0) : Type 0 where
-  pub plan : Parts
-  pub graph : plan.graph ≡ g
-  pub over : RunOver tells plan (Fact plan)
-
-abbrev pub EndsJudged : Option Fault → Leaves → List ℕ → Contents → Graph → Reading → Writing → Type 0
-EndsJudged None left log tells g r w = HasNothing left × PlanWith tells g (OnLog tells log Accepts) × Appends w.written_before w.written_now lawful_line
-EndsJudged (Some fault.Write) left log tells g r w = HasNothing left × PlanWith tells g (OnLog tells log Accepts) × Rose w.before w.now × AppendsPart w.written_before w.written_now lawful_line
-EndsJudged (Some (fault.Unlawful v)) left log tells g r w = HasNothing left × PlanWith tells g (OnLog tells log (λ plan rows bytes. IsUnlawful plan rows bytes v)) × (w.written_now ≡ w.written_before)
-EndsJudged (Some fault.ReadLog) left log tells g r w = HasNothing left × PlanWith tells g (λ plan rows. LastFails plan.graph [] log r) × (w.written_now ≡ w.written_before)
-EndsJudged (Some fault.Memory) left log tells g r w = HasNothing left × (w.written_now ≡ w.written_before)
-EndsJudged (Some f) left log tells g r w = (is_before_last f ≡ true) × HasNothing left × EndsOver (Some f) left paced_run tells g r w
 
 -- files of sensors and then the last file were asked for
 abbrev pub AsksLast : List ℕ → Graph → Option (List (List ℕ)) → Option (List (List ℕ)) → Type 0
@@ -132,8 +90,3 @@ CauseOfRefusal (fault.Sensor actor f) log tells plan r = SensorFails Refused tel
 CauseOfRefusal (fault.LateRow actor row seen limit) log tells plan r = SensorLate tells plan.graph actor row seen limit
 CauseOfRefusal fault.Memory log tells plan r = Unit {0}
 CauseOfRefusal _ log tells plan r = ⊥
-
--- the line `lawful` is put, or the fault is reported
-abbrev pub AnswersAudit : {X : Type 0} → Result X Fault → Ending → Writing → Type 0
-AnswersAudit (Ok unit) o w = (left_by o ≡ leaves_nothing) × PutBy o.fault lawful_line w
-AnswersAudit (Err f) o w = (left_by o ≡ leaves_nothing) × OrMemory o.fault f × (w.written_now ≡ w.written_before)

@@ -4,17 +4,15 @@ use Rattle.pt_io.specs.Causes.{Appends}
 use Rattle.pt_blocks.specs.declared.blocks.Named.{Named}
 use Rattle.pt_turn.specs.All.{histories_of}
 use Rattle.pt_turn.specs.Platforms.{PlatformView}
-use Rattle.pt_sensors.specs.Asked.{Contents, Reading}
+use Rattle.pt_sensors.specs.Asked.{Contents}
 use Rattle.pt_words.specs.declared.orders.ClockChoice.{ClockChoice}
 use Rattle.pt_words.specs.declared.orders.ClockChoice.TheVariants.{Machine, Paced, Step}
 use Rattle.pt_run.specs.Agreeing.{TellsAll}
-use Rattle.pt_run.specs.Causes.{Writing}
 use Rattle.pt_run.specs.Headline.{stop_of}
 use Rattle.pt_run.specs.Due.{Answer, IsDue}
 use Rattle.pt_run.specs.RunsAgreeing.{AreFewReadings}
 use Rattle.pt_run.specs.Statuses.{status_of}
 use Rattle.pt_run.specs.Words.{over}
-use Rattle.pt_run.specs.Written.{Leaves}
 use Rattle.pt_run.specs.declared.fault.Fault.{Fault}
 use Rattle.pt_run.specs.declared.fault.Fault.TheVariants as fault
 use Rattle.pt_run.specs.declared.words.Command.TheVariants.{Run}

@@ -1,5 +1,5 @@
 -- Completeness: how a run ends if no read and no write fails.
-use Rattle.std.specs.Prelude.{◌≡◌, ◌<◌, ◌≤◌, ◌⊎◌, ℕ, Bool, List, Option, None, Ok, Some, flat_map, length}
+use Rattle.std.specs.Prelude.{◌≡◌, ◌<◌, ◌≤◌, ◌⊎◌, ℕ, Bool, List, Option, None, Ok, Some, flat_map, length, slice_get}
 use Rattle.pt_io.specs.Causes.{Rose}
 use Rattle.pt_tags.specs.declared.tag.Tag.{Tag}
 use Rattle.pt_types.specs.declared.graph.Graph.{Graph}
@@ -16,7 +16,7 @@ use Rattle.pt_sensors.specs.declared.recorded_fault.LateRows.TheVariants.{Refuse
 use Rattle.pt_sensors.specs.Asked.{Contents, Reading}
 use Rattle.pt_sensors.specs.Recorded.{AllPass, AreRows}
 use Rattle.pt_run.specs.RunsAgreeing.{TellsSensors}
-use Rattle.pt_turn.specs.Platforms.{state_at}
+use Rattle.pt_turn.specs.Platforms.{PlatformView, state_at}
 use Rattle.pt_turn.specs.Running.{ShowsLate, ShowsLong}
 use Rattle.pt_monitors.specs.Platforms.{missed_by}
 use Rattle.pt_words.specs.declared.orders.ClockChoice.{ClockChoice}
@@ -25,7 +25,6 @@ use Rattle.pt_run.specs.declared.fault.Fault.{Fault}
 use Rattle.pt_run.specs.declared.fault.Fault.TheVariants.{LateMessage, Long, Memory}
 use Rattle.pt_run.specs.declared.words.Command.TheVariants.{Run}
 use Rattle.pt_run.specs.Causes.{Writing}
-use Rattle.pt_run.specs.CauseTable.{OnPlatform}
 use Rattle.pt_run.specs.Written.{Leaves, Means}
 use Rattle.pt_run.specs.Words.{Order, over}
 use Rattle.pt_types.specs.Limits.{most_claims}
@@ -69,6 +68,10 @@ StatusIsMeant status g firings =
 abbrev pub IsComplete : ℕ → Option Order → Contents → List Named → Reading → Writing → Type 0
 IsComplete status order tells blocks r w = (workers : ℕ) (log : Bool) (name : List ℕ) (g : Graph) (firings : List ActorFiring) →
     order ≡ Some (over (Run workers Paced log) name) → CanRun tells blocks name g firings → (Rose r.before r.now → ⊥) → (Rose w.before w.now → ⊥) → StatusIsMeant status g firings
+
+-- a fact holds of this platform of those that are left, which is one of this graph
+abbrev pub OnPlatform : Leaves → Graph → ℕ → (PlatformView → Type 0) → Type 0
+OnPlatform left g platform Fact = (v : PlatformView) × (slice_get left.platforms platform ≡ Some v) × (v.plan.graph ≡ g) × Fact v
 
 -- a run finished, with the misses of its histories; or a platform met a late message, or needed more
 -- claims than it may make, as its recorded turns show; or memory ran out

@@ -3,7 +3,7 @@
 -- A command goes from stage to stage: the graph file, the cycles of its graph, the offsets, the rows of its sensors, and so on. At
 -- each stage it is refused, for a cause that is this stage's alone, or it goes on to the next. `IsDueOver` lists the stages of each
 -- command.
-use Rattle.std.specs.Prelude.{◌≡◌, ◌⊎◌, ℕ, ℤ, Bool, true, List, [], ◌∷◌, Option, Some, None, Ok, Err, IfSome}
+use Rattle.std.specs.Prelude.{◌≡◌, ◌⊎◌, ℕ, ℤ, Bool, true, List, [], ◌∷◌, Option, Some, None, Result, Ok, Err, IfSome}
 use Rattle.pt_io.specs.Causes.{Appends, AppendsPart, Rose}
 use Rattle.pt_types.specs.declared.graph.Graph.{Graph}
 use Rattle.pt_types.specs.declared.rows.Row.{Row}
@@ -66,6 +66,15 @@ OnlyPuts a Text = HasNothing a.left × PutsText a Text
 -- memory ran out, and nothing is left or written; or this is due
 abbrev pub UnlessMemory : Answer → (Answer → Type 0) → Type 0
 UnlessMemory a Due = RefusedWith fault.Memory a ⊎ Due a
+
+-- the call answers with what was made: it puts the text, or is refused with the fault
+abbrev pub Answers : {X : Type 0} → (X → List ℕ) → Result X Fault → Answer → Type 0
+Answers text (Ok made) a = OnlyPuts a (λ put. put ≡ text made)
+Answers text (Err f) a = RefusedWith f a
+
+-- a call that answers so after this reading ends as is due, unless memory runs out
+abbrev pub AnswersAsDue : {X : Type 0} → (X → List ℕ) → Result X Fault → Reading → (Answer → Type 0) → Type 0
+AnswersAsDue text made r Due = (a : Answer) → a.read ≡ r → Answers text made a → UnlessMemory a Due
 
 -- The stages.
 

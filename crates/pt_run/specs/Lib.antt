@@ -18,7 +18,6 @@ pub mod SlackRuns
 pub mod LawfulRuns
 pub mod Asking
 pub mod Headline
-pub mod CauseTable
 pub mod Exact
 pub mod RunsAgreeing
 pub mod CallsAgreeing

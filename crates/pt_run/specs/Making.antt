@@ -1,6 +1,5 @@
 -- How a run of a made input ends, and how any call ends.
 use Rattle.std.specs.Prelude.{◌≡◌, ℕ, List, [], ◌∷◌, Option, None, Some, flat_map, length}
-use Rattle.pt_io.specs.Causes.{Appends, AppendsPart, Rose}
 use Rattle.pt_blocks.specs.declared.blocks.Named.{Named}
 use Rattle.pt_history.specs.declared.miss.Miss.{Miss}
 use Rattle.pt_semantics.specs.Meaning.{ActorFiring, IsMeaning}
@@ -14,14 +13,11 @@ use Rattle.pt_rounds.specs.HaveRun.{HaveRun}
 use Rattle.pt_made.specs.Input.{made_graph, made_rows}
 use Rattle.pt_made.specs.Summary.{summary}
 use Rattle.pt_run.specs.declared.fault.Fault.{Fault}
-use Rattle.pt_run.specs.declared.fault.Fault.TheVariants as fault
 use Rattle.pt_run.specs.Causes.{Writing}
-use Rattle.pt_run.specs.Migrating.{EndsMigrated}
-use Rattle.pt_run.specs.Auditing.{AsksAudit, EndsAudit}
-use Rattle.pt_run.specs.Replaying.{AsksReplay, EndsReplay}
-use Rattle.pt_run.specs.Written.{HasNothing, Leaves}
+use Rattle.pt_run.specs.Auditing.{AsksAudit}
+use Rattle.pt_run.specs.Replaying.{AsksReplay}
 use Rattle.pt_run.specs.Telling.{Tells, TellsBy}
-use Rattle.pt_run.specs.Texts.{AsksBy, EndsBy}
+use Rattle.pt_run.specs.Texts.{AsksBy}
 use Rattle.pt_run.specs.Words.{Order, over, make, migrate, audit, replay, paced_run}
 
 -- what a run of the input made from n must write and leave: its platforms ran in paced rounds until all were finished and
@@ -35,22 +31,6 @@ pub record IsMadeRun (n : ℕ) (platforms : List PlatformView) (text : List ℕ)
   pub meaning : IsMeaning (made_graph n) (rank_of plan.ranks) (of_run (made_graph n) (made_rows n)) firings
   pub none_missed : flat_map missed_by platforms ≡ []
   pub written : text ≡ summary n firings (length (flat_map missed_by platforms))
-
--- how such a run ends: its text is written, a write fails after a prefix of it, or memory runs out
-abbrev pub EndsMade : Option Fault → Leaves → ℕ → Writing → Type 0
-EndsMade None left n w = (left.misses ≡ []) × (text : List ℕ) × IsMadeRun n left.platforms text × Appends w.written_before w.written_now text
-EndsMade (Some fault.Write) left n w = Rose w.before w.now × (left.misses ≡ []) × (text : List ℕ) × IsMadeRun n left.platforms text × AppendsPart w.written_before w.written_now text
-EndsMade (Some fault.Memory) left n w = HasNothing left × (w.written_now ≡ w.written_before)
-EndsMade (Some f) left n w = ⊥
-
--- how a call ends, by what the words ask for
-abbrev pub Ends : Option Fault → Leaves → Option Order → Contents → List Named → Reading → Writing → Type 0
-Ends outcome left None tells blocks r w = EndsBy outcome left None tells blocks r w
-Ends outcome left (Some (over command graph)) tells blocks r w = EndsBy outcome left (Some (command, graph)) tells blocks r w
-Ends outcome left (Some (make number workers)) tells blocks r w = EndsMade outcome left number w
-Ends outcome left (Some (migrate graph)) tells blocks r w = EndsMigrated outcome left graph tells blocks r w
-Ends outcome left (Some (audit graph log)) tells blocks r w = EndsAudit outcome left graph log tells blocks r w
-Ends outcome left (Some (replay graph air workers log)) tells blocks r w = EndsReplay outcome left graph air log tells blocks r w
 
 -- which files are asked for: none for a made input, at most the graph file for `migrate`, and one more for an audit or a replay
 abbrev pub AsksOf : Option Fault → Option Order → Contents → List Named → Reading → Type 0

@@ -1,16 +1,10 @@
 -- How `migrate` ends.
-use Rattle.std.specs.Prelude.{◌≡◌, ◌≤◌, ◌++◌, ℕ, List, [], ◌∷◌, Option, Some, None, Ok, length}
-use Rattle.pt_io.specs.Causes.{Appends, AppendsPart, Rose}
+use Rattle.std.specs.Prelude.{◌≡◌, ◌≤◌, ◌++◌, ℕ, List, [], ◌∷◌, Ok, length}
 use Rattle.pt_types.specs.declared.graph.Graph.{Graph}
 use Rattle.pt_types.specs.Limits.{most_graph_bytes}
 use Rattle.pt_blocks.specs.declared.blocks.Named.{Named}
 use Rattle.pt_graph.specs.GraphOf.{graph_of}
 use Rattle.pt_graph_writer.specs.Text.{graph_text}
-use Rattle.pt_sensors.specs.Asked.{Contents, Reading}
-use Rattle.pt_run.specs.declared.fault.Fault.{Fault}
-use Rattle.pt_run.specs.declared.fault.Fault.TheVariants as fault
-use Rattle.pt_run.specs.Causes.{CauseOfGraph, Writing}
-use Rattle.pt_run.specs.Written.{GraphWith, HasNothing, Leaves}
 
 -- some file defines the graph
 abbrev pub IsDefined : List Named → Graph → Type 0
@@ -21,14 +15,3 @@ IsDefined blocks g = (bytes : List ℕ) × (graph_of blocks bytes ≡ Ok g)
 pub record IsMigrated (g : Graph) (blocks : List Named) (text : List ℕ) : Type 0 where
   pub is : text ≡ graph_text g blocks ++ 10 ∷ []
   pub reads_back : length text ≤ most_graph_bytes → graph_of blocks text ≡ Ok g
-
--- such a text of the graph in the file with this name was put, all of it or a part
-abbrev pub PutsMigrated : Contents → List Named → List ℕ → (List ℕ → Type 0) → Type 0
-PutsMigrated tells blocks name Put = GraphWith tells blocks name (λ g. (text : List ℕ) × IsMigrated g blocks text × Put text)
-
--- how the command ends: the text is written, a write fails after a prefix of it, or the graph file gives no graph or memory
--- runs out, and then nothing is written. No other cause is looked at, so a graph that can't run is written as it is
-abbrev pub EndsMigrated : Option Fault → Leaves → List ℕ → Contents → List Named → Reading → Writing → Type 0
-EndsMigrated None left name tells blocks r w = HasNothing left × PutsMigrated tells blocks name (Appends w.written_before w.written_now)
-EndsMigrated (Some fault.Write) left name tells blocks r w = HasNothing left × Rose w.before w.now × PutsMigrated tells blocks name (AppendsPart w.written_before w.written_now)
-EndsMigrated (Some f) left name tells blocks r w = HasNothing left × CauseOfGraph f tells blocks name r × (w.written_now ≡ w.written_before)

@@ -1,6 +1,6 @@
 -- How `replay` ends, and which files it asks for.
-use Rattle.std.specs.Prelude.{◌≡◌, ◌≢◌, ◌⊎◌, ◌↔◌, ℕ, Bool, true, false, List, [], ◌∷◌, Option, Some, None, Ok, Err, IfSome, flat_map}
-use Rattle.pt_io.specs.Causes.{Appends, AppendsPart, Rose}
+use Rattle.std.specs.Prelude.{◌≡◌, ◌≢◌, ◌⊎◌, ◌↔◌, ℕ, Bool, true, false, List, [], Option, Some, None, Ok, IfSome, flat_map}
+use Rattle.pt_io.specs.Causes.{Appends, AppendsPart}
 use Rattle.pt_types.specs.declared.graph.Graph.{Graph}
 use Rattle.pt_types.specs.declared.rows.Row.{Row}
 use Rattle.pt_blocks.specs.declared.blocks.Named.{Named}
@@ -9,17 +9,17 @@ use Rattle.pt_offsets.specs.Plans.{Parts}
 use Rattle.pt_turn.specs.declared.fault.TurnFault.{TurnFault}
 use Rattle.pt_turn.specs.declared.fault.TurnFault.TheVariants as turn
 use Rattle.pt_monitors.specs.Platforms.{missed_by}
-use Rattle.pt_sensors.specs.Asked.{Contents, Reading}
+use Rattle.pt_sensors.specs.Asked.{Contents}
 use Rattle.pt_air.specs.declared.air.Air.{Air}
 use Rattle.pt_air.specs.AirOf.{air_of}
 use Rattle.pt_air.specs.Bounds.{KeepsBounds}
 use Rattle.pt_aired.specs.HaveFlown.{HaveFlown}
 use Rattle.pt_run.specs.declared.fault.Fault.{Fault}
 use Rattle.pt_run.specs.declared.fault.Fault.TheVariants as fault
-use Rattle.pt_run.specs.Auditing.{AsksLast, AsksToLast, LastFails, PlanWith, is_before_last}
-use Rattle.pt_run.specs.Causes.{IsCause, Writing}
+use Rattle.pt_run.specs.Auditing.{AsksLast, AsksToLast}
+use Rattle.pt_run.specs.Causes.{Writing}
 use Rattle.pt_run.specs.Headline.{PutsMeaning, RunWith}
-use Rattle.pt_run.specs.Texts.{AsksFor, AsksInOrder, EndsOver}
+use Rattle.pt_run.specs.Texts.{AsksFor, AsksInOrder}
 use Rattle.pt_run.specs.Words.{Order, paced_run, replay}
 use Rattle.pt_run.specs.Written.{HasNothing, Leaves}
 
@@ -64,27 +64,6 @@ pub record LeavesReplay (log : Bool) (outcome : Option Fault) (left : Leaves) (w
   pub unwritten : stop_of_replay outcome ≢ None → w.written_now ≡ w.written_before
   pub no_misses : outcome ≢ None → left.misses ≡ []
   pub breach : NamesBreach outcome recorded
-
--- how a replay ends, for an admitted plan of its graph and rows of its sensors, none of which is late (`With`): the platforms ran,
--- with the lags and transits that the file `air` says; or that file has a fault, or could not be read, and nothing is left. It ends
--- with any other fault as a paced run ends with it (`Refused`), before that file is read, unless memory runs out
-abbrev pub EndsInAir : ((Parts → (ℕ → List Row) → Type 0) → Type 0) → (Fault → Type 0) → List (List ℕ) → Option Fault → Leaves → List ℕ → Bool → Contents → Reading → Writing → Type 0
-EndsInAir With Refused others None left air log tells r w = With (OnAir tells air (LeavesReplay log None left w))
-EndsInAir With Refused others (Some fault.Write) left air log tells r w = Rose w.before w.now × With (OnAir tells air (LeavesReplay log (Some fault.Write) left w))
-EndsInAir With Refused others (Some (fault.Long (Some platform))) left air log tells r w = With (OnAir tells air (LeavesReplay log (Some (fault.Long (Some platform))) left w))
-EndsInAir With Refused others (Some (fault.LateAir platform actor tag reading limit row)) left air log tells r w = With (OnAir tells air (LeavesReplay log (Some (fault.LateAir platform actor tag reading limit row)) left w))
-EndsInAir With Refused others (Some (fault.Air f)) left air log tells r w = HasNothing left × With (λ plan rows. IfSome (tells air) (λ bytes. air_of plan.graph bytes ≡ Err f)) × (w.written_now ≡ w.written_before)
-EndsInAir With Refused others (Some fault.ReadAir) left air log tells r w = HasNothing left × With (λ plan rows. LastFails plan.graph others air r) × (w.written_now ≡ w.written_before)
-EndsInAir With Refused others (Some fault.Memory) left air log tells r w = HasNothing left × (w.written_now ≡ w.written_before)
-EndsInAir With Refused others (Some f) left air log tells r w = (is_before_last f ≡ true) × HasNothing left × Refused f
-
--- how a replay over the graph file with this name ends
-abbrev pub EndsReplay : Option Fault → Leaves → List ℕ → List ℕ → Bool → Contents → List Named → Reading → Writing → Type 0
-EndsReplay outcome left name air log tells blocks r w = EndsInAir (RunWith tells blocks name) (λ f. IsCause f left paced_run tells blocks name r w) (name ∷ []) outcome left air log tells r w
-
--- the same over a graph that was read
-abbrev pub EndsReplayed : Option Fault → Leaves → List ℕ → Bool → Contents → Graph → Reading → Writing → Type 0
-EndsReplayed outcome left air log tells g r w = EndsInAir (PlanWith tells g) (λ f. EndsOver (Some f) left paced_run tells g r w) [] outcome left air log tells r w
 
 -- the graph file, the sensors' files and then the file `air` were asked for: if the replay ran, or that file was refused or could
 -- not be read. If memory ran out, it may be among them

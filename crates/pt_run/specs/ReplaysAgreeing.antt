@@ -12,7 +12,7 @@ use Rattle.pt_turn.specs.declared.fault.TurnFault.{TurnFault}
 use Rattle.pt_turn.specs.All.{histories_of}
 use Rattle.pt_turn.specs.Platforms.{PlatformView}
 use Rattle.pt_turn.specs.Turned.{is_late}
-use Rattle.pt_sensors.specs.Asked.{Contents, Reading}
+use Rattle.pt_sensors.specs.Asked.{Contents}
 use Rattle.pt_air.specs.declared.air.Air.{Air}
 use Rattle.pt_aired.specs.HaveFlown.{HaveFlown}
 use Rattle.pt_run.specs.Agreeing.{TellsAll}
@@ -21,8 +21,6 @@ use Rattle.pt_run.specs.Due.{Answer, IsDue}
 use Rattle.pt_run.specs.Replaying.{has_replayed, stop_of_replay}
 use Rattle.pt_run.specs.Runs.{log_if}
 use Rattle.pt_run.specs.Words.{replay}
-use Rattle.pt_run.specs.Written.{Leaves}
-use Rattle.pt_run.specs.declared.fault.Fault.{Fault}
 
 -- no platform stopped two replays, or the same one did: with the same fault, if both faults are a late message or neither is
 abbrev pub AreStoppedAlike : Option (ℕ × TurnFault) → Option (ℕ × TurnFault) → Type 0

@@ -12,8 +12,7 @@ use Rattle.pt_rounds.specs.HaveRun.{HaveRun}
 use Rattle.pt_slacks.specs.Slacks.{AreLeastSlacks, with_slacks}
 use Rattle.pt_sensors.specs.Asked.{Contents}
 use Rattle.pt_words.specs.declared.orders.ClockChoice.TheVariants.{Paced}
-use Rattle.pt_run.specs.declared.words.Command.TheVariants.{Run}
-use Rattle.pt_run.specs.Written.{Leaves, WritesOver}
+use Rattle.pt_run.specs.Written.{GraphWith, IsRun, Leaves}
 
 -- a paced run of a graph with its least slacks misses nothing, whatever its rows, whether it finishes or a platform made all the
 -- claims that it may make
@@ -24,4 +23,4 @@ SlackRoundsMissNothing = (g : Graph) (slack : ℕ → ℕ) (plan : Parts) (rows 
 -- so a paced `run` that writes all, over a file that defines the graph with these slacks, ends without misses
 abbrev pub SlackRunsMissNothing : Type 0
 SlackRunsMissNothing = (g : Graph) (slack : ℕ → ℕ) (workers : ℕ) (log : Bool) (tells : Contents) (blocks : List Named) (name bytes text : List ℕ) (left : Leaves) → AreLeastSlacks g slack → tells name ≡ Some bytes → graph_of blocks bytes ≡ Ok (with_slacks g slack) →
-    WritesOver (Run workers Paced log) tells blocks name left text → left.misses ≡ []
+    GraphWith tells blocks name (λ h. IsRun tells h workers Paced log left text) → left.misses ≡ []

@@ -1,25 +1,17 @@
 -- How a call ends, and which files it asks for.
-use Rattle.std.specs.Prelude.{◌≡◌, ◌⊎◌, ℕ, Bool, true, false, if◌then◌else◌, List, [], ◌∷◌, Option, Some, None, Result, Ok, Err, String, string_bytes}
-use Rattle.std.specs.declared.alloc.Global.{Global}
+use Rattle.std.specs.Prelude.{◌≡◌, ◌⊎◌, ℕ, Bool, true, false, if◌then◌else◌, List, [], ◌∷◌, Option, Some, None, Result, Ok, Err, string_bytes}
 use Rattle.pt_io.specs.Causes.{Rose, Appends, AppendsPart}
 use Rattle.pt_types.specs.declared.graph.Graph.{Graph}
-use Rattle.pt_types.specs.declared.rows.Row.{Row}
 use Rattle.pt_blocks.specs.declared.blocks.Named.{Named}
 use Rattle.pt_history.specs.declared.miss.Miss.{Miss}
 use Rattle.pt_offsets.specs.declared.fault.PlanFault.{PlanFault}
 use Rattle.pt_offsets.specs.Faults.{CauseOfPlan}
-use Rattle.pt_offsets.specs.Plans.{Parts}
-use Rattle.pt_sensors.specs.declared.recorded_fault.LateRows.TheVariants.{Refused}
 use Rattle.pt_sensors.specs.Asked.{Asks, Contents, Reading, files_before}
-use Rattle.pt_sensors.specs.Recorded.{SensorFails, SensorLate, SensorUnread}
 use Rattle.pt_io.specs.Told.{ClockView}
-use Rattle.pt_turn.specs.declared.fault.TurnFault.TheVariants as turn
 use Rattle.pt_turn.specs.Platforms.{PlatformView}
-use Rattle.pt_words.specs.declared.orders.ClockChoice.{ClockChoice}
 use Rattle.pt_run.specs.declared.plan_run.RunFault.{RunFault}
 use Rattle.pt_run.specs.declared.plan_run.RunFault.TheVariants as stop
 use Rattle.pt_run.specs.declared.finished_run.Ran.{Ran}
-use Rattle.pt_run.specs.Runs.{HasRun, IsFinishedRun}
 use Rattle.pt_run.specs.declared.fault.Fault.{Fault}
 use Rattle.pt_run.specs.declared.fault.Fault.TheVariants as fault
 use Rattle.pt_run.specs.declared.outcome.Ending.{Ending}
@@ -29,8 +21,8 @@ use Rattle.pt_run.specs.Words.{Order}
 use Rattle.pt_run.specs.Faults.{fault_of_plan, fault_of_rows}
 use Rattle.pt_run.specs.declared.words.Command.{Command}
 use Rattle.pt_run.specs.declared.words.Command.TheVariants.{Check, Slacks}
-use Rattle.pt_run.specs.Written.{GraphWith, HasNothing, Leaves, Writes, Wrote, clocking, leaves_nothing}
-use Rattle.pt_run.specs.Causes.{CauseOf, CauseOfCheck, CauseOfMeaning, CauseOfNoSlacks, IsCause, IsTooLongForAll, Writing}
+use Rattle.pt_run.specs.Written.{GraphWith, Leaves, leaves_nothing}
+use Rattle.pt_run.specs.Causes.{Writing}
 
 -- the graph is refused before the files of its sensors are read
 abbrev pub is_refused : Option Fault → Bool
@@ -67,14 +59,6 @@ abbrev pub AsksBy : Option Fault → Option (Command × List ℕ) → Contents �
 AsksBy outcome None tells blocks r = Asks r.asked_before r.asked_now []
 AsksBy outcome (Some order) tells blocks r = AsksInOrder outcome order.0 tells blocks order.1 r.asked_before r.asked_now
 
--- how a call ends: out of memory; if the words are not a valid command line, with the usage; else with what the command must
--- write, or with a fault that has its cause
-abbrev pub EndsBy : Option Fault → Leaves → Option (Command × List ℕ) → Contents → List Named → Reading → Writing → Type 0
-EndsBy (Some fault.Memory) left order tells blocks r w = HasNothing left × (w.written_now ≡ w.written_before)
-EndsBy outcome left None tells blocks r w = (outcome ≡ Some fault.Usage) × HasNothing left × (w.written_now ≡ w.written_before)
-EndsBy None left (Some order) tells blocks r w = Wrote order.0 tells blocks order.1 left w.written_before w.written_now
-EndsBy (Some f) left (Some order) tells blocks r w = IsCause f left order.0 tells blocks order.1 r w
-
 -- what a call that ended so leaves, with what the clocks that its run read showed before it and after it
 abbrev pub left_with : Ending → List ClockView → List ClockView → Leaves
 left_with o before now = record { misses = o.misses; platforms = o.platforms.items; before = before; now = now }
@@ -95,13 +79,6 @@ left_at o order before now = left_with o (read_in order before) (read_in order n
 abbrev pub left_of : {C : Type 0} → Outcome C → Option Order → List ClockView → List ClockView → Leaves
 left_of o order before now = record { misses = o.misses; platforms = o.platforms.items; before = read_in order before; now = read_in order now }
 
--- how a command on a graph ends
-abbrev pub EndsOver : Option Fault → Leaves → Command → Contents → Graph → Reading → Writing → Type 0
-EndsOver None left command tells g r w = (text : List ℕ) × Writes command tells g left text × Appends w.written_before w.written_now text
-EndsOver (Some fault.Write) left command tells g r w =
-    Rose w.before w.now × (left.misses ≡ []) × (misses : List Miss) × (text : List ℕ) × Writes command tells g (record left { misses = misses }) text × AppendsPart w.written_before w.written_now text
-EndsOver (Some f) left command tells g r w = CauseOf command f left tells g [] r × (w.written_now ≡ w.written_before)
-
 -- a text was put on a sink: all of it, without a fault, or a prefix, if a put failed
 abbrev pub PutBy : Option Fault → List ℕ → Writing → Type 0
 PutBy None text w = Appends w.written_before w.written_now text
@@ -111,24 +88,10 @@ PutBy (Some f) text w = (f ≡ fault.Write) × Rose w.before w.now × AppendsPar
 abbrev pub OrMemory : Option Fault → Fault → Type 0
 OrMemory outcome f = (outcome ≡ Some f) ⊎ (outcome ≡ Some fault.Memory)
 
--- how `check`, `meaning` or `slacks` ends: its text is put, or its fault is reported
-abbrev pub Answers : Result (String Global) Fault → Ending → Writing → Type 0
-Answers (Ok text) o w = (left_by o ≡ leaves_nothing) × PutBy o.fault (string_bytes text) w
-Answers (Err f) o w = (left_by o ≡ leaves_nothing) × OrMemory o.fault f × (w.written_now ≡ w.written_before)
-
--- how a run of a plan ends
-abbrev pub EndsPlan : Option Fault → Leaves → ℕ → ClockChoice → Bool → Contents → Parts → Reading → Writing → Type 0
-EndsPlan None left workers clock log tells plan r w = (text : List ℕ) × IsFinishedRun tells (clocking workers clock left) plan log left.platforms left.misses text × Appends w.written_before w.written_now text
-EndsPlan (Some fault.Write) left workers clock log tells plan r w =
-    Rose w.before w.now × (left.misses ≡ []) × (misses : List Miss) × (text : List ℕ) × IsFinishedRun tells (clocking workers clock left) plan log left.platforms misses text × AppendsPart w.written_before w.written_now text
-EndsPlan (Some fault.Memory) left workers clock log tells plan r w = HasNothing left × (w.written_now ≡ w.written_before)
-EndsPlan (Some (fault.Long (Some platform))) left workers clock log tells plan r w = HasRun tells (clocking workers clock left) plan left.platforms (Some (platform, turn.Long)) × (left.misses ≡ []) × (w.written_now ≡ w.written_before)
-EndsPlan (Some (fault.LateMessage platform actor tag reading limit)) left workers clock log tells plan r w =
-    HasRun tells (clocking workers clock left) plan left.platforms (Some (platform, turn.Late actor tag reading limit)) × (left.misses ≡ []) × (w.written_now ≡ w.written_before)
-EndsPlan (Some (fault.Read (Some actor))) left workers clock log tells plan r w = SensorUnread Refused tells plan.graph actor [] r × HasNothing left × (w.written_now ≡ w.written_before)
-EndsPlan (Some (fault.Sensor actor f)) left workers clock log tells plan r w = SensorFails Refused tells plan.graph actor f × HasNothing left × (w.written_now ≡ w.written_before)
-EndsPlan (Some (fault.LateRow actor row seen limit)) left workers clock log tells plan r w = SensorLate tells plan.graph actor row seen limit × HasNothing left × (w.written_now ≡ w.written_before)
-EndsPlan (Some f) left workers clock log tells plan r w = ⊥
+-- a call puts the text of what was made, or reports the fault; it leaves nothing
+abbrev pub PutsOrTells : {X : Type 0} → (X → List ℕ) → Result X Fault → Ending → Writing → Type 0
+PutsOrTells text (Ok made) o w = (left_by o ≡ leaves_nothing) × PutBy o.fault (text made) w
+PutsOrTells text (Err f) o w = (left_by o ≡ leaves_nothing) × OrMemory o.fault f × (w.written_now ≡ w.written_before)
 
 -- the misses and the platforms of a run that read no clock that was handed in
 abbrev pub left_by_run : List Miss → List PlatformView → Leaves
@@ -171,24 +134,3 @@ IsUnplanned g o = (left_by o ≡ leaves_nothing) × (f : PlanFault) × CauseOfPl
 abbrev pub HasEnded : Result Ran RunFault → Ending → Writing → Type 0
 HasEnded (Ok ran) o w = WroteRun ran o w
 HasEnded (Err f) o w = IsStopped f o × (w.written_now ≡ w.written_before)
-
--- why there is no text of the margins
-abbrev pub CheckFails : Fault → Graph → Type 0
-CheckFails fault.Memory g = Unit {0}
-CheckFails f g = CauseOfCheck f g
-
--- why there is no text of the slacks
-abbrev pub SlacksFail : Fault → Graph → Type 0
-SlacksFail fault.Memory g = Unit {0}
-SlacksFail f g = CauseOfNoSlacks f g
-
--- why there are no tables of the meaning with these rows
-abbrev pub MeaningTablesFail : Fault → Graph → (ℕ → List Row) → Type 0
-MeaningTablesFail fault.Memory g rows = Unit {0}
-MeaningTablesFail (fault.Long None) g rows = IsTooLongForAll g rows
-MeaningTablesFail _ g rows = ⊥
-
--- a cause of a fault of `meaning`, or memory ran out
-abbrev pub MeaningFails : Fault → Contents → Graph → Reading → Type 0
-MeaningFails fault.Memory tells g r = Unit {0}
-MeaningFails f tells g r = CauseOfMeaning f tells g [] r

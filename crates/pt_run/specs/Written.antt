@@ -1,11 +1,9 @@
 -- What a command must write.
 use Rattle.std.specs.Prelude.{◌≡◌, ◌≤◌, ◌*◌, [], ℕ, ℤ, Bool, true, false, List, length, Option, None, Some, Ok, IfSome}
-use Rattle.pt_io.specs.Causes.{Appends, AppendsPart}
 use Rattle.pt_types.specs.declared.graph.Graph.{Graph}
 use Rattle.pt_types.specs.declared.rows.Row.{Row}
 use Rattle.pt_blocks.specs.declared.blocks.Named.{Named}
 use Rattle.pt_graph.specs.GraphOf.{graph_of}
-use Rattle.pt_semantics.specs.Cycles.{NoFreeCycle}
 use Rattle.pt_semantics.specs.Ranks.{AreRanks}
 use Rattle.pt_semantics.specs.Meaning.{ActorFiring, IsMeaning, IsLonger}
 use Rattle.pt_semantics.specs.Tables.{tables_text}
@@ -14,19 +12,15 @@ use Rattle.pt_history.specs.declared.miss.Miss.{Miss}
 use Rattle.pt_turn.specs.Platforms.{PlatformView}
 use Rattle.pt_offsets.specs.Plans.{Parts}
 use Rattle.pt_offsets.specs.Margins.{HasActorOffset, HasMargin}
-use Rattle.pt_slacks.specs.Text.{IsSlacked}
 use Rattle.pt_tables.specs.Margins.{margins_text}
 use Rattle.pt_sensors.specs.Asked.{Contents}
 use Rattle.pt_sensors.specs.Places.{of_run}
-use Rattle.pt_sensors.specs.Recorded.{AreRows}
 use Rattle.pt_io.specs.Told.{ClockView}
 use Rattle.pt_words.specs.declared.orders.ClockChoice.{ClockChoice}
 use Rattle.pt_run.specs.Readings.{Clocking}
 use Rattle.pt_run.specs.Runs.{IsFinishedRun}
 use Rattle.pt_run.specs.declared.fault.Fault.{Fault}
 use Rattle.pt_run.specs.declared.fault.Fault.TheVariants as fault
-use Rattle.pt_run.specs.declared.words.Command.{Command}
-use Rattle.pt_run.specs.declared.words.Command.TheVariants.{Run, Check, Meaning, Slacks}
 use Rattle.pt_types.specs.Limits.{most_claims}
 
 -- the graph file with this name, if its content is known, defines a graph, and a fact holds of that graph
@@ -90,12 +84,6 @@ pub record IsRun (tells : Contents) (g : Graph) (workers : ℕ) (clock : ClockCh
   pub graph : plan.graph ≡ g
   pub finished : IsFinishedRun tells (clocking workers clock left) plan log left.platforms left.misses text
 
--- what `meaning` must write for this graph: the tables of its meaning, whatever the bounds of its sensors
-pub record IsMeant (tells : Contents) (g : Graph) (text : List ℕ) : Type 0 where
-  pub rows : ℕ → List Row
-  pub sensors : AreRows tells g rows
-  pub tables : IsTables g rows (FitOnAll g) text
-
 -- what `check` must write for this graph: each sender can send in time, and the text has the offset and margin of each actor
 pub record IsChecked (g : Graph) (text : List ℕ) : Type 0 where
   pub feasible : IsFeasible g
@@ -104,27 +92,3 @@ pub record IsChecked (g : Graph) (text : List ℕ) : Type 0 where
   pub offsets : (a : ℕ) → HasActorOffset g a (offset a)
   pub margins : (a : ℕ) → HasMargin g a (margin a)
   pub lines : text ≡ margins_text g offset margin
-
--- what a command must write for a graph without a free cycle, and what it leaves
-abbrev pub WritesText : Command → Contents → Graph → Leaves → List ℕ → Type 0
-WritesText (Run workers clock log) tells g left text = IsRun tells g workers clock log left text
-WritesText Check tells g left text = HasNothing left × IsChecked g text
-WritesText Meaning tells g left text = HasNothing left × IsMeant tells g text
-WritesText Slacks tells g left text = HasNothing left × IsSlacked g text
-
--- what a command must write for a graph, which has no free cycle, and what it leaves
-abbrev pub Writes : Command → Contents → Graph → Leaves → List ℕ → Type 0
-Writes command tells g left text = NoFreeCycle g × WritesText command tells g left text
-
--- what a command must write for the graph file with this name, and what it leaves
-abbrev pub WritesOver : Command → Contents → List Named → List ℕ → Leaves → List ℕ → Type 0
-WritesOver command tells blocks name left text = GraphWith tells blocks name (λ g. Writes command tells g left text)
-
--- the bytes written, if known, grew by such a text
-abbrev pub Wrote : Command → Contents → List Named → List ℕ → Leaves → Option (List ℕ) → Option (List ℕ) → Type 0
-Wrote command tells blocks name left before now = (text : List ℕ) × WritesOver command tells blocks name left text × Appends before now text
-
--- the bytes written, if known, grew by a prefix of such a text, and no misses are given
-abbrev pub WrotePart : Command → Contents → List Named → List ℕ → Leaves → Option (List ℕ) → Option (List ℕ) → Type 0
-WrotePart command tells blocks name left before now =
-    (left.misses ≡ []) × (misses : List Miss) × (text : List ℕ) × WritesOver command tells blocks name (record left { misses = misses }) text × AppendsPart before now text

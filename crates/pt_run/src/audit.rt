@@ -1,6 +1,6 @@
 //! The command `audit`.
 
-ghost use Rattle.std.specs.Prelude.{◌≡◌, ◌↔◌, ℕ, IfErr, IfOk, List, None, Some, true};
+ghost use Rattle.std.specs.Prelude.{◌≡◌, ◌↔◌, [], ℕ, IfErr, IfOk, List, None, Some, true};
 ghost use Rattle.std.specs.Arc.{arc_value};
 ghost use Rattle.pt_types.specs.Lawful.{IsLawful};
 ghost use Rattle.pt_types.specs.declared.rows.Row.{Row};
@@ -9,12 +9,13 @@ ghost use Rattle.pt_offsets.specs.Plans.{IsAdmitted};
 ghost use Rattle.pt_sensors.specs.Listed.{rows_for};
 ghost use Rattle.pt_sensors.specs.Places.{StandInPlace, of_run};
 ghost use Rattle.pt_confluence.specs.Gathered.{AreTables, HaveFinished};
-ghost use Rattle.pt_run.specs.Auditing.{Accepts, AnswersAudit, AsksAudit, AsksJudged, CauseOfRefusal, EndsAudit, EndsJudged, IsJudged, OnLog};
+ghost use Rattle.pt_run.specs.Auditing.{Accepts, AsksAudit, AsksJudged, CauseOfRefusal, IsJudged, OnLog, lawful_line};
+ghost use Rattle.pt_run.specs.Due.{IsAudited, IsDue, UnlessMemory};
 ghost use Rattle.pt_run.specs.Runs.{RunOver};
 ghost use Rattle.pt_run.specs.Statuses.{status_of};
 ghost use Rattle.pt_run.specs.Telling.{Tells, TellsBy};
-ghost use Rattle.pt_run.specs.Texts.{fault_in, left_by};
-ghost use Rattle.pt_run.specs.Words.{paced_run};
+ghost use Rattle.pt_run.specs.Texts.{PutsOrTells, fault_in, left_by};
+ghost use Rattle.pt_run.specs.Words.{audit as to_audit, paced_run};
 
 use crate::admission::graph_at;
 use crate::fault::{Fault, fault_of_rows};
@@ -53,9 +54,12 @@ pub fn audit<S: Source, K: Sink, E: Sink>(
 ) -> Ending
     ensures status { result.status ≡ status_of result.fault result.misses }
     ensures asks { AsksAudit result.fault name.now log.now (S.tells source.old) blocks.now.listed.items (S.asked source.old) (S.asked source.new) }
-    ensures ends { EndsAudit result.fault (left_by result) name.now log.now (S.tells source.old) blocks.now.listed.items
-        (record { asked_before = S.asked source.old; asked_now = S.asked source.new; before = S.faults source.old; now = S.faults source.new })
-        (record { before = K.faults out.old; now = K.faults out.new; written_before = K.written out.old; written_now = K.written out.new }) }
+    ensures due { IsDue (Some (to_audit name.now log.now)) (S.tells source.old) blocks.now.listed.items (record {
+      fault = result.fault;
+      left = left_by result;
+      read = record { asked_before = S.asked source.old; asked_now = S.asked source.new; before = S.faults source.old; now = S.faults source.new };
+      wrote = record { before = K.faults out.old; now = K.faults out.new; written_before = K.written out.old; written_now = K.written out.new };
+    }) }
     ensures flushed { result.fault ≡ None → K.flushed out.new }
     ensures notes { TellsBy result.fault result.misses result.platforms.items (Some (paced_run, name.now)) (S.tells source.old) blocks.now.listed.items
         (record { before = E.faults notes.old; now = E.faults notes.new; written_before = E.written notes.old; written_now = E.written notes.new }) }
@@ -82,9 +86,13 @@ fn audit_graph<S: Source, K: Sink, E: Sink>(
     requires { IsLawful graph }
     ensures status { result.status ≡ status_of result.fault result.misses }
     ensures asks { AsksJudged result.fault log.now graph (S.asked source.old) (S.asked source.new) }
-    ensures ends { EndsJudged result.fault (left_by result) log.now (S.tells source.old) graph
-        (record { asked_before = S.asked source.old; asked_now = S.asked source.new; before = S.faults source.old; now = S.faults source.new })
-        (record { before = K.faults out.old; now = K.faults out.new; written_before = K.written out.old; written_now = K.written out.new }) }
+    ensures due { UnlessMemory (record {
+      fault = result.fault;
+      left = left_by result;
+      read = record { asked_before = S.asked source.old; asked_now = S.asked source.new; before = S.faults source.old; now = S.faults source.new };
+      wrote = record { before = K.faults out.old; now = K.faults out.new; written_before = K.written out.old; written_now = K.written out.new };
+    })
+        (IsAudited log.now (S.tells source.old) graph []) }
     ensures flushed { result.fault ≡ None → K.flushed out.new }
     ensures notes { Tells result.fault result.misses (Some graph)
         (record { before = E.faults notes.old; now = E.faults notes.new; written_before = E.written notes.old; written_now = E.written notes.new }) }
@@ -181,7 +189,7 @@ fn end_audit<K: Sink, E: Sink>(
     notes: &mut E,
 ) -> Ending
     ensures status { result.status ≡ status_of result.fault result.misses }
-    ensures answers { AnswersAudit judged result
+    ensures gives { PutsOrTells (λ unit. lawful_line) judged result
         (record { before = K.faults out.old; now = K.faults out.new; written_before = K.written out.old; written_now = K.written out.new }) }
     ensures flushed { result.fault ≡ None → K.flushed out.new }
     ensures notes { Tells result.fault result.misses (Some graph.now)

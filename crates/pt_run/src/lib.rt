@@ -6,8 +6,8 @@
 //! judges a file that `run --log` wrote. `replay GRAPH AIR` runs a graph with the transit times and clock lags of a recorded
 //! network. `specs/Due.antt` says how each call ends: at which stage it is refused, and why, or what it writes and what it leaves.
 //! What holds of a run is in `specs/Headline.antt` and `specs/Runs.antt`, and what other commands must write in `specs/Written.antt`,
-//! `specs/Making.antt`, `specs/Migrating.antt`, `specs/Auditing.antt` and `specs/Replaying.antt`. Why a call ended as it did is listed by
-//! answers in `specs/CauseTable.antt` and `specs/Exact.antt`.
+//! `specs/Making.antt`, `specs/Migrating.antt`, `specs/Auditing.antt` and `specs/Replaying.antt`. That an answer which known files decide
+//! comes whenever it is due is in `specs/Exact.antt`.
 //!
 //! Read first: `ptides`, then `specs/Headline.antt`; `run_of` is a paced run of a plan. Only the functions between `ptides` and
 //! `engines` may wait and start threads; paced runs, `check`, `meaning`, `make`, `migrate`, `slacks`, `audit` and `replay` return,

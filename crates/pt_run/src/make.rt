@@ -1,16 +1,19 @@
 //! The command `make`.
 
-ghost use Rattle.std.specs.Prelude.{◌≡◌, ◌≤◌, IfOk, None, string_bytes};
+ghost use Rattle.std.specs.Prelude.{◌≡◌, ◌≤◌, IfOk, None, Some, string_bytes};
 ghost use Rattle.std.specs.Arc.{arc_value};
 ghost use Rattle.pt_offsets.specs.Plans.{IsAdmitted};
 ghost use Rattle.pt_causality.specs.Ranked.{level_of};
+ghost use Rattle.pt_sensors.specs.Asked.{Contents, Reading};
 ghost use Rattle.pt_sensors.specs.Places.{of_run};
 ghost use Rattle.pt_rounds.specs.HaveRun.{HaveRun};
 ghost use Rattle.pt_made.specs.Input.{made_graph as graph_made, made_rows as rows_made};
 ghost use Rattle.pt_run.specs.Statuses.{status_of};
-ghost use Rattle.pt_run.specs.Making.{EndsMade, IsMadeRun};
+ghost use Rattle.pt_run.specs.Due.{IsDue};
+ghost use Rattle.pt_run.specs.Making.{IsMadeRun};
 ghost use Rattle.pt_run.specs.Telling.{Tells};
 ghost use Rattle.pt_run.specs.Texts.{left_by};
+ghost use Rattle.pt_run.specs.Words.{make as to_make};
 
 use crate::fault::Fault;
 use crate::notes::{tell, tell_write};
@@ -49,8 +52,12 @@ pub fn make<K: Sink, E: Sink>(
 ) -> Ending
     requires { number ≤ 100 }
     ensures status { result.status ≡ status_of result.fault result.misses }
-    ensures ends { EndsMade result.fault (left_by result) number
-        (record { before = K.faults out.old; now = K.faults out.new; written_before = K.written out.old; written_now = K.written out.new }) }
+    ensures due { (tells : Contents) (r : Reading) → IsDue (Some (to_make number workers)) tells blocks.now.listed.items (record {
+      fault = result.fault;
+      left = left_by result;
+      read = r;
+      wrote = record { before = K.faults out.old; now = K.faults out.new; written_before = K.written out.old; written_now = K.written out.new };
+    }) }
     ensures flushed { result.fault ≡ None → K.flushed out.new }
     ensures notes { Tells result.fault result.misses None
         (record { before = E.faults notes.old; now = E.faults notes.new; written_before = E.written notes.old; written_now = E.written notes.new }) }

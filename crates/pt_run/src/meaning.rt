@@ -1,16 +1,16 @@
 //! The command `meaning`.
 
-ghost use Rattle.std.specs.Prelude.{[], IfOk, IfErr, length, string_bytes};
+ghost use Rattle.std.specs.Prelude.{[], length, string_bytes};
 ghost use Rattle.pt_types.specs.Lawful.{IsLawful};
 ghost use Rattle.pt_semantics.specs.Lists.{Each};
 ghost use Rattle.pt_semantics.specs.Ranks.{AreRanks};
 ghost use Rattle.pt_sensors.specs.Listed.{rows_for, IsOfActors};
 ghost use Rattle.pt_causality.specs.Ranked.{rank_of};
-ghost use Rattle.pt_sensors.specs.Asked.{AsksFiles};
+ghost use Rattle.pt_sensors.specs.Asked.{AsksFiles, Reading};
+ghost use Rattle.pt_sensors.specs.declared.recorded_fault.LateRows.TheVariants.{Taken};
 ghost use Rattle.pt_run.specs.declared.words.Command.TheVariants.{Meaning};
-ghost use Rattle.pt_run.specs.Causes.{CauseOf};
-ghost use Rattle.pt_run.specs.Written.{FitOnAll, IsMeant, IsTables, Writes, leaves_nothing};
-ghost use Rattle.pt_run.specs.Texts.{AsksFor, MeaningFails, MeaningTablesFail, fault_in};
+ghost use Rattle.pt_run.specs.Due.{AfterRows, AnswersAsDue, IsDueFor, IsMeantBy};
+ghost use Rattle.pt_run.specs.Texts.{AsksFor, fault_in};
 
 use crate::fault::{Fault, fault_of_cycle, fault_of_rows};
 use pt_causality::{Ranks, ranks_of};
@@ -28,9 +28,9 @@ pub fn meaning_answer<S: Source>(
     graph: &Graph,
 ) -> Result<String, Fault>
     requires { IsLawful graph.now }
-    ensures text { IfOk result (λ text. Writes Meaning (S.tells source.old) graph.now leaves_nothing (string_bytes text)) }
-    ensures fault { IfErr result (λ f. CauseOf Meaning f leaves_nothing (S.tells source.old) graph.now []
-        (record { asked_before = S.asked source.old; asked_now = S.asked source.new; before = S.faults source.old; now = S.faults source.new })) }
+    ensures due { AnswersAsDue string_bytes result
+        (record { asked_before = S.asked source.old; asked_now = S.asked source.new; before = S.faults source.old; now = S.faults source.new })
+        (IsDueFor Meaning (S.tells source.old) graph.now []) }
     ensures asks { AsksFor Meaning (fault_in result) graph.now (S.asked source.old) (S.asked source.new) }
 {
     match ranks_of(alloc, graph) {
@@ -48,9 +48,9 @@ fn meaning_text<S: Source>(
 ) -> Result<String, Fault>
     requires lawful { IsLawful graph.now }
     requires ranks { AreRanks graph.now (rank_of ranks.now) }
-    ensures text { IfOk result (λ text. IsMeant (S.tells source.old) graph.now (string_bytes text)) }
-    ensures fault { IfErr result (λ f. MeaningFails f (S.tells source.old) graph.now
-        (record { asked_before = S.asked source.old; asked_now = S.asked source.new; before = S.faults source.old; now = S.faults source.new })) }
+    ensures due { AnswersAsDue string_bytes result
+        (record { asked_before = S.asked source.old; asked_now = S.asked source.new; before = S.faults source.old; now = S.faults source.new })
+        (λ a. AfterRows Taken (S.tells source.old) graph.now [] a (λ rows. IsMeantBy graph.now rows a)) }
     ensures asks { AsksFiles graph.now (S.asked source.old) (S.asked source.new) }
 {
     let sensors = match recorded(alloc, source, graph, LateRows::Taken) {
@@ -70,8 +70,7 @@ fn meaning_tables(
     requires lawful { IsLawful graph.now }
     requires ranks { AreRanks graph.now (rank_of ranks.now) }
     requires sensors { Each (IsOfActors (length graph.now.actors)) sensors.now }
-    ensures text { IfOk result (λ text. IsTables graph.now (rows_for sensors.now) (FitOnAll graph.now) (string_bytes text)) }
-    ensures fault { IfErr result (λ f. MeaningTablesFail f graph.now (rows_for sensors.now)) }
+    ensures { (r : Reading) → AnswersAsDue string_bytes result r (IsMeantBy graph.now (rows_for sensors.now)) }
 {
     let most = MOST_CLAIMS as usize * graph.platforms.as_slice().len();
     match tables_of_meaning(alloc, graph, ranks.ranks(), sensors, most) {

@@ -1,12 +1,14 @@
 //! The command `migrate`.
 
-ghost use Rattle.std.specs.Prelude.{◌≡◌, ◌∷◌, [], IfErr, IfOk, None};
+ghost use Rattle.std.specs.Prelude.{◌≡◌, ◌∷◌, [], IfErr, IfOk, None, Some};
 ghost use Rattle.pt_sensors.specs.Asked.{AsksOrNot};
 ghost use Rattle.pt_run.specs.Causes.{CauseOfGraph};
-ghost use Rattle.pt_run.specs.Migrating.{EndsMigrated, IsDefined, IsMigrated};
+ghost use Rattle.pt_run.specs.Due.{IsDue};
+ghost use Rattle.pt_run.specs.Migrating.{IsDefined, IsMigrated};
 ghost use Rattle.pt_run.specs.Statuses.{status_of};
 ghost use Rattle.pt_run.specs.Telling.{Tells};
 ghost use Rattle.pt_run.specs.Texts.{left_by};
+ghost use Rattle.pt_run.specs.Words.{migrate as to_migrate};
 ghost use Rattle.pt_run.specs.Written.{GraphWith};
 
 use crate::admission::graph_at;
@@ -35,9 +37,12 @@ pub fn migrate<S: Source, K: Sink, E: Sink>(
 ) -> Ending
     ensures status { result.status ≡ status_of result.fault result.misses }
     ensures asks { AsksOrNot (S.asked source.old) (S.asked source.new) (name.now ∷ []) }
-    ensures ends { EndsMigrated result.fault (left_by result) name.now (S.tells source.old) blocks.now.listed.items
-        (record { asked_before = S.asked source.old; asked_now = S.asked source.new; before = S.faults source.old; now = S.faults source.new })
-        (record { before = K.faults out.old; now = K.faults out.new; written_before = K.written out.old; written_now = K.written out.new }) }
+    ensures due { IsDue (Some (to_migrate name.now)) (S.tells source.old) blocks.now.listed.items (record {
+      fault = result.fault;
+      left = left_by result;
+      read = record { asked_before = S.asked source.old; asked_now = S.asked source.new; before = S.faults source.old; now = S.faults source.new };
+      wrote = record { before = K.faults out.old; now = K.faults out.new; written_before = K.written out.old; written_now = K.written out.new };
+    }) }
     ensures flushed { result.fault ≡ None → K.flushed out.new }
     ensures notes { Tells result.fault result.misses None
         (record { before = E.faults notes.old; now = E.faults notes.new; written_before = E.written notes.old; written_now = E.written notes.new }) }

@@ -1,6 +1,6 @@
 //! Runs by clocks of their own. These may wait: a run by a clock that stops may go on forever.
 
-ghost use Rattle.std.specs.Prelude.{◌≡◌, ◌≢◌, ◌≤◌, ◌<◌, ℕ, IfOk, IfErr, OnOk, List, None, Some, length};
+ghost use Rattle.std.specs.Prelude.{◌≡◌, ◌≢◌, ◌≤◌, ◌<◌, [], ℕ, IfOk, IfErr, OnOk, List, None, Some, length};
 ghost use Rattle.std.specs.Arc.{arc_value};
 ghost use Rattle.pt_io.specs.Told.{tell};
 ghost use Rattle.pt_types.specs.Lawful.{IsLawful};
@@ -11,11 +11,12 @@ ghost use Rattle.pt_turn.specs.All.{AreReady, IsReady};
 ghost use Rattle.pt_run.specs.Clocks.{AreAsMany, AreBackBy, AreBackAfterRun};
 ghost use Rattle.pt_run.specs.declared.fault.Fault.TheVariants.{Memory as NoMemory};
 ghost use Rattle.pt_run.specs.declared.words.Command.TheVariants.{Run};
+ghost use Rattle.pt_run.specs.Due.{IsDueFor, UnlessMemory};
 ghost use Rattle.pt_run.specs.Readings.{read_by};
 ghost use Rattle.pt_run.specs.Runs.{CauseOfStop, HasOutputs, WentBy, read_with};
 ghost use Rattle.pt_run.specs.Statuses.{status_of};
 ghost use Rattle.pt_run.specs.Telling.{Tells};
-ghost use Rattle.pt_run.specs.Texts.{AsksFor, EndsOver, left_with};
+ghost use Rattle.pt_run.specs.Texts.{AsksFor, left_with};
 
 use crate::engines::{go_by_clocks, go_by_steps};
 use crate::outcome::Ending;
@@ -53,9 +54,13 @@ pub fn run_own<S: Source, K: Sink, E: Sink, C: Clock + Send, R: Threads + Wait +
     requires clocks { length clocks.old.items ≡ 16 }
     ensures status { result.status ≡ status_of result.fault result.misses }
     ensures asks { AsksFor (Run workers clock log) result.fault graph (S.asked source.old) (S.asked source.new) }
-    ensures ends { EndsOver result.fault (left_with result (read_by clock (tell C.told C.ahead clocks.old.items)) (read_by clock (tell C.told C.ahead clocks.new.items))) (Run workers clock log) (S.tells source.old) graph
-        (record { asked_before = S.asked source.old; asked_now = S.asked source.new; before = S.faults source.old; now = S.faults source.new })
-        (record { before = K.faults out.old; now = K.faults out.new; written_before = K.written out.old; written_now = K.written out.new }) }
+    ensures due { UnlessMemory (record {
+      fault = result.fault;
+      left = left_with result (read_by clock (tell C.told C.ahead clocks.old.items)) (read_by clock (tell C.told C.ahead clocks.new.items));
+      read = record { asked_before = S.asked source.old; asked_now = S.asked source.new; before = S.faults source.old; now = S.faults source.new };
+      wrote = record { before = K.faults out.old; now = K.faults out.new; written_before = K.written out.old; written_now = K.written out.new };
+    })
+        (IsDueFor (Run workers clock log) (S.tells source.old) graph []) }
     ensures clocks { result.fault ≢ Some NoMemory → AreBackBy clock result.fault clocks.old.items clocks.new.items }
     ensures flushed { result.fault ≡ None → K.flushed out.new }
     ensures notes { Tells result.fault result.misses (Some graph)

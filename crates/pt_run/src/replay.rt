@@ -1,6 +1,6 @@
 //! The command `replay`.
 
-ghost use Rattle.std.specs.Prelude.{◌≡◌, IfErr, IfOk, None, Some, flat_map, length, string_bytes};
+ghost use Rattle.std.specs.Prelude.{◌≡◌, [], IfErr, IfOk, None, Some, flat_map, length, string_bytes};
 ghost use Rattle.std.specs.Arc.{arc_value};
 ghost use Rattle.pt_types.specs.Lawful.{IsLawful};
 ghost use Rattle.pt_semantics.specs.Rows.{FitRows};
@@ -9,11 +9,12 @@ ghost use Rattle.pt_sensors.specs.Listed.{rows_for};
 ghost use Rattle.pt_sensors.specs.Places.{StandInPlace, of_run};
 ghost use Rattle.pt_tables.specs.Misses.{miss_line};
 ghost use Rattle.pt_run.specs.Flown.{CauseOfNoAir, EndsAsReplayed, FinishedReplay, HasReplayed, IsOfReplay, IsRecorded, NamesRow, StopsInAir, StopsReplay, stop_in};
-ghost use Rattle.pt_run.specs.Replaying.{AsksReplay, AsksReplayed, EndsReplay, EndsReplayed};
+ghost use Rattle.pt_run.specs.Due.{IsDue, IsReplayed, UnlessMemory};
+ghost use Rattle.pt_run.specs.Replaying.{AsksReplay, AsksReplayed};
 ghost use Rattle.pt_run.specs.Statuses.{status_of};
 ghost use Rattle.pt_run.specs.Telling.{Tells, TellsBy};
 ghost use Rattle.pt_run.specs.Texts.{fault_in, left_by};
-ghost use Rattle.pt_run.specs.Words.{paced_run};
+ghost use Rattle.pt_run.specs.Words.{paced_run, replay as to_replay};
 
 use crate::admission::graph_at;
 use crate::fault::{Fault, fault_of_air, fault_of_rows};
@@ -66,9 +67,12 @@ pub fn replay<S: Source, K: Sink, E: Sink>(
 ) -> Ending
     ensures status { result.status ≡ status_of result.fault result.misses }
     ensures asks { AsksReplay result.fault name.now air.now (S.tells source.old) blocks.now.listed.items (S.asked source.old) (S.asked source.new) }
-    ensures ends { EndsReplay result.fault (left_by result) name.now air.now log (S.tells source.old) blocks.now.listed.items
-        (record { asked_before = S.asked source.old; asked_now = S.asked source.new; before = S.faults source.old; now = S.faults source.new })
-        (record { before = K.faults out.old; now = K.faults out.new; written_before = K.written out.old; written_now = K.written out.new }) }
+    ensures due { IsDue (Some (to_replay name.now air.now workers log)) (S.tells source.old) blocks.now.listed.items (record {
+      fault = result.fault;
+      left = left_by result;
+      read = record { asked_before = S.asked source.old; asked_now = S.asked source.new; before = S.faults source.old; now = S.faults source.new };
+      wrote = record { before = K.faults out.old; now = K.faults out.new; written_before = K.written out.old; written_now = K.written out.new };
+    }) }
     ensures flushed { result.fault ≡ None → K.flushed out.new }
     ensures notes { TellsBy result.fault result.misses result.platforms.items (Some (paced_run, name.now)) (S.tells source.old) blocks.now.listed.items
         (record { before = E.faults notes.old; now = E.faults notes.new; written_before = E.written notes.old; written_now = E.written notes.new }) }
@@ -97,9 +101,13 @@ fn replay_graph<S: Source, K: Sink, E: Sink>(
     requires { IsLawful graph }
     ensures status { result.status ≡ status_of result.fault result.misses }
     ensures asks { AsksReplayed result.fault air.now graph (S.asked source.old) (S.asked source.new) }
-    ensures ends { EndsReplayed result.fault (left_by result) air.now log (S.tells source.old) graph
-        (record { asked_before = S.asked source.old; asked_now = S.asked source.new; before = S.faults source.old; now = S.faults source.new })
-        (record { before = K.faults out.old; now = K.faults out.new; written_before = K.written out.old; written_now = K.written out.new }) }
+    ensures due { UnlessMemory (record {
+      fault = result.fault;
+      left = left_by result;
+      read = record { asked_before = S.asked source.old; asked_now = S.asked source.new; before = S.faults source.old; now = S.faults source.new };
+      wrote = record { before = K.faults out.old; now = K.faults out.new; written_before = K.written out.old; written_now = K.written out.new };
+    })
+        (IsReplayed air.now log (S.tells source.old) graph []) }
     ensures flushed { result.fault ≡ None → K.flushed out.new }
     ensures notes { Tells result.fault result.misses (Some graph)
         (record { before = E.faults notes.old; now = E.faults notes.new; written_before = E.written notes.old; written_now = E.written notes.new }) }

@@ -1,15 +1,16 @@
 //! The command `run`.
 
-ghost use Rattle.std.specs.Prelude.{◌≡◌, ◌≢◌, IfErr, IfOk, None, Some, flat_map, string_bytes};
+ghost use Rattle.std.specs.Prelude.{◌≡◌, ◌≢◌, [], IfErr, IfOk, None, Some, flat_map, string_bytes};
 ghost use Rattle.std.specs.Arc.{arc_value};
 ghost use Rattle.pt_types.specs.Lawful.{IsLawful};
 ghost use Rattle.pt_offsets.specs.Plans.{IsAdmitted};
 ghost use Rattle.pt_words.specs.declared.orders.ClockChoice.TheVariants.{Paced};
 ghost use Rattle.pt_run.specs.declared.words.Command.TheVariants.{Run};
+ghost use Rattle.pt_run.specs.Due.{IsDueFor, UnlessMemory};
 ghost use Rattle.pt_run.specs.Statuses.{status_of};
 ghost use Rattle.pt_tables.specs.Misses.{miss_line};
 ghost use Rattle.pt_run.specs.Telling.{Tells};
-ghost use Rattle.pt_run.specs.Texts.{AsksFor, EndsOver, HasEnded, IsFaultOfRun, IsStopped, IsUnplanned, LeftAll, WroteRun, left_by};
+ghost use Rattle.pt_run.specs.Texts.{AsksFor, HasEnded, IsFaultOfRun, IsStopped, IsUnplanned, LeftAll, WroteRun, left_by};
 
 use crate::fault::{Fault, fault_of_plan, fault_of_rows};
 use crate::notes::{tell, tell_write};
@@ -38,9 +39,13 @@ pub fn run_graph<S: Source, K: Sink, E: Sink>(
     requires { IsLawful graph }
     ensures status { result.status ≡ status_of result.fault result.misses }
     ensures asks { AsksFor (Run workers Paced log) result.fault graph (S.asked source.old) (S.asked source.new) }
-    ensures ends { EndsOver result.fault (left_by result) (Run workers Paced log) (S.tells source.old) graph
-        (record { asked_before = S.asked source.old; asked_now = S.asked source.new; before = S.faults source.old; now = S.faults source.new })
-        (record { before = K.faults out.old; now = K.faults out.new; written_before = K.written out.old; written_now = K.written out.new }) }
+    ensures due { UnlessMemory (record {
+      fault = result.fault;
+      left = left_by result;
+      read = record { asked_before = S.asked source.old; asked_now = S.asked source.new; before = S.faults source.old; now = S.faults source.new };
+      wrote = record { before = K.faults out.old; now = K.faults out.new; written_before = K.written out.old; written_now = K.written out.new };
+    })
+        (IsDueFor (Run workers Paced log) (S.tells source.old) graph []) }
     ensures flushed { result.fault ≡ None → K.flushed out.new }
     ensures notes { Tells result.fault result.misses (Some graph)
         (record { before = E.faults notes.old; now = E.faults notes.new; written_before = E.written notes.old; written_now = E.written notes.new }) }

@@ -1,22 +1,22 @@
 //! The top call.
 
-ghost use Rattle.std.specs.Prelude.{◌≡◌, ◌≢◌, None, Some, length};
+ghost use Rattle.std.specs.Prelude.{◌≡◌, ◌≢◌, ◌↔◌, None, Some, [], flat_map, length, string_bytes};
 ghost use Rattle.pt_io.specs.Told.{tell};
 ghost use Rattle.pt_types.specs.Lawful.{IsLawful};
-ghost use Rattle.pt_run.specs.CauseTable.{CauseTable};
+ghost use Rattle.pt_monitors.specs.Platforms.{missed_by};
 ghost use Rattle.pt_run.specs.Clocks.{AreBack, AreBackFor};
 ghost use Rattle.pt_run.specs.Complete.{IsComplete, IsCompleteByAnyClock};
 ghost use Rattle.pt_run.specs.declared.fault.Fault.TheVariants.{Memory};
-ghost use Rattle.pt_run.specs.Due.{IsDue};
+ghost use Rattle.pt_run.specs.Due.{IsDue, IsDueFor, UnlessMemory};
 ghost use Rattle.pt_run.specs.Exact.{IsExact};
 ghost use Rattle.pt_run.specs.Headline.{IsHeadline};
 ghost use Rattle.pt_run.specs.InBounds.{IsCompleteInBounds};
 ghost use Rattle.pt_run.specs.Statuses.{status_of};
-ghost use Rattle.pt_run.specs.Words.{order_of};
-ghost use Rattle.pt_run.specs.Making.{AsksOf, Ends, TellsOf};
+ghost use Rattle.pt_run.specs.Words.{order_of, over};
+ghost use Rattle.pt_run.specs.Making.{AsksOf, TellsOf};
 ghost use Rattle.pt_run.specs.Replaying.{IsReplayHeadline};
 ghost use Rattle.pt_run.specs.Telling.{Tells, TellsBy};
-ghost use Rattle.pt_run.specs.Texts.{Answers, AsksBy, AsksFor, EndsBy, EndsOver, left_at, left_of, left_over};
+ghost use Rattle.pt_run.specs.Texts.{AsksBy, AsksFor, PutsOrTells, left_at, left_of, left_over};
 
 use crate::admission::graph_at;
 use crate::audit::audit;
@@ -73,13 +73,9 @@ pub fn ptides<S: Source, K: Sink, E: Sink, C: Clock + Send, R: Threads + Wait + 
     // The same of a replay: what it has written, what it leaves, by which lags and transits, and why it stopped.
     ensures replay_headline { IsReplayHeadline result.fault (left_of result (order_of words.now) (tell C.told C.ahead clocks.items) (tell C.told C.ahead result.clocks.items)) (order_of words.now) (S.tells source.old) blocks.now.listed.items
         (record { before = K.faults out.old; now = K.faults out.new; written_before = K.written out.old; written_now = K.written out.new }) }
-    // Why the call ended as it did: one field for each answer.
-    ensures causes { CauseTable result.status result.fault (left_of result (order_of words.now) (tell C.told C.ahead clocks.items) (tell C.told C.ahead result.clocks.items)) (order_of words.now) (S.tells source.old) blocks.now.listed.items
-        (record { asked_before = S.asked source.old; asked_now = S.asked source.new; before = S.faults source.old; now = S.faults source.new })
-        (record { before = K.faults out.old; now = K.faults out.new; written_before = K.written out.old; written_now = K.written out.new }) }
-    // And it ends so, unless memory runs out or a read fails, whenever the words and the files have that cause and none before it: one field for each answer that
-    // depends on them alone.
-    ensures exact { IsExact result.fault (order_of words.now) (S.tells source.old) blocks.now.listed.items }
+    // The status is 5 exactly if all was written and something was missed, and the misses are those of the recorded turns.
+    ensures missed { (result.status ≡ 5) ↔ ((result.fault ≡ None) × (result.misses ≢ [])) }
+    ensures misses { result.fault ≡ None → result.misses ≡ flat_map missed_by result.platforms.items }
     // All of it, for every command: at which stage it was refused, and why; or what it wrote and what it leaves.
     ensures due { IsDue (order_of words.now) (S.tells source.old) blocks.now.listed.items (record {
       fault = result.fault;
@@ -87,6 +83,8 @@ pub fn ptides<S: Source, K: Sink, E: Sink, C: Clock + Send, R: Threads + Wait + 
       read = record { asked_before = S.asked source.old; asked_now = S.asked source.new; before = S.faults source.old; now = S.faults source.new };
       wrote = record { before = K.faults out.old; now = K.faults out.new; written_before = K.written out.old; written_now = K.written out.new };
     }) }
+    // Whatever answer is due and depends on known files alone comes, unless memory runs out or a read fails.
+    ensures exact { IsExact result.fault (order_of words.now) (S.tells source.old) blocks.now.listed.items }
     // A paced run of a program that can run ends as its meaning says: by cases in `StatusIsMeant`.
     ensures complete { IsComplete result.status (order_of words.now) (S.tells source.old) blocks.now.listed.items
         (record { asked_before = S.asked source.old; asked_now = S.asked source.new; before = S.faults source.old; now = S.faults source.new })
@@ -133,9 +131,12 @@ fn run_words<S: Source, K: Sink, E: Sink, C: Clock + Send, R: Threads + Wait + S
     ensures status { result.status ≡ status_of result.fault result.misses }
     ensures asks { AsksOf result.fault (order_of words.now) (S.tells source.old) blocks.now.listed.items
         (record { asked_before = S.asked source.old; asked_now = S.asked source.new; before = S.faults source.old; now = S.faults source.new }) }
-    ensures ends { Ends result.fault (left_at result (order_of words.now) (tell C.told C.ahead clocks.old.items) (tell C.told C.ahead clocks.new.items)) (order_of words.now) (S.tells source.old) blocks.now.listed.items
-        (record { asked_before = S.asked source.old; asked_now = S.asked source.new; before = S.faults source.old; now = S.faults source.new })
-        (record { before = K.faults out.old; now = K.faults out.new; written_before = K.written out.old; written_now = K.written out.new }) }
+    ensures due { IsDue (order_of words.now) (S.tells source.old) blocks.now.listed.items (record {
+      fault = result.fault;
+      left = left_at result (order_of words.now) (tell C.told C.ahead clocks.old.items) (tell C.told C.ahead clocks.new.items);
+      read = record { asked_before = S.asked source.old; asked_now = S.asked source.new; before = S.faults source.old; now = S.faults source.new };
+      wrote = record { before = K.faults out.old; now = K.faults out.new; written_before = K.written out.old; written_now = K.written out.new };
+    }) }
     ensures clocks { result.fault ≢ Some Memory → AreBack (order_of words.now) result.fault clocks.old.items clocks.new.items }
     ensures flushed { result.fault ≡ None → K.flushed out.new }
     ensures notes { TellsOf result.fault result.misses result.platforms.items (order_of words.now) (S.tells source.old) blocks.now.listed.items
@@ -191,9 +192,12 @@ fn run_file<S: Source, K: Sink, E: Sink, C: Clock + Send, R: Threads + Wait + Sy
     ensures status { result.status ≡ status_of result.fault result.misses }
     ensures asks { AsksBy result.fault (Some (command, name.now)) (S.tells source.old) blocks.now.listed.items
         (record { asked_before = S.asked source.old; asked_now = S.asked source.new; before = S.faults source.old; now = S.faults source.new }) }
-    ensures ends { EndsBy result.fault (left_over result command (tell C.told C.ahead clocks.old.items) (tell C.told C.ahead clocks.new.items)) (Some (command, name.now)) (S.tells source.old) blocks.now.listed.items
-        (record { asked_before = S.asked source.old; asked_now = S.asked source.new; before = S.faults source.old; now = S.faults source.new })
-        (record { before = K.faults out.old; now = K.faults out.new; written_before = K.written out.old; written_now = K.written out.new }) }
+    ensures due { IsDue (Some (over command name.now)) (S.tells source.old) blocks.now.listed.items (record {
+      fault = result.fault;
+      left = left_over result command (tell C.told C.ahead clocks.old.items) (tell C.told C.ahead clocks.new.items);
+      read = record { asked_before = S.asked source.old; asked_now = S.asked source.new; before = S.faults source.old; now = S.faults source.new };
+      wrote = record { before = K.faults out.old; now = K.faults out.new; written_before = K.written out.old; written_now = K.written out.new };
+    }) }
     ensures clocks { result.fault ≢ Some Memory → AreBackFor command result.fault clocks.old.items clocks.new.items }
     ensures flushed { result.fault ≡ None → K.flushed out.new }
     ensures notes { TellsBy result.fault result.misses result.platforms.items (Some (command, name.now)) (S.tells source.old) blocks.now.listed.items
@@ -228,9 +232,13 @@ fn run_command<S: Source, K: Sink, E: Sink, C: Clock + Send, R: Threads + Wait +
     requires clocks { length clocks.old.items ≡ 16 }
     ensures status { result.status ≡ status_of result.fault result.misses }
     ensures asks { AsksFor command result.fault graph (S.asked source.old) (S.asked source.new) }
-    ensures ends { EndsOver result.fault (left_over result command (tell C.told C.ahead clocks.old.items) (tell C.told C.ahead clocks.new.items)) command (S.tells source.old) graph
-        (record { asked_before = S.asked source.old; asked_now = S.asked source.new; before = S.faults source.old; now = S.faults source.new })
-        (record { before = K.faults out.old; now = K.faults out.new; written_before = K.written out.old; written_now = K.written out.new }) }
+    ensures due { UnlessMemory (record {
+      fault = result.fault;
+      left = left_over result command (tell C.told C.ahead clocks.old.items) (tell C.told C.ahead clocks.new.items);
+      read = record { asked_before = S.asked source.old; asked_now = S.asked source.new; before = S.faults source.old; now = S.faults source.new };
+      wrote = record { before = K.faults out.old; now = K.faults out.new; written_before = K.written out.old; written_now = K.written out.new };
+    })
+        (IsDueFor command (S.tells source.old) graph []) }
     ensures clocks { result.fault ≢ Some Memory → AreBackFor command result.fault clocks.old.items clocks.new.items }
     ensures flushed { result.fault ≡ None → K.flushed out.new }
     ensures notes { Tells result.fault result.misses (Some graph)
@@ -271,7 +279,7 @@ fn give<K: Sink, E: Sink>(
     notes: &mut E,
 ) -> Ending
     ensures status { result.status ≡ status_of result.fault result.misses }
-    ensures gives { Answers answer result
+    ensures gives { PutsOrTells string_bytes answer result
         (record { before = K.faults out.old; now = K.faults out.new; written_before = K.written out.old; written_now = K.written out.new }) }
     ensures flushed { result.fault ≡ None → K.flushed out.new }
     ensures notes { Tells result.fault result.misses (Some graph.now)

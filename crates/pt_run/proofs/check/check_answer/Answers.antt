@@ -1,9 +1,11 @@
+use Rattle.std.specs.Prelude.{string_bytes}
+use Rattle.std.specs.declared.alloc.Global.{Global}
 use Rattle.pt_causality.specs.Ranked.{level_of}
-use Rattle.pt_run.proofs.Planned.{check_fails, checked}
+use Rattle.pt_run.specs.Due.{AfterOffsets, OnlyPuts}
+use Rattle.pt_run.specs.Written.{IsChecked}
+use Rattle.pt_run.proofs.Ending.{free_due}
 use Rattle.pt_run.proofs.check.check_answer.Goals as goal
 
-pub returns-in-Ok-clause-text : goal.returns-in-Ok-clause-text
-returns-in-Ok-clause-text c = checked c.args.graph.now (level_of c.in-Ok._ranks) c.check_text.result c.in-Ok.ensures.levels c.check_text.ensures.text
-
-pub returns-in-Ok-clause-fault : goal.returns-in-Ok-clause-fault
-returns-in-Ok-clause-fault c = check_fails c.args.graph.now (level_of c.in-Ok._ranks) c.check_text.result c.in-Ok.ensures.levels c.check_text.ensures.fault
+pub returns-in-Ok : goal.returns-in-Ok
+returns-in-Ok c = λ tells r.
+    free_due (string_bytes {Z = Global}) c.check_text.result c.args.graph.now (level_of c.in-Ok._ranks) r (λ a. AfterOffsets c.args.graph.now a (OnlyPuts a (IsChecked c.args.graph.now))) c.in-Ok.ensures.levels (c.check_text.ensures r)

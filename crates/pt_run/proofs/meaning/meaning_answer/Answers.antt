@@ -1,14 +1,16 @@
+use Rattle.std.proofs.Common.{[]}
+use Rattle.std.specs.Prelude.{string_bytes}
 use Rattle.pt_causality.specs.Ranked.{level_of}
+use Rattle.pt_sensors.specs.declared.recorded_fault.LateRows.TheVariants.{Taken}
+use Rattle.pt_run.specs.Due.{AfterRows, IsMeantBy}
 use Rattle.pt_run.proofs.Asks.{meaning_asks}
-use Rattle.pt_run.proofs.Planned.{meaning_fails, meant}
+use Rattle.pt_run.proofs.Ending.{free_due}
 use Rattle.pt_run.proofs.meaning.meaning_answer.Goals as goal
 
-pub returns-in-Ok-clause-text : goal.returns-in-Ok-clause-text
-returns-in-Ok-clause-text g c = meant (g.S.Source.tells c.args.source.now) c.args.graph.now (level_of c.in-Ok.ranks) c.meaning_text.result c.in-Ok.ensures.levels c.meaning_text.ensures.text
-
-pub returns-in-Ok-clause-fault : goal.returns-in-Ok-clause-fault
-returns-in-Ok-clause-fault g c = meaning_fails (g.S.Source.tells c.args.source.now) c.args.graph.now _ (level_of c.in-Ok.ranks) c.meaning_text.result c.in-Ok.ensures.levels c.meaning_text.ensures.fault
+pub returns-in-Ok-clause-due : goal.returns-in-Ok-clause-due
+returns-in-Ok-clause-due g c =
+    free_due string_bytes c.meaning_text.result c.args.graph.now (level_of c.in-Ok.ranks) _ (λ a. AfterRows Taken (g.S.Source.tells c.args.source.now) c.args.graph.now [] a (λ rows. IsMeantBy c.args.graph.now rows a)) c.in-Ok.ensures.levels c.meaning_text.ensures.due
 
 pub returns-in-Ok-clause-asks : goal.returns-in-Ok-clause-asks
 returns-in-Ok-clause-asks g c =
-    meaning_asks (g.S.Source.tells c.args.source.now) c.args.graph.now _ c.meaning_text.result (g.S.Source.asked c.args.source.now) (g.S.Source.asked c.meaning_text.new.source) c.meaning_text.ensures.fault c.meaning_text.ensures.asks
+    meaning_asks (g.S.Source.tells c.args.source.now) c.args.graph.now _ c.meaning_text.result (g.S.Source.asked c.args.source.now) (g.S.Source.asked c.meaning_text.new.source) c.meaning_text.ensures.due c.meaning_text.ensures.asks

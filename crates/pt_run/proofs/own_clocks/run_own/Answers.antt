@@ -3,21 +3,19 @@ use Rattle.pt_io.specs.Told.{tell}
 use Rattle.pt_sensors.specs.Asked.{Reading}
 use Rattle.pt_run.specs.Causes.{Writing}
 use Rattle.pt_run.specs.Readings.{read_by}
-use Rattle.pt_run.specs.Texts.{left_with}
 use Rattle.pt_run.proofs.Asks.{run_asks}
-use Rattle.pt_run.proofs.Planned.{back, ended_plan, ends_plan}
+use Rattle.pt_run.proofs.Planned.{back, ended_run}
 use Rattle.pt_run.proofs.own_clocks.run_own.Goals as goal
 
-pub returns-clause-ends : goal.returns-clause-ends
-returns-clause-ends g c =
+pub returns-clause-due : goal.returns-clause-due
+returns-clause-due g c =
     let tells = g.S.Source.tells c.args.source.now in
     let plan = arc_value c.in-Ok.plan in
     let before = read_by c.args.clock (tell g.C.Clock.told g.C.Clock.ahead c.args.clocks.now.items) in
     let now = read_by c.args.clock (tell g.C.Clock.told g.C.Clock.ahead c.own_run_of-ran.new.clocks.items) in
     let r : Reading = record { asked_before = g.S.Source.asked c.args.source.now; asked_now = g.S.Source.asked c.own_run_of-ran.new.source; before = g.S.Source.faults c.args.source.now; now = g.S.Source.faults c.own_run_of-ran.new.source } in
     let w : Writing = record { before = g.K.Sink.faults c.args.out.now; now = g.K.Sink.faults c.end_run.new.out; written_before = g.K.Sink.written c.args.out.now; written_now = g.K.Sink.written c.end_run.new.out } in
-    ends_plan c.end_run.result.fault (left_with c.end_run.result before now) c.args.workers c.args.clock c.args.log tells c.args.graph plan r w c.in-Ok.ensures.admitted c.in-Ok.ensures.plan
-    (ended_plan c.own_run_of-ran.result c.end_run.result before now c.args.workers c.args.clock c.args.log tells plan r w c.own_run_of-ran.ensures.ran c.own_run_of-ran.ensures.fault c.end_run.ensures.ended)
+    ended_run c.args.workers c.args.clock c.args.log tells plan c.in-Ok.ensures.admitted r w c.args.graph c.in-Ok.ensures.plan c.own_run_of-ran.result c.end_run.result before now c.own_run_of-ran.ensures.ran c.own_run_of-ran.ensures.fault c.end_run.ensures.ended
 
 pub returns-clause-clocks : goal.returns-clause-clocks
 returns-clause-clocks g c = λ never.

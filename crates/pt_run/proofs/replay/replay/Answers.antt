@@ -1,44 +1,49 @@
-use Rattle.std.proofs.Common.{subst}
+use Rattle.std.proofs.Common.{[], ◌∷◌, refl, subst}
 use Rattle.pt_sensors.specs.Asked.{Contents, Reading}
-use Rattle.pt_run.specs.Replaying.{EndsReplayed}
 use Rattle.pt_run.specs.Causes.{Writing}
+use Rattle.pt_run.specs.Due.{Answer, IsReplayed, UnlessMemory}
 use Rattle.pt_run.specs.Texts.{left_by}
-use Rattle.pt_run.proofs.Replaying.{asks_replay, ends_replay, tells_replay}
+use Rattle.pt_run.specs.Words.{paced_run}
+use Rattle.pt_run.specs.Written.{Leaves}
+use Rattle.pt_run.proofs.Replaying.{asks_replay}
+use Rattle.pt_run.proofs.Ending.{has_nothing}
+use Rattle.pt_run.proofs.Stages.{graph_told, replay_on_file, replay_past}
+use Rattle.pt_run.proofs.Told.{told_file}
 use Rattle.pt_run.proofs.replay.replay.Goals as goal
 
-pub returns-in-Ok-clause-ends : goal.returns-in-Ok-clause-ends
-returns-in-Ok-clause-ends g c =
+pub returns-in-Ok-clause-due : goal.returns-in-Ok-clause-due
+returns-in-Ok-clause-due g c =
     let tells = g.S.Source.tells c.args.source.now in
     let r : Reading = record { asked_before = g.S.Source.asked c.graph_at.new.source; asked_now = g.S.Source.asked c.replay_graph.new.source; before = g.S.Source.faults c.graph_at.new.source; now = g.S.Source.faults c.replay_graph.new.source } in
     let w : Writing = record { before = g.K.Sink.faults c.args.out.now; now = g.K.Sink.faults c.replay_graph.new.out; written_before = g.K.Sink.written c.args.out.now; written_now = g.K.Sink.written c.replay_graph.new.out } in
-    let left = left_by c.replay_graph.result in
-    let ends = subst (λ (t : Contents). EndsReplayed c.replay_graph.result.fault left c.args.air.now c.args.log t c.in-Ok.graph r w) c.graph_at.ensures.keeps c.replay_graph.ensures.ends in
-    ends_replay c.args.name.now c.args.air.now c.args.log left tells c.args.blocks.now.listed.items c.in-Ok.graph
+    let left : Leaves = left_by c.replay_graph.result in
+    let a : Answer = record { fault = c.replay_graph.result.fault; left = left; read = r; wrote = w } in
+    replay_on_file tells c.args.blocks.now.listed.items c.args.name.now c.in-Ok.graph c.in-Ok.ensures.graph c.replay_graph.result.fault left
     (g.S.Source.asked c.args.source.now) (g.S.Source.asked c.graph_at.new.source) (g.S.Source.asked c.replay_graph.new.source)
     (g.S.Source.faults c.args.source.now) (g.S.Source.faults c.graph_at.new.source) (g.S.Source.faults c.replay_graph.new.source) w
-    c.in-Ok.ensures.graph c.in-Ok.ensures.asks c.graph_at.ensures.grows c.replay_graph.result.fault ends
+    c.in-Ok.ensures.asks c.graph_at.ensures.grows c.args.air.now c.args.workers c.args.log (subst (λ (t : Contents). UnlessMemory a (IsReplayed c.args.air.now c.args.log t c.in-Ok.graph [])) c.graph_at.ensures.keeps c.replay_graph.ensures.due)
 
 pub returns-in-Ok-clause-asks : goal.returns-in-Ok-clause-asks
 returns-in-Ok-clause-asks g c =
-    let tells = g.S.Source.tells c.args.source.now in
     let r : Reading = record { asked_before = g.S.Source.asked c.graph_at.new.source; asked_now = g.S.Source.asked c.replay_graph.new.source; before = g.S.Source.faults c.graph_at.new.source; now = g.S.Source.faults c.replay_graph.new.source } in
     let w : Writing = record { before = g.K.Sink.faults c.args.out.now; now = g.K.Sink.faults c.replay_graph.new.out; written_before = g.K.Sink.written c.args.out.now; written_now = g.K.Sink.written c.replay_graph.new.out } in
-    let left = left_by c.replay_graph.result in
-    let ends = subst (λ (t : Contents). EndsReplayed c.replay_graph.result.fault left c.args.air.now c.args.log t c.in-Ok.graph r w) c.graph_at.ensures.keeps c.replay_graph.ensures.ends in
-    asks_replay c.args.name.now c.args.air.now c.args.log left tells c.args.blocks.now.listed.items c.in-Ok.graph
-    (g.S.Source.asked c.args.source.now) (g.S.Source.asked c.graph_at.new.source) (g.S.Source.asked c.replay_graph.new.source)
-    (g.S.Source.faults c.args.source.now) (g.S.Source.faults c.graph_at.new.source) (g.S.Source.faults c.replay_graph.new.source) w
-    c.in-Ok.ensures.graph c.in-Ok.ensures.asks c.replay_graph.result.fault ends c.replay_graph.ensures.asks
+    let past = replay_past (g.S.Source.tells c.graph_at.new.source) c.in-Ok.graph [] (record { fault = c.replay_graph.result.fault; left = left_by c.replay_graph.result; read = r; wrote = w }) c.args.air.now c.args.log c.replay_graph.ensures.due in
+    asks_replay c.args.name.now c.args.air.now (g.S.Source.tells c.args.source.now) c.args.blocks.now.listed.items c.in-Ok.graph (g.S.Source.asked c.args.source.now) (g.S.Source.asked c.graph_at.new.source) (g.S.Source.asked c.replay_graph.new.source)
+    c.in-Ok.ensures.graph c.in-Ok.ensures.asks c.replay_graph.result.fault past.1 c.replay_graph.ensures.asks
 
 pub returns-in-Ok-clause-notes : goal.returns-in-Ok-clause-notes
 returns-in-Ok-clause-notes g c =
-    let tells = g.S.Source.tells c.args.source.now in
     let r : Reading = record { asked_before = g.S.Source.asked c.graph_at.new.source; asked_now = g.S.Source.asked c.replay_graph.new.source; before = g.S.Source.faults c.graph_at.new.source; now = g.S.Source.faults c.replay_graph.new.source } in
     let w : Writing = record { before = g.K.Sink.faults c.args.out.now; now = g.K.Sink.faults c.replay_graph.new.out; written_before = g.K.Sink.written c.args.out.now; written_now = g.K.Sink.written c.replay_graph.new.out } in
     let notes : Writing = record { before = g.E.Sink.faults c.args.notes.now; now = g.E.Sink.faults c.replay_graph.new.notes; written_before = g.E.Sink.written c.args.notes.now; written_now = g.E.Sink.written c.replay_graph.new.notes } in
-    let left = left_by c.replay_graph.result in
-    let ends = subst (λ (t : Contents). EndsReplayed c.replay_graph.result.fault left c.args.air.now c.args.log t c.in-Ok.graph r w) c.graph_at.ensures.keeps c.replay_graph.ensures.ends in
-    tells_replay c.args.name.now c.args.air.now c.args.log left tells c.args.blocks.now.listed.items c.in-Ok.graph
-    (g.S.Source.asked c.args.source.now) (g.S.Source.asked c.graph_at.new.source) (g.S.Source.asked c.replay_graph.new.source)
-    (g.S.Source.faults c.args.source.now) (g.S.Source.faults c.graph_at.new.source) (g.S.Source.faults c.replay_graph.new.source) w
-    c.in-Ok.ensures.graph c.in-Ok.ensures.asks c.replay_graph.result.fault c.replay_graph.result.misses notes ends c.replay_graph.ensures.notes
+    let past = replay_past (g.S.Source.tells c.graph_at.new.source) c.in-Ok.graph [] (record { fault = c.replay_graph.result.fault; left = left_by c.replay_graph.result; read = r; wrote = w }) c.args.air.now c.args.log c.replay_graph.ensures.due in
+    told_file paced_run c.replay_graph.result.fault c.replay_graph.result.misses c.replay_graph.result.platforms.items (g.S.Source.tells c.args.source.now) c.args.blocks.now.listed.items c.args.name.now c.in-Ok.graph notes c.in-Ok.ensures.graph past.0 c.replay_graph.ensures.notes
+
+pub returns-in-Err-clause-due : goal.returns-in-Err-clause-due
+returns-in-Err-clause-due g c =
+    let tells = g.S.Source.tells c.args.source.now in
+    let blocks = c.args.blocks.now.listed.items in
+    let r : Reading = record { asked_before = g.S.Source.asked c.args.source.now; asked_now = g.S.Source.asked c.graph_at.new.source; before = g.S.Source.faults c.args.source.now; now = g.S.Source.faults c.graph_at.new.source } in
+    let w : Writing = record { before = g.K.Sink.faults c.args.out.now; now = g.K.Sink.faults c.args.out.now; written_before = g.K.Sink.written c.args.out.now; written_now = g.K.Sink.written c.args.out.now } in
+    let a : Answer = record { fault = c.refused.result.fault; left = left_by c.refused.result; read = r; wrote = w } in
+    graph_told tells blocks c.args.name.now a (λ z. IsReplayed c.args.air.now c.args.log tells z (c.args.name.now ∷ []) a) (has_nothing c.refused.result [] [] c.refused.ensures.left) refl c.in-Err.fault c.tell-fault.result c.refused.ensures.fault c.tell-fault.ensures.fault c.in-Err.ensures.fault

@@ -1,11 +1,17 @@
-use Rattle.std.proofs.Common.{rules, ◌≡◌, ◌∙◌, None, Some, ap, refl, subst, sym}
+use Rattle.std.specs.Prelude.{option_map}
+use Rattle.std.proofs.Common.{rules, ◌≡◌, ◌∙◌, List, None, Option, Some, ap, refl, subst, sym}
 use Rattle.pt_sensors.proofs.Asking.{asks_none}
 use Rattle.pt_sensors.specs.Asked.{Reading}
+use Rattle.pt_io.specs.Told.{ClockView, tell}
+use Rattle.pt_run.specs.Asking.{in_words}
+use Rattle.pt_run.specs.Causes.{Writing}
+use Rattle.pt_run.specs.Due.{IsDue}
 use Rattle.pt_run.specs.Making.{AsksOf}
-use Rattle.pt_run.specs.Words.{order_of}
+use Rattle.pt_run.specs.Texts.{left_at}
+use Rattle.pt_run.specs.Words.{Order, order_of, replay}
 use Rattle.pt_run.specs.declared.fault.Fault.TheVariants.{Memory}
 use Rattle.pt_run.proofs.Asks.{asked_nothing}
-use Rattle.pt_run.proofs.Made.{asks_for_none, made_number_in}
+use Rattle.pt_run.proofs.Made.{asks_for_none, made_number_in, order_is}
 use Rattle.pt_run.proofs.top.run_words.Goals as goal
 use Rattle.pt_run.proofs.top.run_words.Goals.{in-Ok-None, in-Err}
 
@@ -30,3 +36,22 @@ returns-clause-asks g c =
           let memory : c.refused.result.fault ≡ Some Memory = search rules in
           asked_nothing (order_of c.args.words.now) c.refused.result.fault tells c.args.blocks.now.listed.items r memory (asks_none asked asked refl)
     ]
+
+pub returns-in-Ok-Some-Make-clause-due : goal.returns-in-Ok-Some-Make-clause-due
+returns-in-Ok-Some-Make-clause-due g c =
+    let tells = g.S.Source.tells c.args.source.now in
+    let r : Reading = record { asked_before = g.S.Source.asked c.args.source.now; asked_now = g.S.Source.asked c.args.source.now; before = g.S.Source.faults c.args.source.now; now = g.S.Source.faults c.args.source.now } in
+    let w : Writing = record { before = g.K.Sink.faults c.args.out.now; now = g.K.Sink.faults c.make.new.out; written_before = g.K.Sink.written c.args.out.now; written_now = g.K.Sink.written c.make.new.out } in
+    let views : List ClockView = tell g.C.Clock.told g.C.Clock.ahead c.args.clocks.now.items in
+    let order = order_is c.args.words.now c.in-Ok-Some-Make.field-0 c.in-Ok-Some-Make.number c.in-Ok-Some-Make.workers c.in-Ok-Some-Make.ensures (c.in-Ok-Some-Make.field-0-is ∙ ap Some c.in-Ok-Some-Make.field-0-0-is) in
+    subst (λ (o : Option Order). IsDue o tells c.args.blocks.now.listed.items (record { fault = c.make.result.fault; left = left_at c.make.result o views views; read = r; wrote = w })) order (c.make.ensures.due tells r)
+
+pub returns-in-Ok-Some-Replay-clause-due : goal.returns-in-Ok-Some-Replay-clause-due
+returns-in-Ok-Some-Replay-clause-due g c =
+    let tells = g.S.Source.tells c.args.source.now in
+    let r : Reading = record { asked_before = g.S.Source.asked c.args.source.now; asked_now = g.S.Source.asked c.replay.new.source; before = g.S.Source.faults c.args.source.now; now = g.S.Source.faults c.replay.new.source } in
+    let w : Writing = record { before = g.K.Sink.faults c.args.out.now; now = g.K.Sink.faults c.replay.new.out; written_before = g.K.Sink.written c.args.out.now; written_now = g.K.Sink.written c.replay.new.out } in
+    let views : List ClockView = tell g.C.Clock.told g.C.Clock.ahead c.args.clocks.now.items in
+    let order : Some (replay c.in-Ok-Some-Replay.graph.now c.in-Ok-Some-Replay.air.now c.in-Ok-Some-Replay.workers c.in-Ok-Some-Replay.log) ≡ order_of c.args.words.now =
+    sym (ap (option_map in_words) (c.in-Ok-Some-Replay.field-0-is ∙ ap Some c.in-Ok-Some-Replay.field-0-0-is)) ∙ c.in-Ok-Some-Replay.ensures in
+    subst (λ (o : Option Order). IsDue o tells c.args.blocks.now.listed.items (record { fault = c.replay.result.fault; left = left_at c.replay.result o views views; read = r; wrote = w })) order c.replay.ensures.due

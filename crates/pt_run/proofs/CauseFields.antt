@@ -1,6 +1,6 @@
 -- The table of causes: for each answer, why it came. The order matters: of a graph, an answer further down has none of the
 -- causes before it.
-use Rattle.std.specs.Prelude.{◌≡◌, ◌≢◌, ◌↔◌, ℕ, ℤ, List, [], ◌∷◌, Option, Some, None, Err, IfSome, flat_map, slice_get}
+use Rattle.std.specs.Prelude.{◌≡◌, ◌≢◌, ◌↔◌, ℕ, ℤ, List, [], ◌∷◌, Option, Some, None, Err, IfSome, flat_map}
 use Rattle.pt_io.specs.Causes.{Rose}
 use Rattle.pt_types.specs.declared.graph.Graph.{Graph}
 use Rattle.pt_audit.specs.declared.verdict.Verdict.{Verdict}
@@ -19,21 +19,23 @@ use Rattle.pt_sensors.specs.declared.recorded_fault.LateRows.TheVariants.{Refuse
 use Rattle.pt_sensors.specs.Asked.{Contents, ReadFails, Reading}
 use Rattle.pt_sensors.specs.Recorded.{SensorFails, SensorLate, SensorUnread}
 use Rattle.pt_tags.specs.declared.tag.Tag.{Tag}
-use Rattle.pt_turn.specs.Platforms.{PlatformView, state_at}
+use Rattle.pt_turn.specs.Platforms.{state_at}
 use Rattle.pt_turn.specs.Running.{ShowsLate, ShowsLong}
 use Rattle.pt_words.specs.declared.orders.ClockChoice.TheVariants.{Paced}
 use Rattle.pt_run.specs.declared.fault.Fault.{Fault}
 use Rattle.pt_run.specs.declared.fault.Fault.TheVariants as fault
 use Rattle.pt_run.specs.declared.words.Command.{Command}
 use Rattle.pt_run.specs.declared.words.Command.TheVariants.{Run, Check, Meaning, Slacks}
-use Rattle.pt_run.specs.Causes.{MeansLong, Writing}
+use Rattle.pt_run.specs.Causes.{Writing}
 use Rattle.pt_run.specs.Auditing.{Accepts, IsUnlawful, LastFails, OnLog}
 use Rattle.pt_air.specs.declared.fault.AirFault.{AirFault}
 use Rattle.pt_air.specs.AirOf.{air_of}
 use Rattle.pt_run.specs.Headline.{RunWith}
 use Rattle.pt_run.specs.Replaying.{OnAir}
 use Rattle.pt_run.specs.Words.{Order, over, make, migrate, audit, replay, paced_run}
+use Rattle.pt_run.specs.Complete.{OnPlatform}
 use Rattle.pt_run.specs.Written.{GraphWith, Leaves}
+use Rattle.pt_run.proofs.ByFault.{MeansLong}
 
 -- the words are a command on a graph file, `migrate`, `audit` and `replay` included, and a fact holds of the file's name
 abbrev pub OverFile : Option Order → (List ℕ → Type 0) → Type 0
@@ -84,10 +86,6 @@ IsAccepted command g = NoFreeCycle g × (AsksFeasible command → IsFeasible g)
 abbrev pub IsNotPaced : Command → Type 0
 IsNotPaced (Run workers clock log) = clock ≢ Paced
 IsNotPaced _ = ⊥
-
--- a fact holds of this platform of those that are left, which is one of this graph
-abbrev pub OnPlatform : Leaves → Graph → ℕ → (PlatformView → Type 0) → Type 0
-OnPlatform left g platform Fact = (v : PlatformView) × (slice_get left.platforms platform ≡ Some v) × (v.plan.graph ≡ g) × Fact v
 
 -- a command that reads the sensors' files: `run`, which refuses late rows, or `meaning`, which accepts them
 abbrev pub OfRows : Command → (LateRows → Type 0) → Type 0

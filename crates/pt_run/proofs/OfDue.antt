@@ -1,0 +1,52 @@
+-- The clauses of the top call, of what is due.
+use Rattle.std.proofs.Common.{◌≡◌, ℕ, List, Option, None}
+use Rattle.std.specs.Prelude.{◌≢◌, ◌↔◌, [], flat_map}
+use Rattle.pt_blocks.specs.declared.blocks.Named.{Named}
+use Rattle.pt_monitors.specs.Platforms.{missed_by}
+use Rattle.pt_sensors.specs.Asked.{Contents}
+use Rattle.pt_run.specs.Complete.{IsComplete, IsCompleteByAnyClock}
+use Rattle.pt_run.specs.Due.{Answer, IsDue}
+use Rattle.pt_run.specs.Exact.{IsExact}
+use Rattle.pt_run.specs.Headline.{IsHeadline}
+use Rattle.pt_run.specs.InBounds.{IsCompleteInBounds}
+use Rattle.pt_run.specs.Replaying.{IsReplayHeadline}
+use Rattle.pt_run.specs.Statuses.{status_of}
+use Rattle.pt_run.specs.Words.{Order}
+use Rattle.pt_run.proofs.ByFault.{Ends}
+use Rattle.pt_run.proofs.CauseTable.{caused}
+use Rattle.pt_run.proofs.Complete as completes
+use Rattle.pt_run.proofs.CompleteInBounds as in_bounds
+use Rattle.pt_run.proofs.DueEnds.{due_ends}
+use Rattle.pt_run.proofs.Exact as comes
+use Rattle.pt_run.proofs.Headline as headlines
+use Rattle.pt_run.proofs.OneDue.{exactly}
+use Rattle.pt_run.proofs.Replayed as replays
+
+module _ (order : Option Order) (tells : Contents) (blocks : List Named) (a : Answer) (due : IsDue order tells blocks a) where
+  ends : Ends a.fault a.left order tells blocks a.read a.wrote
+  ends = due_ends tells blocks a order due
+
+  pub headline : IsHeadline a.fault a.left order tells blocks a.wrote
+  headline = headlines.headline a.fault a.left order tells blocks a.read a.wrote ends
+
+  pub replay_headline : IsReplayHeadline a.fault a.left order tells blocks a.wrote
+  replay_headline = replays.replay_headline a.fault a.left order tells blocks a.read a.wrote ends
+
+  pub exact : IsExact a.fault order tells blocks
+  exact = exactly order tells blocks a (comes.exact a.fault a.left order tells blocks a.read a.wrote ends) due
+
+  pub complete_by_any_clock : IsCompleteByAnyClock a.fault a.left order tells blocks a.read a.wrote
+  complete_by_any_clock = completes.complete_by_any_clock a.fault a.left order tells blocks a.read a.wrote ends
+
+  module _ (status : ℕ) (is : status ≡ status_of a.fault a.left.misses) where
+    pub complete : IsComplete status order tells blocks a.read a.wrote
+    complete = completes.complete status a.fault a.left order tells blocks a.read a.wrote is ends
+
+    pub complete_in_bounds : IsCompleteInBounds status order tells blocks a.read a.wrote
+    complete_in_bounds = in_bounds.complete_in_bounds status a.fault a.left order tells blocks a.read a.wrote is ends
+
+    pub missed : (status ≡ 5) ↔ ((a.fault ≡ None) × (a.left.misses ≢ []))
+    missed = (caused status a.fault a.left order tells blocks a.read a.wrote is ends).missed
+
+    pub misses : a.fault ≡ None → a.left.misses ≡ flat_map missed_by a.left.platforms
+    misses = (caused status a.fault a.left order tells blocks a.read a.wrote is ends).missed_are

@@ -1,0 +1,15 @@
+use Rattle.std.proofs.Common.{List, subst}
+use Rattle.std.specs.Prelude.{string_bytes}
+use Rattle.std.specs.declared.alloc.Global.{Global}
+use Rattle.pt_sensors.specs.declared.sensor_rows.SensorRows.{SensorRows}
+use Rattle.pt_sensors.specs.Asked.{Reading}
+use Rattle.pt_sensors.specs.Listed.{rows_for}
+use Rattle.pt_run.specs.Due.{AnswersAsDue, IsMeantBy}
+use Rattle.pt_run.proofs.Ending.{read_due}
+use Rattle.pt_run.proofs.meaning.meaning_text.Goals as goal
+
+pub returns-clause-due : goal.returns-clause-due
+returns-clause-due g c =
+    let r : Reading = record { asked_before = g.S.Source.asked c.args.source.now; asked_now = g.S.Source.asked c.recorded.new.source; before = g.S.Source.faults c.args.source.now; now = g.S.Source.faults c.recorded.new.source } in
+    read_due (string_bytes {Z = Global}) c.meaning_tables.result (g.S.Source.tells c.args.source.now) c.args.graph.now r (rows_for c.in-Ok.sensors.items) c.in-Ok.ensures.rows
+    (subst (λ (xs : List SensorRows). AnswersAsDue (string_bytes {Z = Global}) c.meaning_tables.result r (IsMeantBy c.args.graph.now (rows_for xs))) c.as_slice.ensures.value (c.meaning_tables.ensures r))
