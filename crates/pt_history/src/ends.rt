@@ -9,7 +9,7 @@ use std::marker::Model;
 
 /// Where each list starts and ends, and room reserved for more lists.
 ///
-/// Most lists are empty, so many start where the one before them does.
+/// Most lists are empty. A list after an empty one starts at the same index.
 #[derive(Drop)]
 pub(crate) struct Ends {
     /// The index at which each list starts.
