@@ -47,6 +47,12 @@ settled_short [] h = refl
 settled_short (x ∷ []) h = refl
 settled_short (x ∷ y ∷ rest) h = absurd (omega arith)
 
+-- what is to be shown only if there are two turns
+pub stays_unless : (turns : List Turn) → ((n : ℕ) → n + 2 ≡ length turns → settled turns ≡ turns) → settled turns ≡ turns
+stays_unless [] h = refl
+stays_unless (x ∷ []) h = refl
+stays_unless (x ∷ y ∷ rest) h = h (length rest) (omega arith)
+
 -- where the last two turns do not join, all stay
 stays_by : (turns : List Turn) (n : ℕ) → n + 2 ≡ length turns → ((x y : Turn) → slice_get turns n ≡ Some x → slice_get turns (suc n) ≡ Some y → (is_quiet x && is_quiet y && nat_lt (x.count + y.count) (2 ^ 64)) ≡ false) → settled turns ≡ turns
 stays_by [] n e h = refl

@@ -1,9 +1,10 @@
 -- Heads of which the last two are replaced.
-use Rattle.std.proofs.Common.{◌≡◌, ℕ, zero, suc, ◌+◌, ◌-◌, ◌<◌, ◌≤◌, List, [], ◌∷◌, ◌++◌, length, set, refl, sym, ap, ap₂, subst, ◌∙◌, arith, length-append}
+use Rattle.std.proofs.Common.{◌≡◌, Some, add-one, ℕ, zero, suc, ◌+◌, ◌-◌, ◌<◌, ◌≤◌, List, [], ◌∷◌, ◌++◌, length, set, refl, sym, ap, ap₂, subst, ◌∙◌, arith, length-append}
+use Rattle.std.specs.Prelude.{slice_get}
 use Rattle.pt_history.specs.declared.head.Head.{Head}
 use Rattle.pt_history.specs.declared.heads.Recent.{Recent}
 use Rattle.pt_history.specs.declared.heads.Recent.TheVariants.{Empty, One, Two}
-use Rattle.pt_history.specs.Recents.{heads_in}
+use Rattle.pt_history.specs.Recents.{EndWith, heads_in}
 
 two_set : (past : List Head) (a b x y : Head) (n : ℕ) → n ≡ length past → past ++ x ∷ y ∷ [] ≡ set (set (past ++ a ∷ b ∷ []) n x) (suc n) y
 two_set [] a b x y zero is = refl
@@ -27,3 +28,22 @@ replaced past (Two a b) items x y is some short =
     two_set past a b x y (length past) refl
     ∙ ap (λ l. set (set l (length past) x) (suc (length past)) y) (sym is)
     ∙ ap₂ (λ n m. set (set items n x) m y) before last
+
+-- the last two of a list
+before_is : (past : List Head) (a b : Head) → slice_get (past ++ a ∷ b ∷ []) (length past) ≡ Some a
+before_is [] a b = refl
+before_is (p ∷ past) a b = before_is past a b
+
+last_is : (past : List Head) (a b : Head) → slice_get (past ++ a ∷ b ∷ []) (suc (length past)) ≡ Some b
+last_is [] a b = refl
+last_is (p ∷ past) a b = last_is past a b
+
+pub ends_with : (past items : List Head) (a b : Head) → items ≡ past ++ a ∷ b ∷ [] → EndWith items a b
+ends_with past items a b is =
+    let all : length items ≡ length past + 2 = ap length is ∙ length-append past (a ∷ b ∷ []) in
+    record {
+      number = length past;
+      are_last = sym all;
+      before_is = ap (λ l. slice_get l (length past)) is ∙ before_is past a b;
+      last_is = ap (slice_get items) (add-one (length past)) ∙ ap (λ l. slice_get l (suc (length past))) is ∙ last_is past a b;
+    }

@@ -1,7 +1,7 @@
 //! The heads of recorded turns.
 
-ghost use Rattle.std.specs.Prelude.{◌≡◌, ◌+◌, ◌-◌, ◌<◌, ◌≤◌, ◌++◌, ◌∷◌, [], OnErr, OnOk, Some, length, max, slice_get, slice_set, true};
-ghost use Rattle.pt_history.specs.Recents.{heads_in};
+ghost use Rattle.std.specs.Prelude.{◌≡◌, ◌+◌, ◌-◌, ◌<◌, ◌≤◌, ◌++◌, ◌∷◌, [], MatchOption, OnErr, OnOk, Some, length, max, slice_get, slice_set, true};
+ghost use Rattle.pt_history.specs.Recents.{EndWith, heads_in};
 
 use crate::head::Head;
 use crate::pieces::MOST_ITEMS;
@@ -103,6 +103,17 @@ impl Heads {
         ensures room { self.new.spare ≡ self.old.spare }
     {
         self.recent = Recent::Two(first, second);
+    }
+
+    /// The last two heads, or `None` if there are fewer.
+    pub fn last_two(&self) -> Option<(Head, Head)>
+        ensures { MatchOption result (length self.now.items < 2) (λ two. EndWith self.now.items two.0 two.1) }
+    {
+        match self.recent {
+            Recent::Empty => None,
+            Recent::One(_) => None,
+            Recent::Two(before, last) => Some((before, last)),
+        }
     }
 
     /// The number of heads.

@@ -122,6 +122,7 @@ impl History {
 
     /// Does the same as `begin`, but needs no room if two turns are joined; returns `false` and changes nothing if a turn is
     /// to be added and there is no room for it. Allocates nothing.
+    #[inline(always)]
     pub fn rest(&mut self, reading: u64) -> bool
         ensures turns { result ≡ true → self.new.turns ≡ kept_with self.old.turns (fresh reading) }
         ensures room { result ≡ true → record self.new.room { turns = self.old.room.turns } ≡ self.old.room }
@@ -145,7 +146,8 @@ impl History {
         }
     }
 
-    /// Adds a quiet turn at the end.
+    /// Adds a quiet turn at the end. Not inlined, since `rest` mostly joins.
+    #[inline(never)]
     fn add(&mut self, head: Head)
         requires { 0 < self.old.room.turns }
         ensures turns { self.new.turns ≡ self.old.turns ++ quiet head.first head.last head.count ∷ [] }
@@ -171,21 +173,9 @@ impl History {
     }
 
     /// The joined head of the last two turns, if both are quiet and their count fits; else `None`.
+    #[inline(always)]
     fn run(&self) -> Option<Head>
         ensures { MatchOption result (settled self.now.turns ≡ self.now.turns) (λ run. Joins self.now.turns (length self.now.turns - 2) run) }
-    {
-        let turns = self.heads.len();
-        if turns < 2 {
-            return None;
-        }
-        self.run_at(turns - 2, turns - 1)
-    }
-
-    /// The same, given the numbers of the last two turns.
-    fn run_at(&self, before: usize, last: usize) -> Option<Head>
-        requires next { last ≡ before + 1 }
-        requires ends { last + 1 ≡ length self.now.turns }
-        ensures { MatchOption result (settled self.now.turns ≡ self.now.turns) (λ run. Joins self.now.turns before run) }
     {
         if !self.before_quiet {
             return None;
@@ -193,15 +183,16 @@ impl History {
         if !self.last_quiet {
             return None;
         }
-        let first = self.heads.get(before);
-        let second = self.heads.get(last);
-        match first.count.checked_add(second.count) {
+        match self.heads.last_two() {
             None => None,
-            Some(count) => Some(Head {
-                first: first.first,
-                last: second.last,
-                count,
-            }),
+            Some((before, last)) => match before.count.checked_add(last.count) {
+                None => None,
+                Some(count) => Some(Head {
+                    first: before.first,
+                    last: last.last,
+                    count,
+                }),
+            },
         }
     }
 
