@@ -16,7 +16,7 @@ use Rattle.pt_queue.specs.declared.groups.Groups.{Groups}
 use Rattle.pt_queue.specs.declared.waiting.Waiting.{Waiting}
 use Rattle.pt_queue.specs.Events.{IsRising}
 use Rattle.pt_queue.specs.Listed.{AreTags, holds_up, tag_holds_up, tag_in, unit_holds_up}
-use Rattle.pt_queue.specs.Marks.{AreMarks, IsHolder, IsHolderIn, one_if, unit_with}
+use Rattle.pt_queue.specs.Marks.{AreMarks, IsHolder, IsHolderAmong, IsHolderIn, one_if, unit_with}
 use Rattle.pt_queue.proofs.ByUnit.{no_place, tag_with, with_place}
 use Rattle.pt_queue.proofs.Holding.{holder_has, one_holds}
 use Rattle.pt_queue.proofs.Listing.{in_tag as tag_lists, tag_in as tag_listed}
@@ -66,8 +66,8 @@ module _ (table : List Groups) (least : Part → Part → Option Delay) (u : Par
         omega (arith, bit_at_and m b i, first, second)
 
     -- one word more
-    pub word_done : (len behind : ℕ) → behind < len → index ≡ len - behind - 1 → IsHolderIn table least u t tags index (bit_and m b) None → ((n : ℕ) → 64 * (len - behind) ≤ n → holds n ≡ false) → (n : ℕ) → 64 * (len - (behind + 1)) ≤ n → holds n ≡ false
-    word_done len behind l at none done n le = ⊎_elim
+    pub word_done : (len behind end : ℕ) → behind < len → index ≡ len - behind - 1 → IsHolderIn table least u t tags index (bit_and m b) None → ((n : ℕ) → 64 * (len - behind) ≤ n → n < 64 * end → holds n ≡ false) → (n : ℕ) → 64 * (len - (behind + 1)) ≤ n → n < 64 * end → holds n ≡ false
+    word_done len behind end l at none done n le up = ⊎_elim
         (λ (less : n < 64 * (len - behind)). ⊎_elim
         (λ (y : holds n ≡ true).
         let i : n ≡ 64 * index + (n - 64 * index) = omega (arith, le, at, l) in
@@ -76,7 +76,7 @@ module _ (table : List Groups) (least : Part → Part → Option Delay) (u : Par
         absurd (false≢true (sym (ap holds i ∙ off) ∙ y)))
         (λ (no : holds n ≡ false). no)
         (cases_Bool (holds n)))
-        (λ (more : 64 * (len - behind) ≤ n). done n more)
+        (λ (more : 64 * (len - behind) ≤ n). done n more up)
         (below_or n (64 * (len - behind)))
 
 -- no unit with a place in a word before that of the first listed unit holds up
@@ -116,3 +116,18 @@ none_listed table least u t ws tags rises are none = ⊎_elim
     absurd (false≢true (sym (none f.0.unit) ∙ ap (tag_holds_up table least u t f.0.unit) tag ∙ f.2)))
     (λ (no : list_any (holds_up table least u t) ws ≡ false). no)
     (cases_Bool (list_any (holds_up table least u t) ws))
+
+-- what two parts of the words give, where no bit is set before the first part
+pub found_among : (table : List Groups) (least : Part → Part → Option Delay) (u : Part) (t : Tag) (ws : List Waiting) (tags : List (Option Tag)) (marks : List ℕ) (first middle : ℕ) (o p : Option Part) → AreTags table ws tags → AreMarks tags marks
+    → Each (λ (w : Waiting). first ≤ w.unit.actor / 8) ws → IsHolderAmong table least u t tags first middle o → is_some o ≡ false → IsHolderAmong table least u t tags middle (length marks) p → IsHolder table least u t tags p
+found_among table least u t ws tags marks first middle o (Some h) are marked each front none rest = rest
+found_among table least u t ws tags marks first middle o None are marked each front none rest = no_holder table least u t tags (λ n. ⊎_elim
+    (λ (low : n / 64 < first). none_low table least u t ws tags first n are each low)
+    (λ (high : first ≤ n / 64). ⊎_elim
+    (λ (l : n / 64 < middle). subst (IsHolderAmong table least u t tags first middle) (none_found o none) front n (omega (arith, high)) (omega (arith, l)))
+    (λ (m : middle ≤ n / 64). ⊎_elim
+    (λ (l : n / 64 < length marks). rest n (omega (arith, m)) (omega (arith, l)))
+    (λ (past : length marks ≤ n / 64). past_marks table least u t tags marks marked n past)
+    (below_or (n / 64) (length marks)))
+    (below_or (n / 64) middle))
+    (below_or (n / 64) first))

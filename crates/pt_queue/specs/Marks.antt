@@ -45,3 +45,8 @@ IsHolder table least u t tags (Some h) = unit_holds_up table least u t tags h �
 abbrev pub IsHolderIn : List Groups → (Part → Part → Option Delay) → Part → Tag → List (Option Tag) → ℕ → ℕ → Option Part → Type 0
 IsHolderIn table least u t tags index word None = (i : ℕ) → i < 64 → bit_at word i ≡ 1 → unit_holds_up table least u t tags (unit_with (64 * index + i)) ≡ false
 IsHolderIn table least u t tags index word (Some h) = unit_holds_up table least u t tags h ≡ true
+
+-- h is a unit that holds up u; or, for None, no unit with a place in the words from number start up to number end, without that, does
+abbrev pub IsHolderAmong : List Groups → (Part → Part → Option Delay) → Part → Tag → List (Option Tag) → ℕ → ℕ → Option Part → Type 0
+IsHolderAmong table least u t tags start end None = (n : ℕ) → 64 * start ≤ n → n < 64 * end → unit_holds_up table least u t tags (unit_with n) ≡ false
+IsHolderAmong table least u t tags start end (Some h) = unit_holds_up table least u t tags h ≡ true

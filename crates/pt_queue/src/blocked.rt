@@ -9,7 +9,7 @@ ghost use Rattle.pt_causality.specs.Before.{MayHave};
 ghost use Rattle.pt_causality.specs.Delays.{HasAllBefore, least_of};
 ghost use Rattle.pt_queue.specs.Events.{IsRising};
 ghost use Rattle.pt_queue.specs.Listed.{AreTags, SomeHoldsUp, holds_up, unit_holds_up};
-ghost use Rattle.pt_queue.specs.Marks.{IsHolder, IsHolderIn, most_places};
+ghost use Rattle.pt_queue.specs.Marks.{IsHolder, IsHolderAmong, IsHolderIn, most_places};
 
 use crate::events::reaches;
 use crate::groups::{Groups, count_at};
@@ -184,26 +184,25 @@ fn word_before(before: &[u64], index: usize) -> u64
     }
 }
 
-/// A unit that holds up this one, by the bits of all units that have events; `None` if there is none. `before` has all units
-/// from which a path leads here.
-fn holder_marked(
+/// A unit that holds up this one, of those with a bit in the words from number `from` up to number `end`, without that; the
+/// last words come first. `None` if none of these holds it up. `before` has all units from which a path leads here.
+fn holder_in_words(
     table: &[Groups],
-    listed: &[Waiting],
     tags: &LeastTags,
     unit: Unit,
     tag: Tag,
     least: &Least,
     before: &[u64],
+    from: usize,
+    end: usize,
 ) -> Option<Unit>
-    requires rises { IsRising listed.now }
-    requires tags { AreTags table.now listed.now tags.now }
-    requires before { HasAllBefore least.now unit before.now }
-    ensures { IsHolder table.now (least_of least.now) unit tag tags.now result }
+    requires { HasAllBefore least.now unit before.now }
+    ensures { IsHolderAmong table.now (least_of least.now) unit tag tags.now from end result }
 {
     let marks = tags.marks();
-    let none_before = words_before(listed);
-    for behind in 0..marks.len().saturating_sub(none_before) {
-        let index = marks.len() - behind - 1;
+    let last = end.min(marks.len());
+    for behind in 0..last.saturating_sub(from) {
+        let index = last - behind - 1;
         let word = marks[index] & word_before(before, index);
         if word == 0 {
             continue;
@@ -216,6 +215,43 @@ fn holder_marked(
     None
 }
 
+/// How many words to search first: those up to the word of this unit, or all if there is no such unit.
+fn words_up_to(near: Option<Unit>, words: usize) -> usize {
+    match near {
+        None => words,
+        Some(unit) => place_of(unit) / 64 + 1,
+    }
+}
+
+/// A unit that holds up this one, by the bits of all units that have events; `None` if there is none. `before` has all units
+/// from which a path leads here.
+///
+/// It begins at the word of the unit `near`, where the next holder often is, and comes to the words behind that one last.
+fn holder_marked(
+    table: &[Groups],
+    listed: &[Waiting],
+    tags: &LeastTags,
+    unit: Unit,
+    tag: Tag,
+    least: &Least,
+    before: &[u64],
+    near: Option<Unit>,
+) -> Option<Unit>
+    requires rises { IsRising listed.now }
+    requires tags { AreTags table.now listed.now tags.now }
+    requires before { HasAllBefore least.now unit before.now }
+    ensures { IsHolder table.now (least_of least.now) unit tag tags.now result }
+{
+    let words = tags.marks().len();
+    let none_before = words_before(listed);
+    let middle = words_up_to(near, words).max(none_before);
+    let found = holder_in_words(table, tags, unit, tag, least, before, none_before, middle);
+    if found.is_some() {
+        return found;
+    }
+    holder_in_words(table, tags, unit, tag, least, before, middle, words)
+}
+
 /// A listed unit that holds up this one; `None` if there is none.
 ///
 /// Where fewer units are listed than the bits have words, to ask each of them takes less time than to look at each word.
@@ -223,6 +259,7 @@ fn holder(
     table: &[Groups],
     listed: &[Waiting],
     tags: &LeastTags,
+    holders: &Holders,
     unit: Unit,
     tag: Tag,
     least: &Least,
@@ -237,7 +274,8 @@ fn holder(
     if listed.len() <= tags.marks().len() {
         return holder_before(table, listed, unit, tag, least, before);
     }
-    holder_marked(table, listed, tags, unit, tag, least, before)
+    let near = holders.near(unit);
+    holder_marked(table, listed, tags, unit, tag, least, before, near)
 }
 
 /// Whether the unit that took the place of this one's last holder holds it up. If so, that is remembered.
@@ -305,7 +343,7 @@ pub fn is_blocked(
     if is_held_still(table, tags, holders, unit, tag, least) {
         return true;
     }
-    match holder(table, listed, tags, unit, tag, least) {
+    match holder(table, listed, tags, holders, unit, tag, least) {
         None => false,
         Some(holder) => {
             holders.keep(unit, holder);

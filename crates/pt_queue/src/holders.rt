@@ -17,6 +17,8 @@ pub struct Holders {
     last: Vec<Cell<Option<Unit>>>,
     /// At the same places: which unit was last found to hold up a unit that this one had held up before.
     successors: Vec<Cell<Option<Unit>>>,
+    /// The unit that was last found to hold up any unit.
+    latest: Cell<Option<Unit>>,
 }
 
 /// `units` places without a unit.
@@ -49,6 +51,7 @@ impl Holders {
         Ok(Holders {
             last: none(alloc, units)?,
             successors: none(alloc, units)?,
+            latest: Cell::new(None),
         })
     }
 
@@ -62,11 +65,17 @@ impl Holders {
         at(self.successors.as_slice(), holder)
     }
 
+    /// A unit near which to begin the search for the next holder: the one that last held up this unit, or else any unit.
+    pub fn near(&self, unit: Unit) -> Option<Unit> {
+        self.of(unit).or(self.latest.get())
+    }
+
     /// Records which unit holds up this one now, and that it took the place of the one before.
     pub fn keep(&self, unit: Unit, holder: Unit) {
         if let Some(last) = self.of(unit) {
             set(self.successors.as_slice(), last, holder);
         }
         set(self.last.as_slice(), unit, holder);
+        self.latest.set(Some(holder));
     }
 }
