@@ -22,7 +22,7 @@ use Rattle.pt_state.specs.declared.fields.Fields.{Fields}
 use Rattle.pt_state.specs.State.{IsSound, busy_in}
 use Rattle.pt_queue.specs.Events.{waiting_in}
 use Rattle.pt_queue.specs.declared.waiting.Waiting.{Waiting}
-use Rattle.pt_claim.specs.Fronts.{AreFirst, AreFront, IsAhead, IsAmong, IsInOrder, IsInserted, IsSafeUnit, IsTaken, IsNextSafe, StandsBefore, one_of}
+use Rattle.pt_claim.specs.Fronts.{AreAllAhead, AreFirst, AreFront, IsAhead, IsAmong, IsInOrder, IsInserted, IsSafeUnit, IsTaken, IsNextSafe, StandsBefore, one_of}
 use Rattle.pt_claim.proofs.Ordering.{ahead_or, ahead_trans, cut_off, each_drop, each_insert, each_map, each_take, in_drop, in_insert, itself_in, order_insert, order_take, some_behind, take_insert}
 use Rattle.pt_claim.proofs.SafeTags.{same_tags}
 
@@ -113,6 +113,21 @@ first_skip g waits busy r a k cs first none = record {
   among = λ u t own stands safe. ⊎_elim
       (λ (b : StandsBefore u a k). first.among u t own b safe)
       (λ (e : u ≡ record { actor = a; group = k }). absurd (none t (subst (λ z. IsSafe g waits busy r z t) e safe)))
+      (this_or u a k stands);
+}
+
+-- a unit behind the first 64 changes nothing, safe or not
+pub first_past : (g : Graph) (waits : Values) (busy : Part → Option Task) (r a k : ℕ) (tag : Tag) (cs : List Waiting) → AreFirst g waits busy r a k cs → AreAllAhead (record { unit = record { actor = a; group = k }; tag = tag }) cs
+    → ((t : Tag) → IsSafe g waits busy r (record { actor = a; group = k }) t → t ≡ tag) → AreFirst g waits busy r a (k + 1) cs
+first_past g waits busy r a k tag cs first ahead same = record {
+  in_order = first.in_order;
+  safe = first.safe;
+  stand = each_map (λ (d : Waiting). StandsBefore d.unit a k) (λ (d : Waiting). StandsBefore d.unit a (k + 1)) cs (λ d h. stands_next d.unit a k h) first.stand;
+  among = λ u t own stands safe. ⊎_elim
+      (λ (b : StandsBefore u a k). first.among u t own b safe)
+      (λ (e : u ≡ record { actor = a; group = k }).
+      let at : t ≡ tag = same t (subst (λ z. IsSafe g waits busy r z t) e safe) in
+      inr (subst (λ (d : Waiting). AreAllAhead d cs) (λ i. record { unit = sym e i; tag = sym at i }) ahead))
       (this_or u a k stands);
 }
 

@@ -38,9 +38,13 @@ pub record IsSafeUnit (g : Graph) (waits : Values) (busy : Part → Option Task)
   pub is_unit : IsUnit g c.unit
   pub safe : IsSafe g waits busy r c.unit c.tag
 
+-- at least 64 units, all of which come before c
+abbrev pub AreAllAhead : Waiting → List Waiting → Type 0
+AreAllAhead c cs = (64 ≤ length cs) × Each (λ (d : Waiting). IsAhead d c) cs
+
 -- a unit with this tag is in the list, or the list has at least 64 units and all come before it
 abbrev pub IsAmong : Part → Tag → List Waiting → Type 0
-IsAmong u t cs = IsIn (record { unit = u; tag = t }) cs ⊎ ((64 ≤ length cs) × Each (λ (c : Waiting). IsAhead c (record { unit = u; tag = t })) cs)
+IsAmong u t cs = IsIn (record { unit = u; tag = t }) cs ⊎ AreAllAhead (record { unit = u; tag = t }) cs
 
 -- unit u comes before group k of actor a
 abbrev pub StandsBefore : Part → ℕ → ℕ → Type 0

@@ -9,7 +9,7 @@ ghost use Rattle.pt_queue.specs.Events.{waiting_in, IsLeastTag};
 ghost use Rattle.pt_state.specs.State.{busy_in, IsSound};
 ghost use Rattle.pt_claim.specs.Fronts.{AreFirst, AreFront, IsNextSafe, IsTaken, one_of};
 
-use crate::order::put;
+use crate::order::{is_past_all, put};
 use crate::safe::{is_refused, is_safe};
 use arrayvec::ArrayVec;
 use pt_causality::Least;
@@ -37,7 +37,7 @@ fn holder_of(fields: &Fields, graph: &Graph, unit: Unit) -> Option<Waiting>
     Some(Waiting { unit: holder, tag })
 }
 
-/// Adds a unit that has events, if it is safe, to those to claim next.
+/// Adds a unit that has events, if it is safe, to those to claim next. A unit that 64 of these come before isn't asked.
 ///
 /// `ahead` is a unit with events that may hold up this one, and so is the result for the next unit.
 fn add_unit(
@@ -61,6 +61,9 @@ fn add_unit(
     ensures first { AreFirst graph.now (waiting_in fields.now.queue.events) (busy_in fields.now.open_claims.items) reading waiting.unit.actor (waiting.unit.group + 1) units.new.items }
     ensures ahead { IfSome result (λ w. HasEvent graph.now (waiting_in fields.now.queue.events) w.unit w.tag) }
 {
+    if is_past_all(units, waiting) {
+        return ahead;
+    }
     let Waiting { unit, tag } = waiting;
     if is_refused(fields, graph, least, offsets, reading, unit, tag, ahead) {
         return ahead;

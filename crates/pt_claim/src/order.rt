@@ -1,7 +1,7 @@
 //! Safe units, in the order in which they are claimed.
 
 ghost use Rattle.std.specs.Prelude.{◌≡◌, ◌↔◌, true};
-ghost use Rattle.pt_claim.specs.Fronts.{IsAhead, IsInOrder, IsFrontPlace, IsInserted};
+ghost use Rattle.pt_claim.specs.Fronts.{AreAllAhead, IsAhead, IsInOrder, IsFrontPlace, IsInserted};
 
 use arrayvec::ArrayVec;
 use pt_queue::Waiting;
@@ -50,4 +50,16 @@ pub fn put(units: &mut ArrayVec<Waiting, 64>, next: Waiting)
         units.pop();
         units.insert(place, next);
     }
+}
+
+/// Whether 64 units come before another one, so that `put` wouldn't keep it.
+pub fn is_past_all(units: &ArrayVec<Waiting, 64>, next: Waiting) -> bool
+    requires { IsInOrder units.now.items }
+    ensures { result ≡ true → AreAllAhead next units.now.items }
+{
+    if !units.is_full() {
+        return false;
+    }
+    let listed = units.as_slice();
+    is_before(listed[listed.len() - 1], next)
 }

@@ -4,8 +4,13 @@ use Rattle.pt_queue.specs.Events.{waiting_in}
 use Rattle.pt_state.specs.State.{busy_in}
 use Rattle.pt_semantics.specs.Safe.{IsSafe}
 use Rattle.pt_claim.proofs.SafeTags.{only_tag}
-use Rattle.pt_claim.proofs.Fronts.{first_put, first_skip}
+use Rattle.pt_claim.proofs.Fronts.{first_past, first_put, first_skip}
 use Rattle.pt_claim.proofs.front.add_unit.Goals as goal
+
+pub returns-then-is_past_all-clause-first : goal.returns-then-is_past_all-clause-first
+returns-then-is_past_all-clause-first c = first_past c.args.graph.now (waiting_in c.args.fields.now.queue.events) (busy_in c.args.fields.now.open_claims.items) c.args.reading c.args.waiting.unit.actor c.args.waiting.unit.group c.args.waiting.tag c.args.units.now.items c.requires.first
+    (c.is_past_all.ensures c.if-is_past_all.true)
+    (λ t safe. only_tag c.args.graph.now (waiting_in c.args.fields.now.queue.events) (busy_in c.args.fields.now.open_claims.items) c.args.reading c.args.waiting.unit t c.args.waiting.tag safe c.requires.tag)
 
 pub returns-then-is_refused-clause-first : goal.returns-then-is_refused-clause-first
 returns-then-is_refused-clause-first c = first_skip c.args.graph.now (waiting_in c.args.fields.now.queue.events) (busy_in c.args.fields.now.open_claims.items) c.args.reading c.args.waiting.unit.actor c.args.waiting.unit.group c.args.units.now.items c.requires.first
