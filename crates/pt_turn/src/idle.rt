@@ -33,6 +33,15 @@ impl Platform {
         if let Some(next) = self.next {
             return next;
         }
+        self.find_anew()
+    }
+
+    /// The next reading, found anew in microseconds. Not inlined, so that the caller stays short.
+    #[inline(never)]
+    fn find_anew(&mut self) -> u64
+        ensures next { IsNextReading self.old.plan.graph self.old.number (state_at self.old) result }
+        ensures same { self.new ≡ self.old }
+    {
         let next = next_reading(&self.fields, &self.plan, self.number, self.closing);
         self.next = Some(next);
         next
@@ -41,6 +50,7 @@ impl Platform {
     /// Records an idle turn at a reading if the platform is before its next reading and has nothing to send, and returns
     /// whether it did. The reading, in microseconds, is raised to the last one if it is smaller. If it returns `false`, or
     /// runs out of memory, nothing changes.
+    #[inline(always)]
     pub fn rest(&mut self, reading: u64) -> Result<bool, Memory>
         requires no_fault { self.old.fault ≡ None }
         ensures rested { IfOk result (λ rested. rested ≡ true → HasRested self.old self.new reading) }
@@ -72,6 +82,17 @@ fn keep_quiet(history: &mut History, reading: u64) -> Result<(), Memory>
     if history.rest(reading) {
         return Ok(());
     }
+    keep_with_room(history, reading)
+}
+
+/// Reserves room for a turn and records it at a reading, in microseconds. If memory runs out, nothing changes. Not inlined, so
+/// that the caller stays short.
+#[inline(never)]
+fn keep_with_room(history: &mut History, reading: u64) -> Result<(), Memory>
+    ensures turns { OnOk result (history.new.turns ≡ kept_with history.old.turns (fresh reading)) }
+    ensures sent { OnOk result (history.old.room.sent ≤ history.new.room.sent) }
+    ensures refused { OnErr result (history.new ≡ history.old) }
+{
     keep_room(history, ONE_TURN)?;
     history.begin(reading);
     Ok(())
