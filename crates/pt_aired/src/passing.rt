@@ -93,7 +93,7 @@ pub fn pass(
             air,
             now,
         )?;
-        quiet = quiet && still;
+        quiet &= still;
     }
     Ok(quiet)
 }

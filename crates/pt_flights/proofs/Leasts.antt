@@ -68,6 +68,14 @@ module _ {X : Type 0} (P : X → ℕ → Type 0) (n : ℕ) (xs : List X) (x : X)
   pub below_more : (a b : Option ℕ) → IsLeastNumber (Below P n xs) a → IsLeastNumber (P x) b → IsLeastNumber (Below P (n + 1) xs) (lesser a b)
   below_more a b h p = least_as (λ time. Below P n xs time ⊎ P x time) (Below P (n + 1) xs) (lesser a b) to_more from_more (least_both (Below P n xs) (P x) a b h p)
 
+  -- nothing is here
+  pub below_none : (a : Option ℕ) → IsLeastNumber (Below P n xs) a → IsLeastNumber (P x) None → IsLeastNumber (Below P (n + 1) xs) a
+  below_none a h p = subst (IsLeastNumber (Below P (n + 1) xs)) (same a) (below_more a None h p)
+    where
+      same : (a : Option ℕ) → lesser a None ≡ a
+      same None = refl
+      same (Some b) = refl
+
 -- a later reading is not at an earlier time
 later_time : (air : Air) (i v w : ℕ) → v ≤ w → true_time air i v ≤ true_time air i w
 later_time air i v w le =

@@ -97,7 +97,7 @@ no_pipes [] (p ∷ pipes) count empty = absurd (omega (arith, count))
 no_pipes (a ∷ airways) [] count empty = absurd (omega (arith, count))
 no_pipes (a ∷ airways) (p ∷ pipes) count empty = ap₂ (λ (x : List Message) (xs : List (List Message)). x ∷ xs) (sym empty.0) (no_pipes airways pipes (omega (arith, count)) empty.1)
 
-all_kept : {A : Type 0} (n : ℕ) (xs : List A) → map_from (λ (k : ℕ) (x : A). x) n xs ≡ xs
+pub all_kept : {A : Type 0} (n : ℕ) (xs : List A) → map_from (λ (k : ℕ) (x : A). x) n xs ≡ xs
 all_kept n [] = refl
 all_kept {A} n (x ∷ xs) = ap (λ (ys : List A). x ∷ ys) (all_kept (suc n) xs)
 

@@ -21,7 +21,8 @@ fn lower(arrivals: &mut [u64], number: u32, arrival: u64)
 }
 
 /// Sets for each platform, by its number, the least arrival of the messages that are on their way to it, in microseconds;
-/// `u64::MAX` if there are none.
+/// `u64::MAX` if there are none. Not inlined: most flights don't need it.
+#[inline(never)]
 fn find_arrivals(graph: &Graph, airways: &[Airway], arrivals: &mut [u64])
     requires airways { length airways.now ≡ length graph.now.links }
     ensures { ArriveFrom graph.now arrivals.new airways.now }

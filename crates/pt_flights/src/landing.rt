@@ -26,6 +26,24 @@ fn land_from(airway: &mut Airway, pipe: &mut Pipe, now: u64)
 }
 
 /// Moves the messages that have arrived at a platform from the airways into the pipes of their links, which are empty, as
+/// many as each pipe holds. Not inlined: most flights don't need it.
+#[inline(never)]
+fn land_all(graph: &Graph, number: u32, airways: &mut [Airway], pipes: &mut [Pipe], now: u64)
+    requires airways { length airways.old ≡ length graph.now.links }
+    requires pipes { length pipes.old ≡ length graph.now.links }
+    requires empty { Each (λ pipe. pipe ≡ []) pipes.old }
+    ensures pipes { pipes.new ≡ map_from (come_on graph.now number now) 0 airways.old }
+    ensures airways { airways.new ≡ map_from (left_on graph.now number now) 0 airways.old }
+{
+    let links = graph.links.as_slice();
+    for l in 0..links.len() {
+        if graph.platform_of(links[l].to) == number {
+            land_from(&mut airways[l], &mut pipes[l], now);
+        }
+    }
+}
+
+/// Moves the messages that have arrived at a platform from the airways into the pipes of their links, which are empty, as
 /// many as each pipe holds. `arrivals` has a time for each platform before which no message arrives there.
 pub fn land(
     graph: &Graph,
@@ -45,10 +63,5 @@ pub fn land(
     if now < arrival_at(arrivals, number) {
         return;
     }
-    let links = graph.links.as_slice();
-    for l in 0..links.len() {
-        if graph.platform_of(links[l].to) == number {
-            land_from(&mut airways[l], &mut pipes[l], now);
-        }
-    }
+    land_all(graph, number, airways, pipes, now);
 }

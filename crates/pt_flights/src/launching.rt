@@ -1,6 +1,6 @@
 //! Messages that are put on their way.
 
-ghost use Rattle.std.specs.Prelude.{◌≡◌, [], IfOk, OnOk, false, length, map, slice_index_or};
+ghost use Rattle.std.specs.Prelude.{◌≡◌, [], IfOk, OnOk, ℕ, false, length, map, slice_index_or, true};
 ghost use Rattle.pt_flights.specs.Skies.{map_from, put_all, put_link};
 
 use pt_air::Air;
@@ -26,8 +26,21 @@ fn launch_from(
     Ok(())
 }
 
-/// Puts all messages in the pipes on their way, and returns whether there were any.
-pub fn launch(
+/// Whether no pipe has a message.
+fn are_empty(pipes: &[Pipe]) -> bool
+    ensures { result ≡ true → (l : ℕ) → slice_index_or pipes.now l [] ≡ [] }
+{
+    for l in 0..pipes.len() {
+        if pipes[l].peek().is_some() {
+            return false;
+        }
+    }
+    true
+}
+
+/// Puts all messages in the pipes on their way, and returns whether there were any. Not inlined: most flights send none.
+#[inline(never)]
+fn launch_all(
     graph: &Graph,
     air: &Air,
     pipes: &mut [Pipe],
@@ -59,4 +72,25 @@ pub fn launch(
         )?;
     }
     Ok(launched)
+}
+
+/// Puts all messages in the pipes on their way, and returns whether there were any.
+pub fn launch(
+    graph: &Graph,
+    air: &Air,
+    pipes: &mut [Pipe],
+    airways: &mut [Airway],
+    now: u64,
+) -> Result<bool, Memory>
+    requires airways { length airways.old ≡ length graph.now.links }
+    requires pipes { length pipes.old ≡ length graph.now.links }
+    requires transits { length air.now.transits ≡ length graph.now.links }
+    ensures airways { OnOk result (airways.new ≡ map_from (λ l. put_link air.now graph.now now l (slice_index_or pipes.old l [])) 0 airways.old) }
+    ensures pipes { OnOk result (pipes.new ≡ map (λ pipe. []) pipes.old) }
+    ensures none { IfOk result (λ launched. launched ≡ false → airways.new ≡ airways.old) }
+{
+    if are_empty(pipes) {
+        return Ok(false);
+    }
+    launch_all(graph, air, pipes, airways, now)
 }

@@ -32,7 +32,9 @@ fn next_reading(platforms: &[Platform], air: &Air) -> Result<Option<u64>, Memory
 {
     let mut least = None;
     for i in 0..platforms.len() {
-        least = lesser(least, reading_of(&platforms[i], air)?);
+        if let Some(time) = reading_of(&platforms[i], air)? {
+            least = lesser(least, Some(time));
+        }
     }
     Ok(least)
 }
@@ -63,7 +65,9 @@ fn next_arrival(airways: &[Airway]) -> Option<u64>
 {
     let mut least = None;
     for l in 0..airways.len() {
-        least = lesser(least, airways[l].next_arrival());
+        if let Some(time) = airways[l].next_arrival() {
+            least = lesser(least, Some(time));
+        }
     }
     least
 }

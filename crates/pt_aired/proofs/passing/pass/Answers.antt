@@ -1,4 +1,5 @@
-use Rattle.std.proofs.Common.{◌≡◌, ◌∙◌, ◌<◌, ℕ, suc, List, [], refl, get_or, set, length, add-one, sym, ap, subst, arith, inl, inr}
+use Rattle.std.proofs.Common.{◌≡◌, ◌∙◌, ◌<◌, ◌⊎◌, ℕ, suc, Bool, true, false, List, [], refl, get_or, set, length, add-one, sym, ap, subst, arith, inl, inr}
+use Rattle.std.specs.Prelude.{◌&&◌}
 use Rattle.std.proofs.lemmas.Bool.{false≢true}
 use Rattle.std.proofs.lemmas.List.{length-map, map-set}
 use Rattle.std.proofs.lemmas.Option.{slice_get-get_or}
@@ -17,7 +18,14 @@ use Rattle.pt_together.proofs.Listed.{list_at}
 use Rattle.pt_aired.specs.Passing.{HavePassedInAir}
 use Rattle.pt_aired.proofs.Passes.{comes, none_passed, not_faulty, one_by, one_flown}
 use Rattle.pt_aired.proofs.passing.pass.Goals as goal
-use Rattle.pt_aired.proofs.passing.pass.Goals.{then-quiet, else-quiet}
+
+both_quiet : (quiet still : Bool) → (quiet && still) ≡ true → (quiet ≡ true) × (still ≡ true)
+both_quiet true still e = (refl, e)
+both_quiet false still e = absurd (false≢true e)
+
+one_noisy : (quiet still : Bool) → (quiet && still) ≡ false → (quiet ≡ false) ⊎ (still ≡ false)
+one_noisy true still e = inr e
+one_noisy false still e = inl refl
 
 -- a member by its place does not rest on what stands for one past the end
 here : (platforms : List PlatformView) (i : ℕ) (v d : PlatformView) → i < length platforms → get_or platforms i v ≡ get_or platforms i d
@@ -71,19 +79,19 @@ loop-i-preserved g c = record {
       let h = c.loop-i.invariant.passed plan rows count s in
       let within : c.loop-i.i < length c.loop-i.results = omega (arith, lt, h.shown.pending.count, length-map c.loop-i.results (λ (v : Vec Done). v.items)) in
       let one = here c.loop-i.platforms c.loop-i.i c.index-platforms-i.result c.index-platforms-i-in-loop-i.result lt in
-      subst (λ k. HavePassedInAir plan rows c.args.air.now c.args.now s.sky k (set c.loop-i.platforms c.loop-i.i c.fly_one.new.platform) c.fly_one.new.airways (result_lists (set c.loop-i.results c.loop-i.i c.fly_one.new.results)) c.if-quiet.quiet) (sym (add-one c.loop-i.i))
-      (subst (λ results. HavePassedInAir plan rows c.args.air.now c.args.now s.sky (suc c.loop-i.i) (set c.loop-i.platforms c.loop-i.i c.fly_one.new.platform) c.fly_one.new.airways results c.if-quiet.quiet)
+      subst (λ k. HavePassedInAir plan rows c.args.air.now c.args.now s.sky k (set c.loop-i.platforms c.loop-i.i c.fly_one.new.platform) c.fly_one.new.airways (result_lists (set c.loop-i.results c.loop-i.i c.fly_one.new.results)) (c.loop-i.quiet && c.in_ok-still.still)) (sym (add-one c.loop-i.i))
+      (subst (λ results. HavePassedInAir plan rows c.args.air.now c.args.now s.sky (suc c.loop-i.i) (set c.loop-i.platforms c.loop-i.i c.fly_one.new.platform) c.fly_one.new.airways results (c.loop-i.quiet && c.in_ok-still.still))
       (sym (map-set (λ (v : Vec Done). v.items) c.loop-i.results c.loop-i.i c.fly_one.new.results))
       (one_flown plan rows c.args.air.now count c.args.now c.args.platforms.now c.args.airways.now (result_lists c.args.results.now) s c.loop-i.i c.loop-i.platforms c.loop-i.airways (result_lists c.loop-i.results) c.loop-i.quiet h
       (get_or c.loop-i.platforms c.loop-i.i c.index-platforms-i-in-loop-i.result)
       (slice_get-get_or c.loop-i.platforms c.loop-i.i c.index-platforms-i-in-loop-i.result lt)
-      c.fly_one.new.platform (get_or c.loop-i.results c.loop-i.i c.index-results-i.result).items c.fly_one.new.results.items c.fly_one.new.airways c.in_ok-still.still c.if-quiet.quiet
+      c.fly_one.new.platform (get_or c.loop-i.results c.loop-i.i c.index-results-i.result).items c.fly_one.new.results.items c.fly_one.new.airways c.in_ok-still.still (c.loop-i.quiet && c.in_ok-still.still)
       (omega (arith, c.ranges.now.fits))
       (list_at c.loop-i.results c.loop-i.i (get_or c.loop-i.results c.loop-i.i c.index-results-i.result) (slice_get-get_or c.loop-i.results c.loop-i.i c.index-results-i.result within))
       (λ done. false≢true (sym c.if-finished.false ∙ c.finished.ensures.1 (subst (λ (v : PlatformView). IsFinished v.plan.graph v.number (state_at v)) (sym one) done)))
       c.in_ok-still.ensures.flown
-      (elim c.if-quiet.branch [ then-quiet w ↦ λ e. (w.if-quiet.true, sym w.quiet-is ∙ e) | else-quiet w ↦ λ e. absurd (false≢true (sym w.if-quiet.false ∙ (sym w.quiet-is ∙ e))) ])
-      (elim c.if-quiet.branch [ then-quiet w ↦ λ e. inr (sym w.quiet-is ∙ e) | else-quiet w ↦ λ e. inl w.if-quiet.false ])));
+      (both_quiet c.loop-i.quiet c.in_ok-still.still)
+      (one_noisy c.loop-i.quiet c.in_ok-still.still)));
   arrivals = λ plan rows count s from.
       let lt : c.loop-i.i < length c.loop-i.platforms = omega (arith, c.loop-i-test.true, c.loop-i.auto.platforms) in
       let v : PlatformView = get_or c.loop-i.platforms c.loop-i.i c.index-platforms-i-in-loop-i.result in

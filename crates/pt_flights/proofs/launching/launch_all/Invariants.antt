@@ -1,6 +1,6 @@
 use Rattle.std.proofs.Common.{◌≡◌, false}
 use Rattle.pt_flights.proofs.Moving.{PutsTo}
-use Rattle.pt_flights.proofs.launching.launch.Given as goal
+use Rattle.pt_flights.proofs.launching.launch_all.Given as goal
 
 abbrev pub invariant-loop-l : goal.invariant-loop-l
 invariant-loop-l l = record {
