@@ -1,6 +1,6 @@
 //! A log replayed: its platforms make each told turn again.
 
-ghost use Rattle.std.specs.Prelude.{◌≡◌, IfOk};
+ghost use Rattle.std.specs.Prelude.{◌≡◌, [], IfOk};
 ghost use Rattle.std.specs.Arc.{arc_value};
 ghost use Rattle.pt_semantics.specs.Rows.{FitRows};
 ghost use Rattle.pt_sensors.specs.Listed.{rows_for};
@@ -48,6 +48,7 @@ pub fn replay(
     requires fit { FitRows (arc_value plan.now).graph (of_run (arc_value plan.now).graph (rows_for entries.items)) }
     ensures verdict { IfOk result (λ r. IsVerdict (arc_value plan.now) (of_run (arc_value plan.now).graph (rows_for entries.items)) bytes.now r.verdict) }
     ensures fine { IfOk result (λ r. r.verdict ≡ Fine → HaveFinished (arc_value plan.now) (of_run (arc_value plan.now).graph (rows_for entries.items)) r.platforms.items) }
+    ensures none { IfOk result (λ r. (r.verdict ≡ Fine → ⊥) → r.platforms.items ≡ []) }
     ensures log_at { IfOk result (λ r. BeginsAt bytes.now r.verdict r.log_at) }
 {
     if bytes.len() > MOST_BYTES {
@@ -72,6 +73,7 @@ pub fn replay(
 /// A file that is no lawful log.
 fn unlawful(alloc: Global, verdict: Verdict, log_at: usize) -> Replayed
     ensures verdict { result.verdict ≡ verdict }
+    ensures none { result.platforms.items ≡ [] }
     ensures log_at { result.log_at ≡ log_at }
 {
     Replayed {
