@@ -11,12 +11,12 @@ use Rattle.pt_run.specs.declared.fault.Fault.{Fault}
 use Rattle.pt_run.specs.declared.fault.Fault.TheVariants as fault
 use Rattle.pt_run.specs.Causes.{Writing}
 use Rattle.pt_run.proofs.ByCause.{CanReadAir, WantsAir}
-use Rattle.pt_run.specs.Headline.{RunWith}
+use Rattle.pt_run.specs.Leaving.{RunWith}
 use Rattle.pt_run.specs.Replaying.{LeavesReplay, OnAir}
 use Rattle.pt_run.specs.Words.{Order, paced_run}
 use Rattle.pt_run.specs.Written.{Leaves}
 use Rattle.pt_run.proofs.ByFault.{EndsReplay, IsCause, is_before_last}
-use Rattle.pt_run.proofs.Auditing.{not_before}
+use Rattle.pt_run.proofs.Stages.{not_true}
 use Rattle.pt_run.proofs.Begun.{only_unread}
 use Rattle.pt_run.proofs.Complete.{agrees, ok_err, this_graph}
 use Rattle.pt_run.proofs.OneCause.{same_err}
@@ -57,9 +57,9 @@ module _ (order : Option Order) (left : Leaves) (tells : Contents) (blocks : Lis
   finds_air (Some (fault.Read sensor)) k = inr (unread sensor)
   finds_air (Some (fault.Sensor actor e)) k = inr (refused (fault.Sensor actor e) k.0 k.2)
   finds_air (Some (fault.LateRow actor row seen limit)) k = inr (refused (fault.LateRow actor row seen limit) k.0 k.2)
-  finds_air (Some fault.Usage) k = absurd (not_before k.0)
-  finds_air (Some (fault.Ring sends gain)) k = absurd (not_before k.0)
-  finds_air (Some (fault.LateMessage platform actor tag reading limit)) k = absurd (not_before k.0)
-  finds_air (Some (fault.Long None)) k = absurd (not_before k.0)
-  finds_air (Some fault.ReadLog) k = absurd (not_before k.0)
-  finds_air (Some (fault.Unlawful v)) k = absurd (not_before k.0)
+  finds_air (Some fault.Usage) k = absurd (not_true k.0)
+  finds_air (Some (fault.Ring sends gain)) k = absurd (not_true k.0)
+  finds_air (Some (fault.LateMessage platform actor tag reading limit)) k = absurd (not_true k.0)
+  finds_air (Some (fault.Long None)) k = absurd (not_true k.0)
+  finds_air (Some fault.ReadLog) k = absurd (not_true k.0)
+  finds_air (Some (fault.Unlawful v)) k = absurd (not_true k.0)

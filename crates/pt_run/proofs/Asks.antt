@@ -1,180 +1,287 @@
--- What a source was asked for.
-use Rattle.std.proofs.Common.{◌≡◌, ◌≢◌, ◌⊎◌, ℕ, Bool, true, false, if◌then◌else◌, List, [], ◌∷◌, Option, Some, None, Result, Ok, Err, IfSome, refl, sym, ap, subst, ◌∙◌, inl, inr, ⊎_elim}
-use Rattle.std.specs.Prelude.{String, string_bytes}
-use Rattle.std.specs.declared.alloc.Global.{Global}
+-- Which files a source was asked for.
+use Rattle.std.proofs.Common.{◌≡◌, ◌≢◌, ◌⊎◌, ℕ, zero, suc, List, [], ◌∷◌, ◌++◌, Option, Some, None, Result, Ok, Err, IfSome, IfErr, IfOk, take, append_assoc, refl, sym, ap, subst, ◌∙◌, inl, inr, ⊎_elim}
 use Rattle.pt_types.specs.declared.graph.Graph.{Graph}
-use Rattle.pt_types.specs.declared.rows.Row.{Row}
+use Rattle.pt_types.specs.declared.graph.Actor.{Actor}
 use Rattle.pt_blocks.specs.declared.blocks.Named.{Named}
+use Rattle.pt_types.specs.declared.rows.Row.{Row}
+use Rattle.pt_graph_text.specs.declared.fault.GraphFault.{GraphFault}
+use Rattle.pt_graph_text.specs.declared.fault.GraphFault.TheVariants as graph
 use Rattle.pt_graph.specs.GraphOf.{graph_of}
-use Rattle.pt_sensors.specs.declared.recorded_fault.LateRows.TheVariants.{Taken}
+use Rattle.pt_causality.specs.declared.cycle.CycleFault.{CycleFault}
+use Rattle.pt_causality.specs.declared.cycle.CycleFault.TheVariants as cycle
 use Rattle.pt_sensors.specs.declared.recorded_fault.RecordedFault.{RecordedFault}
 use Rattle.pt_sensors.specs.declared.recorded_fault.RecordedFault.TheVariants as rows
-use Rattle.pt_sensors.specs.Asked.{Asks, AsksFiles, AsksOrNot, Contents, Reading, files_before}
-use Rattle.pt_sensors.proofs.Asking.{asks_more, asks_none}
-use Rattle.pt_words.specs.declared.orders.ClockChoice.{ClockChoice}
+use Rattle.pt_sensors.specs.Asked.{Asks, AsksFiles, Contents, Reading, file_of, sensor_files}
+use Rattle.pt_sensors.proofs.Asking.{append_none, asks_more, asks_none}
+use Rattle.pt_turn.specs.declared.fault.TurnFault.{TurnFault}
+use Rattle.pt_turn.specs.Platforms.{PlatformView}
+use Rattle.pt_air.specs.declared.fault.AirFault.{AirFault}
+use Rattle.pt_air.specs.declared.fault.AirFault.TheVariants as airs
 use Rattle.pt_run.specs.declared.plan_run.RunFault.{RunFault}
 use Rattle.pt_run.specs.declared.plan_run.RunFault.TheVariants as stop
 use Rattle.pt_run.specs.declared.finished_run.Ran.{Ran}
 use Rattle.pt_run.specs.declared.fault.Fault.{Fault}
 use Rattle.pt_run.specs.declared.fault.Fault.TheVariants as fault
 use Rattle.pt_run.specs.declared.outcome.Ending.{Ending}
+use Rattle.pt_run.specs.declared.replay.Stopped.{Stopped}
 use Rattle.pt_run.specs.declared.words.Command.{Command}
-use Rattle.pt_run.specs.declared.words.Command.TheVariants.{Run, Check, Meaning, Slacks}
-use Rattle.pt_run.specs.Causes.{CauseOfGraph, Writing}
-use Rattle.pt_run.specs.Due.{AfterRows, AnswersAsDue, Answer, IsMeantBy, UnlessMemory}
-use Rattle.pt_run.specs.Faults.{fault_of_rows}
-use Rattle.pt_run.specs.Making.{AsksOf}
-use Rattle.pt_run.specs.Texts.{AsksAfterGraph, AsksFor, AsksInOrder, PutsOrTells, HasEnded, PutBy, fault_in, files_for, is_refused}
-use Rattle.pt_run.specs.Auditing.{AsksAudit}
-use Rattle.pt_run.specs.Replaying.{AsksReplay}
+use Rattle.pt_run.specs.Asks.{AreAsked, AsksAlone, AsksFrom, AsksOf, AsksOver, AsksStopped, Begins, all_sensors, files_for}
+use Rattle.pt_run.specs.Causes.{Writing}
+use Rattle.pt_run.specs.Due.{AfterCycles, AfterOffsets, Answer, AnswersAsDue, EndsRefused, IsMeantBy, UnlessMemory}
+use Rattle.pt_run.specs.Faults.{fault_of_air, fault_of_cycle, fault_of_graph, fault_of_rows}
+use Rattle.pt_run.specs.Flown.{EndsAsReplayed, IsOfReplay, stop_in}
+use Rattle.pt_run.specs.Runs.{IsStop}
+use Rattle.pt_run.specs.Texts.{HasEnded, OrMemory, PutBy, PutsOrTells, fault_in}
 use Rattle.pt_run.specs.Words.{Order, audit, make, migrate, over, replay}
-use Rattle.pt_run.specs.Written.{FitOnAll, IsTables, leaves_nothing}
-use Rattle.pt_run.proofs.Stages.{IsPastFile, by_puts, by_rows}
+use Rattle.pt_run.specs.Written.{leaves_nothing}
+use Rattle.pt_run.proofs.Planned.{by_refusal}
 
--- nothing was asked for
-pub asks_nothing : (c : Command) (outcome : Option Fault) (g : Graph) (before now : Option (List (List ℕ))) → now ≡ before → AsksFor c outcome g before now
-asks_nothing Check outcome g before now same = (0, asks_none before now same)
-asks_nothing Slacks outcome g before now same = (0, asks_none before now same)
-asks_nothing (Run workers clock log) outcome g before now same = (0, by_bool (is_refused outcome))
-  where
-    by_bool : (b : Bool) → Asks before now (if b then [] else files_before g 0)
-    by_bool true = asks_none before now same
-    by_bool false = asks_none before now same
-asks_nothing Meaning outcome g before now same = (0, by_bool (is_refused outcome))
-  where
-    by_bool : (b : Bool) → Asks before now (if b then [] else files_before g 0)
-    by_bool true = asks_none before now same
-    by_bool false = asks_none before now same
+-- The first of some names.
 
+begins_all : (all : List (List ℕ)) → Begins all all
+begins_all all = ([], append_none all)
+
+begins_none : (all : List (List ℕ)) → Begins [] all
+begins_none all = (all, refl)
+
+-- those of a part are those of the whole
+begins_more : (part all more : List (List ℕ)) → Begins part all → Begins part (all ++ more)
+begins_more part all more (rest, is) = (rest ++ more, sym (append_assoc part rest more) ∙ ap (λ xs. xs ++ more) is)
+
+-- after others
+begins_after : (first part all : List (List ℕ)) → Begins part all → Begins (first ++ part) (first ++ all)
+begins_after first part all (rest, is) = (rest, append_assoc first part rest ∙ ap (λ xs. first ++ xs) is)
+
+-- the files of the first actors are the first of all
+first_files : (actors : List Actor) (n : ℕ) → Begins (sensor_files (take n actors)) (sensor_files actors)
+first_files actors zero = begins_none (sensor_files actors)
+first_files [] (suc n) = begins_none []
+first_files (a ∷ actors) (suc n) = begins_after (file_of a.kind) (sensor_files (take n actors)) (sensor_files actors) (first_files actors n)
+
+-- By the outcome.
+
+-- however a call ends, its files are the first of all
+begin : (outcome : Option Fault) (sensors last files : List (List ℕ)) → AreAsked outcome sensors last files → Begins files (sensors ++ last)
+begin (Some (fault.Graph f)) sensors last files is = subst (λ xs. Begins xs (sensors ++ last)) (sym is) (begins_none (sensors ++ last))
+begin (Some (fault.Read None)) sensors last files is = subst (λ xs. Begins xs (sensors ++ last)) (sym is) (begins_none (sensors ++ last))
+begin (Some (fault.Cycle actors)) sensors last files is = subst (λ xs. Begins xs (sensors ++ last)) (sym is) (begins_none (sensors ++ last))
+begin (Some (fault.Infeasible send offset slack)) sensors last files is = subst (λ xs. Begins xs (sensors ++ last)) (sym is) (begins_none (sensors ++ last))
+begin (Some (fault.Ring sends gain)) sensors last files is = subst (λ xs. Begins xs (sensors ++ last)) (sym is) (begins_none (sensors ++ last))
+begin (Some (fault.Read (Some actor))) sensors last files is = begins_more files sensors last is
+begin (Some (fault.Sensor actor f)) sensors last files is = begins_more files sensors last is
+begin (Some (fault.LateRow actor row seen limit)) sensors last files is = begins_more files sensors last is
+begin (Some fault.Memory) sensors last files is = is
+begin outcome sensors last files is = subst (λ xs. Begins xs (sensors ++ last)) (sym is) (begins_all (sensors ++ last))
+
+-- where there are no files to ask for
+none_to_ask : (outcome : Option Fault) → AreAsked outcome [] [] []
+none_to_ask (Some (fault.Read (Some actor))) = begins_none []
+none_to_ask (Some (fault.Sensor actor f)) = begins_none []
+none_to_ask (Some (fault.LateRow actor row seen limit)) = begins_none []
+none_to_ask (Some fault.Memory) = begins_none []
+none_to_ask outcome = refl
+
+-- some of the sensors' files, if their rows are not available
+rows_refused : (f : RecordedFault) (sensors last files : List (List ℕ)) → Begins files sensors → AreAsked (Some (fault_of_rows f)) sensors last files
+rows_refused rows.Memory sensors last files h = begins_more files sensors last h
+rows_refused (rows.Read sensor) sensors last files h = h
+rows_refused (rows.Sensor actor f) sensors last files h = h
+rows_refused (rows.Late actor row seen limit) sensors last files h = h
+
+-- none, if the graph has a cycle that takes no time
+cycle_refused : (f : CycleFault) (sensors last : List (List ℕ)) → AreAsked (Some (fault_of_cycle f)) sensors last []
+cycle_refused cycle.Memory sensors last = begins_none (sensors ++ last)
+cycle_refused (cycle.Cycle actors) sensors last = refl
+
+-- all, if the recording has a fault
+air_refused : (f : AirFault) (sensors last : List (List ℕ)) → AreAsked (Some (fault_of_air f)) sensors last (sensors ++ last)
+air_refused airs.Memory sensors last = begins_all (sensors ++ last)
+air_refused f sensors last = refl
+
+-- Over a graph.
+
+-- nothing was asked for, since nothing is to be
+pub asks_no_files : (outcome : Option Fault) (before now : Option (List (List ℕ))) → now ≡ before → AsksOver outcome [] [] [] before now
+asks_no_files outcome before now same = ([], none_to_ask outcome, asks_none before now same)
+
+module _ (first sensors last : List (List ℕ)) (before now : Option (List (List ℕ))) where
+  -- if memory runs out for the line of a fault
+  over_memory : (outcome : Option Fault) → AsksOver outcome first sensors last before now → AsksOver (Some fault.Memory) first sensors last before now
+  over_memory outcome (files, are, asks) = (files, begin outcome sensors last files are, asks)
+
+  over_told : (o : Option Fault) (f : Fault) → OrMemory o f → AsksOver (Some f) first sensors last before now → AsksOver o first sensors last before now
+  over_told o f told h =
+      ⊎_elim
+      (λ (same : o ≡ Some f). subst (λ e. AsksOver e first sensors last before now) (sym same) h)
+      (λ (memory : o ≡ Some fault.Memory). subst (λ e. AsksOver e first sensors last before now) (sym memory) (over_memory (Some f) h))
+      told
+
+  -- nothing more is asked for while an answer is given
+  pub given_asks : {X : Type 0} (text : X → List ℕ) (made : Result X Fault) (o : Ending) (w : Writing) → PutsOrTells text made o w → AsksOver (fault_in made) first sensors last before now → AsksOver o.fault first sensors last before now
+  given_asks text (Ok made) o w (left, put) h = by_put o.fault put
+    where
+      by_put : (e : Option Fault) → PutBy e (text made) w → AsksOver e first sensors last before now
+      by_put None put = h
+      by_put (Some f) put = subst (λ e. AsksOver (Some e) first sensors last before now) (sym put.0) h
+  given_asks text (Err f) o w (left, told, same) h = over_told o.fault f told h
+
+-- the graph has a cycle that takes no time
+pub cycle_asks : (sensors last : List (List ℕ)) (before now : Option (List (List ℕ))) (f : CycleFault) → now ≡ before → AsksOver (Some (fault_of_cycle f)) [] sensors last before now
+cycle_asks sensors last before now f same = ([], cycle_refused f sensors last, asks_none before now same)
+
+-- it has no plan
+pub unplanned_asks : (sensors last : List (List ℕ)) (before now : Option (List (List ℕ))) (g : Graph) (o : Ending) → EndsRefused o (λ a. AfterCycles g a (AfterOffsets g a ⊥)) → now ≡ before → AsksOver o.fault [] sensors last before now
+unplanned_asks sensors last before now g o refused same =
+    by_refusal o g refused (λ e. AsksOver e [] sensors last before now) (λ actors. ([], refl, asks_none before now same)) (λ send offset slack. ([], refl, asks_none before now same)) ([], begins_none (sensors ++ last), asks_none before now same)
+
+-- all were asked for, since nothing was refused
+pub whole_asks : (sensors last : List (List ℕ)) (before now : Option (List (List ℕ))) → AsksOver None [] sensors last before now → Asks before now (sensors ++ last)
+whole_asks sensors last before now (files, is, asks) = subst (Asks before now) is asks
+
+-- by what a command asks for
+pub of_command : (command other : Command) (o : Option Fault) (g : Graph) (before now : Option (List (List ℕ))) → command ≡ other → AsksOver o [] (files_for other g) [] before now → AsksOver o [] (files_for command g) [] before now
+of_command command other o g before now is h = subst (λ d. AsksOver o [] (files_for d g) [] before now) (sym is) h
+
+-- By how its sensors' files were read.
+
+module _ (g : Graph) (last : List (List ℕ)) (before now : Option (List (List ℕ))) where
+  -- the rows are not available
+  pub rows_asked : (f : RecordedFault) → AsksFiles g before now → AsksOver (Some (fault_of_rows f)) [] (all_sensors g) last before now
+  rows_asked f (n, asks) = (sensor_files (take n g.actors), rows_refused f (all_sensors g) last (sensor_files (take n g.actors)) (first_files g.actors n), asks)
+
+  -- the last file was asked for after them
+  pub last_asked : (middle : Option (List (List ℕ))) → Asks before middle (all_sensors g) → Asks middle now last → Asks before now (all_sensors g ++ last)
+  last_asked middle asks more = asks_more before middle now (all_sensors g) last asks more
+
+  -- memory ran out before it was asked for
+  pub short_asked : Asks before now (all_sensors g) → AsksOver (Some fault.Memory) [] (all_sensors g) last before now
+  short_asked asks = (all_sensors g, (last, refl), asks)
+
+  -- it has a fault
+  pub air_asked : (f : AirFault) → Asks before now (all_sensors g ++ last) → AsksOver (Some (fault_of_air f)) [] (all_sensors g) last before now
+  air_asked f asks = (all_sensors g ++ last, air_refused f (all_sensors g) last, asks)
+
+  -- memory ran out once all were asked for
+  pub memory_asked : Asks before now (all_sensors g ++ last) → AsksOver (Some fault.Memory) [] (all_sensors g) last before now
+  memory_asked asks = (all_sensors g ++ last, begins_all (all_sensors g ++ last), asks)
+
+-- a run whose platforms went on, finished or not
+pub went_asks : (g : Graph) (went : Option (ℕ × TurnFault)) (platforms : List PlatformView) (before now : Option (List (List ℕ))) (ran : Result Ran RunFault) → IfErr ran (IsStop went platforms) → Asks before now (all_sensors g) →
+    IfErr ran (λ f. AsksStopped f g before now) × IfOk ran (λ all. Asks before now (all_sensors g))
+went_asks g went platforms before now (Ok ran) stops all = (tt, all)
+went_asks g went platforms before now (Err f) stops all = (by_stop f stops, tt)
+  where
+    by_stop : (f : RunFault) → IsStop went platforms f → AsksStopped f g before now
+    by_stop (stop.Rows f) is = absurd is
+    by_stop (stop.Long platform left) is = all
+    by_stop (stop.Late platform actor tag reading limit left) is = all
+    by_stop stop.Memory is = all
+
+-- a meaning whose rows were available
+module _ (g : Graph) (rows : ℕ → List Row) (r : Reading) (before now : Option (List (List ℕ))) (all : Asks before now (all_sensors g)) where
+  abbrev refused : Fault → Answer
+  refused f = record { fault = Some f; left = leaves_nothing; read = r; wrote = record { before = 0; now = 0; written_before = None; written_now = None } }
+
+  asks_whole : (o : Option Fault) → AreAsked o (all_sensors g) [] (all_sensors g ++ []) → AsksOver o [] (all_sensors g) [] before now
+  asks_whole o are = (all_sensors g ++ [], are, subst (Asks before now) (sym (append_none (all_sensors g))) all)
+
+  meant : (f : Fault) → UnlessMemory (refused f) (IsMeantBy g rows) → AsksOver (Some f) [] (all_sensors g) [] before now
+  meant f (inl out) = subst (λ o. AsksOver o [] (all_sensors g) [] before now) (sym out.0) (asks_whole (Some fault.Memory) (begins_all (all_sensors g ++ [])))
+  meant f (inr (inl long)) = subst (λ o. AsksOver o [] (all_sensors g) [] before now) (sym long.0.0) (asks_whole (Some (fault.Long None)) refl)
+  meant f (inr (inr puts)) =
+      ⊎_elim
+      (λ text. subst (λ o. AsksOver o [] (all_sensors g) [] before now) (sym text.0) (asks_whole None refl))
+      (λ part. subst (λ o. AsksOver o [] (all_sensors g) [] before now) (sym part.0) (asks_whole (Some fault.Write) refl))
+      puts.1
+
+  pub meant_asks : {X : Type 0} (text : X → List ℕ) (made : Result X Fault) → AnswersAsDue text made r (IsMeantBy g rows) → AsksOver (fault_in made) [] (all_sensors g) [] before now
+  meant_asks text (Ok x) due = asks_whole None refl
+  meant_asks text (Err f) due = meant f (due (refused f) refl (refl, (refl, refl), refl))
+
+-- a run that ended, finished or not
+pub run_asks : (ran : Result Ran RunFault) (o : Ending) (w : Writing) (g plan_graph : Graph) (before now : Option (List (List ℕ))) → plan_graph ≡ g → HasEnded ran o w → IfErr ran (λ f. AsksStopped f plan_graph before now) →
+    IfOk ran (λ all. Asks before now (all_sensors plan_graph)) → AsksOver o.fault [] (all_sensors g) [] before now
+run_asks ran o w g plan_graph before now same ended part whole =
+    by_ran ran ended (subst (λ (z : Graph). IfErr ran (λ f. AsksStopped f z before now)) same part) (subst (λ (z : Graph). IfOk ran (λ all. Asks before now (all_sensors z))) same whole)
+  where
+    Goal : Option Fault → Type 0
+    Goal e = AsksOver e [] (all_sensors g) [] before now
+
+    to_end : Asks before now (all_sensors g) → Asks before now (all_sensors g ++ [])
+    to_end all = subst (Asks before now) (sym (append_none (all_sensors g))) all
+
+    at : (e : Option Fault) → o.fault ≡ e → Goal e → Goal o.fault
+    at e is h = subst Goal (sym is) h
+
+    by_ran : (j : Result Ran RunFault) → HasEnded j o w → IfErr j (λ f. AsksStopped f g before now) → IfOk j (λ all. Asks before now (all_sensors g)) → Goal o.fault
+    by_ran (Ok ran) h part all = ⊎_elim (λ done. at None done.0 (all_sensors g ++ [], refl, to_end all)) (λ part. at (Some fault.Write) part.0 (all_sensors g ++ [], refl, to_end all)) h
+    by_ran (Err (stop.Rows f)) h files none = over_told [] (all_sensors g) [] before now o.fault (fault_of_rows f) h.0.0 (rows_asked g [] before now f files)
+    by_ran (Err (stop.Long platform left)) h all none =
+        ⊎_elim (λ is. at (Some (fault.Long (Some platform))) is.0 (all_sensors g ++ [], refl, to_end all)) (λ memory. at (Some fault.Memory) memory.0 (memory_asked g [] before now (to_end all))) h.0
+    by_ran (Err (stop.Late platform actor tag reading limit left)) h all none =
+        ⊎_elim (λ is. at (Some (fault.LateMessage platform actor tag reading limit)) is.0 (all_sensors g ++ [], refl, to_end all)) (λ memory. at (Some fault.Memory) memory.0 (memory_asked g [] before now (to_end all))) h.0
+    by_ran (Err stop.Memory) h all none = at (Some fault.Memory) h.0.0 (memory_asked g [] before now (to_end all))
+
+-- a replay that began, by how its run ended; `none` says that its rows were available
+pub flown_asks : (f : RunFault) (breach : Option ℕ) (e : Fault) (left : List PlatformView) (g : Graph) (last : List (List ℕ)) (before now : Option (List (List ℕ))) → ((r : RecordedFault) → f ≢ stop.Rows r) → IsOfReplay f breach e left → Asks before now (all_sensors g ++ last) →
+    AsksOver (Some e) [] (all_sensors g) last before now
+flown_asks (stop.Rows r) breach e left g last before now none of all = absurd (none r refl)
+flown_asks (stop.Long platform ps) breach e left g last before now none of all = subst (λ z. AsksOver (Some z) [] (all_sensors g) last before now) (sym of.0) (all_sensors g ++ last, refl, all)
+flown_asks (stop.Late platform actor tag reading limit ps) breach e left g last before now none of all = subst (λ z. AsksOver (Some z) [] (all_sensors g) last before now) (sym of.2) (all_sensors g ++ last, refl, all)
+flown_asks stop.Memory breach e left g last before now none of all = subst (λ z. AsksOver (Some z) [] (all_sensors g) last before now) (sym of.0) (memory_asked g last before now all)
+
+-- nothing more is asked for once a replay ended
+pub replayed_asks : (ran : Result Ran Stopped) (o : Ending) (w : Writing) (sensors last : List (List ℕ)) (before now : Option (List (List ℕ))) → EndsAsReplayed ran o w → AsksOver (stop_in ran) [] sensors last before now → AsksOver o.fault [] sensors last before now
+replayed_asks (Ok ran) o w sensors last before now ends h = ⊎_elim (λ all. subst (λ e. AsksOver e [] sensors last before now) (sym all.0) h) (λ part. subst (λ e. AsksOver e [] sensors last before now) (sym part.0) h) ends
+replayed_asks (Err s) o w sensors last before now ends h =
+    ⊎_elim
+    (λ is. subst (λ e. AsksOver e [] sensors last before now) (sym is.0) h)
+    (λ memory. subst (λ e. AsksOver e [] sensors last before now) (sym memory.0) (over_memory [] sensors last before now (Some s.fault) h))
+    ends.0
+
+-- From the graph file on.
+
+module _ (tells : Contents) (blocks : List Named) (name : List ℕ) (sensors : Graph → List (List ℕ)) (last : List (List ℕ)) (first now : Option (List (List ℕ))) where
+  -- it defines this graph
+  pub asks_on : (g : Graph) (outcome : Option Fault) (asked : Option (List (List ℕ))) → IfSome (tells name) (λ bytes. graph_of blocks bytes ≡ Ok g) → Asks first asked (name ∷ []) → AsksOver outcome [] (sensors g) last asked now → AsksFrom outcome tells blocks name sensors last first now
+  asks_on g outcome asked read asks (files, are, more) = inr (g, read, (files, are, asks_more first asked now (name ∷ []) files asks more))
+
+  -- and no other file is to be asked for
+  pub asks_only : (g : Graph) (outcome : Option Fault) → IfSome (tells name) (λ bytes. graph_of blocks bytes ≡ Ok g) → Asks first now (name ∷ []) → AsksFrom outcome tells blocks name (λ g. []) [] first now
+  asks_only g outcome read asks = inr (g, read, ([], none_to_ask outcome, subst (Asks first now) (sym (append_none (name ∷ []))) asks))
+
+  -- it gave no graph
+  alone_memory : (outcome : Option Fault) → AsksAlone outcome name first now → AsksAlone (Some fault.Memory) name first now
+  alone_memory (Some (fault.Graph f)) h = inr h
+  alone_memory (Some (fault.Read None)) h = inr h
+  alone_memory (Some fault.Memory) h = h
+  alone_memory outcome h = absurd h
+
+  from_memory : (outcome : Option Fault) → AsksFrom outcome tells blocks name sensors last first now → AsksFrom (Some fault.Memory) tells blocks name sensors last first now
+  from_memory outcome (inl h) = inl (alone_memory outcome h)
+  from_memory outcome (inr (g, read, h)) = inr (g, read, over_memory (name ∷ []) (sensors g) last first now outcome h)
+
+  -- its fault, or that there is no memory for its line
+  pub from_told : (outcome : Option Fault) (f told : Fault) → outcome ≡ Some told → (told ≡ f) ⊎ (told ≡ fault.Memory) → AsksFrom (Some f) tells blocks name sensors last first now → AsksFrom outcome tells blocks name sensors last first now
+  from_told outcome f told is tell h = subst (λ o. AsksFrom o tells blocks name sensors last first now) (sym is)
+      (⊎_elim
+      (λ (same : told ≡ f). subst (λ e. AsksFrom (Some e) tells blocks name sensors last first now) (sym same) h)
+      (λ (memory : told ≡ fault.Memory). subst (λ e. AsksFrom (Some e) tells blocks name sensors last first now) (sym memory) (from_memory (Some f) h))
+      tell)
+
+  pub from_graph : (outcome : Option Fault) (f told : Fault) → outcome ≡ Some told → (told ≡ f) ⊎ (told ≡ fault.Memory) → AsksAlone (Some f) name first now → AsksFrom outcome tells blocks name sensors last first now
+  from_graph outcome f told is tell h = from_told outcome f told is tell (inl h)
+
+-- the graph file was fetched and has a fault
+pub alone_asks : (f : GraphFault) (name : List ℕ) (before now : Option (List (List ℕ))) → Asks before now (name ∷ []) → AsksAlone (Some (fault_of_graph f)) name before now
+alone_asks graph.Memory name before now asks = inr asks
+alone_asks f name before now asks = asks
+
+-- memory ran out before the words were read
 pub asked_nothing : (order : Option Order) (outcome : Option Fault) (tells : Contents) (blocks : List Named) (r : Reading) → outcome ≡ Some fault.Memory → Asks r.asked_before r.asked_now [] → AsksOf outcome order tells blocks r
 asked_nothing None outcome tells blocks r is h = h
-asked_nothing (Some (over command name)) outcome tells blocks r is h = subst (λ o. AsksInOrder o command tells blocks name r.asked_before r.asked_now) (sym is) (inl h)
+asked_nothing (Some (over command name)) outcome tells blocks r is h = subst (λ o. AsksOf o (Some (over command name)) tells blocks r) (sym is) (inl (inl h))
 asked_nothing (Some (make number workers)) outcome tells blocks r is h = h
-asked_nothing (Some (migrate name)) outcome tells blocks r is h = inl h
-asked_nothing (Some (audit name log)) outcome tells blocks r is h = subst (λ o. AsksAudit o name log tells blocks r.asked_before r.asked_now) (sym is) (inl (inl h))
-asked_nothing (Some (replay name air workers log)) outcome tells blocks r is h = subst (λ o. AsksReplay o name air tells blocks r.asked_before r.asked_now) (sym is) (inl (inl h))
-
--- the files of a graph that is not refused
-not_refused : (outcome : Option Fault) (g : Graph) (before now : Option (List (List ℕ))) → is_refused outcome ≡ false → AsksFiles g before now → (n : ℕ) × Asks before now (if is_refused outcome then [] else files_before g n)
-not_refused outcome g before now is (n, h) = (n, subst (λ b. Asks before now (if b then [] else files_before g n)) (sym is) h)
-
--- a run that began was of a graph that is not refused
-pub begun : (ran : Result Ran RunFault) (o : Ending) (w : Writing) → HasEnded ran o w → is_refused o.fault ≡ false
-begun (Ok ran) o w h = ⊎_elim (λ all. ap is_refused all.0) (λ part. ap is_refused part.0) h
-begun (Err (stop.Rows f)) o w h = ⊎_elim (λ is. ap is_refused is ∙ of f) (λ is. ap is_refused is) h.0.0
-  where
-    of : (e : RecordedFault) → is_refused (Some (fault_of_rows e)) ≡ false
-    of rows.Memory = refl
-    of (rows.Read sensor) = refl
-    of (rows.Sensor actor e) = refl
-    of (rows.Late actor row seen limit) = refl
-begun (Err (stop.Long platform platforms)) o w h = ⊎_elim (λ is. ap is_refused is.0) (λ is. ap is_refused is.0) h.0
-begun (Err (stop.Late platform actor tag reading limit platforms)) o w h = ⊎_elim (λ is. ap is_refused is.0) (λ is. ap is_refused is.0) h.0
-begun (Err stop.Memory) o w h = ap is_refused h.0.0
-
-pub run_asks : (ran : Result Ran RunFault) (o : Ending) (w : Writing) (workers : ℕ) (clock : ClockChoice) (log : Bool) (g plan_graph : Graph) (before now : Option (List (List ℕ))) → plan_graph ≡ g → HasEnded ran o w → AsksFiles plan_graph before now →
-    AsksFor (Run workers clock log) o.fault g before now
-run_asks ran o w workers clock log g plan_graph before now same h files = not_refused o.fault g before now (begun ran o w h) (subst (λ z. AsksFiles z before now) same files)
-
--- a meaning whose rows were read is not refused before
-module _ (f : Fault) (r : Reading) (tells : Contents) (g : Graph) where
-  abbrev refused : Answer
-  refused = record { fault = Some f; left = leaves_nothing; read = r; wrote = record { before = 0; now = 0; written_before = None; written_now = None } }
-
-  rows_read : UnlessMemory refused (λ a. AfterRows Taken tells g [] a (λ rows. IsMeantBy g rows a)) → is_refused (Some f) ≡ false
-  rows_read (inl out) = ap is_refused out.0
-  rows_read (inr k) =
-      by_rows tells refused (λ o. is_refused o ≡ false) Taken g [] (λ rows. IsMeantBy g rows refused) k (λ actor out is. refl) (λ actor e out is. refl) (λ actor row seen limit out is late. refl) (λ rows are pass h. last rows h)
-    where
-      last : (rows : ℕ → List Row) → IsMeantBy g rows refused → is_refused (Some f) ≡ false
-      last rows (inl h) = ap is_refused h.0.0
-      last rows (inr h) = by_puts tells refused (λ o. is_refused o ≡ false) (IsTables g rows (FitOnAll g)) h.1 (λ text is all. refl) (λ rose text is part. refl)
-
--- `meaning` reads the files of a graph without a cycle that takes no time
-pub meaning_asks : (tells : Contents) (g : Graph) (r : Reading) (made : Result (String Global) Fault) (before now : Option (List (List ℕ))) → AnswersAsDue string_bytes made r (λ a. AfterRows Taken tells g [] a (λ rows. IsMeantBy g rows a)) → AsksFiles g before now → AsksFor Meaning (fault_in made) g before now
-meaning_asks tells g r made before now due files = not_refused (fault_in made) g before now (of made due) files
-  where
-    of : (m : Result (String Global) Fault) → AnswersAsDue string_bytes m r (λ a. AfterRows Taken tells g [] a (λ rows. IsMeantBy g rows a)) → is_refused (fault_in m) ≡ false
-    of (Ok text) h = refl
-    of (Err f) h = rows_read f r tells g (h (refused f r tells g) refl (refl, (refl, refl), refl))
-
--- a run asks for the same files by any clock
-pub whatever_clock : (command : Command) (workers : ℕ) (clock other : ClockChoice) (log : Bool) (outcome : Option Fault) (g : Graph) (before now : Option (List (List ℕ))) → command ≡ Run workers clock log → AsksFor (Run workers other log) outcome g before now → AsksFor command outcome g before now
-whatever_clock command workers clock other log outcome g before now is h = subst (λ d. AsksFor d outcome g before now) (sym is) h
-
--- if there is no memory for the line of a fault
-pub memory_asks : (c : Command) (f : Fault) (g : Graph) (before now : Option (List (List ℕ))) → AsksFor c (Some f) g before now → AsksFor c (Some fault.Memory) g before now
-memory_asks Check f g before now h = h
-memory_asks Slacks f g before now h = h
-memory_asks (Run workers clock log) f g before now (n, h) = by_bool (is_refused (Some f)) h
-  where
-    by_bool : (b : Bool) → Asks before now (if b then [] else files_before g n) → (k : ℕ) × Asks before now (files_before g k)
-    by_bool true asks = (0, asks)
-    by_bool false asks = (n, asks)
-memory_asks Meaning f g before now (n, h) = by_bool (is_refused (Some f)) h
-  where
-    by_bool : (b : Bool) → Asks before now (if b then [] else files_before g n) → (k : ℕ) × Asks before now (files_before g k)
-    by_bool true asks = (0, asks)
-    by_bool false asks = (n, asks)
-
--- an answer asks for no file while it is given
-pub answer_asks : (c : Command) (made : Result (String Global) Fault) (o : Ending) (w : Writing) (g : Graph) (before now : Option (List (List ℕ))) → PutsOrTells string_bytes made o w → AsksFor c (fault_in made) g before now → AsksFor c o.fault g before now
-answer_asks c (Ok text) o w g before now h asks = by_outcome o.fault h.1
-  where
-    wrote : (d : Command) → AsksFor d None g before now → AsksFor d (Some fault.Write) g before now
-    wrote Check k = k
-    wrote (Run workers clock log) k = k
-    wrote Meaning k = k
-    wrote Slacks k = k
-
-    by_outcome : (e : Option Fault) → PutBy e (string_bytes text) w → AsksFor c e g before now
-    by_outcome None put = asks
-    by_outcome (Some f) put = subst (λ z. AsksFor c (Some z) g before now) (sym put.0) (wrote c asks)
-answer_asks c (Err f) o w g before now h asks =
-    ⊎_elim
-    (λ (is : o.fault ≡ Some f). subst (λ z. AsksFor c z g before now) (sym is) asks)
-    (λ (is : o.fault ≡ Some fault.Memory). subst (λ z. AsksFor c z g before now) (sym is) (memory_asks c f g before now asks))
-    h.1
-
--- what was asked for in all, where a command over a graph asked for files of its sensors
-pub asked_in_order : (c : Command) (outcome : Option Fault) (tells : Contents) (blocks : List Named) (name : List ℕ) (g : Graph) (first asked now : Option (List (List ℕ))) → IfSome (tells name) (λ bytes. graph_of blocks bytes ≡ Ok g) → IsPastFile outcome → Asks first asked (name ∷ []) →
-    AsksFor c outcome g asked now → AsksInOrder outcome c tells blocks name first now
-asked_in_order c outcome tells blocks name g first asked now read past graph files = by_outcome outcome past (g, read, (files.0, asks_more first asked now (name ∷ []) (files_for c outcome g files.0) graph files.1))
-  where
-    by_outcome : (o : Option Fault) → IsPastFile o → AsksAfterGraph o c tells blocks name first now → AsksInOrder o c tells blocks name first now
-    by_outcome (Some (fault.Graph f)) past all = absurd past
-    by_outcome (Some (fault.Read None)) past all = absurd past
-    by_outcome (Some fault.Memory) past all = inr (inr all)
-    by_outcome o past all = all
-
--- and where there was no graph
-pub asked_for_graph : (c : Command) (outcome : Option Fault) (f told : Fault) (tells : Contents) (blocks : List Named) (name : List ℕ) (r : Reading) (first now : Option (List (List ℕ))) → outcome ≡ Some told → (told ≡ f) ⊎ (told ≡ fault.Memory) →
-    CauseOfGraph f tells blocks name r → (f ≢ fault.Memory → Asks first now (name ∷ [])) → AsksOrNot first now (name ∷ []) → AsksInOrder outcome c tells blocks name first now
-asked_for_graph c outcome f told tells blocks name r first now is tell cause asked asks = subst (λ o. AsksInOrder o c tells blocks name first now) (sym is)
-    (⊎_elim
-    (λ (same : told ≡ f). subst (λ z. AsksInOrder (Some z) c tells blocks name first now) (sym same) (by_fault f cause asked))
-    (λ (none : told ≡ fault.Memory). subst (λ z. AsksInOrder (Some z) c tells blocks name first now) (sym none) memory)
-    tell)
-  where
-    memory : AsksInOrder (Some fault.Memory) c tells blocks name first now
-    memory = ⊎_elim (λ (none : Asks first now []). inl none) (λ (one : Asks first now (name ∷ [])). inr (inl one)) asks
-
-    by_fault : (e : Fault) → CauseOfGraph e tells blocks name r → (e ≢ fault.Memory → Asks first now (name ∷ [])) → AsksInOrder (Some e) c tells blocks name first now
-    by_fault (fault.Graph e) h one = one (λ e. absurd cc)
-    by_fault (fault.Read None) h one = one (λ e. absurd cc)
-    by_fault fault.Memory h one = memory
-    by_fault fault.Usage h one = absurd h
-    by_fault (fault.Cycle actors) h one = absurd h
-    by_fault (fault.Infeasible send offset slack) h one = absurd h
-    by_fault (fault.Ring sends gain) h one = absurd h
-    by_fault fault.ReadLog h one = absurd h
-    by_fault (fault.Unlawful v) h one = absurd h
-    by_fault (fault.LateAir platform actor tag reading limit row) h one = absurd h
-    by_fault (fault.Air e) h one = absurd h
-    by_fault fault.ReadAir h one = absurd h
-    by_fault (fault.Sensor actor e) h one = absurd h
-    by_fault (fault.LateRow actor row seen limit) h one = absurd h
-    by_fault (fault.LateMessage platform actor tag reading limit) h one = absurd h
-    by_fault (fault.Long platform) h one = absurd h
-    by_fault (fault.Read (Some actor)) h one = absurd h
-    by_fault fault.Write h one = absurd h
+asked_nothing (Some (migrate name)) outcome tells blocks r is h = subst (λ o. AsksOf o (Some (migrate name)) tells blocks r) (sym is) (inl (inl h))
+asked_nothing (Some (audit name log)) outcome tells blocks r is h = subst (λ o. AsksOf o (Some (audit name log)) tells blocks r) (sym is) (inl (inl h))
+asked_nothing (Some (replay name air workers log)) outcome tells blocks r is h = subst (λ o. AsksOf o (Some (replay name air workers log)) tells blocks r) (sym is) (inl (inl h))

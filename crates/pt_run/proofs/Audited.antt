@@ -20,11 +20,11 @@ use Rattle.pt_run.specs.Auditing.{Accepts, IsUnlawful, OnLog, Refuses}
 use Rattle.pt_run.specs.Causes.{Writing}
 use Rattle.pt_run.specs.Complete.{CanBegin}
 use Rattle.pt_run.proofs.ByCause.{CanAudit, WantsLog}
-use Rattle.pt_run.specs.Headline.{RunWith}
+use Rattle.pt_run.specs.Leaving.{RunWith}
 use Rattle.pt_run.specs.Words.{Order}
 use Rattle.pt_run.specs.Written.{Leaves}
 use Rattle.pt_run.proofs.ByFault.{EndsAudit}
-use Rattle.pt_run.proofs.Auditing.{not_before}
+use Rattle.pt_run.proofs.Stages.{not_true}
 use Rattle.pt_run.proofs.Complete.{agrees, ok_err, same_ok, too_late}
 use Rattle.pt_run.proofs.OneCause.{fails_all, late_all}
 use Rattle.pt_run.proofs.OnePlan.{same_accepted, same_unlawful}
@@ -92,13 +92,13 @@ module _ (order : Option Order) (left : Leaves) (tells : Contents) (blocks : Lis
   audited (Some (fault.LateRow actor row seen limit)) k =
       let (g, other, cause) = k.2.0 in
       absurd (late_all tells plan.graph begins.files actor row seen limit (subst (λ (z : Graph). SensorLate tells z actor row seen limit) (sym (this_graph g other)) cause.1.1) (begins.rows, begins.sensors, begins.in_time))
-  audited (Some fault.Usage) k = absurd (not_before k.0)
-  audited (Some (fault.Ring sends gain)) k = absurd (not_before k.0)
-  audited (Some (fault.LateAir platform actor tag reading limit row)) k = absurd (not_before k.0)
-  audited (Some (fault.Air e)) k = absurd (not_before k.0)
-  audited (Some fault.ReadAir) k = absurd (not_before k.0)
-  audited (Some (fault.LateMessage platform actor tag reading limit)) k = absurd (not_before k.0)
-  audited (Some (fault.Long platform)) k = absurd (not_before k.0)
+  audited (Some fault.Usage) k = absurd (not_true k.0)
+  audited (Some (fault.Ring sends gain)) k = absurd (not_true k.0)
+  audited (Some (fault.LateAir platform actor tag reading limit row)) k = absurd (not_true k.0)
+  audited (Some (fault.Air e)) k = absurd (not_true k.0)
+  audited (Some fault.ReadAir) k = absurd (not_true k.0)
+  audited (Some (fault.LateMessage platform actor tag reading limit)) k = absurd (not_true k.0)
+  audited (Some (fault.Long platform)) k = absurd (not_true k.0)
 
 -- by what an audit answers
 module _ (plan : Parts) (rows : ℕ → List Row) (bytes : List ℕ) (o : Option Fault) where

@@ -15,7 +15,7 @@ use Rattle.pt_run.specs.Complete.{CanBegin}
 use Rattle.pt_run.specs.Words.{paced_run}
 use Rattle.pt_run.specs.Written.{Leaves}
 use Rattle.pt_run.proofs.ByFault.{IsCause, is_before_last}
-use Rattle.pt_run.proofs.Auditing.{not_before}
+use Rattle.pt_run.proofs.Stages.{not_true}
 use Rattle.pt_run.proofs.Complete.{no_fault, sensor_fails, sensor_late, this_graph, too_late}
 
 module _ (tells : Contents) (blocks : List Named) (name : List ℕ) (g : Graph) (can : CanBegin tells blocks name g) (left : Leaves) (r : Reading) (w : Writing) where
@@ -32,14 +32,14 @@ module _ (tells : Contents) (blocks : List Named) (name : List ℕ) (g : Graph) 
       absurd (sensor_fails tells blocks name g can actor f (subst (λ (z : Graph). SensorFails Refused tells z actor f) (this_graph tells blocks name g can h file) cause.1.1))
   only_unread (fault.LateRow actor row seen limit) before ((h, file, cause), same) =
       absurd (sensor_late tells blocks name g can actor row seen limit (subst (λ (z : Graph). SensorLate tells z actor row seen limit) (this_graph tells blocks name g can h file) cause.1.1))
-  only_unread fault.Usage before k = absurd (not_before before)
-  only_unread (fault.Ring sends gain) before k = absurd (not_before before)
-  only_unread (fault.LateMessage platform actor tag reading limit) before k = absurd (not_before before)
-  only_unread (fault.LateAir platform actor tag reading limit row) before k = absurd (not_before before)
-  only_unread (fault.Long platform) before k = absurd (not_before before)
-  only_unread fault.ReadLog before k = absurd (not_before before)
-  only_unread (fault.Air f) before k = absurd (not_before before)
-  only_unread fault.ReadAir before k = absurd (not_before before)
-  only_unread (fault.Unlawful v) before k = absurd (not_before before)
-  only_unread fault.Write before k = absurd (not_before before)
-  only_unread fault.Memory before k = absurd (not_before before)
+  only_unread fault.Usage before k = absurd (not_true before)
+  only_unread (fault.Ring sends gain) before k = absurd (not_true before)
+  only_unread (fault.LateMessage platform actor tag reading limit) before k = absurd (not_true before)
+  only_unread (fault.LateAir platform actor tag reading limit row) before k = absurd (not_true before)
+  only_unread (fault.Long platform) before k = absurd (not_true before)
+  only_unread fault.ReadLog before k = absurd (not_true before)
+  only_unread (fault.Air f) before k = absurd (not_true before)
+  only_unread fault.ReadAir before k = absurd (not_true before)
+  only_unread (fault.Unlawful v) before k = absurd (not_true before)
+  only_unread fault.Write before k = absurd (not_true before)
+  only_unread fault.Memory before k = absurd (not_true before)

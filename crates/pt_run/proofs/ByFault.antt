@@ -4,6 +4,7 @@ use Rattle.pt_io.specs.Causes.{Appends, AppendsPart, Rose}
 use Rattle.pt_types.specs.declared.graph.Graph.{Graph}
 use Rattle.pt_types.specs.declared.rows.Row.{Row}
 use Rattle.pt_blocks.specs.declared.blocks.Named.{Named}
+use Rattle.pt_graph.specs.GraphOf.{graph_of}
 use Rattle.pt_history.specs.declared.miss.Miss.{Miss}
 use Rattle.pt_semantics.specs.Cycles.{NoFreeCycle}
 use Rattle.pt_semantics.specs.Offsets.{IsFeasible}
@@ -13,7 +14,7 @@ use Rattle.pt_offsets.specs.Plans.{Parts}
 use Rattle.pt_slacks.specs.Rings.{IsRing}
 use Rattle.pt_slacks.specs.Text.{IsSlacked}
 use Rattle.pt_sensors.specs.declared.recorded_fault.LateRows.TheVariants.{Refused, Taken}
-use Rattle.pt_sensors.specs.Asked.{Contents, Reading}
+use Rattle.pt_sensors.specs.Asked.{Contents, ReadFails, Reading}
 use Rattle.pt_sensors.specs.Recorded.{AreRows, SensorFails, SensorLate, SensorUnread}
 use Rattle.pt_turn.specs.declared.fault.TurnFault.{TurnFault}
 use Rattle.pt_turn.specs.declared.fault.TurnFault.TheVariants as turn
@@ -24,8 +25,8 @@ use Rattle.pt_run.specs.declared.fault.Fault.TheVariants as fault
 use Rattle.pt_run.specs.declared.words.Command.{Command}
 use Rattle.pt_run.specs.declared.words.Command.TheVariants.{Run, Check, Meaning, Slacks}
 use Rattle.pt_run.specs.Auditing.{Accepts, IsUnlawful, LastFails, OnLog, lawful_line}
-use Rattle.pt_run.specs.Causes.{CauseOfGraph, IsTooLongForAll, Writing}
-use Rattle.pt_run.specs.Headline.{RunWith}
+use Rattle.pt_run.specs.Causes.{IsTooLongForAll, Writing}
+use Rattle.pt_run.specs.Leaving.{RunWith}
 use Rattle.pt_run.specs.Making.{IsMadeRun}
 use Rattle.pt_run.specs.Migrating.{IsMigrated}
 use Rattle.pt_run.specs.Replaying.{LeavesReplay, OnAir}
@@ -120,6 +121,13 @@ abbrev pub CauseOf : Command → Fault → Leaves → Contents → Graph → Lis
 CauseOf command (fault.Cycle actors) left tells g others r = IsFreeCycle g actors × HasNothing left
 CauseOf command fault.Memory left tells g others r = HasNothing left
 CauseOf command f left tells g others r = NoFreeCycle g × CauseOfText command f left tells g others r
+
+-- why the graph file with this name gave no graph
+abbrev pub CauseOfGraph : Fault → Contents → List Named → List ℕ → Reading → Type 0
+CauseOfGraph (fault.Graph f) tells blocks name r = IfSome (tells name) (λ bytes. graph_of blocks bytes ≡ Err f)
+CauseOfGraph (fault.Read None) tells blocks name r = ReadFails [] name r
+CauseOfGraph fault.Memory tells blocks name r = Unit {0}
+CauseOfGraph _ tells blocks name r = ⊥
 
 -- why a command on a graph file ended with a fault, and what it leaves: a failed write leaves a prefix of what the command
 -- must write, and every other fault writes nothing

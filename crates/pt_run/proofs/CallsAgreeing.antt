@@ -22,12 +22,11 @@ use Rattle.pt_run.specs.Agreeing.{TellsAll}
 use Rattle.pt_run.specs.CallsAgreeing.{CallsAgree, EndAlike, IsFixed, IsUndisturbed}
 use Rattle.pt_run.specs.Causes.{Writing}
 use Rattle.pt_run.proofs.ByCause.{ComesByCause, Defines, ReadsRows, WantsGraph, WantsRows}
-use Rattle.pt_run.specs.Headline.{stop_of}
 use Rattle.pt_run.specs.RunsAgreeing.{TellsSensors}
 use Rattle.pt_run.specs.Runs.{HasRun, IsFinishedRun}
 use Rattle.pt_run.specs.Statuses.{status_of, status_of_fault}
 use Rattle.pt_run.specs.Words.{over}
-use Rattle.pt_run.specs.Written.{HasNothing, Leaves, clocking, has_run}
+use Rattle.pt_run.specs.Written.{HasNothing, Leaves, clocking, has_run, stop_of}
 use Rattle.pt_run.specs.declared.fault.Fault.{Fault}
 use Rattle.pt_run.specs.declared.fault.Fault.TheVariants as fault
 use Rattle.pt_run.specs.declared.words.Command.TheVariants.{Run}

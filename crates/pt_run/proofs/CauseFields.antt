@@ -30,7 +30,7 @@ use Rattle.pt_run.specs.Causes.{Writing}
 use Rattle.pt_run.specs.Auditing.{Accepts, IsUnlawful, LastFails, OnLog}
 use Rattle.pt_air.specs.declared.fault.AirFault.{AirFault}
 use Rattle.pt_air.specs.AirOf.{air_of}
-use Rattle.pt_run.specs.Headline.{RunWith}
+use Rattle.pt_run.specs.Leaving.{RunWith}
 use Rattle.pt_run.specs.Replaying.{OnAir}
 use Rattle.pt_run.specs.Words.{Order, over, make, migrate, audit, replay, paced_run}
 use Rattle.pt_run.specs.Complete.{OnPlatform}

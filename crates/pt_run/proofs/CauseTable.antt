@@ -38,12 +38,12 @@ use Rattle.pt_run.specs.Complete.{OnPlatform}
 use Rattle.pt_run.proofs.CauseFields.{AsksFeasible, CauseTable, IsAccepted, IsNotPaced, IsRunCommand, OfRows, OverAir, OverFile, OverGraph, OverLog}
 use Rattle.pt_run.specs.Statuses.{status_of, status_of_fault}
 use Rattle.pt_run.specs.Auditing.{Accepts, IsUnlawful, LastFails, OnLog}
-use Rattle.pt_run.specs.Headline.{RunWith}
+use Rattle.pt_run.specs.Leaving.{RunWith}
 use Rattle.pt_run.specs.Replaying.{LeavesReplay, OnAir}
 use Rattle.pt_run.specs.Words.{Order, over, make, migrate, audit, replay, paced_run}
 use Rattle.pt_run.specs.Written.{GraphWith, Leaves}
 use Rattle.pt_run.proofs.ByFault.{CauseOfText, Ends, IsCause, RunStops, WritesText}
-use Rattle.pt_run.proofs.Auditing.{not_before}
+use Rattle.pt_run.proofs.Stages.{not_true}
 use Rattle.pt_run.proofs.Replayed.{stopped_in_air, unwritten_in_air}
 
 -- the status of a fault is not 5
@@ -81,8 +81,8 @@ module _ (left : Leaves) (tells : Contents) (blocks : List Named) (r : Reading) 
   usage (Some (over command name)) k = absurd k
   usage (Some (make n workers)) k = absurd k
   usage (Some (migrate name)) k = absurd k.1
-  usage (Some (audit name log)) k = absurd (not_before k.0)
-  usage (Some (replay name air workers log)) k = absurd (not_before k.0)
+  usage (Some (audit name log)) k = absurd (not_true k.0)
+  usage (Some (replay name air workers log)) k = absurd (not_true k.0)
 
   graph_unread : (order : Option Order) → Ends (Some (fault.Read None)) left order tells blocks r w → OverFile order (λ name. ReadFails [] name r)
   graph_unread None k = absurd (let e = k.0 in cc)
@@ -136,8 +136,8 @@ module _ (left : Leaves) (tells : Contents) (blocks : List Named) (r : Reading) 
       of Slacks g free h = (refl, free, h.0)
   ring sends gain (Some (make n workers)) k = absurd k
   ring sends gain (Some (migrate name)) k = absurd k.1
-  ring sends gain (Some (audit name log)) k = absurd (not_before k.0)
-  ring sends gain (Some (replay name air workers log)) k = absurd (not_before k.0)
+  ring sends gain (Some (audit name log)) k = absurd (not_true k.0)
+  ring sends gain (Some (replay name air workers log)) k = absurd (not_true k.0)
 
   sensor_unread_over : (actor : ℕ) (command : Command) (name : List ℕ) → IsCause (fault.Read (Some actor)) left command tells blocks name r w → GraphWith tells blocks name (λ g. IsAccepted command g × OfRows command (λ late. SensorUnread late tells g actor (name ∷ []) r))
   sensor_unread_over actor command name (k, same) = (k.0, k.1, of command k.0 k.2.0 k.2.1)
@@ -217,8 +217,8 @@ module _ (left : Leaves) (tells : Contents) (blocks : List Named) (r : Reading) 
       of Slacks g free h = absurd h.0
   late_message platform actor tag reading limit (Some (make n workers)) k = absurd k
   late_message platform actor tag reading limit (Some (migrate name)) k = absurd k.1
-  late_message platform actor tag reading limit (Some (audit name log)) k = absurd (not_before k.0)
-  late_message platform actor tag reading limit (Some (replay name air workers log)) k = absurd (not_before k.0)
+  late_message platform actor tag reading limit (Some (audit name log)) k = absurd (not_true k.0)
+  late_message platform actor tag reading limit (Some (replay name air workers log)) k = absurd (not_true k.0)
 
   long : (platform : ℕ) (order : Option Order) → Ends (Some (fault.Long (Some platform))) left order tells blocks r w → OverGraph order tells blocks (λ command name g. IsRunCommand command × IsAccepted command g × OnPlatform left g platform (λ v. ShowsLong g (state_at v)))
   long platform None k = absurd (let e = k.0 in cc)
@@ -231,7 +231,7 @@ module _ (left : Leaves) (tells : Contents) (blocks : List Named) (r : Reading) 
       of Slacks g free h = absurd h.0
   long platform (Some (make n workers)) k = absurd k
   long platform (Some (migrate name)) k = absurd k.1
-  long platform (Some (audit name log)) k = absurd (not_before k.0)
+  long platform (Some (audit name log)) k = absurd (not_true k.0)
   long platform (Some (replay name air workers log)) k =
       let went : LeavesReplay log (Some (fault.Long (Some platform))) left w k.plan (of_run k.plan.graph k.over.rows) k.over.went.recorded = k.over.went.fact in
       (k.plan.graph, k.file, (tt, (k.over.admitted.no_free_cycle, λ reads. k.over.admitted.feasible), stopped_in_air left k.plan (of_run k.plan.graph k.over.rows) k.over.went.recorded platform turn.Long went.flown))
@@ -247,8 +247,8 @@ module _ (left : Leaves) (tells : Contents) (blocks : List Named) (r : Reading) 
       of Slacks g free h = absurd h.0
   long_meaning (Some (make n workers)) k = absurd k
   long_meaning (Some (migrate name)) k = absurd k.1
-  long_meaning (Some (audit name log)) k = absurd (not_before k.0)
-  long_meaning (Some (replay name air workers log)) k = absurd (not_before k.0)
+  long_meaning (Some (audit name log)) k = absurd (not_true k.0)
+  long_meaning (Some (replay name air workers log)) k = absurd (not_true k.0)
 
   -- the log could not be read, and no other order asks for one
   log_unread : (order : Option Order) → Ends (Some fault.ReadLog) left order tells blocks r w → OverLog order (λ name log. RunWith tells blocks name (λ plan rows. LastFails plan.graph (name ∷ []) log r))
@@ -263,7 +263,7 @@ module _ (left : Leaves) (tells : Contents) (blocks : List Named) (r : Reading) 
   log_unread (Some (make n workers)) k = absurd k
   log_unread (Some (migrate name)) k = absurd k.1
   log_unread (Some (audit name log)) k = k.1
-  log_unread (Some (replay name air workers log)) k = absurd (not_before k.0)
+  log_unread (Some (replay name air workers log)) k = absurd (not_true k.0)
 
   unlawful : (v : Verdict) (order : Option Order) → Ends (Some (fault.Unlawful v)) left order tells blocks r w → OverLog order (λ name log. RunWith tells blocks name (OnLog tells log (λ plan rows bytes. IsUnlawful plan rows bytes v)))
   unlawful v None k = absurd (let e = k.0 in cc)
@@ -277,7 +277,7 @@ module _ (left : Leaves) (tells : Contents) (blocks : List Named) (r : Reading) 
   unlawful v (Some (make n workers)) k = absurd k
   unlawful v (Some (migrate name)) k = absurd k.1
   unlawful v (Some (audit name log)) k = k.1
-  unlawful v (Some (replay name air workers log)) k = absurd (not_before k.0)
+  unlawful v (Some (replay name air workers log)) k = absurd (not_true k.0)
 
   lawful : (order : Option Order) (name log : List ℕ) → order ≡ Some (audit name log) → Ends None left order tells blocks r w → RunWith tells blocks name (OnLog tells log Accepts)
   lawful order name log is k = let h = subst (λ o. Ends None left o tells blocks r w) is k in h.1
@@ -294,7 +294,7 @@ module _ (left : Leaves) (tells : Contents) (blocks : List Named) (r : Reading) 
       of Slacks g h = h.0
   air_unread (Some (make n workers)) k = absurd k
   air_unread (Some (migrate name)) k = absurd k.1
-  air_unread (Some (audit name log)) k = absurd (not_before k.0)
+  air_unread (Some (audit name log)) k = absurd (not_true k.0)
   air_unread (Some (replay name air workers log)) k = k.1
 
   air_fails : (f : AirFault) (order : Option Order) → Ends (Some (fault.Air f)) left order tells blocks r w → OverAir order (λ name air. RunWith tells blocks name (λ plan rows. IfSome (tells air) (λ bytes. air_of plan.graph bytes ≡ Err f)))
@@ -308,7 +308,7 @@ module _ (left : Leaves) (tells : Contents) (blocks : List Named) (r : Reading) 
       of Slacks g h = h.0
   air_fails f (Some (make n workers)) k = absurd k
   air_fails f (Some (migrate name)) k = absurd k.1
-  air_fails f (Some (audit name log)) k = absurd (not_before k.0)
+  air_fails f (Some (audit name log)) k = absurd (not_true k.0)
   air_fails f (Some (replay name air workers log)) k = k.1
 
   late_air : (platform actor : ℕ) (tag : Tag) (reading limit row : ℕ) (order : Option Order) → Ends (Some (fault.LateAir platform actor tag reading limit row)) left order tells blocks r w →
@@ -323,7 +323,7 @@ module _ (left : Leaves) (tells : Contents) (blocks : List Named) (r : Reading) 
       of Slacks g h = h.0
   late_air platform actor tag reading limit row (Some (make n workers)) k = absurd k
   late_air platform actor tag reading limit row (Some (migrate name)) k = absurd k.1
-  late_air platform actor tag reading limit row (Some (audit name log)) k = absurd (not_before k.0)
+  late_air platform actor tag reading limit row (Some (audit name log)) k = absurd (not_true k.0)
   late_air platform actor tag reading limit row (Some (replay name air workers log)) k =
       let went : LeavesReplay log (Some (fault.LateAir platform actor tag reading limit row)) left w k.plan (of_run k.plan.graph k.over.rows) k.over.went.recorded = k.over.went.fact in
       record {
@@ -428,13 +428,13 @@ module _ (left : Leaves) (tells : Contents) (blocks : List Named) (r : Reading) 
   unwritten (fault.Infeasible send offset slack) (Some (audit name log)) never k = k.2.1
   unwritten (fault.Sensor actor f) (Some (audit name log)) never k = k.2.1
   unwritten (fault.LateRow actor row seen limit) (Some (audit name log)) never k = k.2.1
-  unwritten fault.Usage (Some (audit name log)) never k = absurd (not_before k.0)
-  unwritten (fault.Ring sends gain) (Some (audit name log)) never k = absurd (not_before k.0)
-  unwritten (fault.LateMessage platform actor tag reading limit) (Some (audit name log)) never k = absurd (not_before k.0)
-  unwritten (fault.Long platform) (Some (audit name log)) never k = absurd (not_before k.0)
-  unwritten (fault.LateAir platform actor tag reading limit row) (Some (audit name log)) never k = absurd (not_before k.0)
-  unwritten (fault.Air f) (Some (audit name log)) never k = absurd (not_before k.0)
-  unwritten fault.ReadAir (Some (audit name log)) never k = absurd (not_before k.0)
+  unwritten fault.Usage (Some (audit name log)) never k = absurd (not_true k.0)
+  unwritten (fault.Ring sends gain) (Some (audit name log)) never k = absurd (not_true k.0)
+  unwritten (fault.LateMessage platform actor tag reading limit) (Some (audit name log)) never k = absurd (not_true k.0)
+  unwritten (fault.Long platform) (Some (audit name log)) never k = absurd (not_true k.0)
+  unwritten (fault.LateAir platform actor tag reading limit row) (Some (audit name log)) never k = absurd (not_true k.0)
+  unwritten (fault.Air f) (Some (audit name log)) never k = absurd (not_true k.0)
+  unwritten fault.ReadAir (Some (audit name log)) never k = absurd (not_true k.0)
   unwritten f (Some (replay name air workers log)) never k = unwritten_in_air left name air log tells blocks r w f never k
 
   missed_are : (order : Option Order) → Ends None left order tells blocks r w → left.misses ≡ flat_map missed_by left.platforms

@@ -25,7 +25,7 @@ use Rattle.pt_run.specs.declared.fault.Fault.{Fault}
 use Rattle.pt_run.specs.declared.fault.Fault.TheVariants as fault
 use Rattle.pt_run.specs.Causes.{Writing}
 use Rattle.pt_run.specs.Complete.{CanBegin, FitsClaims, StatusIsMeant}
-use Rattle.pt_run.specs.Headline.{RunWith}
+use Rattle.pt_run.specs.Leaving.{RunWith}
 use Rattle.pt_run.specs.InBounds.{CanReplay, DoAsPaced, IsCompleteInBounds}
 use Rattle.pt_run.specs.Replaying.{LeavesReplay, OnAir, stop_of_replay}
 use Rattle.pt_run.specs.Runs.{log_if}
@@ -33,7 +33,7 @@ use Rattle.pt_run.specs.Statuses.{status_of}
 use Rattle.pt_run.specs.Words.{Order, paced_run}
 use Rattle.pt_run.specs.Written.{Leaves}
 use Rattle.pt_run.proofs.ByFault.{Ends, EndsReplay, IsCause, is_before_last}
-use Rattle.pt_run.proofs.Auditing.{not_before}
+use Rattle.pt_run.proofs.Stages.{not_true}
 use Rattle.pt_run.proofs.Begun.{only_unread}
 use Rattle.pt_run.proofs.Complete.{agrees, by_misses, by_platform, meaning, ok_err, one_meaning, same_ok, this_graph}
 use Rattle.pt_run.proofs.FlownInBounds.{do_as_paced}
@@ -113,7 +113,7 @@ module _ (tells : Contents) (blocks : List Named) (name air : List ℕ) (g : Gra
           absurd (none_some row (sym (in_bounds o k) ∙ (went o k).breach))
       by_outcome (Some (fault.Air f)) is k =
           absurd (ok_err can.recorded f (says k.1.plan.graph (this_graph tells blocks name g begins k.1.plan.graph k.1.file) (Err f) k.1.over.went))
-      by_outcome (Some fault.ReadAir) is k = absurd (reads k.1.over.went.1.rose)
+      by_outcome (Some fault.ReadAir) is k = absurd (reads k.1.over.went.rose)
       by_outcome (Some fault.Memory) is k = inr (inr (inr is))
       by_outcome (Some (fault.Graph f)) is k = unread (fault.Graph f) k.0 k.2
       by_outcome (Some (fault.Cycle actors)) is k = unread (fault.Cycle actors) k.0 k.2
@@ -121,12 +121,12 @@ module _ (tells : Contents) (blocks : List Named) (name air : List ℕ) (g : Gra
       by_outcome (Some (fault.Read sensor)) is k = unread (fault.Read sensor) k.0 k.2
       by_outcome (Some (fault.Sensor actor f)) is k = unread (fault.Sensor actor f) k.0 k.2
       by_outcome (Some (fault.LateRow actor row seen limit)) is k = unread (fault.LateRow actor row seen limit) k.0 k.2
-      by_outcome (Some fault.Usage) is k = absurd (not_before k.0)
-      by_outcome (Some (fault.Ring sends gain)) is k = absurd (not_before k.0)
-      by_outcome (Some (fault.LateMessage platform actor tag reading limit)) is k = absurd (not_before k.0)
-      by_outcome (Some (fault.Long None)) is k = absurd (not_before k.0)
-      by_outcome (Some fault.ReadLog) is k = absurd (not_before k.0)
-      by_outcome (Some (fault.Unlawful v)) is k = absurd (not_before k.0)
+      by_outcome (Some fault.Usage) is k = absurd (not_true k.0)
+      by_outcome (Some (fault.Ring sends gain)) is k = absurd (not_true k.0)
+      by_outcome (Some (fault.LateMessage platform actor tag reading limit)) is k = absurd (not_true k.0)
+      by_outcome (Some (fault.Long None)) is k = absurd (not_true k.0)
+      by_outcome (Some fault.ReadLog) is k = absurd (not_true k.0)
+      by_outcome (Some (fault.Unlawful v)) is k = absurd (not_true k.0)
 
 pub complete_in_bounds : (status : ℕ) (o : Option Fault) (left : Leaves) (order : Option Order) (tells : Contents) (blocks : List Named) (r : Reading) (w : Writing) → status ≡ status_of o left.misses → Ends o left order tells blocks r w → IsCompleteInBounds status order tells blocks r w
 complete_in_bounds status o left order tells blocks r w is ends workers log name air g xs words can reads writes =

@@ -30,13 +30,13 @@ use Rattle.pt_run.specs.declared.words.Command.TheVariants.{Run, Check, Meaning,
 use Rattle.pt_run.specs.Auditing.{Accepts, IsUnlawful, LastFails, OnLog, lawful_line}
 use Rattle.pt_run.specs.Causes.{Writing}
 use Rattle.pt_run.specs.Due.{AfterAdmission, AfterOffsets, AfterRows, Answer, HasRunBy, IsDue, IsDueFor, IsDueTo, IsJudgedBy, IsMeantBy, IsReplayedBy, IsSlackedBy, OnlyPuts, PutsText, RefusedWith}
-use Rattle.pt_run.specs.Headline.{PutsMeaning, RunWith, stop_of}
+use Rattle.pt_run.specs.Leaving.{PutsMeaning, RunWith}
 use Rattle.pt_run.specs.Making.{IsMadeRun}
 use Rattle.pt_run.specs.Migrating.{IsMigrated}
 use Rattle.pt_run.specs.Replaying.{LeavesReplay, OnAir, has_replayed}
 use Rattle.pt_run.specs.Runs.{HasRun, RunsPaced, WentBy, log_if}
 use Rattle.pt_run.specs.Words.{Order, over, make, migrate, audit, replay, paced_run}
-use Rattle.pt_run.specs.Written.{FitOnAll, HasNothing, IsChecked, IsRun, IsTables, Leaves, clocking}
+use Rattle.pt_run.specs.Written.{FitOnAll, HasNothing, IsChecked, IsRun, IsTables, Leaves, clocking, stop_of}
 use Rattle.pt_run.proofs.ByFault.{Ends, EndsAudit, EndsBy, EndsMade, EndsMigrated, EndsReplay, Writes}
 use Rattle.pt_run.proofs.Finished.{missed_as_meant}
 use Rattle.pt_run.proofs.Stages.{by_admission, by_cycles, by_file, by_offsets, by_puts, by_rows, not_true, with_fault}

@@ -1,5 +1,5 @@
 -- How a command over a graph file ends, by how it ended over the graph.
-use Rattle.std.proofs.Common.{◌≡◌, ◌≢◌, ◌∙◌, ℕ, List, [], Option, Some, None, Result, Ok, Err, IfSome, refl, sym, ap, subst, inl, inr, ⊎_elim}
+use Rattle.std.proofs.Common.{◌≡◌, ◌≢◌, ◌⊎◌, ◌∙◌, ℕ, List, [], Option, Some, None, Result, Ok, Err, IfSome, refl, sym, ap, subst, inl, inr, ⊎_elim}
 use Rattle.pt_types.specs.declared.graph.Graph.{Graph}
 use Rattle.pt_types.specs.declared.rows.Row.{Row}
 use Rattle.pt_blocks.specs.declared.blocks.Named.{Named}
@@ -22,35 +22,17 @@ use Rattle.pt_sensors.specs.declared.recorded_fault.LateRows.{LateRows}
 use Rattle.pt_sensors.specs.declared.recorded_fault.LateRows.TheVariants.{Taken}
 use Rattle.pt_sensors.specs.declared.recorded_fault.RecordedFault.{RecordedFault}
 use Rattle.pt_sensors.specs.declared.recorded_fault.RecordedFault.TheVariants as rows
-use Rattle.pt_sensors.specs.Asked.{Contents, Reading}
+use Rattle.pt_sensors.specs.Asked.{Contents, ReadFails, Reading}
 use Rattle.pt_sensors.specs.Recorded.{AreRows, CauseOfRows, SensorUnread}
 use Rattle.pt_io.specs.Told.{ClockView}
 use Rattle.pt_run.specs.declared.fault.Fault.{Fault}
 use Rattle.pt_run.specs.declared.fault.Fault.TheVariants as fault
 use Rattle.pt_run.specs.declared.outcome.Ending.{Ending}
-use Rattle.pt_run.specs.Causes.{CauseOfGraph, IsTooLongForAll, Writing}
-use Rattle.pt_run.specs.Due.{AfterCycles, AfterOffsets, AfterRows, Answer, Answers, AnswersAsDue, IsMeantBy, IsSlackedBy, OnlyPuts, PutsText, RefusedWith, UnlessMemory}
+use Rattle.pt_run.specs.Causes.{IsTooLongForAll, Writing}
+use Rattle.pt_run.specs.Due.{AfterCycles, AfterFile, AfterOffsets, AfterRows, Answer, Answers, AnswersAsDue, IsMeantBy, IsSlackedBy, OnlyPuts, PutsText, RefusedWith, RefusesAsDue, UnlessMemory}
 use Rattle.pt_run.specs.Faults.{fault_of_cycle, fault_of_graph, fault_of_offset, fault_of_rows, fault_of_slacks}
 use Rattle.pt_run.specs.Texts.{PutsOrTells, PutBy, left_by, left_with}
 use Rattle.pt_run.specs.Written.{FitOnAll, HasNothing, IsChecked, IsTables, Leaves, leaves_nothing}
-
--- a fault of the graph file
-pub graph_fails : (tells : Contents) (blocks : List Named) (name : List ℕ) (f : GraphFault) (r : Reading) → (f ≢ graph.Memory → IfSome (tells name) (λ bytes. graph_of blocks bytes ≡ Err f)) → CauseOfGraph (fault_of_graph f) tells blocks name r
-graph_fails tells blocks name graph.Memory r h = tt
-graph_fails tells blocks name graph.TooLong r h = h (λ e. absurd cc)
-graph_fails tells blocks name graph.NotJson r h = h (λ e. absurd cc)
-graph_fails tells blocks name (graph.Member p) r h = h (λ e. absurd cc)
-graph_fails tells blocks name (graph.TooMany w) r h = h (λ e. absurd cc)
-graph_fails tells blocks name (graph.Range p) r h = h (λ e. absurd cc)
-graph_fails tells blocks name (graph.Name p) r h = h (λ e. absurd cc)
-graph_fails tells blocks name (graph.Repeated p) r h = h (λ e. absurd cc)
-graph_fails tells blocks name (graph.Unknown p) r h = h (λ e. absurd cc)
-graph_fails tells blocks name (graph.WireEnd p) r h = h (λ e. absurd cc)
-graph_fails tells blocks name (graph.CrossWire p) r h = h (λ e. absurd cc)
-graph_fails tells blocks name (graph.FedTwice p) r h = h (λ e. absurd cc)
-graph_fails tells blocks name (graph.Unfed a p) r h = h (λ e. absurd cc)
-graph_fails tells blocks name (graph.LinkEnd p) r h = h (λ e. absurd cc)
-graph_fails tells blocks name (graph.Block p) r h = h (λ e. absurd cc)
 
 -- where nothing is left, there are no misses and no platforms
 pub has_nothing : (o : Ending) (before now : List ClockView) → left_by o ≡ leaves_nothing → HasNothing (left_with o before now)
@@ -73,6 +55,42 @@ module _ (o : Ending) (r : Reading) (w : Writing) where
   -- is so as is due
   pub given_due : {X : Type 0} (text : X → List ℕ) (made : Result X Fault) (Due : Answer → Type 0) → AnswersAsDue text made r Due → PutsOrTells text made o w → UnlessMemory answer Due
   given_due text made Due due h = ⊎_elim (λ (out : RefusedWith fault.Memory answer). inl out) (λ (k : Answers text made answer). due answer refl k) (given text made h)
+
+-- a refusal that was told, or there was no memory for its line
+pub told_due : (a : Answer) (f told : Fault) (Due : Answer → Type 0) → HasNothing a.left → a.wrote.written_now ≡ a.wrote.written_before → a.fault ≡ Some told → (told ≡ f) ⊎ (told ≡ fault.Memory) → RefusesAsDue f a.read Due → UnlessMemory a Due
+told_due a f told Due nothing still is tell refuses = ⊎_elim (λ (same : told ≡ f). refuses a refl (is ∙ ap Some same, nothing, still)) (λ (none : told ≡ fault.Memory). inl (is ∙ ap Some none, nothing, still)) tell
+
+-- The graph file.
+
+module _ (tells : Contents) (blocks : List Named) (name : List ℕ) (r : Reading) where
+  -- it could not be read
+  pub graph_unread : ReadFails [] name r → RefusesAsDue (fault.Read None) r (λ a. AfterFile tells blocks name a (λ g. ⊥))
+  graph_unread failed a is out = inr (inl (out, subst (ReadFails [] name) (sym is) failed))
+
+  -- its text has a fault
+  pub graph_fails : (f : GraphFault) → (f ≢ graph.Memory → IfSome (tells name) (λ bytes. graph_of blocks bytes ≡ Err f)) → RefusesAsDue (fault_of_graph f) r (λ a. AfterFile tells blocks name a (λ g. ⊥))
+  graph_fails graph.Memory h a is out = inl out
+  graph_fails graph.TooLong h a is out = inr (inr (inl (graph.TooLong, out, h (λ e. absurd cc))))
+  graph_fails graph.NotJson h a is out = inr (inr (inl (graph.NotJson, out, h (λ e. absurd cc))))
+  graph_fails (graph.Member p) h a is out = inr (inr (inl (graph.Member p, out, h (λ e. absurd cc))))
+  graph_fails (graph.TooMany w) h a is out = inr (inr (inl (graph.TooMany w, out, h (λ e. absurd cc))))
+  graph_fails (graph.Range p) h a is out = inr (inr (inl (graph.Range p, out, h (λ e. absurd cc))))
+  graph_fails (graph.Name p) h a is out = inr (inr (inl (graph.Name p, out, h (λ e. absurd cc))))
+  graph_fails (graph.Repeated p) h a is out = inr (inr (inl (graph.Repeated p, out, h (λ e. absurd cc))))
+  graph_fails (graph.Unknown p) h a is out = inr (inr (inl (graph.Unknown p, out, h (λ e. absurd cc))))
+  graph_fails (graph.WireEnd p) h a is out = inr (inr (inl (graph.WireEnd p, out, h (λ e. absurd cc))))
+  graph_fails (graph.CrossWire p) h a is out = inr (inr (inl (graph.CrossWire p, out, h (λ e. absurd cc))))
+  graph_fails (graph.FedTwice p) h a is out = inr (inr (inl (graph.FedTwice p, out, h (λ e. absurd cc))))
+  graph_fails (graph.Unfed actor p) h a is out = inr (inr (inl (graph.Unfed actor p, out, h (λ e. absurd cc))))
+  graph_fails (graph.LinkEnd p) h a is out = inr (inr (inl (graph.LinkEnd p, out, h (λ e. absurd cc))))
+  graph_fails (graph.Block p) h a is out = inr (inr (inl (graph.Block p, out, h (λ e. absurd cc))))
+
+  -- a call that it refuses goes on with no graph
+  pub past_file : (a : Answer) (Then : Graph → Type 0) → UnlessMemory a (λ a. AfterFile tells blocks name a (λ g. ⊥)) → UnlessMemory a (λ a. AfterFile tells blocks name a Then)
+  past_file a Then (inl out) = inl out
+  past_file a Then (inr (inl k)) = inr (inl k)
+  past_file a Then (inr (inr (inl k))) = inr (inr (inl k))
+  past_file a Then (inr (inr (inr k))) = absurd k.2
 
 -- What was made, as is due.
 

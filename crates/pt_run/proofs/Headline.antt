@@ -1,175 +1,219 @@
--- The headline, of how a call ends.
-use Rattle.std.proofs.Common.{◌≡◌, ◌≢◌, [], ℕ, Bool, true, false, List, Option, Some, None, Ok, IfSome, refl, sym, subst}
-use Rattle.std.specs.Prelude.{flat_map}
+-- The headline, of what is due.
+use Rattle.std.proofs.Common.{◌≡◌, ◌≢◌, ◌<◌, ◌++◌, [], ◌∷◌, ℕ, zero, suc, Bool, true, false, if◌then◌else◌, List, Option, Some, None, Ok, IfSome, flat_map, map, option_map, slice_get, unwrap_or, refl, sym, ap, ap₂, subst, inl, inr, ◌∙◌}
+use Rattle.std.proofs.lemmas.List.{length-map}
+use Rattle.std.proofs.lemmas.Option.{slice_get-map}
 use Rattle.pt_io.specs.Causes.{Appends, AppendsPart}
 use Rattle.pt_tags.specs.declared.tag.Tag.{Tag}
 use Rattle.pt_types.specs.declared.graph.Graph.{Graph}
+use Rattle.pt_types.specs.declared.rows.Row.{Row}
+use Rattle.pt_types.specs.Lookups.{platform_of}
 use Rattle.pt_blocks.specs.declared.blocks.Named.{Named}
 use Rattle.pt_graph.specs.GraphOf.{graph_of}
-use Rattle.pt_history.specs.declared.miss.Miss.{Miss}
+use Rattle.pt_semantics.specs.History.{IsLegal}
+use Rattle.pt_semantics.specs.Linked.{AreLinked, AreMatched, IsFinished, all_sent, all_taken}
+use Rattle.pt_semantics.specs.Lists.{Each}
+use Rattle.pt_semantics.specs.Tables.{tables_text}
+use Rattle.pt_semantics.specs.Turn.{Turn}
+use Rattle.pt_causality.specs.Ranked.{level_of, rank_of}
+use Rattle.pt_offsets.specs.Plans.{IsAdmitted, Parts}
+use Rattle.pt_turn.specs.declared.fault.TurnFault.{TurnFault}
+use Rattle.pt_turn.specs.declared.fault.TurnFault.TheVariants as turn
+use Rattle.pt_turn.specs.All.{histories_of}
+use Rattle.pt_turn.specs.Platforms.{PlatformView}
+use Rattle.pt_together.specs.Asked.{EndsAt}
+use Rattle.pt_monitors.specs.Misses.{missed_of}
 use Rattle.pt_monitors.specs.Platforms.{missed_by}
-use Rattle.pt_offsets.specs.Plans.{Parts}
-use Rattle.pt_sensors.specs.Asked.{Contents, Reading}
+use Rattle.pt_tables.specs.Held.{IsHeldTurn}
+use Rattle.pt_tables.specs.Log.{log_text}
+use Rattle.pt_tables.specs.Platforms.{histories}
+use Rattle.pt_sensors.specs.Asked.{Contents}
 use Rattle.pt_sensors.specs.Places.{of_run}
-use Rattle.pt_sensors.specs.Recorded.{SensorLate}
+use Rattle.pt_sensors.specs.declared.recorded_fault.LateRows.TheVariants.{Refused}
+use Rattle.pt_sensors.specs.Recorded.{AllPass, AreRows, SensorLate}
 use Rattle.pt_words.specs.declared.orders.ClockChoice.{ClockChoice}
-use Rattle.pt_run.specs.Runs.{HasRun, IsFinishedRun}
+use Rattle.pt_words.specs.declared.orders.ClockChoice.TheVariants.{Paced}
 use Rattle.pt_run.specs.declared.fault.Fault.{Fault}
 use Rattle.pt_run.specs.declared.fault.Fault.TheVariants as fault
 use Rattle.pt_run.specs.declared.words.Command.TheVariants.{Run}
-use Rattle.pt_run.specs.Causes.{Writing}
-use Rattle.pt_run.specs.Headline.{Headline, IsHeadline, LeavesRun, PutsMeaning, RunWith, stop_of}
-use Rattle.pt_run.specs.Words.{Order}
-use Rattle.pt_run.specs.Written.{GraphWith, HasNothing, Leaves, clocking, has_run}
-use Rattle.pt_run.proofs.ByFault.{Ends, EndsBy}
-use Rattle.pt_run.proofs.CauseTable.{never_paced}
+use Rattle.pt_run.specs.Due.{AfterAdmission, Answer, HasRunBy, IsDue, IsDueTo, RefusedWith, UnlessMemory}
+use Rattle.pt_run.specs.Leaving.{PutsMeaning}
+use Rattle.pt_run.specs.OverFiles.{HasHeadline, WentByReadings, at_end, inputs_of}
+use Rattle.pt_run.specs.Headline.{AtEnd, ByReadings, EndAs, Headline, LeavesTurns, PutsTables, turns_at}
+use Rattle.pt_run.specs.Runs.{IsKept, RunsPaced}
+use Rattle.pt_run.specs.Words.{Order, over}
+use Rattle.pt_run.specs.Written.{clocking, has_run, stop_of}
+use Rattle.pt_run.proofs.Stages.{by_admission, by_file, with_fault}
 
--- the text of a run that finished, as it was put
-puts : (tells : Contents) (left : Leaves) (workers : ℕ) (clock : ClockChoice) (log : Bool) (plan : Parts) (misses : List Miss) (text : List ℕ) (Put : List ℕ → Type 0) →
-    (done : IsFinishedRun tells (clocking workers clock left) plan log left.platforms misses text) → Put text → PutsMeaning plan (of_run plan.graph done.run.rows) log left.platforms Put
-puts tells left workers clock log plan misses text Put done put = record { fit = done.fit; firings = done.firings; meaning = done.meaning; text = subst Put done.written put; held = done.held }
+-- Platforms at the end, from all that contracts see of them.
 
-module _ (left : Leaves) (workers : ℕ) (clock : ClockChoice) (log : Bool) (tells : Contents) (blocks : List Named) (name : List ℕ) (r : Reading) (w : Writing) where
-  -- a run over a plan of the graph
-  over_plan : (o : Option Fault) (g : Graph) (file : IfSome (tells name) (λ bytes. graph_of blocks bytes ≡ Ok g)) (plan : Parts) (same : plan.graph ≡ g) (run : HasRun tells (clocking workers clock left) plan left.platforms (stop_of o)) →
-      (o ≡ None → PutsMeaning plan (of_run plan.graph run.rows) log left.platforms (Appends w.written_before w.written_now)) → (o ≡ None → left.misses ≡ flat_map missed_by left.platforms) →
-      (o ≡ Some fault.Write → PutsMeaning plan (of_run plan.graph run.rows) log left.platforms (AppendsPart w.written_before w.written_now)) →
-      (stop_of o ≢ None → w.written_now ≡ w.written_before) → (o ≢ None → left.misses ≡ []) → RunWith tells blocks name (LeavesRun (clocking workers clock left) log o left w)
-  over_plan o g file plan same run written misses part unwritten none = record {
-    plan = plan;
-    file = subst (λ h. IfSome (tells name) (λ bytes. graph_of blocks bytes ≡ Ok h)) (sym same) file;
-    over = record {
-      admitted = run.admitted;
-      rows = run.rows;
-      sensors = run.sensors;
-      in_time = run.in_time;
-      went = record { kept = run.went.kept; readings = run.went.readings; written = written; misses = misses; part = part; unwritten = unwritten; no_misses = none };
-    };
-  }
+abbrev turns_in : AtEnd → List Turn
+turns_in p = p.turns
+
+abbrev ended : List PlatformView → List AtEnd
+ended vs = map at_end vs
+
+-- each of them is one of these platforms
+found : (vs : List PlatformView) (i : ℕ) (p : AtEnd) → slice_get (ended vs) i ≡ Some p → (v : PlatformView) × (slice_get vs i ≡ Some v) × (at_end v ≡ p)
+found vs i p at = of (slice_get vs i) refl (sym (slice_get-map at_end vs i) ∙ at)
+  where
+    of : (o : Option PlatformView) → slice_get vs i ≡ o → option_map at_end o ≡ Some p → (v : PlatformView) × (slice_get vs i ≡ Some v) × (at_end v ≡ p)
+    of None is e = absurd cc
+    of (Some v) is e = (v, is, cc)
+
+there : (vs : List PlatformView) (i : ℕ) (v : PlatformView) → slice_get vs i ≡ Some v → slice_get (ended vs) i ≡ Some (at_end v)
+there vs i v at = slice_get-map at_end vs i ∙ ap (option_map at_end) at
+
+-- a fact of each of these platforms is one of each of them
+each_at_end : (Fact : ℕ → AtEnd → Type 0) (vs : List PlatformView) → ((i : ℕ) (v : PlatformView) → slice_get vs i ≡ Some v → Fact i (at_end v)) → (i : ℕ) (p : AtEnd) → slice_get (ended vs) i ≡ Some p → Fact i p
+each_at_end Fact vs h i p at = let (v, is, same) = found vs i p at in subst (Fact i) same (h i v is)
+
+same_turns : (vs : List PlatformView) (i : ℕ) → turns_at (ended vs) i ≡ histories_of vs i
+same_turns vs i = ap (λ o. unwrap_or (option_map turns_in o) []) (slice_get-map at_end vs i) ∙ of (slice_get vs i)
+  where
+    of : (o : Option PlatformView) → unwrap_or (option_map turns_in (option_map at_end o)) [] ≡ unwrap_or (option_map (λ (v : PlatformView). v.turns) o) []
+    of None = refl
+    of (Some v) = refl
+
+same_histories : (vs : List PlatformView) → histories vs ≡ map turns_in (ended vs)
+same_histories [] = refl
+same_histories (v ∷ vs) = ap (λ z. v.turns ∷ z) (same_histories vs)
+
+same_misses : (g : Graph) (vs : List PlatformView) → ((i : ℕ) (v : PlatformView) → slice_get vs i ≡ Some v → v.plan.graph ≡ g) → flat_map missed_by vs ≡ flat_map (λ (p : AtEnd). missed_of g p.turns) (ended vs)
+same_misses g [] h = refl
+same_misses g (v ∷ vs) h = ap₂ (λ x y. x ++ y) (ap (λ z. missed_of z v.turns) (h zero v refl)) (same_misses g vs (λ i w at. h (suc i) w at))
+
+module _ (g : Graph) (some others : ℕ → List Turn) (same : (i : ℕ) → others i ≡ some i) where
+  matched_alike : AreMatched g some → AreMatched g others
+  matched_alike h l link at =
+      let (rest, e) = h l link at in
+      (rest, ap (all_sent l) (same (platform_of g link.from)) ∙ e ∙ ap (λ z. all_taken l z ++ rest) (sym (same (platform_of g link.to))))
+
+  linked_alike : AreLinked g some → AreLinked g others
+  linked_alike h l link at = ap (all_sent l) (same (platform_of g link.from)) ∙ h l link at ∙ ap (all_taken l) (sym (same (platform_of g link.to)))
+
+end_as : (g : Graph) (vs : List PlatformView) (stop : Option (ℕ × TurnFault)) → EndsAt g vs stop → (stop ≡ None → AreLinked g (histories_of vs)) → EndAs g (ended vs) stop
+end_as g vs None ends linked = (linked_alike g (histories_of vs) (turns_at (ended vs)) (same_turns vs) (linked refl), each_at_end (λ i p. (p.fault ≡ None) × IsFinished g i p.state) vs ends)
+end_as g vs (Some f) (v, at, is, shows, before) linked = (at_end v, there vs f.0 v at, is, shows, λ j p lt there_p. each_at_end (λ i q. i < f.0 → q.fault ≡ None) vs (λ i w at_w below. before i w below at_w) j p there_p lt)
+
+-- what was put
+puts : (plan : Parts) (rows : ℕ → List Row) (log : Bool) (vs : List PlatformView) (Put : List ℕ → Type 0) → PutsMeaning plan rows log vs Put → PutsTables plan.graph (rank_of plan.ranks) rows log (map turns_in (ended vs)) Put
+puts plan rows log vs Put h = record {
+  fit = h.fit;
+  firings = h.firings;
+  meaning = h.meaning;
+  text = subst (λ hs. Put (tables_text plan.graph h.firings ++ (if log then log_text plan.graph hs else []))) (same_histories vs) h.text;
+  held = λ e. subst (Each (Each IsHeldTurn)) (same_histories vs) (h.held e);
+}
+
+-- the late row of a fault is the one that the fault names
+same_late : (tells : Contents) (g : Graph) (actor row seen limit sensor number read by : ℕ) → ◌≡◌ {A = Option Fault} (Some (fault.LateRow actor row seen limit)) (Some (fault.LateRow sensor number read by)) → SensorLate tells g actor row seen limit → SensorLate tells g sensor number read by
+same_late tells g actor row seen limit sensor number read by e is =
+    subst (λ z. SensorLate tells g sensor number read z) limits (subst (λ z. SensorLate tells g sensor number z limit) seens (subst (λ z. SensorLate tells g sensor z seen limit) numbers (subst (λ z. SensorLate tells g z row seen limit) actors is)))
+  where
+    actors : actor ≡ sensor
+    actors = cc
+
+    numbers : row ≡ number
+    numbers = cc
+
+    seens : seen ≡ read
+    seens = cc
+
+    limits : limit ≡ by
+    limits = cc
+
+both : (b : Bool) → b ≡ true → b ≡ false → ⊥
+both b e h = cc
+
+module _ (tells : Contents) (blocks : List Named) (name : List ℕ) (workers : ℕ) (clock : ClockChoice) (log : Bool) (a : Answer) where
+  abbrev By : ByReadings
+  By = WentByReadings (clocking workers clock a.left) a.left.platforms
+
+  abbrev Holds : Option Fault → Type 0
+  Holds o = Headline (inputs_of tells blocks) By name clock log o (ended a.left.platforms) a.left.misses a.wrote
 
   -- a call without a run
-  refused : (f : Fault) → has_run (Some f) ≡ false → HasNothing left × (w.written_now ≡ w.written_before) → ((platform actor : ℕ) (tag : Tag) (reading limit : ℕ) → Some f ≡ Some (fault.LateMessage platform actor tag reading limit) → ⊥) →
-      ((actor row seen limit : ℕ) → Some f ≡ Some (fault.LateRow actor row seen limit) → GraphWith tells blocks name (λ g. SensorLate tells g actor row seen limit)) → Headline (Some f) left workers clock log tells blocks name w
-  refused f none nothing no_message late_row = record {
+  refused : (f : Fault) → RefusedWith f a → has_run (Some f) ≡ false → ((platform actor : ℕ) (tag : Tag) (reading limit : ℕ) → f ≢ fault.LateMessage platform actor tag reading limit) → ((actor row seen limit : ℕ) → f ≢ fault.LateRow actor row seen limit) → Holds (Some f)
+  refused f h none no_message no_row = record {
     run = λ e. absurd (both (has_run (Some f)) e none);
-    nothing_else = λ e. nothing;
-    late_message = λ platform actor tag reading limit e. absurd (no_message platform actor tag reading limit e);
-    late_row = late_row;
+    nothing_else = λ e. (ap ended h.1.1, h.1.0, h.2);
+    late_message = λ platform actor tag reading limit e. absurd (no_message platform actor tag reading limit cc);
+    late_row = λ actor row seen limit e. absurd (no_row actor row seen limit cc);
   }
-    where
-      both : (b : Bool) → b ≡ true → b ≡ false → ⊥
-      both b e h = cc
 
-  by_outcome : (o : Option Fault) → EndsBy o left (Some (Run workers clock log, name)) tells blocks r w → Headline o left workers clock log tells blocks name w
-  by_outcome None (text, (g, file, (free, run)), appends) = record {
-    run = λ e.
-        over_plan None g file run.plan run.graph run.finished.run (λ h. puts tells left workers clock log run.plan left.misses text (Appends w.written_before w.written_now) run.finished appends) (λ h. run.finished.missed) (λ h. absurd (written h)) (λ never. absurd (never refl)) (λ never. absurd (never refl));
-    nothing_else = λ e. absurd (has e);
-    late_message = λ platform actor tag reading limit e. absurd (no_fault (fault.LateMessage platform actor tag reading limit) e);
-    late_row = λ actor row seen limit e. absurd (no_fault (fault.LateRow actor row seen limit) e);
+  late : (g : Graph) → IfSome (tells name) (λ bytes. graph_of blocks bytes ≡ Ok g) → (actor row seen limit : ℕ) → RefusedWith (fault.LateRow actor row seen limit) a → SensorLate tells g actor row seen limit → Holds (Some (fault.LateRow actor row seen limit))
+  late g file actor row seen limit h is = record {
+    run = λ e. absurd cc;
+    nothing_else = λ e. (ap ended h.1.1, h.1.0, h.2);
+    late_message = λ platform receiver tag reading past e. absurd cc;
+    late_row = λ sensor number read by e. (g, file, same_late tells g actor row seen limit sensor number read by e is);
   }
-    where
-      written : ◌≡◌ {A = Option Fault} None (Some fault.Write) → ⊥
-      written h = cc
 
-      has : true ≡ false → ⊥
-      has e = cc
+  module _ (plan : Parts) (all : ℕ → List Row) (admitted : IsAdmitted plan) (k : HasRunBy workers clock log a plan (of_run plan.graph all)) where
+    abbrev rows : ℕ → List Row
+    rows = of_run plan.graph all
 
-      no_fault : (f : Fault) → ◌≡◌ {A = Option Fault} None (Some f) → ⊥
-      no_fault f e = cc
-  by_outcome (Some fault.Write) (rose, (none, misses, text, (g, file, (free, run)), part)) = record {
-    run = λ e.
-        over_plan (Some fault.Write) g file run.plan run.graph run.finished.run (λ h. absurd (all h)) (λ h. absurd (all h))
-        (λ h. puts tells left workers clock log run.plan misses text (AppendsPart w.written_before w.written_now) run.finished part) (λ never. absurd (never refl)) (λ h. none);
-    nothing_else = λ e. absurd (has e);
-    late_message = λ platform actor tag reading limit e. absurd (message platform actor tag reading limit e);
-    late_row = λ actor row seen limit e. absurd (late actor row seen limit e);
-  }
-    where
-      all : ◌≡◌ {A = Option Fault} (Some fault.Write) None → ⊥
-      all h = cc
+    leaves : LeavesTurns log a.fault (ended a.left.platforms) a.left.misses a.wrote plan.graph (rank_of plan.ranks) (level_of plan.ranks) rows
+    leaves = record {
+      admitted = record { lawful = admitted.lawful; no_free_cycle = admitted.no_free_cycle; feasible = admitted.feasible; ranks = admitted.ranks; levels = admitted.levels };
+      kept = record {
+        count = length-map a.left.platforms at_end ∙ kept.all.count;
+        numbers = each_at_end (λ i p. p.number ≡ i) a.left.platforms kept.all.numbers;
+        legal = each_at_end (λ i p. IsLegal plan.graph (level_of plan.ranks) i rows p.turns p.state) a.left.platforms kept.legal;
+        matched = matched_alike plan.graph (histories_of a.left.platforms) (turns_at (ended a.left.platforms)) (same_turns a.left.platforms) kept.matched;
+        ends = end_as plan.graph a.left.platforms (stop_of a.fault) kept.ends kept.linked;
+      };
+      written = λ e. puts plan rows log a.left.platforms (Appends a.wrote.written_before a.wrote.written_now) (k.leaves.written e);
+      misses_are = λ e. k.leaves.misses e ∙ same_misses plan.graph a.left.platforms (λ i v at. ap (λ (p : Parts). p.graph) (kept.all.plans i v at));
+      part = λ e. puts plan rows log a.left.platforms (AppendsPart a.wrote.written_before a.wrote.written_now) (k.leaves.part e);
+      unwritten = k.leaves.unwritten;
+      no_misses = k.leaves.no_misses;
+    }
+      where
+        kept : IsKept plan rows a.left.platforms (stop_of a.fault)
+        kept = k.leaves.kept
 
-      has : true ≡ false → ⊥
-      has e = cc
+    -- a paced run is stopped by a platform that needed too many claims
+    never_late : (o : Option Fault) → a.fault ≡ o → (platform actor : ℕ) (tag : Tag) (reading limit : ℕ) → o ≡ Some (fault.LateMessage platform actor tag reading limit) → clock ≢ Paced
+    never_late o is platform actor tag reading limit e paced = late_not_long (subst (λ z. RunsPaced plan rows a.left.platforms (stop_of z)) (is ∙ e) (k.paced paced)).0
+      where
+        late_not_long : turn.Late actor tag reading limit ≡ turn.Long → ⊥
+        late_not_long same = cc
 
-      message : (platform actor : ℕ) (tag : Tag) (reading limit : ℕ) → ◌≡◌ {A = Option Fault} (Some fault.Write) (Some (fault.LateMessage platform actor tag reading limit)) → ⊥
-      message platform actor tag reading limit e = cc
+    ran : (g : Graph) → IfSome (tells name) (λ bytes. graph_of blocks bytes ≡ Ok g) → plan.graph ≡ g → AreRows tells plan.graph all → AllPass Refused plan.graph all → Holds a.fault
+    ran g file same are in_time = record {
+      run = λ e. record {
+        graph = plan.graph;
+        rank = rank_of plan.ranks;
+        level = level_of plan.ranks;
+        rows = rows;
+        file = subst (λ h. IfSome (tells name) (λ bytes. graph_of blocks bytes ≡ Ok h)) (sym same) file;
+        sensors = (all, are, in_time, refl);
+        leaves = leaves;
+        readings = record { plan = plan; graph = refl; levels = refl; readings = k.leaves.readings };
+      };
+      nothing_else = λ e. absurd (both (has_run a.fault) k.ran e);
+      late_message = never_late a.fault refl;
+      late_row = λ actor row seen limit e. absurd (both (has_run a.fault) k.ran (ap has_run e));
+    }
 
-      late : (actor row seen limit : ℕ) → ◌≡◌ {A = Option Fault} (Some fault.Write) (Some (fault.LateRow actor row seen limit)) → ⊥
-      late actor row seen limit e = cc
-  by_outcome (Some (fault.Long (Some platform))) ((g, file, (free, stop)), same) = record {
-    run = λ e. over_plan (Some (fault.Long (Some platform))) g file stop.plan stop.graph stop.run (λ h. absurd (all h)) (λ h. absurd (all h)) (λ h. absurd (part h)) (λ h. same) (λ h. stop.no_misses);
-    nothing_else = λ e. absurd (has e);
-    late_message = λ other actor tag reading limit e. absurd (message other actor tag reading limit e);
-    late_row = λ actor row seen limit e. absurd (late actor row seen limit e);
-  }
-    where
-      all : ◌≡◌ {A = Option Fault} (Some (fault.Long (Some platform))) None → ⊥
-      all h = cc
+  over_graph : (g : Graph) → IfSome (tells name) (λ bytes. graph_of blocks bytes ≡ Ok g) → AfterAdmission tells g (name ∷ []) a (HasRunBy workers clock log a) → Holds a.fault
+  over_graph g file h =
+      by_admission tells a Holds g (name ∷ []) (HasRunBy workers clock log a) h
+      (λ actors is cycle. refused (fault.Cycle actors) is refl (λ platform actor tag reading limit e. absurd cc) (λ actor row seen limit e. absurd cc))
+      (λ free send offset slack is first. refused (fault.Infeasible send offset slack) is refl (λ platform actor tag reading limit e. absurd cc) (λ actor row seen limit e. absurd cc))
+      (λ free feasible sensor is unread. refused (fault.Read (Some sensor)) is refl (λ platform actor tag reading limit e. absurd cc) (λ actor row seen limit e. absurd cc))
+      (λ free feasible sensor f is fails. refused (fault.Sensor sensor f) is refl (λ platform actor tag reading limit e. absurd cc) (λ actor row seen limit e. absurd cc))
+      (λ free feasible actor row seen limit is tardy. late g file actor row seen limit is tardy)
+      (λ plan rows same admitted are in_time k. ran plan rows admitted k g file same are in_time)
 
-      part : ◌≡◌ {A = Option Fault} (Some (fault.Long (Some platform))) (Some fault.Write) → ⊥
-      part h = cc
+  holds : UnlessMemory a (IsDueTo (over (Run workers clock log) name) tells blocks) → Holds a.fault
+  holds (inl h) = with_fault tells a Holds fault.Memory h (refused fault.Memory h refl (λ platform actor tag reading limit e. absurd cc) (λ actor row seen limit e. absurd cc))
+  holds (inr h) =
+      by_file tells a Holds blocks name (λ g. AfterAdmission tells g (name ∷ []) a (HasRunBy workers clock log a)) h
+      (λ is unread. refused (fault.Read None) is refl (λ platform actor tag reading limit e. absurd cc) (λ actor row seen limit e. absurd cc))
+      (λ f is fails. refused (fault.Graph f) is refl (λ platform actor tag reading limit e. absurd cc) (λ actor row seen limit e. absurd cc))
+      over_graph
 
-      has : true ≡ false → ⊥
-      has e = cc
-
-      message : (other actor : ℕ) (tag : Tag) (reading limit : ℕ) → ◌≡◌ {A = Option Fault} (Some (fault.Long (Some platform))) (Some (fault.LateMessage other actor tag reading limit)) → ⊥
-      message other actor tag reading limit e = cc
-
-      late : (actor row seen limit : ℕ) → ◌≡◌ {A = Option Fault} (Some (fault.Long (Some platform))) (Some (fault.LateRow actor row seen limit)) → ⊥
-      late actor row seen limit e = cc
-  by_outcome (Some (fault.LateMessage platform actor tag reading limit)) ((g, file, (free, stop)), same) = record {
-    run = λ e. over_plan (Some (fault.LateMessage platform actor tag reading limit)) g file stop.plan stop.graph stop.run (λ h. absurd (all h)) (λ h. absurd (all h)) (λ h. absurd (part h)) (λ h. same) (λ h. stop.no_misses);
-    nothing_else = λ e. absurd (has e);
-    late_message = λ other receiver at read past e. never_paced left tells blocks r w g workers clock platform actor tag reading limit stop;
-    late_row = λ sensor row seen past e. absurd (late sensor row seen past e);
-  }
-    where
-      all : ◌≡◌ {A = Option Fault} (Some (fault.LateMessage platform actor tag reading limit)) None → ⊥
-      all h = cc
-
-      part : ◌≡◌ {A = Option Fault} (Some (fault.LateMessage platform actor tag reading limit)) (Some fault.Write) → ⊥
-      part h = cc
-
-      has : true ≡ false → ⊥
-      has e = cc
-
-      late : (sensor row seen past : ℕ) → ◌≡◌ {A = Option Fault} (Some (fault.LateMessage platform actor tag reading limit)) (Some (fault.LateRow sensor row seen past)) → ⊥
-      late sensor row seen past e = cc
-  by_outcome (Some (fault.LateRow actor row seen limit)) ((g, file, (free, cause)), same) = refused (fault.LateRow actor row seen limit) refl (cause.2, same) (λ platform receiver tag reading past e. absurd (message platform receiver tag reading past e)) rows
-    where
-      message : (platform receiver : ℕ) (tag : Tag) (reading past : ℕ) → ◌≡◌ {A = Option Fault} (Some (fault.LateRow actor row seen limit)) (Some (fault.LateMessage platform receiver tag reading past)) → ⊥
-      message platform receiver tag reading past e = cc
-
-      rows : (a b c d : ℕ) → Some (fault.LateRow actor row seen limit) ≡ Some (fault.LateRow a b c d) → GraphWith tells blocks name (λ h. SensorLate tells h a b c d)
-      rows a b c d e = (g, file, subst (λ z. SensorLate tells g a b c z) limits (subst (λ z. SensorLate tells g a b z limit) seens (subst (λ z. SensorLate tells g a z seen limit) rows_are (subst (λ z. SensorLate tells g z row seen limit) actors cause.1))))
-        where
-          actors : actor ≡ a
-          actors = cc
-
-          rows_are : row ≡ b
-          rows_are = cc
-
-          seens : seen ≡ c
-          seens = cc
-
-          limits : limit ≡ d
-          limits = cc
-  by_outcome (Some (fault.Long None)) ((g, file, (free, cause)), same) = absurd cause
-  by_outcome (Some (fault.Ring sends gain)) ((g, file, (free, cause)), same) = absurd cause
-  by_outcome (Some fault.ReadLog) ((g, file, (free, cause)), same) = absurd cause
-  by_outcome (Some (fault.Unlawful v)) ((g, file, (free, cause)), same) = absurd cause
-  by_outcome (Some (fault.LateAir platform actor tag reading limit row)) ((g, file, (free, cause)), same) = absurd cause
-  by_outcome (Some (fault.Air e)) ((g, file, (free, cause)), same) = absurd cause
-  by_outcome (Some fault.ReadAir) ((g, file, (free, cause)), same) = absurd cause
-  by_outcome (Some fault.Usage) k = absurd k
-  by_outcome (Some (fault.Graph f)) k = refused (fault.Graph f) refl (k.1, k.2) (λ platform actor tag reading limit e. absurd cc) (λ actor row seen limit e. absurd cc)
-  by_outcome (Some (fault.Cycle actors)) ((g, file, cause), same) = refused (fault.Cycle actors) refl (cause.1, same) (λ platform actor tag reading limit e. absurd cc) (λ actor row seen limit e. absurd cc)
-  by_outcome (Some (fault.Infeasible send offset slack)) ((g, file, (free, cause)), same) = refused (fault.Infeasible send offset slack) refl (cause.1, same) (λ platform actor tag reading limit e. absurd cc) (λ actor row seen limit e. absurd cc)
-  by_outcome (Some (fault.Sensor actor f)) ((g, file, (free, cause)), same) = refused (fault.Sensor actor f) refl (cause.2, same) (λ platform actor tag reading limit e. absurd cc) (λ actor row seen limit e. absurd cc)
-  by_outcome (Some (fault.Read None)) k = refused (fault.Read None) refl (k.1, k.2) (λ platform actor tag reading limit e. absurd cc) (λ actor row seen limit e. absurd cc)
-  by_outcome (Some (fault.Read (Some actor))) ((g, file, (free, cause)), same) = refused (fault.Read (Some actor)) refl (cause.2, same) (λ platform actor tag reading limit e. absurd cc) (λ actor row seen limit e. absurd cc)
-  by_outcome (Some fault.Memory) k = refused fault.Memory refl k (λ platform actor tag reading limit e. absurd cc) (λ actor row seen limit e. absurd cc)
-
-pub headline : (o : Option Fault) (left : Leaves) (order : Option Order) (tells : Contents) (blocks : List Named) (r : Reading) (w : Writing) → Ends o left order tells blocks r w → IsHeadline o left order tells blocks w
-headline o left order tells blocks r w ends workers clock log name words = by_outcome left workers clock log tells blocks name r w o (subst (λ z. Ends o left z tells blocks r w) words ends)
+pub headline : (order : Option Order) (tells : Contents) (blocks : List Named) (a : Answer) → IsDue order tells blocks a → HasHeadline a.fault a.left order tells blocks a.wrote
+headline order tells blocks a due workers clock log name words = holds tells blocks name workers clock log a (subst (λ z. IsDue z tells blocks a) words due)

@@ -5,6 +5,7 @@ pub mod OneDue
 pub mod Puts
 pub mod Telling
 pub mod Ending
+pub mod OverPlan
 pub mod Planned
 pub mod Asks
 pub mod Told
@@ -12,8 +13,6 @@ pub mod Complete
 pub mod Agreeing
 pub mod Made
 pub mod Migrating
-pub mod Auditing
-pub mod Replaying
 pub mod Judging
 pub mod OnePlan
 pub mod SlackRuns

@@ -57,7 +57,8 @@ use Rattle.pt_run.specs.Asking.{in_words}
 use Rattle.pt_blocks.specs.declared.blocks.Named.{Named}
 use Rattle.pt_sensors.specs.Asked.{Contents, Reading}
 use Rattle.pt_sensors.proofs.Asking.{asks_none}
-use Rattle.pt_run.specs.Making.{AsksOf, IsMadeRun}
+use Rattle.pt_run.specs.Asks.{AsksOf}
+use Rattle.pt_run.specs.Making.{IsMadeRun}
 use Rattle.pt_run.specs.Telling.{Tells}
 use Rattle.pt_offsets.specs.Faults.{CauseOfPlan}
 use Rattle.pt_offsets.specs.declared.fault.PlanFault.{PlanFault}

@@ -7,8 +7,8 @@ use Rattle.pt_sensors.specs.Asked.{Contents}
 use Rattle.pt_run.specs.Complete.{IsComplete, IsCompleteByAnyClock}
 use Rattle.pt_run.specs.Due.{Answer, IsDue}
 use Rattle.pt_run.specs.Exact.{IsExact}
-use Rattle.pt_run.specs.Headline.{IsHeadline}
 use Rattle.pt_run.specs.InBounds.{IsCompleteInBounds}
+use Rattle.pt_run.specs.OverFiles.{HasHeadline}
 use Rattle.pt_run.specs.Replaying.{IsReplayHeadline}
 use Rattle.pt_run.specs.Statuses.{status_of}
 use Rattle.pt_run.specs.Words.{Order}
@@ -18,19 +18,19 @@ use Rattle.pt_run.proofs.Complete as completes
 use Rattle.pt_run.proofs.CompleteInBounds as in_bounds
 use Rattle.pt_run.proofs.DueEnds.{due_ends}
 use Rattle.pt_run.proofs.Exact as comes
-use Rattle.pt_run.proofs.Headline as headlines
 use Rattle.pt_run.proofs.OneDue.{exactly}
+use Rattle.pt_run.proofs.Headline as headlines
 use Rattle.pt_run.proofs.Replayed as replays
 
 module _ (order : Option Order) (tells : Contents) (blocks : List Named) (a : Answer) (due : IsDue order tells blocks a) where
   ends : Ends a.fault a.left order tells blocks a.read a.wrote
   ends = due_ends tells blocks a order due
 
-  pub headline : IsHeadline a.fault a.left order tells blocks a.wrote
-  headline = headlines.headline a.fault a.left order tells blocks a.read a.wrote ends
+  pub headline : HasHeadline a.fault a.left order tells blocks a.wrote
+  headline = headlines.headline order tells blocks a due
 
   pub replay_headline : IsReplayHeadline a.fault a.left order tells blocks a.wrote
-  replay_headline = replays.replay_headline a.fault a.left order tells blocks a.read a.wrote ends
+  replay_headline = replays.replay_headline order tells blocks a due
 
   pub exact : IsExact a.fault order tells blocks
   exact = exactly order tells blocks a (comes.exact a.fault a.left order tells blocks a.read a.wrote ends) due

@@ -7,11 +7,11 @@ use Rattle.pt_sensors.specs.Asked.{Contents, Reading}
 use Rattle.pt_run.specs.declared.fault.Fault.{Fault}
 use Rattle.pt_run.specs.declared.fault.Fault.TheVariants as fault
 use Rattle.pt_run.specs.Causes.{Writing}
-use Rattle.pt_run.specs.Headline.{RunWith}
+use Rattle.pt_run.specs.Leaving.{RunWith}
 use Rattle.pt_run.specs.Words.{paced_run}
 use Rattle.pt_run.specs.Written.{Leaves}
 use Rattle.pt_run.proofs.ByFault.{EndsAudit, EndsBy, EndsReplay}
-use Rattle.pt_run.proofs.Auditing.{not_before}
+use Rattle.pt_run.proofs.Stages.{not_true}
 
 -- the graph file defines an admitted graph, and its sensors' files have rows, none of which is late
 abbrev pub HasRows : Contents → List Named → List ℕ → Type 0
@@ -38,13 +38,13 @@ module _ (left : Leaves) (name : List ℕ) (tells : Contents) (blocks : List Nam
     audit_past (Some (fault.Read sensor)) k = as_run k.2
     audit_past (Some (fault.Sensor actor f)) k = as_run k.2
     audit_past (Some (fault.LateRow actor row seen limit)) k = as_run k.2
-    audit_past (Some fault.Usage) k = absurd (not_before k.0)
-    audit_past (Some (fault.Ring sends gain)) k = absurd (not_before k.0)
-    audit_past (Some (fault.LateMessage platform actor tag reading limit)) k = absurd (not_before k.0)
-    audit_past (Some (fault.LateAir platform actor tag reading limit row)) k = absurd (not_before k.0)
-    audit_past (Some (fault.Long platform)) k = absurd (not_before k.0)
-    audit_past (Some (fault.Air f)) k = absurd (not_before k.0)
-    audit_past (Some fault.ReadAir) k = absurd (not_before k.0)
+    audit_past (Some fault.Usage) k = absurd (not_true k.0)
+    audit_past (Some (fault.Ring sends gain)) k = absurd (not_true k.0)
+    audit_past (Some (fault.LateMessage platform actor tag reading limit)) k = absurd (not_true k.0)
+    audit_past (Some (fault.LateAir platform actor tag reading limit row)) k = absurd (not_true k.0)
+    audit_past (Some (fault.Long platform)) k = absurd (not_true k.0)
+    audit_past (Some (fault.Air f)) k = absurd (not_true k.0)
+    audit_past (Some fault.ReadAir) k = absurd (not_true k.0)
 
   module _ (air : List ℕ) (log : Bool) where
     pub replay_past : (o : Option Fault) → EndsReplay o left name air log tells blocks r w → PastRows left name tells blocks r w o
@@ -61,9 +61,9 @@ module _ (left : Leaves) (name : List ℕ) (tells : Contents) (blocks : List Nam
     replay_past (Some (fault.Read sensor)) k = as_run k.2
     replay_past (Some (fault.Sensor actor f)) k = as_run k.2
     replay_past (Some (fault.LateRow actor row seen limit)) k = as_run k.2
-    replay_past (Some fault.Usage) k = absurd (not_before k.0)
-    replay_past (Some (fault.Ring sends gain)) k = absurd (not_before k.0)
-    replay_past (Some (fault.LateMessage platform actor tag reading limit)) k = absurd (not_before k.0)
-    replay_past (Some (fault.Long None)) k = absurd (not_before k.0)
-    replay_past (Some fault.ReadLog) k = absurd (not_before k.0)
-    replay_past (Some (fault.Unlawful v)) k = absurd (not_before k.0)
+    replay_past (Some fault.Usage) k = absurd (not_true k.0)
+    replay_past (Some (fault.Ring sends gain)) k = absurd (not_true k.0)
+    replay_past (Some (fault.LateMessage platform actor tag reading limit)) k = absurd (not_true k.0)
+    replay_past (Some (fault.Long None)) k = absurd (not_true k.0)
+    replay_past (Some fault.ReadLog) k = absurd (not_true k.0)
+    replay_past (Some (fault.Unlawful v)) k = absurd (not_true k.0)

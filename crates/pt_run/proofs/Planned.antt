@@ -1,5 +1,5 @@
 -- How a run over a graph ends, by how it ends over its plan.
-use Rattle.std.proofs.Common.{◌≡◌, ◌≢◌, ℕ, Bool, true, false, List, [], length, Option, Some, None, Result, Ok, Err, IfOk, IfErr, refl, sym, ap, subst, ◌∙◌, inl, inr, ⊎_elim}
+use Rattle.std.proofs.Common.{◌≡◌, ◌≢◌, ◌⊎◌, ℕ, ℤ, Bool, true, false, List, [], length, Option, Some, None, Result, Ok, Err, IfOk, IfErr, refl, sym, ap, subst, ◌∙◌, inl, inr, ⊎_elim}
 use Rattle.std.specs.Prelude.{string_bytes}
 use Rattle.pt_io.specs.Causes.{Appends, AppendsPart, Rose}
 use Rattle.pt_types.specs.declared.graph.Graph.{Graph}
@@ -29,12 +29,12 @@ use Rattle.pt_words.specs.declared.orders.ClockChoice.TheVariants.{Machine, Pace
 use Rattle.pt_run.specs.Clocks.{AreBackBy, AreBackAfterRun}
 use Rattle.pt_run.specs.declared.outcome.Ending.{Ending}
 use Rattle.pt_run.specs.declared.words.Command.TheVariants.{Run}
-use Rattle.pt_run.specs.Due.{AfterAdmission, Answer, IsDueFor, RefusedWith, UnlessMemory}
+use Rattle.pt_run.specs.Due.{AfterAdmission, AfterCycles, AfterOffsets, Answer, EndsRefused, IsDueFor, RefusedWith, UnlessMemory}
 use Rattle.pt_run.specs.Faults.{fault_of_plan, fault_of_rows}
-use Rattle.pt_run.specs.Headline.{LeavesRun, PutsMeaning, stop_of}
-use Rattle.pt_run.specs.Written.{Leaves, clocking, has_run}
+use Rattle.pt_run.specs.Leaving.{LeavesRun, PutsMeaning}
+use Rattle.pt_run.specs.Written.{Leaves, clocking, has_run, leaves_nothing, stop_of}
 use Rattle.pt_run.specs.Causes.{Writing}
-use Rattle.pt_run.specs.Texts.{HasEnded, IsStopped, IsUnplanned, LeftAll, WroteRun, left_with, left_by_run}
+use Rattle.pt_run.specs.Texts.{HasEnded, IsStopped, LeftAll, WroteRun, left_by, left_by_run, left_with}
 use Rattle.pt_run.proofs.Ending.{has_nothing}
 
 -- what a call leaves, with what the clocks showed before its run and after it
@@ -172,16 +172,45 @@ back (Err (stop.Late platform actor tag reading limit platforms)) o w Machine be
         done e = cc
 back (Err stop.Memory) o w clock before now h kept never = absurd (never h.0.0)
 
--- a graph without a plan was reported
-pub unplanned : (o : Ending) (before now : List ClockView) (tells : Contents) (g : Graph) (r : Reading) (w : Writing) (Then : Answer → Parts → (ℕ → List Row) → Type 0) → IsUnplanned g o → w.written_now ≡ w.written_before →
-    UnlessMemory (record { fault = o.fault; left = left_with o before now; read = r; wrote = w }) (λ a. AfterAdmission tells g [] a (Then a))
-unplanned o before now tells g r w Then (none, f, cause, is) still =
-    ⊎_elim
-    (λ (it : o.fault ≡ Some (fault_of_plan f)). by_fault f it cause)
-    (λ (it : o.fault ≡ Some fault.Memory). inl (it, has_nothing o before now none, still))
-    is
+-- a graph without a plan was reported, or there was no memory for its line
+pub plan_refused : (f : PlanFault) (told : Fault) (g : Graph) (o : Ending) → CauseOfPlan f g → (told ≡ fault_of_plan f) ⊎ (told ≡ fault.Memory) → o.fault ≡ Some told → left_by o ≡ leaves_nothing → EndsRefused o (λ a. AfterCycles g a (AfterOffsets g a ⊥))
+plan_refused f told g o cause tell is none = (none, told, is, λ r a same out. ⊎_elim (λ (e : told ≡ fault_of_plan f). by_fault f cause a (subst (λ z. RefusedWith z a) e out)) (λ (e : told ≡ fault.Memory). inl (subst (λ z. RefusedWith z a) e out)) tell)
   where
-    by_fault : (e : PlanFault) → o.fault ≡ Some (fault_of_plan e) → CauseOfPlan e g → UnlessMemory (record { fault = o.fault; left = left_with o before now; read = r; wrote = w }) (λ a. AfterAdmission tells g [] a (Then a))
-    by_fault (plan.Cycle actors) it k = inr (inl (actors, (it, has_nothing o before now none, still), k))
-    by_fault (plan.Infeasible send offset slack) it k = inr (inr (k.0, inl (send, offset, slack, (it, has_nothing o before now none, still), k.1)))
-    by_fault plan.Memory it k = inl (it, has_nothing o before now none, still)
+    by_fault : (e : PlanFault) → CauseOfPlan e g → (a : Answer) → RefusedWith (fault_of_plan e) a → UnlessMemory a (λ a. AfterCycles g a (AfterOffsets g a ⊥))
+    by_fault (plan.Cycle actors) k a out = inr (inl (actors, out, k))
+    by_fault (plan.Infeasible send offset slack) k a out = inr (inr (k.0, inl (send, offset, slack, out, k.1)))
+    by_fault plan.Memory k a out = inl out
+
+pub no_plan_memory : (told : Fault) (g : Graph) (o : Ending) → (told ≡ fault.Memory) ⊎ (told ≡ fault.Memory) → o.fault ≡ Some told → left_by o ≡ leaves_nothing → EndsRefused o (λ a. AfterCycles g a (AfterOffsets g a ⊥))
+no_plan_memory told g o tell is none = plan_refused plan.Memory told g o tt tell is none
+
+-- a graph that is refused before its rows are read
+module _ (o : Ending) (g : Graph) (refused : EndsRefused o (λ a. AfterCycles g a (AfterOffsets g a ⊥))) where
+  pub unplanned : (before now : List ClockView) (tells : Contents) (r : Reading) (w : Writing) (Then : Answer → Parts → (ℕ → List Row) → Type 0) → w.written_now ≡ w.written_before →
+      UnlessMemory (record { fault = o.fault; left = left_with o before now; read = r; wrote = w }) (λ a. AfterAdmission tells g [] a (Then a))
+  unplanned before now tells r w Then still = past (refused.3 r a refl (refused.2, has_nothing o before now refused.0, still))
+    where
+      a : Answer
+      a = record { fault = o.fault; left = left_with o before now; read = r; wrote = w }
+
+      past : UnlessMemory a (λ a. AfterCycles g a (AfterOffsets g a ⊥)) → UnlessMemory a (λ a. AfterAdmission tells g [] a (Then a))
+      past (inl out) = inl out
+      past (inr (inl k)) = inr (inl k)
+      past (inr (inr (free, inl k))) = inr (inr (free, inl k))
+      past (inr (inr (free, inr k))) = absurd k.1
+
+  -- its fault is one of these
+  pub by_refusal : (Goal : Option Fault → Type 0) → ((actors : List ℕ) → Goal (Some (fault.Cycle actors))) → ((send : ℕ) (offset : ℤ) (slack : ℕ) → Goal (Some (fault.Infeasible send offset slack))) → Goal (Some fault.Memory) → Goal o.fault
+  by_refusal Goal cyclic slow memory = by_stage (refused.3 r a refl (refused.2, has_nothing o [] [] refused.0, refl))
+    where
+      r : Reading
+      r = record { asked_before = None; asked_now = None; before = 0; now = 0 }
+
+      a : Answer
+      a = record { fault = o.fault; left = left_by o; read = r; wrote = record { before = 0; now = 0; written_before = None; written_now = None } }
+
+      by_stage : UnlessMemory a (λ a. AfterCycles g a (AfterOffsets g a ⊥)) → Goal o.fault
+      by_stage (inl out) = subst Goal (sym out.0) memory
+      by_stage (inr (inl k)) = subst Goal (sym k.1.0) (cyclic k.0)
+      by_stage (inr (inr (free, inl k))) = subst Goal (sym k.3.0) (slow k.0 k.1 k.2)
+      by_stage (inr (inr (free, inr k))) = absurd k.1

@@ -1,27 +1,33 @@
 -- What holds of a replay, of how it ends.
-use Rattle.std.proofs.Common.{◌≡◌, ◌≢◌, ℕ, Bool, true, false, List, Option, Some, None, refl, sym, ap, subst}
+use Rattle.std.proofs.Common.{◌≡◌, ◌≢◌, [], ◌∷◌, ℕ, Bool, true, false, List, Option, Some, None, Ok, IfSome, refl, sym, ap, subst, inl, inr}
+use Rattle.pt_types.specs.declared.graph.Graph.{Graph}
 use Rattle.pt_types.specs.declared.rows.Row.{Row}
 use Rattle.pt_blocks.specs.declared.blocks.Named.{Named}
+use Rattle.pt_graph.specs.GraphOf.{graph_of}
 use Rattle.pt_semantics.proofs.Lookups.{none_some}
 use Rattle.pt_causality.specs.Ranked.{level_of}
-use Rattle.pt_offsets.specs.Plans.{Parts}
+use Rattle.pt_offsets.specs.Plans.{IsAdmitted, Parts}
 use Rattle.pt_turn.specs.declared.fault.TurnFault.{TurnFault}
 use Rattle.pt_turn.specs.declared.fault.TurnFault.TheVariants as turn
 use Rattle.pt_turn.specs.Platforms.{state_at}
 use Rattle.pt_turn.specs.Running.{Shows}
+use Rattle.pt_sensors.specs.declared.recorded_fault.LateRows.TheVariants.{Refused}
 use Rattle.pt_sensors.specs.Asked.{Contents, Reading}
+use Rattle.pt_sensors.specs.Places.{of_run}
+use Rattle.pt_sensors.specs.Recorded.{AllPass, AreRows}
 use Rattle.pt_air.specs.declared.air.Air.{Air}
 use Rattle.pt_aired.specs.HaveFlown.{HaveFlown}
 use Rattle.pt_run.specs.declared.fault.Fault.{Fault}
 use Rattle.pt_run.specs.declared.fault.Fault.TheVariants as fault
 use Rattle.pt_run.specs.Causes.{Writing}
 use Rattle.pt_run.specs.Complete.{OnPlatform}
-use Rattle.pt_run.specs.Headline.{RunWith}
-use Rattle.pt_run.specs.Replaying.{IsReplayHeadline, LeavesReplay, OnAir, ReplayHeadline, has_replayed}
-use Rattle.pt_run.specs.Words.{Order}
-use Rattle.pt_run.specs.Written.{HasNothing, Leaves}
-use Rattle.pt_run.proofs.ByFault.{Ends, EndsReplay}
-use Rattle.pt_run.proofs.Auditing.{not_before}
+use Rattle.pt_run.specs.Due.{AfterAdmission, Answer, IsDue, IsDueTo, IsReplayedBy, RefusedWith, UnlessMemory}
+use Rattle.pt_run.specs.Replaying.{IsReplayHeadline, ReplayHeadline, has_replayed}
+use Rattle.pt_run.specs.Words.{Order, replay}
+use Rattle.pt_run.specs.Written.{Leaves}
+use Rattle.pt_run.proofs.ByFault.{EndsReplay}
+use Rattle.pt_run.proofs.Stages.{not_true}
+use Rattle.pt_run.proofs.Stages.{by_admission, by_file, with_fault}
 
 -- the platform that stopped a replay, as its recorded turns show
 pub stopped_in_air : (left : Leaves) (plan : Parts) (rows : ℕ → List Row) (recorded : Air) (platform : ℕ) (f : TurnFault) → HaveFlown plan (level_of plan.ranks) rows recorded left.platforms (Some (platform, f)) →
@@ -44,43 +50,46 @@ module _ (left : Leaves) (name air : List ℕ) (log : Bool) (tells : Contents) (
   unwritten_in_air (fault.Infeasible send offset slack) never k = k.2.1
   unwritten_in_air (fault.Sensor actor f) never k = k.2.1
   unwritten_in_air (fault.LateRow actor row seen limit) never k = k.2.1
-  unwritten_in_air fault.Usage never k = absurd (not_before k.0)
-  unwritten_in_air (fault.Ring sends gain) never k = absurd (not_before k.0)
-  unwritten_in_air (fault.LateMessage platform actor tag reading limit) never k = absurd (not_before k.0)
-  unwritten_in_air (fault.Long None) never k = absurd (not_before k.0)
-  unwritten_in_air fault.ReadLog never k = absurd (not_before k.0)
-  unwritten_in_air (fault.Unlawful v) never k = absurd (not_before k.0)
+  unwritten_in_air fault.Usage never k = absurd (not_true k.0)
+  unwritten_in_air (fault.Ring sends gain) never k = absurd (not_true k.0)
+  unwritten_in_air (fault.LateMessage platform actor tag reading limit) never k = absurd (not_true k.0)
+  unwritten_in_air (fault.Long None) never k = absurd (not_true k.0)
+  unwritten_in_air fault.ReadLog never k = absurd (not_true k.0)
+  unwritten_in_air (fault.Unlawful v) never k = absurd (not_true k.0)
 
-  not_both : (b : Bool) → b ≡ true → b ≡ false → ⊥
-  not_both b e h = cc
+not_both : (b : Bool) → b ≡ true → b ≡ false → ⊥
+not_both b e h = cc
 
-  ran : (o : Option Fault) → has_replayed o ≡ true → RunWith tells blocks name (OnAir tells air (LeavesReplay log o left w)) → ReplayHeadline o left log tells blocks name air w
-  ran o is h = record { run = λ e. h; nothing_else = λ e. absurd (not_both (has_replayed o) is e) }
+module _ (tells : Contents) (blocks : List Named) (name air : List ℕ) (workers : ℕ) (log : Bool) (a : Answer) where
+  abbrev Holds : Option Fault → Type 0
+  Holds o = ReplayHeadline o a.left log tells blocks name air a.wrote
 
-  refused : (f : Fault) → has_replayed (Some f) ≡ false → HasNothing left → w.written_now ≡ w.written_before → ReplayHeadline (Some f) left log tells blocks name air w
-  refused f none nothing still = record { run = λ e. absurd (not_both (has_replayed (Some f)) e none); nothing_else = λ e. (nothing, still) }
+  refused : (f : Fault) → RefusedWith f a → has_replayed (Some f) ≡ false → Holds (Some f)
+  refused f h none = record { run = λ e. absurd (not_both (has_replayed (Some f)) e none); nothing_else = λ e. (h.1, h.2) }
 
-  by_outcome : (o : Option Fault) → EndsReplay o left name air log tells blocks r w → ReplayHeadline o left log tells blocks name air w
-  by_outcome None k = ran None refl k
-  by_outcome (Some fault.Write) k = ran (Some fault.Write) refl k.1
-  by_outcome (Some (fault.Long (Some platform))) k = ran (Some (fault.Long (Some platform))) refl k
-  by_outcome (Some (fault.LateAir platform actor tag reading limit row)) k = ran (Some (fault.LateAir platform actor tag reading limit row)) refl k
-  by_outcome (Some (fault.Air f)) k = refused (fault.Air f) refl k.0 k.2
-  by_outcome (Some fault.ReadAir) k = refused fault.ReadAir refl k.0 k.2
-  by_outcome (Some fault.Memory) k = refused fault.Memory refl k.0 k.1
-  by_outcome (Some (fault.Graph f)) k = refused (fault.Graph f) refl k.1 k.2.2
-  by_outcome (Some (fault.Read None)) k = refused (fault.Read None) refl k.1 k.2.2
-  by_outcome (Some (fault.Read (Some actor))) k = refused (fault.Read (Some actor)) refl k.1 k.2.1
-  by_outcome (Some (fault.Cycle actors)) k = refused (fault.Cycle actors) refl k.1 k.2.1
-  by_outcome (Some (fault.Infeasible send offset slack)) k = refused (fault.Infeasible send offset slack) refl k.1 k.2.1
-  by_outcome (Some (fault.Sensor actor f)) k = refused (fault.Sensor actor f) refl k.1 k.2.1
-  by_outcome (Some (fault.LateRow actor row seen limit)) k = refused (fault.LateRow actor row seen limit) refl k.1 k.2.1
-  by_outcome (Some fault.Usage) k = absurd (not_before k.0)
-  by_outcome (Some (fault.Ring sends gain)) k = absurd (not_before k.0)
-  by_outcome (Some (fault.LateMessage platform actor tag reading limit)) k = absurd (not_before k.0)
-  by_outcome (Some (fault.Long None)) k = absurd (not_before k.0)
-  by_outcome (Some fault.ReadLog) k = absurd (not_before k.0)
-  by_outcome (Some (fault.Unlawful v)) k = absurd (not_before k.0)
+  replayed : (g : Graph) → IfSome (tells name) (λ bytes. graph_of blocks bytes ≡ Ok g) → (plan : Parts) (all : ℕ → List Row) → plan.graph ≡ g → IsAdmitted plan → AreRows tells plan.graph all → AllPass Refused plan.graph all →
+      IsReplayedBy air log tells g (name ∷ []) a plan (of_run plan.graph all) → Holds a.fault
+  replayed g file plan all same admitted are in_time (inl h) = with_fault tells a Holds fault.ReadAir h.0 (refused fault.ReadAir h.0 refl)
+  replayed g file plan all same admitted are in_time (inr (inl h)) = with_fault tells a Holds (fault.Air h.0) h.1 (refused (fault.Air h.0) h.1 refl)
+  replayed g file plan all same admitted are in_time (inr (inr h)) = record {
+    run = λ e. record {
+      plan = plan;
+      file = subst (λ z. IfSome (tells name) (λ bytes. graph_of blocks bytes ≡ Ok z)) (sym same) file;
+      over = record { admitted = admitted; rows = all; sensors = are; in_time = in_time; went = h.leaves };
+    };
+    nothing_else = λ e. absurd (not_both (has_replayed a.fault) h.ran e);
+  }
 
-pub replay_headline : (o : Option Fault) (left : Leaves) (order : Option Order) (tells : Contents) (blocks : List Named) (r : Reading) (w : Writing) → Ends o left order tells blocks r w → IsReplayHeadline o left order tells blocks w
-replay_headline o left order tells blocks r w ends workers log name air words = by_outcome left name air log tells blocks r w o (subst (λ z. Ends o left z tells blocks r w) words ends)
+  over_graph : (g : Graph) → IfSome (tells name) (λ bytes. graph_of blocks bytes ≡ Ok g) → AfterAdmission tells g (name ∷ []) a (IsReplayedBy air log tells g (name ∷ []) a) → Holds a.fault
+  over_graph g file h =
+      by_admission tells a Holds g (name ∷ []) (IsReplayedBy air log tells g (name ∷ []) a) h (λ actors is cycle. refused (fault.Cycle actors) is refl)
+      (λ free send offset slack is first. refused (fault.Infeasible send offset slack) is refl) (λ free feasible sensor is unread. refused (fault.Read (Some sensor)) is refl)
+      (λ free feasible sensor f is fails. refused (fault.Sensor sensor f) is refl) (λ free feasible actor row seen limit is tardy. refused (fault.LateRow actor row seen limit) is refl) (replayed g file)
+
+  holds : UnlessMemory a (IsDueTo (replay name air workers log) tells blocks) → Holds a.fault
+  holds (inl h) = with_fault tells a Holds fault.Memory h (refused fault.Memory h refl)
+  holds (inr h) =
+      by_file tells a Holds blocks name (λ g. AfterAdmission tells g (name ∷ []) a (IsReplayedBy air log tells g (name ∷ []) a)) h (λ is unread. refused (fault.Read None) is refl) (λ f is fails. refused (fault.Graph f) is refl) over_graph
+
+pub replay_headline : (order : Option Order) (tells : Contents) (blocks : List Named) (a : Answer) → IsDue order tells blocks a → IsReplayHeadline a.fault a.left order tells blocks a.wrote
+replay_headline order tells blocks a due workers log name air words = holds tells blocks name air workers log a (subst (λ z. IsDue z tells blocks a) words due)

@@ -39,7 +39,7 @@ use Rattle.pt_aired.specs.HaveFlown.{HaveFlown, IsAfterReplay}
 use Rattle.pt_run.specs.declared.fault.Fault.{Fault}
 use Rattle.pt_run.specs.Agreeing.{TellsAll}
 use Rattle.pt_run.specs.Causes.{Writing}
-use Rattle.pt_run.specs.Headline.{PutsMeaning, RunWith}
+use Rattle.pt_run.specs.Leaving.{PutsMeaning, RunWith}
 use Rattle.pt_run.specs.Replaying.{LeavesReplay, OnAir, stop_of_replay}
 use Rattle.pt_run.specs.ReplaysAgreeing.{AreStoppedAlike, LeaveAlike, ReplayCallsAgree, ReplaysAgree, WritesTables}
 use Rattle.pt_run.specs.Runs.{IsKept, log_if}
@@ -47,7 +47,6 @@ use Rattle.pt_run.specs.Words.{replay}
 use Rattle.pt_run.specs.Written.{Leaves}
 use Rattle.pt_run.proofs.CallsAgreeing.{of_bytes}
 use Rattle.pt_run.proofs.Complete.{same_ok}
-use Rattle.pt_run.proofs.DueEnds.{due_ends}
 use Rattle.pt_run.proofs.OneStop.{stop_one, turns_of}
 use Rattle.pt_run.proofs.Replayed.{replay_headline}
 use Rattle.pt_run.proofs.RunsAgreeing.{by_histories, same_list, same_log, same_rows}
@@ -215,5 +214,5 @@ replay_calls_agree workers others log logged tells blocks name air bytes a b all
     let order = replay name air workers log in
     let asked = replay name air others logged in
     alike log logged tells blocks name air bytes a.fault b.fault a.left b.left a.read b.read a.wrote b.wrote all told
-    ((replay_headline a.fault a.left (Some order) tells blocks a.read a.wrote (due_ends tells blocks a (Some order) due) workers log name air refl).run ran)
-    ((replay_headline b.fault b.left (Some asked) tells blocks b.read b.wrote (due_ends tells blocks b (Some asked) more) others logged name air refl).run too)
+    ((replay_headline (Some order) tells blocks a due workers log name air refl).run ran)
+    ((replay_headline (Some asked) tells blocks b more others logged name air refl).run too)

@@ -1,5 +1,5 @@
 -- From stage to stage of what is due.
-use Rattle.std.proofs.Common.{◌≡◌, ◌⊎◌, ◌∙◌, ℕ, ℤ, ◌≤◌, Bool, true, false, List, [], ◌∷◌, Option, Some, None, Ok, Err, IfSome, sym, ap, subst, inl, inr, ⊎_elim}
+use Rattle.std.proofs.Common.{◌≡◌, ◌⊎◌, ◌∙◌, ℕ, ℤ, ◌≤◌, Bool, true, false, List, [], ◌∷◌, Option, Some, None, Ok, Err, IfSome, sym, ap, subst, inl, inr}
 use Rattle.pt_io.specs.Causes.{Appends, AppendsPart, Rose}
 use Rattle.pt_types.specs.declared.graph.Graph.{Graph}
 use Rattle.pt_types.specs.declared.rows.Row.{Row}
@@ -23,13 +23,15 @@ use Rattle.pt_run.specs.declared.fault.Fault.{Fault}
 use Rattle.pt_run.specs.declared.fault.Fault.TheVariants as fault
 use Rattle.pt_run.specs.declared.words.Command.{Command}
 use Rattle.pt_run.specs.declared.words.Command.TheVariants.{Run, Check, Meaning, Slacks}
+use Rattle.pt_run.specs.Asks.{all_sensors}
 use Rattle.pt_run.specs.Auditing.{LastFails, lawful_line}
-use Rattle.pt_run.specs.Causes.{CauseOfGraph, Writing}
-use Rattle.pt_run.specs.Due.{AfterAdmission, AfterCycles, AfterFile, AfterOffsets, AfterRows, Answer, HasRunBy, IsAudited, IsDueFor, IsDueTo, IsJudgedBy, IsMeantBy, IsReplayed, IsReplayedBy, IsSlackedBy, OnlyPuts, PutsText, RefusedWith, UnlessMemory, WithPlan}
+use Rattle.pt_run.specs.Causes.{Writing}
+use Rattle.pt_run.specs.Due.{AfterAdmission, AfterAir, AfterCycles, AfterFile, AfterOffsets, AfterRows, Answer, HasRunBy, IsAudited, IsDueFor, IsDueTo, IsJudgedBy, IsMeantBy, IsReplayed, IsReplayedBy, IsSlackedBy, OnlyPuts, PutsText, RefusedWith, RefusesAsDue, UnlessMemory, WithPlan}
 use Rattle.pt_run.specs.Replaying.{has_replayed}
 use Rattle.pt_run.specs.Telling.{AreOfGraph}
 use Rattle.pt_run.specs.Words.{over, audit, replay}
 use Rattle.pt_run.specs.Written.{FitOnAll, HasNothing, IsChecked, IsTables, Leaves, has_run}
+use Rattle.pt_run.proofs.Ending.{past_file, told_due}
 use Rattle.pt_run.proofs.Told.{of_none}
 
 pub not_true : false ≡ true → ⊥
@@ -154,7 +156,7 @@ module _ (tells : Contents) (blocks : List Named) (name : List ℕ) (g : Graph) 
   }
 
   last_fails : (file : List ℕ) → LastFails g [] file inner → LastFails g (name ∷ []) file outer
-  last_fails file (n, failed) = (n, read_after (name ∷ []) (files_before g n) file first asked now start before last asks grew failed)
+  last_fails file failed = read_after (name ∷ []) (all_sensors g) file first asked now start before last asks grew failed
 
   -- the answer, if it is by what was read of the graph's files, and if by what was read in all
   abbrev there : Answer
@@ -177,15 +179,20 @@ module _ (tells : Contents) (blocks : List Named) (name : List ℕ) (g : Graph) 
       (λ k. inr (inr (g, read, on_admission o left inner outer w tells g [] (name ∷ []) unread (IsReplayedBy air log tells g [] there) (IsReplayedBy air log tells g (name ∷ []) here) (on_replayed o left inner outer w air log tells g [] (name ∷ []) (last_fails air)) k))) h
 
 -- the graph file gave no graph
-module _ (tells : Contents) (blocks : List Named) (name : List ℕ) (a : Answer) (Then : Graph → Type 0) (nothing : HasNothing a.left) (still : a.wrote.written_now ≡ a.wrote.written_before) where
-  pub graph_refused : (f : Fault) → a.fault ≡ Some f → CauseOfGraph f tells blocks name a.read → UnlessMemory a (λ z. AfterFile tells blocks name z Then)
-  graph_refused (fault.Graph f) is cause = inr (inr (inl (f, (is, nothing, still), cause)))
-  graph_refused (fault.Read None) is cause = inr (inl ((is, nothing, still), cause))
-  graph_refused fault.Memory is cause = inl (is, nothing, still)
-  graph_refused f is cause = absurd cause
+pub graph_told : (tells : Contents) (blocks : List Named) (name : List ℕ) (a : Answer) (Then : Graph → Type 0) → HasNothing a.left → a.wrote.written_now ≡ a.wrote.written_before → (f told : Fault) → a.fault ≡ Some told → (told ≡ f) ⊎ (told ≡ fault.Memory) →
+    RefusesAsDue f a.read (λ a. AfterFile tells blocks name a (λ g. ⊥)) → UnlessMemory a (λ z. AfterFile tells blocks name z Then)
+graph_told tells blocks name a Then nothing still f told is tell refuses = past_file tells blocks name a.read a Then (told_due a f told (λ a. AfterFile tells blocks name a (λ g. ⊥)) nothing still is tell refuses)
 
-  pub graph_told : (f told : Fault) → a.fault ≡ Some told → (told ≡ f) ⊎ (told ≡ fault.Memory) → CauseOfGraph f tells blocks name a.read → UnlessMemory a (λ z. AfterFile tells blocks name z Then)
-  graph_told f told is tell cause = ⊎_elim (λ (same : told ≡ f). graph_refused f (is ∙ ap Some same) cause) (λ (none : told ≡ fault.Memory). inl (is ∙ ap Some none, nothing, still)) tell
+-- a call that is refused up to its recording goes on with none
+pub past_air : (air : List ℕ) (log : Bool) (tells : Contents) (g : Graph) (a : Answer) → UnlessMemory a (λ a. AfterAdmission tells g [] a (λ p rows. AfterAir air tells g [] a ⊥)) → UnlessMemory a (IsReplayed air log tells g [])
+past_air air log tells g a (inl out) = inl out
+past_air air log tells g a (inr h) =
+    inr (on_admission a.fault a.left a.read a.read a.wrote tells g [] [] (λ late actor u. u) (λ p rows. AfterAir air tells g [] a ⊥) (IsReplayedBy air log tells g [] a) (λ plan rows k. past plan rows k) h)
+  where
+    past : (plan : Parts) (rows : ℕ → List Row) → AfterAir air tells g [] a ⊥ → IsReplayedBy air log tells g [] a plan rows
+    past plan rows (inl k) = inl k
+    past plan rows (inr (inl k)) = inr (inl k)
+    past plan rows (inr (inr never)) = absurd never
 
 -- What is known once the graph was read.
 

@@ -26,21 +26,24 @@ use Rattle.pt_sensors.specs.Recorded.{AllPass, AreRows, SensorFails, SensorLate,
 use Rattle.pt_air.specs.declared.fault.AirFault.{AirFault}
 use Rattle.pt_air.specs.AirOf.{air_of}
 use Rattle.pt_audit.specs.declared.verdict.Verdict.{Verdict}
+use Rattle.pt_turn.specs.Platforms.{PlatformView}
 use Rattle.pt_words.specs.declared.orders.ClockChoice.{ClockChoice}
 use Rattle.pt_words.specs.declared.orders.ClockChoice.TheVariants.{Paced}
 use Rattle.pt_run.specs.declared.fault.Fault.{Fault}
 use Rattle.pt_run.specs.declared.fault.Fault.TheVariants as fault
+use Rattle.pt_run.specs.declared.outcome.Ending.{Ending}
 use Rattle.pt_run.specs.declared.words.Command.{Command}
 use Rattle.pt_run.specs.declared.words.Command.TheVariants.{Run, Check, Meaning, Slacks}
 use Rattle.pt_run.specs.Auditing.{Accepts, IsUnlawful, LastFails, lawful_line}
 use Rattle.pt_run.specs.Causes.{IsTooLongForAll, Writing}
-use Rattle.pt_run.specs.Headline.{LeavesRun, stop_of}
+use Rattle.pt_run.specs.Leaving.{LeavesRun}
 use Rattle.pt_run.specs.Making.{IsMadeRun}
 use Rattle.pt_run.specs.Migrating.{IsMigrated}
 use Rattle.pt_run.specs.Replaying.{LeavesReplay, OnAir, has_replayed}
 use Rattle.pt_run.specs.Runs.{RunsPaced}
+use Rattle.pt_run.specs.Texts.{left_by}
 use Rattle.pt_run.specs.Words.{Order, over, make, migrate, audit, replay}
-use Rattle.pt_run.specs.Written.{FitOnAll, GraphWith, HasNothing, IsChecked, IsTables, Leaves, clocking, has_run}
+use Rattle.pt_run.specs.Written.{FitOnAll, GraphWith, HasNothing, IsChecked, IsTables, Leaves, clocking, has_run, leaves_nothing, stop_of}
 
 -- the answer of a call: its fault, what it leaves, and the source and the sink before it and after it
 pub record Answer : Type 0 where
@@ -52,6 +55,10 @@ pub record Answer : Type 0 where
 -- the call is refused with this fault: it leaves nothing and writes nothing
 abbrev pub RefusedWith : Fault → Answer → Type 0
 RefusedWith f a = (a.fault ≡ Some f) × HasNothing a.left × (a.wrote.written_now ≡ a.wrote.written_before)
+
+-- the call is stopped with this fault: it gives no misses, leaves these platforms, and writes nothing
+abbrev pub StoppedWith : Fault → List PlatformView → Answer → Type 0
+StoppedWith f platforms a = (a.fault ≡ Some f) × ((a.left.misses ≡ []) × (a.left.platforms ≡ platforms)) × (a.wrote.written_now ≡ a.wrote.written_before)
 
 -- such a text is put: all of it, or a prefix if a write fails
 abbrev pub PutsText : Answer → (List ℕ → Type 0) → Type 0
@@ -71,6 +78,18 @@ UnlessMemory a Due = RefusedWith fault.Memory a ⊎ Due a
 abbrev pub Answers : {X : Type 0} → (X → List ℕ) → Result X Fault → Answer → Type 0
 Answers text (Ok made) a = OnlyPuts a (λ put. put ≡ text made)
 Answers text (Err f) a = RefusedWith f a
+
+-- a call that is refused with this fault after this reading ends as is due, unless memory runs out
+abbrev pub RefusesAsDue : Fault → Reading → (Answer → Type 0) → Type 0
+RefusesAsDue f r Due = (a : Answer) → a.read ≡ r → RefusedWith f a → UnlessMemory a Due
+
+-- so does a call that is stopped with this fault and leaves these platforms
+abbrev pub StopsAsDue : Fault → List PlatformView → Reading → (Answer → Type 0) → Type 0
+StopsAsDue f platforms r Due = (a : Answer) → a.read ≡ r → StoppedWith f platforms a → UnlessMemory a Due
+
+-- a call that ends so is refused, as is due after any reading, unless memory runs out
+abbrev pub EndsRefused : Ending → (Answer → Type 0) → Type 0
+EndsRefused o Due = (left_by o ≡ leaves_nothing) × (f : Fault) × (o.fault ≡ Some f) × ((r : Reading) → RefusesAsDue f r Due)
 
 -- a call that answers so after this reading ends as is due, unless memory runs out
 abbrev pub AnswersAsDue : {X : Type 0} → (X → List ℕ) → Result X Fault → Reading → (Answer → Type 0) → Type 0
@@ -103,6 +122,14 @@ AfterRows late tells g others a Then =
     ⊎ (((actor : ℕ) × (f : RowFault) × RefusedWith (fault.Sensor actor f) a × SensorFails late tells g actor f)
     ⊎ (((actor : ℕ) × (row : ℕ) × (seen : ℕ) × (limit : ℕ) × RefusedWith (fault.LateRow actor row seen limit) a × (late ≡ Refused) × SensorLate tells g actor row seen limit)
     ⊎ ((rows : ℕ → List Row) × AreRows tells g rows × AllPass late g rows × Then rows)))
+
+-- the recording: it could not be read; or its text has a fault; or the call goes on. `others` and files of sensors were asked for
+-- before
+abbrev pub AfterAir : List ℕ → Contents → Graph → List (List ℕ) → Answer → Type 0 → Type 0
+AfterAir air tells g others a Then =
+    (RefusedWith fault.ReadAir a × LastFails g others air a.read)
+    ⊎ (((f : AirFault) × RefusedWith (fault.Air f) a × IfSome (tells air) (λ bytes. air_of g bytes ≡ Err f))
+    ⊎ Then)
 
 -- a fact of an admitted plan of the graph
 abbrev pub WithPlan : Graph → (Parts → Type 0) → Type 0
@@ -139,18 +166,15 @@ IsJudgedBy log tells g others a plan rows =
     ⊎ (((v : Verdict) × RefusedWith (fault.Unlawful v) a × IfSome (tells log) (λ bytes. IsUnlawful plan rows bytes v))
     ⊎ (IfSome (tells log) (Accepts plan rows) × OnlyPuts a (λ text. text ≡ lawful_line)))
 
--- a replay: the recording could not be read; or its text has a fault; or it ran: all was written, or a write failed, or a platform
--- stopped it
+-- a replay that ran: all was written, or a write failed, or a platform stopped it
 pub record HasReplayedBy (air : List ℕ) (log : Bool) (tells : Contents) (a : Answer) (plan : Parts) (rows : ℕ → List Row) : Type 0 where
   pub ran : has_replayed a.fault ≡ true
   pub leaves : OnAir tells air (LeavesReplay log a.fault a.left a.wrote) plan rows
   pub failed : a.fault ≡ Some fault.Write → Rose a.wrote.before a.wrote.now
 
+-- `replay`: the recording, and then the run
 abbrev pub IsReplayedBy : List ℕ → Bool → Contents → Graph → List (List ℕ) → Answer → Parts → (ℕ → List Row) → Type 0
-IsReplayedBy air log tells g others a plan rows =
-    (RefusedWith fault.ReadAir a × LastFails g others air a.read)
-    ⊎ (((f : AirFault) × RefusedWith (fault.Air f) a × IfSome (tells air) (λ bytes. air_of g bytes ≡ Err f))
-    ⊎ HasReplayedBy air log tells a plan rows)
+IsReplayedBy air log tells g others a plan rows = AfterAir air tells g others a (HasReplayedBy air log tells a plan rows)
 
 -- the stages of each command over a graph; `others` were asked for before the sensors' files
 abbrev pub IsDueFor : Command → Contents → Graph → List (List ℕ) → Answer → Type 0

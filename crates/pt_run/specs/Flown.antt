@@ -1,5 +1,5 @@
 -- A replay of a plan: what is read for it, and how it ends before its outputs are written.
-use Rattle.std.specs.Prelude.{◌≡◌, ◌≢◌, ◌↔◌, [], ℕ, Bool, List, Option, None, Some, Result, Ok, Err, IfSome, length}
+use Rattle.std.specs.Prelude.{◌≡◌, ◌≢◌, ◌↔◌, ℕ, Bool, List, Option, None, Some, Result, Ok, Err, IfSome, length}
 use Rattle.pt_types.specs.declared.rows.Row.{Row}
 use Rattle.pt_sensors.specs.declared.sensor_rows.SensorRows.{SensorRows}
 use Rattle.pt_semantics.specs.Rows.{FitRows}
@@ -8,10 +8,10 @@ use Rattle.pt_offsets.specs.Plans.{IsAdmitted, Parts}
 use Rattle.pt_turn.specs.declared.fault.TurnFault.TheVariants as turn
 use Rattle.pt_turn.specs.Platforms.{PlatformView}
 use Rattle.pt_sensors.specs.declared.recorded_fault.LateRows.TheVariants.{Refused}
-use Rattle.pt_sensors.specs.Asked.{Contents, Reading}
+use Rattle.pt_sensors.specs.Asked.{Contents}
 use Rattle.pt_sensors.specs.Listed.{rows_for}
 use Rattle.pt_sensors.specs.Places.{StandInPlace, of_run}
-use Rattle.pt_sensors.specs.Recorded.{AllPass, AreRows, SensorFails, SensorLate, SensorUnread}
+use Rattle.pt_sensors.specs.Recorded.{AllPass, AreRows}
 use Rattle.pt_air.specs.declared.air.Air.{Air}
 use Rattle.pt_air.specs.AirOf.{air_of}
 use Rattle.pt_air.specs.Bounds.{KeepsBounds}
@@ -23,7 +23,6 @@ use Rattle.pt_run.specs.declared.outcome.Ending.{Ending}
 use Rattle.pt_run.specs.declared.plan_run.RunFault.{RunFault}
 use Rattle.pt_run.specs.declared.plan_run.RunFault.TheVariants as stop
 use Rattle.pt_run.specs.declared.replay.Stopped.{Stopped}
-use Rattle.pt_run.specs.Auditing.{LastFails}
 use Rattle.pt_run.specs.Causes.{Writing}
 use Rattle.pt_run.specs.Replaying.{OnAir}
 use Rattle.pt_run.specs.Runs.{IsTold, RunOver}
@@ -39,16 +38,6 @@ pub record IsRecorded (tells : Contents) (air : List ℕ) (plan : Parts) (entrie
   pub file : IfSome (tells air) (λ bytes. air_of plan.graph bytes ≡ Ok recorded)
   pub transits : length recorded.transits ≡ length plan.graph.links
   pub bounds : (recorded.breach ≡ None) ↔ KeepsBounds plan.graph recorded
-
--- why they are not available
-abbrev pub CauseOfNoAir : Fault → List ℕ → Contents → Parts → Reading → Type 0
-CauseOfNoAir (fault.Air f) air tells plan r = RunOver tells plan (λ rows. IfSome (tells air) (λ bytes. air_of plan.graph bytes ≡ Err f))
-CauseOfNoAir fault.ReadAir air tells plan r = RunOver tells plan (λ rows. LastFails plan.graph [] air r)
-CauseOfNoAir (fault.Read (Some actor)) air tells plan r = SensorUnread Refused tells plan.graph actor [] r
-CauseOfNoAir (fault.Sensor actor f) air tells plan r = SensorFails Refused tells plan.graph actor f
-CauseOfNoAir (fault.LateRow actor row seen limit) air tells plan r = SensorLate tells plan.graph actor row seen limit
-CauseOfNoAir fault.Memory air tells plan r = Unit {0}
-CauseOfNoAir _ air tells plan r = ⊥
 
 -- a replay finished with these outputs
 abbrev pub FinishedReplay : Bool → Ran → Parts → (ℕ → List Row) → Air → Type 0
@@ -74,13 +63,6 @@ NamesRow _ breach = Unit {0}
 abbrev pub IsOfReplay : RunFault → Option ℕ → Fault → List PlatformView → Type 0
 IsOfReplay (stop.Late platform actor tag reading limit left) breach f platforms = (row : ℕ) × (breach ≡ Some row) × (f ≡ fault.LateAir platform actor tag reading limit row) × (platforms ≡ left.items)
 IsOfReplay e breach f platforms = IsFaultOfRun e f platforms
-
--- why a replay did not finish, with the platforms that it leaves, over the files
-abbrev pub StopsReplay : Fault → List PlatformView → List ℕ → Contents → Parts → Reading → Type 0
-StopsReplay (fault.Long (Some platform)) left air tells plan r = RunOver tells plan (OnAir tells air (λ p rows recorded. HaveFlown p (level_of p.ranks) rows recorded left (Some (platform, turn.Long))) plan)
-StopsReplay (fault.LateAir platform actor tag reading limit row) left air tells plan r =
-    RunOver tells plan (OnAir tells air (λ p rows recorded. HaveFlown p (level_of p.ranks) rows recorded left (Some (platform, turn.Late actor tag reading limit)) × (recorded.breach ≡ Some row)) plan)
-StopsReplay f left air tells plan r = (left ≡ []) × CauseOfNoAir f air tells plan r
 
 -- the fault of a replay
 abbrev pub stop_in : Result Ran Stopped → Option Fault

@@ -1,76 +1,128 @@
--- The headline: what a run leaves, whatever its clock, by which readings it went, what it writes, and why it stopped.
-use Rattle.std.specs.Prelude.{◌≡◌, ◌≢◌, ◌++◌, [], ℕ, Bool, true, false, List, Option, None, Some, Ok, IfSome, flat_map}
+-- The headline: what a run has written, what it records, and why it stopped.
+--
+-- It is stated over a graph, the ranks and levels of its actors, rows, and each platform's number, recorded turns, state and fault. What
+-- the files of a call say is a parameter, `Inputs`, and so is by which readings a run of a clock goes; `specs/OverFiles.antt` says what
+-- they are for the top call.
+use Rattle.std.specs.Prelude.{◌≡◌, ◌≢◌, ◌<◌, ◌++◌, [], ℕ, Bool, true, false, List, Option, None, Some, flat_map, if◌then◌else◌, length, map, option_map, slice_get, unwrap_or}
 use Rattle.pt_io.specs.Causes.{Appends, AppendsPart}
 use Rattle.pt_tags.specs.declared.tag.Tag.{Tag}
-use Rattle.pt_types.specs.declared.rows.Row.{Row}
 use Rattle.pt_types.specs.declared.firing.ActorFiring.{ActorFiring}
-use Rattle.pt_blocks.specs.declared.blocks.Named.{Named}
-use Rattle.pt_graph.specs.GraphOf.{graph_of}
+use Rattle.pt_types.specs.declared.graph.Graph.{Graph}
+use Rattle.pt_types.specs.declared.rows.Row.{Row}
+use Rattle.pt_types.specs.Lawful.{IsLawful}
+use Rattle.pt_semantics.specs.Cycles.{NoFreeCycle}
+use Rattle.pt_semantics.specs.History.{IsLegal}
+use Rattle.pt_semantics.specs.Linked.{AreLinked, AreMatched, IsFinished}
+use Rattle.pt_semantics.specs.Lists.{Each}
 use Rattle.pt_semantics.specs.Meaning.{IsMeaning}
+use Rattle.pt_semantics.specs.Offsets.{IsFeasible}
+use Rattle.pt_semantics.specs.Platform.{State}
+use Rattle.pt_semantics.specs.Ranks.{AreLevels, AreRanks}
 use Rattle.pt_semantics.specs.Rows.{FitRows}
 use Rattle.pt_semantics.specs.Tables.{tables_text}
-use Rattle.pt_causality.specs.Ranked.{rank_of}
-use Rattle.pt_offsets.specs.Plans.{Parts}
+use Rattle.pt_semantics.specs.Turn.{Turn}
+use Rattle.pt_history.specs.declared.miss.Miss.{Miss}
 use Rattle.pt_turn.specs.declared.fault.TurnFault.{TurnFault}
-use Rattle.pt_turn.specs.declared.fault.TurnFault.TheVariants as turn
-use Rattle.pt_turn.specs.Platforms.{PlatformView}
-use Rattle.pt_monitors.specs.Platforms.{missed_by}
-use Rattle.pt_sensors.specs.Asked.{Contents}
-use Rattle.pt_sensors.specs.Recorded.{SensorLate}
+use Rattle.pt_turn.specs.Running.{Shows}
+use Rattle.pt_monitors.specs.Misses.{missed_of}
+use Rattle.pt_tables.specs.Held.{IsHeldTurn}
+use Rattle.pt_tables.specs.Log.{log_text}
 use Rattle.pt_words.specs.declared.orders.ClockChoice.{ClockChoice}
 use Rattle.pt_words.specs.declared.orders.ClockChoice.TheVariants.{Paced}
-use Rattle.pt_run.specs.Readings.{Clocking, ReadBy}
-use Rattle.pt_run.specs.Runs.{AreHeldIf, IsKept, RunOver, log_if}
 use Rattle.pt_run.specs.declared.fault.Fault.{Fault}
 use Rattle.pt_run.specs.declared.fault.Fault.TheVariants as fault
 use Rattle.pt_run.specs.declared.words.Command.TheVariants.{Run}
 use Rattle.pt_run.specs.Causes.{Writing}
 use Rattle.pt_run.specs.Words.{Order, over}
-use Rattle.pt_run.specs.Written.{GraphWith, HasNothing, Leaves, clocking, has_run}
+use Rattle.pt_run.specs.Written.{has_run, stop_of}
 
--- the graph file defines an admitted graph, its sensors' files have rows, none of which is late, and a fact holds of the plan
--- of the graph and of the rows up to its horizon
-pub record RunWith (tells : Contents) (blocks : List Named) (name : List ℕ) (Fact : Parts → (ℕ → List Row) → Type 0) : Type 0 where
-  pub plan : Parts
-  pub file : IfSome (tells name) (λ bytes. graph_of blocks bytes ≡ Ok plan.graph)
-  pub over : RunOver tells plan (Fact plan)
+-- what the files of a call say: which graph the graph file with a name defines; which rows the sensors of a graph have up to its
+-- horizon, none of which is late; and which row is the first late one, by its sensor, its number, when it is seen and by when it should be
+pub record Inputs : Type 1 where
+  pub graph : List ℕ → Graph → Type 0
+  pub rows : Graph → (ℕ → List Row) → Type 0
+  pub late_row : Graph → ℕ → ℕ → ℕ → ℕ → Type 0
 
--- what was put is the tables of the meaning and, if asked for, the log of the platforms, the numbers in whose turns 64 bits hold
-pub record PutsMeaning (plan : Parts) (rows : ℕ → List Row) (log : Bool) (platforms : List PlatformView) (Put : List ℕ → Type 0) : Type 0 where
-  pub fit : FitRows plan.graph rows
+-- a platform at the end of a run: its number, its recorded turns, its state after them, and its fault
+pub record AtEnd : Type 0 where
+  pub number : ℕ
+  pub turns : List Turn
+  pub state : State
+  pub fault : Option TurnFault
+
+-- the recorded turns of each of these platforms, by its number
+abbrev pub turns_at : List AtEnd → ℕ → List Turn
+turns_at platforms i = unwrap_or (option_map (λ (p : AtEnd). p.turns) (slice_get platforms i)) []
+
+-- the graph is admitted: each cycle takes time, and each sender can send in time; these are the ranks and the levels of its actors
+pub record IsAdmittedWith (g : Graph) (rank level : ℕ → ℕ) : Type 0 where
+  pub lawful : IsLawful g
+  pub no_free_cycle : NoFreeCycle g
+  pub feasible : IsFeasible g
+  pub ranks : AreRanks g rank
+  pub levels : AreLevels g level
+
+-- all platforms are finished, and all that was sent was taken; or this platform stopped the run with this fault, as its turns and its
+-- state show, and none before it has a fault
+abbrev pub EndAs : Graph → List AtEnd → Option (ℕ × TurnFault) → Type 0
+EndAs g platforms None = AreLinked g (turns_at platforms) × ((i : ℕ) (p : AtEnd) → slice_get platforms i ≡ Some p → (p.fault ≡ None) × IsFinished g i p.state)
+EndAs g platforms (Some f) =
+    (p : AtEnd) × (slice_get platforms f.0 ≡ Some p) × (p.fault ≡ Some f.1) × Shows g p.turns p.state f.1 × ((j : ℕ) (q : AtEnd) → j < f.0 → slice_get platforms j ≡ Some q → q.fault ≡ None)
+
+-- these are the platforms of the graph, in order. Each has a legal history from its rows to its state; only what was sent was taken;
+-- and they end so
+pub record HaveHistories (g : Graph) (level : ℕ → ℕ) (rows : ℕ → List Row) (platforms : List AtEnd) (stop : Option (ℕ × TurnFault)) : Type 0 where
+  pub count : length platforms ≡ length g.platforms
+  pub numbers : (i : ℕ) (p : AtEnd) → slice_get platforms i ≡ Some p → p.number ≡ i
+  pub legal : (i : ℕ) (p : AtEnd) → slice_get platforms i ≡ Some p → IsLegal g level i rows p.turns p.state
+  pub matched : AreMatched g (turns_at platforms)
+  pub ends : EndAs g platforms stop
+
+-- what was put is the tables of the meaning and, if asked for, the log of these histories, the numbers in whose turns 64 bits hold
+pub record PutsTables (g : Graph) (rank : ℕ → ℕ) (rows : ℕ → List Row) (log : Bool) (histories : List (List Turn)) (Put : List ℕ → Type 0) : Type 0 where
+  pub fit : FitRows g rows
   pub firings : List ActorFiring
-  pub meaning : IsMeaning plan.graph (rank_of plan.ranks) rows firings
-  pub text : Put (tables_text plan.graph firings ++ log_if log plan.graph platforms)
-  pub held : AreHeldIf log platforms
+  pub meaning : IsMeaning g rank rows firings
+  pub text : Put (tables_text g firings ++ (if log then log_text g histories else []))
+  pub held : log ≡ true → Each (Each IsHeldTurn) histories
 
--- the platform that stopped the run, and its fault, by the fault of the call
-abbrev pub stop_of : Option Fault → Option (ℕ × TurnFault)
-stop_of (Some (fault.Long (Some platform))) = Some (platform, turn.Long)
-stop_of (Some (fault.LateMessage platform actor tag reading limit)) = Some (platform, turn.Late actor tag reading limit)
-stop_of _ = None
-
--- what a run of this plan over these rows leaves and writes. The platforms of the graph have legal histories from their rows
--- to their states, took only what was sent, and are finished and took all of it unless one stopped the run, as its history
--- shows (`IsKept`); they went by the readings of the run's clock (`ReadBy`)
-pub record LeavesRun (c : Clocking) (log : Bool) (outcome : Option Fault) (left : Leaves) (w : Writing) (plan : Parts) (rows : ℕ → List Row) : Type 0 where
-  pub kept : IsKept plan rows left.platforms (stop_of outcome)
-  pub readings : ReadBy c plan rows left.platforms (stop_of outcome)
+-- what a run of this graph over these rows leaves and writes, by how the call ended
+pub record LeavesTurns (log : Bool) (outcome : Option Fault) (platforms : List AtEnd) (misses : List Miss) (w : Writing) (g : Graph) (rank level : ℕ → ℕ) (rows : ℕ → List Row) : Type 0 where
+  pub admitted : IsAdmittedWith g rank level
+  pub kept : HaveHistories g level rows platforms (stop_of outcome)
   -- all was written, and the misses are those of the recorded turns; or a write failed after a prefix
-  pub written : outcome ≡ None → PutsMeaning plan rows log left.platforms (Appends w.written_before w.written_now)
-  pub misses : outcome ≡ None → left.misses ≡ flat_map missed_by left.platforms
-  pub part : outcome ≡ Some fault.Write → PutsMeaning plan rows log left.platforms (AppendsPart w.written_before w.written_now)
+  pub written : outcome ≡ None → PutsTables g rank rows log (map (λ (p : AtEnd). p.turns) platforms) (Appends w.written_before w.written_now)
+  pub misses_are : outcome ≡ None → misses ≡ flat_map (λ (p : AtEnd). missed_of g p.turns) platforms
+  pub part : outcome ≡ Some fault.Write → PutsTables g rank rows log (map (λ (p : AtEnd). p.turns) platforms) (AppendsPart w.written_before w.written_now)
   -- if a platform stopped the run, nothing is written; and unless all is written, no misses are given
   pub unwritten : stop_of outcome ≢ None → w.written_now ≡ w.written_before
-  pub no_misses : outcome ≢ None → left.misses ≡ []
+  pub no_misses : outcome ≢ None → misses ≡ []
 
--- what holds of a run over the graph file with this name: of what it leaves, if it has platforms; else it leaves nothing and
--- nothing is written. In a paced run no message is late. If the fault is a late row, the row that is named is the first late one
-pub record Headline (outcome : Option Fault) (left : Leaves) (workers : ℕ) (clock : ClockChoice) (log : Bool) (tells : Contents) (blocks : List Named) (name : List ℕ) (w : Writing) : Type 0 where
-  pub run : has_run outcome ≡ true → RunWith tells blocks name (LeavesRun (clocking workers clock left) log outcome left w)
-  pub nothing_else : has_run outcome ≡ false → HasNothing left × (w.written_now ≡ w.written_before)
+-- by which readings the platforms of a run go, over a graph, the levels of its actors and rows, until it ends or this platform stops it
+abbrev pub ByReadings : Type 1
+ByReadings = Graph → (ℕ → ℕ) → (ℕ → List Row) → Option (ℕ × TurnFault) → Type 0
+
+-- a run over the graph file with this name: the graph that it defines, the ranks and levels of its actors, and its rows; what the run
+-- leaves and writes; and by which readings it went
+pub record HasRunOn (inputs : Inputs) (By : ByReadings) (name : List ℕ) (log : Bool) (outcome : Option Fault) (platforms : List AtEnd) (misses : List Miss) (w : Writing) : Type 0 where
+  pub graph : Graph
+  pub rank : ℕ → ℕ
+  pub level : ℕ → ℕ
+  pub rows : ℕ → List Row
+  pub file : inputs.graph name graph
+  pub sensors : inputs.rows graph rows
+  pub leaves : LeavesTurns log outcome platforms misses w graph rank level rows
+  pub readings : By graph level rows (stop_of outcome)
+
+-- what holds of a run: of what it leaves, if it has platforms; else it leaves nothing and nothing is written. In a paced run no
+-- message is late. If the fault is a late row, the row that is named is the first late one
+pub record Headline (inputs : Inputs) (By : ByReadings) (name : List ℕ) (clock : ClockChoice) (log : Bool) (outcome : Option Fault) (platforms : List AtEnd) (misses : List Miss) (w : Writing) : Type 0 where
+  pub run : has_run outcome ≡ true → HasRunOn inputs By name log outcome platforms misses w
+  pub nothing_else : has_run outcome ≡ false → (platforms ≡ []) × (misses ≡ []) × (w.written_now ≡ w.written_before)
   pub late_message : (platform actor : ℕ) (tag : Tag) (reading limit : ℕ) → outcome ≡ Some (fault.LateMessage platform actor tag reading limit) → clock ≢ Paced
-  pub late_row : (actor row seen limit : ℕ) → outcome ≡ Some (fault.LateRow actor row seen limit) → GraphWith tells blocks name (λ g. SensorLate tells g actor row seen limit)
+  pub late_row : (actor row seen limit : ℕ) → outcome ≡ Some (fault.LateRow actor row seen limit) → (g : Graph) × inputs.graph name g × inputs.late_row g actor row seen limit
 
--- it holds of each run that the words ask for
-abbrev pub IsHeadline : Option Fault → Leaves → Option Order → Contents → List Named → Writing → Type 0
-IsHeadline outcome left order tells blocks w = (workers : ℕ) (clock : ClockChoice) (log : Bool) (name : List ℕ) → order ≡ Some (over (Run workers clock log) name) → Headline outcome left workers clock log tells blocks name w
+-- it holds of each run that the order asks for, by the number of its workers and its clock
+abbrev pub IsHeadline : Inputs → (ℕ → ClockChoice → ByReadings) → Option Order → Option Fault → List AtEnd → List Miss → Writing → Type 0
+IsHeadline inputs By order outcome platforms misses w =
+    (workers : ℕ) (clock : ClockChoice) (log : Bool) (name : List ℕ) → order ≡ Some (over (Run workers clock log) name) → Headline inputs (By workers clock) name clock log outcome platforms misses w

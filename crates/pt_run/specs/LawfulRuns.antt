@@ -1,5 +1,5 @@
 -- The log that a finished run or replay writes is lawful.
-use Rattle.std.specs.Prelude.{◌≤◌, ℕ, List, None, length, true}
+use Rattle.std.specs.Prelude.{◌≡◌, ◌≤◌, ℕ, List, None, Some, length, true}
 use Rattle.pt_io.specs.Causes.{Appends}
 use Rattle.pt_types.specs.declared.rows.Row.{Row}
 use Rattle.pt_blocks.specs.declared.blocks.Named.{Named}
@@ -10,11 +10,14 @@ use Rattle.pt_sensors.specs.Asked.{Contents}
 use Rattle.pt_sensors.specs.Places.{of_run}
 use Rattle.pt_audit.specs.LawfulLogs.{IsLawfulLog, most_bytes}
 use Rattle.pt_words.specs.declared.orders.ClockChoice.{ClockChoice}
+use Rattle.pt_run.specs.declared.words.Command.TheVariants.{Run}
 use Rattle.pt_run.specs.Causes.{Writing}
-use Rattle.pt_run.specs.Headline.{Headline, RunWith}
+use Rattle.pt_run.specs.Due.{Answer, IsDue}
+use Rattle.pt_run.specs.Leaving.{RunWith}
 use Rattle.pt_run.specs.Readings.{Clocking}
 use Rattle.pt_run.specs.Replaying.{ReplayHeadline}
 use Rattle.pt_run.specs.Runs.{IsFinishedRun}
+use Rattle.pt_run.specs.Words.{over}
 use Rattle.pt_run.specs.Written.{Leaves}
 
 -- the text of a finished run with its log is a lawful log of the run's plan over its rows, unless it is too long
@@ -28,8 +31,8 @@ WritesLawfulLog w plan rows = (text : List ℕ) × Appends w.written_before w.wr
 
 -- so what `run` writes with its log, by any clock, is a lawful log if the run ends without a fault, with misses or without
 abbrev pub RunsWriteLawfulLogs : Type 0
-RunsWriteLawfulLogs = (left : Leaves) (workers : ℕ) (clock : ClockChoice) (tells : Contents) (blocks : List Named) (name : List ℕ) (w : Writing) →
-    Headline None left workers clock true tells blocks name w → RunWith tells blocks name (WritesLawfulLog w)
+RunsWriteLawfulLogs = (a : Answer) (workers : ℕ) (clock : ClockChoice) (tells : Contents) (blocks : List Named) (name : List ℕ) →
+    IsDue (Some (over (Run workers clock true) name)) tells blocks a → a.fault ≡ None → RunWith tells blocks name (WritesLawfulLog a.wrote)
 
 -- and so is what `replay` writes with its log, whatever its recording says
 abbrev pub ReplaysWriteLawfulLogs : Type 0

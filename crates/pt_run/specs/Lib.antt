@@ -6,6 +6,7 @@ pub mod Agreeing
 pub mod Causes
 pub mod Complete
 pub mod Texts
+pub mod Asks
 pub mod Notes
 pub mod Telling
 pub mod Making
@@ -17,7 +18,9 @@ pub mod InBounds
 pub mod SlackRuns
 pub mod LawfulRuns
 pub mod Asking
+pub mod Leaving
 pub mod Headline
+pub mod OverFiles
 pub mod Exact
 pub mod RunsAgreeing
 pub mod CallsAgreeing

@@ -1,5 +1,5 @@
 -- How a run of a made input ends, and how any call ends.
-use Rattle.std.specs.Prelude.{◌≡◌, ℕ, List, [], ◌∷◌, Option, None, Some, flat_map, length}
+use Rattle.std.specs.Prelude.{◌≡◌, ℕ, List, [], Option, None, Some, flat_map, length}
 use Rattle.pt_blocks.specs.declared.blocks.Named.{Named}
 use Rattle.pt_history.specs.declared.miss.Miss.{Miss}
 use Rattle.pt_semantics.specs.Meaning.{ActorFiring, IsMeaning}
@@ -7,17 +7,14 @@ use Rattle.pt_causality.specs.Ranked.{level_of, rank_of}
 use Rattle.pt_offsets.specs.Plans.{IsAdmitted, Parts}
 use Rattle.pt_turn.specs.Platforms.{PlatformView}
 use Rattle.pt_monitors.specs.Platforms.{missed_by}
-use Rattle.pt_sensors.specs.Asked.{Asks, AsksOrNot, Contents, Reading}
+use Rattle.pt_sensors.specs.Asked.{Contents}
 use Rattle.pt_sensors.specs.Places.{of_run}
 use Rattle.pt_rounds.specs.HaveRun.{HaveRun}
 use Rattle.pt_made.specs.Input.{made_graph, made_rows}
 use Rattle.pt_made.specs.Summary.{summary}
 use Rattle.pt_run.specs.declared.fault.Fault.{Fault}
 use Rattle.pt_run.specs.Causes.{Writing}
-use Rattle.pt_run.specs.Auditing.{AsksAudit}
-use Rattle.pt_run.specs.Replaying.{AsksReplay}
 use Rattle.pt_run.specs.Telling.{Tells, TellsBy}
-use Rattle.pt_run.specs.Texts.{AsksBy}
 use Rattle.pt_run.specs.Words.{Order, over, make, migrate, audit, replay, paced_run}
 
 -- what a run of the input made from n must write and leave: its platforms ran in paced rounds until all were finished and
@@ -31,15 +28,6 @@ pub record IsMadeRun (n : ℕ) (platforms : List PlatformView) (text : List ℕ)
   pub meaning : IsMeaning (made_graph n) (rank_of plan.ranks) (of_run (made_graph n) (made_rows n)) firings
   pub none_missed : flat_map missed_by platforms ≡ []
   pub written : text ≡ summary n firings (length (flat_map missed_by platforms))
-
--- which files are asked for: none for a made input, at most the graph file for `migrate`, and one more for an audit or a replay
-abbrev pub AsksOf : Option Fault → Option Order → Contents → List Named → Reading → Type 0
-AsksOf outcome None tells blocks r = AsksBy outcome None tells blocks r
-AsksOf outcome (Some (over command graph)) tells blocks r = AsksBy outcome (Some (command, graph)) tells blocks r
-AsksOf outcome (Some (make number workers)) tells blocks r = Asks r.asked_before r.asked_now []
-AsksOf outcome (Some (migrate graph)) tells blocks r = AsksOrNot r.asked_before r.asked_now (graph ∷ [])
-AsksOf outcome (Some (audit graph log)) tells blocks r = AsksAudit outcome graph log tells blocks r.asked_before r.asked_now
-AsksOf outcome (Some (replay graph air workers log)) tells blocks r = AsksReplay outcome graph air tells blocks r.asked_before r.asked_now
 
 -- what is put on notes: the lines of a run of a made input and those of `migrate` have no names, and the lines of an audit and of a
 -- replay have names as those of a run

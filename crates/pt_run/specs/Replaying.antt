@@ -1,7 +1,6 @@
--- How `replay` ends, and which files it asks for.
-use Rattle.std.specs.Prelude.{◌≡◌, ◌≢◌, ◌⊎◌, ◌↔◌, ℕ, Bool, true, false, List, [], Option, Some, None, Ok, IfSome, flat_map}
+-- How `replay` ends.
+use Rattle.std.specs.Prelude.{◌≡◌, ◌≢◌, ◌↔◌, ℕ, Bool, true, false, List, [], Option, Some, None, Ok, IfSome, flat_map}
 use Rattle.pt_io.specs.Causes.{Appends, AppendsPart}
-use Rattle.pt_types.specs.declared.graph.Graph.{Graph}
 use Rattle.pt_types.specs.declared.rows.Row.{Row}
 use Rattle.pt_blocks.specs.declared.blocks.Named.{Named}
 use Rattle.pt_causality.specs.Ranked.{level_of}
@@ -16,11 +15,9 @@ use Rattle.pt_air.specs.Bounds.{KeepsBounds}
 use Rattle.pt_aired.specs.HaveFlown.{HaveFlown}
 use Rattle.pt_run.specs.declared.fault.Fault.{Fault}
 use Rattle.pt_run.specs.declared.fault.Fault.TheVariants as fault
-use Rattle.pt_run.specs.Auditing.{AsksLast, AsksToLast}
 use Rattle.pt_run.specs.Causes.{Writing}
-use Rattle.pt_run.specs.Headline.{PutsMeaning, RunWith}
-use Rattle.pt_run.specs.Texts.{AsksFor, AsksInOrder}
-use Rattle.pt_run.specs.Words.{Order, paced_run, replay}
+use Rattle.pt_run.specs.Leaving.{PutsMeaning, RunWith}
+use Rattle.pt_run.specs.Words.{Order, replay}
 use Rattle.pt_run.specs.Written.{HasNothing, Leaves}
 
 -- the file `air`, if its content is known, says these lags and transits of the plan's graph, and a fact holds of the plan, of the
@@ -64,29 +61,6 @@ pub record LeavesReplay (log : Bool) (outcome : Option Fault) (left : Leaves) (w
   pub unwritten : stop_of_replay outcome ≢ None → w.written_now ≡ w.written_before
   pub no_misses : outcome ≢ None → left.misses ≡ []
   pub breach : NamesBreach outcome recorded
-
--- the graph file, the sensors' files and then the file `air` were asked for: if the replay ran, or that file was refused or could
--- not be read. If memory ran out, it may be among them
-abbrev pub AsksReplay : Option Fault → List ℕ → List ℕ → Contents → List Named → Option (List (List ℕ)) → Option (List (List ℕ)) → Type 0
-AsksReplay None name air tells blocks before now = AsksToLast tells blocks name air before now
-AsksReplay (Some fault.Write) name air tells blocks before now = AsksToLast tells blocks name air before now
-AsksReplay (Some (fault.Long (Some platform))) name air tells blocks before now = AsksToLast tells blocks name air before now
-AsksReplay (Some (fault.LateAir platform actor tag reading limit row)) name air tells blocks before now = AsksToLast tells blocks name air before now
-AsksReplay (Some (fault.Air f)) name air tells blocks before now = AsksToLast tells blocks name air before now
-AsksReplay (Some fault.ReadAir) name air tells blocks before now = AsksToLast tells blocks name air before now
-AsksReplay (Some fault.Memory) name air tells blocks before now = AsksInOrder (Some fault.Memory) paced_run tells blocks name before now ⊎ AsksToLast tells blocks name air before now
-AsksReplay (Some f) name air tells blocks before now = AsksInOrder (Some f) paced_run tells blocks name before now
-
--- the same over a graph that was read
-abbrev pub AsksReplayed : Option Fault → List ℕ → Graph → Option (List (List ℕ)) → Option (List (List ℕ)) → Type 0
-AsksReplayed None air g before now = AsksLast air g before now
-AsksReplayed (Some fault.Write) air g before now = AsksLast air g before now
-AsksReplayed (Some (fault.Long (Some platform))) air g before now = AsksLast air g before now
-AsksReplayed (Some (fault.LateAir platform actor tag reading limit row)) air g before now = AsksLast air g before now
-AsksReplayed (Some (fault.Air f)) air g before now = AsksLast air g before now
-AsksReplayed (Some fault.ReadAir) air g before now = AsksLast air g before now
-AsksReplayed (Some fault.Memory) air g before now = AsksFor paced_run (Some fault.Memory) g before now ⊎ AsksLast air g before now
-AsksReplayed (Some f) air g before now = AsksFor paced_run (Some f) g before now
 
 -- what holds of each replay that the words ask for: of what it leaves, if it ran; else it leaves nothing and nothing is written
 pub record ReplayHeadline (outcome : Option Fault) (left : Leaves) (log : Bool) (tells : Contents) (blocks : List Named) (name air : List ℕ) (w : Writing) : Type 0 where

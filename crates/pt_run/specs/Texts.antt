@@ -1,12 +1,7 @@
--- How a call ends, and which files it asks for.
-use Rattle.std.specs.Prelude.{◌≡◌, ◌⊎◌, ℕ, Bool, true, false, if◌then◌else◌, List, [], ◌∷◌, Option, Some, None, Result, Ok, Err, string_bytes}
+-- How a call ends.
+use Rattle.std.specs.Prelude.{◌≡◌, ◌⊎◌, ℕ, List, [], Option, Some, None, Result, Ok, Err, string_bytes}
 use Rattle.pt_io.specs.Causes.{Rose, Appends, AppendsPart}
-use Rattle.pt_types.specs.declared.graph.Graph.{Graph}
-use Rattle.pt_blocks.specs.declared.blocks.Named.{Named}
 use Rattle.pt_history.specs.declared.miss.Miss.{Miss}
-use Rattle.pt_offsets.specs.declared.fault.PlanFault.{PlanFault}
-use Rattle.pt_offsets.specs.Faults.{CauseOfPlan}
-use Rattle.pt_sensors.specs.Asked.{Asks, Contents, Reading, files_before}
 use Rattle.pt_io.specs.Told.{ClockView}
 use Rattle.pt_turn.specs.Platforms.{PlatformView}
 use Rattle.pt_run.specs.declared.plan_run.RunFault.{RunFault}
@@ -18,46 +13,10 @@ use Rattle.pt_run.specs.declared.outcome.Ending.{Ending}
 use Rattle.pt_run.specs.declared.outcome.Outcome.{Outcome}
 use Rattle.pt_run.specs.Clocks.{read_for, read_in}
 use Rattle.pt_run.specs.Words.{Order}
-use Rattle.pt_run.specs.Faults.{fault_of_plan, fault_of_rows}
+use Rattle.pt_run.specs.Faults.{fault_of_rows}
 use Rattle.pt_run.specs.declared.words.Command.{Command}
-use Rattle.pt_run.specs.declared.words.Command.TheVariants.{Check, Slacks}
-use Rattle.pt_run.specs.Written.{GraphWith, Leaves, leaves_nothing}
+use Rattle.pt_run.specs.Written.{Leaves, leaves_nothing}
 use Rattle.pt_run.specs.Causes.{Writing}
-
--- the graph is refused before the files of its sensors are read
-abbrev pub is_refused : Option Fault → Bool
-is_refused (Some (fault.Cycle actors)) = true
-is_refused (Some (fault.Infeasible send offset slack)) = true
-is_refused (Some (fault.Ring sends gain)) = true
-is_refused _ = false
-
--- the sensors' files that a command asks for, among the first n actors of a graph: none for `check` and `slacks`, and none if the
--- graph is refused
-abbrev pub files_for : Command → Option Fault → Graph → ℕ → List (List ℕ)
-files_for Check outcome g n = []
-files_for Slacks outcome g n = []
-files_for _ outcome g n = if is_refused outcome then [] else files_before g n
-
--- the source was asked for these files, for some n
-abbrev pub AsksFor : Command → Option Fault → Graph → Option (List (List ℕ)) → Option (List (List ℕ)) → Type 0
-AsksFor command outcome g before now = (n : ℕ) × Asks before now (files_for command outcome g n)
-
--- the source was asked for the graph file and then for these files
-abbrev pub AsksAfterGraph : Option Fault → Command → Contents → List Named → List ℕ → Option (List (List ℕ)) → Option (List (List ℕ)) → Type 0
-AsksAfterGraph outcome command tells blocks name before now = GraphWith tells blocks name (λ g. (n : ℕ) × Asks before now (name ∷ files_for command outcome g n))
-
--- if the graph file has a fault or could not be read, the source was asked for this file alone; else for the files of sensors
--- after it. If memory ran out, it may have been asked for nothing, or for the graph file alone
-abbrev pub AsksInOrder : Option Fault → Command → Contents → List Named → List ℕ → Option (List (List ℕ)) → Option (List (List ℕ)) → Type 0
-AsksInOrder (Some (fault.Graph f)) command tells blocks name before now = Asks before now (name ∷ [])
-AsksInOrder (Some (fault.Read None)) command tells blocks name before now = Asks before now (name ∷ [])
-AsksInOrder (Some fault.Memory) command tells blocks name before now = Asks before now [] ⊎ (Asks before now (name ∷ []) ⊎ AsksAfterGraph (Some fault.Memory) command tells blocks name before now)
-AsksInOrder outcome command tells blocks name before now = AsksAfterGraph outcome command tells blocks name before now
-
--- what the source was asked for: nothing if the words are not a valid command line
-abbrev pub AsksBy : Option Fault → Option (Command × List ℕ) → Contents → List Named → Reading → Type 0
-AsksBy outcome None tells blocks r = Asks r.asked_before r.asked_now []
-AsksBy outcome (Some order) tells blocks r = AsksInOrder outcome order.0 tells blocks order.1 r.asked_before r.asked_now
 
 -- what a call that ended so leaves, with what the clocks that its run read showed before it and after it
 abbrev pub left_with : Ending → List ClockView → List ClockView → Leaves
@@ -125,10 +84,6 @@ IsStopped stop.Memory o = (o.fault ≡ Some fault.Memory) × (left_by o ≡ leav
 abbrev pub fault_in : {X : Type 0} → Result X Fault → Option Fault
 fault_in (Ok answer) = None
 fault_in (Err f) = Some f
-
--- a graph without a plan was reported, or memory ran out
-abbrev pub IsUnplanned : Graph → Ending → Type 0
-IsUnplanned g o = (left_by o ≡ leaves_nothing) × (f : PlanFault) × CauseOfPlan f g × OrMemory o.fault (fault_of_plan f)
 
 -- the end of a run, finished or not
 abbrev pub HasEnded : Result Ran RunFault → Ending → Writing → Type 0

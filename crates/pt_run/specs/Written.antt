@@ -9,6 +9,8 @@ use Rattle.pt_semantics.specs.Meaning.{ActorFiring, IsMeaning, IsLonger}
 use Rattle.pt_semantics.specs.Tables.{tables_text}
 use Rattle.pt_semantics.specs.Offsets.{IsFeasible}
 use Rattle.pt_history.specs.declared.miss.Miss.{Miss}
+use Rattle.pt_turn.specs.declared.fault.TurnFault.{TurnFault}
+use Rattle.pt_turn.specs.declared.fault.TurnFault.TheVariants as turn
 use Rattle.pt_turn.specs.Platforms.{PlatformView}
 use Rattle.pt_offsets.specs.Plans.{Parts}
 use Rattle.pt_offsets.specs.Margins.{HasActorOffset, HasMargin}
@@ -50,6 +52,12 @@ has_run (Some fault.Write) = true
 has_run (Some (fault.Long (Some platform))) = true
 has_run (Some (fault.LateMessage platform actor tag reading limit)) = true
 has_run _ = false
+
+-- the platform that stopped the run, and its fault, by the fault of the call
+abbrev pub stop_of : Option Fault → Option (ℕ × TurnFault)
+stop_of (Some (fault.Long (Some platform))) = Some (platform, turn.Long)
+stop_of (Some (fault.LateMessage platform actor tag reading limit)) = Some (platform, turn.Late actor tag reading limit)
+stop_of _ = None
 
 -- the clock of a run, with what it leaves
 abbrev pub clocking : ℕ → ClockChoice → Leaves → Clocking

@@ -1,6 +1,6 @@
 //! The command `audit`.
 
-ghost use Rattle.std.specs.Prelude.{◌≡◌, ◌↔◌, [], ℕ, IfErr, IfOk, List, None, Some, true};
+ghost use Rattle.std.specs.Prelude.{◌≡◌, ◌↔◌, [], ◌∷◌, ℕ, IfOk, List, None, Some, true};
 ghost use Rattle.std.specs.Arc.{arc_value};
 ghost use Rattle.pt_types.specs.Lawful.{IsLawful};
 ghost use Rattle.pt_types.specs.declared.rows.Row.{Row};
@@ -9,9 +9,9 @@ ghost use Rattle.pt_offsets.specs.Plans.{IsAdmitted};
 ghost use Rattle.pt_sensors.specs.Listed.{rows_for};
 ghost use Rattle.pt_sensors.specs.Places.{StandInPlace, of_run};
 ghost use Rattle.pt_confluence.specs.Gathered.{AreTables, HaveFinished};
-ghost use Rattle.pt_run.specs.Auditing.{Accepts, AsksAudit, AsksJudged, CauseOfRefusal, IsJudged, OnLog, lawful_line};
-ghost use Rattle.pt_run.specs.Due.{IsAudited, IsDue, UnlessMemory};
-ghost use Rattle.pt_run.specs.Runs.{RunOver};
+ghost use Rattle.pt_run.specs.Asks.{AsksFrom, AsksOver, all_sensors};
+ghost use Rattle.pt_run.specs.Auditing.{IsJudged, lawful_line};
+ghost use Rattle.pt_run.specs.Due.{AnswersAsDue, IsAudited, IsDue, UnlessMemory};
 ghost use Rattle.pt_run.specs.Statuses.{status_of};
 ghost use Rattle.pt_run.specs.Telling.{Tells, TellsBy};
 ghost use Rattle.pt_run.specs.Texts.{PutsOrTells, fault_in, left_by};
@@ -53,7 +53,7 @@ pub fn audit<S: Source, K: Sink, E: Sink>(
     blocks: &Blocks,
 ) -> Ending
     ensures status { result.status ≡ status_of result.fault result.misses }
-    ensures asks { AsksAudit result.fault name.now log.now (S.tells source.old) blocks.now.listed.items (S.asked source.old) (S.asked source.new) }
+    ensures asks { AsksFrom result.fault (S.tells source.old) blocks.now.listed.items name.now all_sensors (log.now ∷ []) (S.asked source.old) (S.asked source.new) }
     ensures due { IsDue (Some (to_audit name.now log.now)) (S.tells source.old) blocks.now.listed.items (record {
       fault = result.fault;
       left = left_by result;
@@ -85,7 +85,7 @@ fn audit_graph<S: Source, K: Sink, E: Sink>(
 ) -> Ending
     requires { IsLawful graph }
     ensures status { result.status ≡ status_of result.fault result.misses }
-    ensures asks { AsksJudged result.fault log.now graph (S.asked source.old) (S.asked source.new) }
+    ensures asks { AsksOver result.fault [] (all_sensors graph) (log.now ∷ []) (S.asked source.old) (S.asked source.new) }
     ensures due { UnlessMemory (record {
       fault = result.fault;
       left = left_by result;
@@ -113,10 +113,10 @@ fn judge<S: Source>(
     source: &mut S,
     blocks: &Blocks,
 ) -> Result<(), Fault>
-    ensures lawful { IfOk result (λ unit. RunOver (S.tells source.old) (arc_value plan.now) (OnLog (S.tells source.old) log.now Accepts (arc_value plan.now))) }
-    ensures fault { IfErr result (λ f. CauseOfRefusal f log.now (S.tells source.old) (arc_value plan.now)
-        (record { asked_before = S.asked source.old; asked_now = S.asked source.new; before = S.faults source.old; now = S.faults source.new })) }
-    ensures asks { AsksJudged (fault_in result) log.now (arc_value plan.now).graph (S.asked source.old) (S.asked source.new) }
+    ensures due { AnswersAsDue (λ unit. lawful_line) result
+        (record { asked_before = S.asked source.old; asked_now = S.asked source.new; before = S.faults source.old; now = S.faults source.new })
+        (IsAudited log.now (S.tells source.old) (arc_value plan.now).graph []) }
+    ensures asks { AsksOver (fault_in result) [] (all_sensors (arc_value plan.now).graph) (log.now ∷ []) (S.asked source.old) (S.asked source.new) }
 {
     let entries = match recorded(alloc, source, plan.graph(), LateRows::Refused) {
         Ok(entries) => entries,

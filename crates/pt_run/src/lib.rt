@@ -7,7 +7,7 @@
 //! network. `specs/Due.antt` says how each call ends: at which stage it is refused, and why, or what it writes and what it leaves.
 //! What holds of a run is in `specs/Headline.antt` and `specs/Runs.antt`, and what other commands must write in `specs/Written.antt`,
 //! `specs/Making.antt`, `specs/Migrating.antt`, `specs/Auditing.antt` and `specs/Replaying.antt`. That an answer which known files decide
-//! comes whenever it is due is in `specs/Exact.antt`.
+//! comes whenever it is due is in `specs/Exact.antt`. Which files are asked for is in `specs/Asks.antt`.
 //!
 //! Read first: `ptides`, then `specs/Headline.antt`; `run_of` is a paced run of a plan. Only the functions between `ptides` and
 //! `engines` may wait and start threads; paced runs, `check`, `meaning`, `make`, `migrate`, `slacks`, `audit` and `replay` return,

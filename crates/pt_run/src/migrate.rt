@@ -1,15 +1,13 @@
 //! The command `migrate`.
 
-ghost use Rattle.std.specs.Prelude.{◌≡◌, ◌∷◌, [], IfErr, IfOk, None, Some};
-ghost use Rattle.pt_sensors.specs.Asked.{AsksOrNot};
-ghost use Rattle.pt_run.specs.Causes.{CauseOfGraph};
-ghost use Rattle.pt_run.specs.Due.{IsDue};
+ghost use Rattle.std.specs.Prelude.{◌≡◌, [], IfOk, None, Some};
+ghost use Rattle.pt_run.specs.Asks.{AsksFrom};
+ghost use Rattle.pt_run.specs.Due.{AnswersAsDue, IsDue, IsDueTo};
 ghost use Rattle.pt_run.specs.Migrating.{IsDefined, IsMigrated};
 ghost use Rattle.pt_run.specs.Statuses.{status_of};
 ghost use Rattle.pt_run.specs.Telling.{Tells};
-ghost use Rattle.pt_run.specs.Texts.{left_by};
+ghost use Rattle.pt_run.specs.Texts.{fault_in, left_by};
 ghost use Rattle.pt_run.specs.Words.{migrate as to_migrate};
-ghost use Rattle.pt_run.specs.Written.{GraphWith};
 
 use crate::admission::graph_at;
 use crate::fault::Fault;
@@ -36,7 +34,7 @@ pub fn migrate<S: Source, K: Sink, E: Sink>(
     blocks: &Blocks,
 ) -> Ending
     ensures status { result.status ≡ status_of result.fault result.misses }
-    ensures asks { AsksOrNot (S.asked source.old) (S.asked source.new) (name.now ∷ []) }
+    ensures asks { AsksFrom result.fault (S.tells source.old) blocks.now.listed.items name.now (λ g. []) [] (S.asked source.old) (S.asked source.new) }
     ensures due { IsDue (Some (to_migrate name.now)) (S.tells source.old) blocks.now.listed.items (record {
       fault = result.fault;
       left = left_by result;
@@ -68,10 +66,10 @@ fn migrated<S: Source>(
     name: &str,
     blocks: &Blocks,
 ) -> Result<Vec<u8>, Fault>
-    ensures text { IfOk result (λ text. GraphWith (S.tells source.old) blocks.now.listed.items name.now (λ g. IsMigrated g blocks.now.listed.items text.items)) }
-    ensures fault { IfErr result (λ f. CauseOfGraph f (S.tells source.old) blocks.now.listed.items name.now
-        (record { asked_before = S.asked source.old; asked_now = S.asked source.new; before = S.faults source.old; now = S.faults source.new })) }
-    ensures asks { AsksOrNot (S.asked source.old) (S.asked source.new) (name.now ∷ []) }
+    ensures due { AnswersAsDue (λ text. text.items) result
+        (record { asked_before = S.asked source.old; asked_now = S.asked source.new; before = S.faults source.old; now = S.faults source.new })
+        (IsDueTo (to_migrate name.now) (S.tells source.old) blocks.now.listed.items) }
+    ensures asks { AsksFrom (fault_in result) (S.tells source.old) blocks.now.listed.items name.now (λ g. []) [] (S.asked source.old) (S.asked source.new) }
 {
     let graph = match graph_at(alloc, source, name, blocks) {
         Ok(graph) => graph,

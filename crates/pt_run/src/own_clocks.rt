@@ -6,8 +6,9 @@ ghost use Rattle.pt_io.specs.Told.{tell};
 ghost use Rattle.pt_types.specs.Lawful.{IsLawful};
 ghost use Rattle.pt_types.specs.declared.rows.Row.{Row};
 ghost use Rattle.pt_offsets.specs.Plans.{Parts};
-ghost use Rattle.pt_sensors.specs.Asked.{AsksFiles};
+ghost use Rattle.pt_sensors.specs.Asked.{Asks};
 ghost use Rattle.pt_turn.specs.All.{AreReady, IsReady};
+ghost use Rattle.pt_run.specs.Asks.{AsksOver, AsksStopped, all_sensors};
 ghost use Rattle.pt_run.specs.Clocks.{AreAsMany, AreBackBy, AreBackAfterRun};
 ghost use Rattle.pt_run.specs.declared.fault.Fault.TheVariants.{Memory as NoMemory};
 ghost use Rattle.pt_run.specs.declared.words.Command.TheVariants.{Run};
@@ -16,7 +17,7 @@ ghost use Rattle.pt_run.specs.Readings.{read_by};
 ghost use Rattle.pt_run.specs.Runs.{CauseOfStop, HasOutputs, WentBy, read_with};
 ghost use Rattle.pt_run.specs.Statuses.{status_of};
 ghost use Rattle.pt_run.specs.Telling.{Tells};
-ghost use Rattle.pt_run.specs.Texts.{AsksFor, left_with};
+ghost use Rattle.pt_run.specs.Texts.{left_with};
 
 use crate::engines::{go_by_clocks, go_by_steps};
 use crate::outcome::Ending;
@@ -53,7 +54,7 @@ pub fn run_own<S: Source, K: Sink, E: Sink, C: Clock + Send, R: Threads + Wait +
     requires lawful { IsLawful graph }
     requires clocks { length clocks.old.items ≡ 16 }
     ensures status { result.status ≡ status_of result.fault result.misses }
-    ensures asks { AsksFor (Run workers clock log) result.fault graph (S.asked source.old) (S.asked source.new) }
+    ensures asks { AsksOver result.fault [] (all_sensors graph) [] (S.asked source.old) (S.asked source.new) }
     ensures due { UnlessMemory (record {
       fault = result.fault;
       left = left_with result (read_by clock (tell C.told C.ahead clocks.old.items)) (read_by clock (tell C.told C.ahead clocks.new.items));
@@ -94,7 +95,8 @@ fn own_run_of<S: Source, C: Clock + Send, R: Threads + Wait + Sync>(
     ensures fault { IfErr result (λ f. CauseOfStop f (S.tells source.old) (read_with workers clock (tell C.told C.ahead clocks.old.items) (tell C.told C.ahead clocks.new.items)) (arc_value plan.now)
         (record { asked_before = S.asked source.old; asked_now = S.asked source.new; before = S.faults source.old; now = S.faults source.new })) }
     ensures clocks { AreBackAfterRun result clock clocks.old.items clocks.new.items }
-    ensures asks { AsksFiles (arc_value plan.now).graph (S.asked source.old) (S.asked source.new) }
+    ensures asks { IfErr result (λ f. AsksStopped f (arc_value plan.now).graph (S.asked source.old) (S.asked source.new)) }
+    ensures asks_all { IfOk result (λ all. Asks (S.asked source.old) (S.asked source.new) (all_sensors (arc_value plan.now).graph)) }
     ensures keeps { S.tells source.new ≡ S.tells source.old }
     ensures grows { S.faults source.old ≤ S.faults source.new }
 {

@@ -2,7 +2,8 @@
 
 ghost use Rattle.std.specs.Prelude.{◌≡◌, ◌≤◌, ◌<◌, IfErr, IfOk, length};
 ghost use Rattle.std.specs.Arc.{arc_value};
-ghost use Rattle.pt_sensors.specs.Asked.{AsksFiles};
+ghost use Rattle.pt_sensors.specs.Asked.{Asks};
+ghost use Rattle.pt_run.specs.Asks.{AsksStopped, all_sensors};
 ghost use Rattle.pt_run.specs.Readings.{Clocking};
 ghost use Rattle.pt_run.specs.Runs.{CauseOfStop, HasOpened, HasOutputs, paced_clocking};
 
@@ -55,7 +56,8 @@ pub fn run_of<S: Source>(
     ensures ran { IfOk result (HasOutputs (S.tells source.old) (paced_clocking workers) (arc_value plan.now) log) }
     ensures fault { IfErr result (λ f. CauseOfStop f (S.tells source.old) (paced_clocking workers) (arc_value plan.now)
         (record { asked_before = S.asked source.old; asked_now = S.asked source.new; before = S.faults source.old; now = S.faults source.new })) }
-    ensures asks { AsksFiles (arc_value plan.now).graph (S.asked source.old) (S.asked source.new) }
+    ensures asks { IfErr result (λ f. AsksStopped f (arc_value plan.now).graph (S.asked source.old) (S.asked source.new)) }
+    ensures asks_all { IfOk result (λ all. Asks (S.asked source.old) (S.asked source.new) (all_sensors (arc_value plan.now).graph)) }
     ensures keeps { S.tells source.new ≡ S.tells source.old }
     ensures grows { S.faults source.old ≤ S.faults source.new }
 {
@@ -77,7 +79,8 @@ pub fn opened_of<S: Source>(
     ensures opened { IfOk result (λ platforms. HasOpened (S.tells source.old) (arc_value plan.now) platforms.items) }
     ensures fault { IfErr result (λ f. (c : Clocking) → CauseOfStop f (S.tells source.old) c (arc_value plan.now)
         (record { asked_before = S.asked source.old; asked_now = S.asked source.new; before = S.faults source.old; now = S.faults source.new })) }
-    ensures asks { AsksFiles (arc_value plan.now).graph (S.asked source.old) (S.asked source.new) }
+    ensures asks { IfErr result (λ f. AsksStopped f (arc_value plan.now).graph (S.asked source.old) (S.asked source.new)) }
+    ensures asks_all { IfOk result (λ all. Asks (S.asked source.old) (S.asked source.new) (all_sensors (arc_value plan.now).graph)) }
     ensures keeps { S.tells source.new ≡ S.tells source.old }
     ensures grows { S.faults source.old ≤ S.faults source.new }
 {

@@ -1,6 +1,6 @@
 //! The command `replay`.
 
-ghost use Rattle.std.specs.Prelude.{◌≡◌, [], IfErr, IfOk, None, Some, flat_map, length, string_bytes};
+ghost use Rattle.std.specs.Prelude.{◌≡◌, [], ◌∷◌, IfErr, IfOk, None, Some, flat_map, length, string_bytes};
 ghost use Rattle.std.specs.Arc.{arc_value};
 ghost use Rattle.pt_types.specs.Lawful.{IsLawful};
 ghost use Rattle.pt_semantics.specs.Rows.{FitRows};
@@ -8,9 +8,9 @@ ghost use Rattle.pt_offsets.specs.Plans.{IsAdmitted};
 ghost use Rattle.pt_sensors.specs.Listed.{rows_for};
 ghost use Rattle.pt_sensors.specs.Places.{StandInPlace, of_run};
 ghost use Rattle.pt_tables.specs.Misses.{miss_line};
-ghost use Rattle.pt_run.specs.Flown.{CauseOfNoAir, EndsAsReplayed, FinishedReplay, HasReplayed, IsOfReplay, IsRecorded, NamesRow, StopsInAir, StopsReplay, stop_in};
-ghost use Rattle.pt_run.specs.Due.{IsDue, IsReplayed, UnlessMemory};
-ghost use Rattle.pt_run.specs.Replaying.{AsksReplay, AsksReplayed};
+ghost use Rattle.pt_run.specs.Asks.{AsksFrom, AsksOver, all_sensors};
+ghost use Rattle.pt_run.specs.Flown.{EndsAsReplayed, FinishedReplay, HasReplayed, IsOfReplay, IsRecorded, NamesRow, StopsInAir, stop_in};
+ghost use Rattle.pt_run.specs.Due.{AfterAdmission, AfterAir, IsDue, IsReplayed, RefusesAsDue, StopsAsDue, UnlessMemory};
 ghost use Rattle.pt_run.specs.Statuses.{status_of};
 ghost use Rattle.pt_run.specs.Telling.{Tells, TellsBy};
 ghost use Rattle.pt_run.specs.Texts.{fault_in, left_by};
@@ -66,7 +66,7 @@ pub fn replay<S: Source, K: Sink, E: Sink>(
     blocks: &Blocks,
 ) -> Ending
     ensures status { result.status ≡ status_of result.fault result.misses }
-    ensures asks { AsksReplay result.fault name.now air.now (S.tells source.old) blocks.now.listed.items (S.asked source.old) (S.asked source.new) }
+    ensures asks { AsksFrom result.fault (S.tells source.old) blocks.now.listed.items name.now all_sensors (air.now ∷ []) (S.asked source.old) (S.asked source.new) }
     ensures due { IsDue (Some (to_replay name.now air.now workers log)) (S.tells source.old) blocks.now.listed.items (record {
       fault = result.fault;
       left = left_by result;
@@ -100,7 +100,7 @@ fn replay_graph<S: Source, K: Sink, E: Sink>(
 ) -> Ending
     requires { IsLawful graph }
     ensures status { result.status ≡ status_of result.fault result.misses }
-    ensures asks { AsksReplayed result.fault air.now graph (S.asked source.old) (S.asked source.new) }
+    ensures asks { AsksOver result.fault [] (all_sensors graph) (air.now ∷ []) (S.asked source.old) (S.asked source.new) }
     ensures due { UnlessMemory (record {
       fault = result.fault;
       left = left_by result;
@@ -132,9 +132,10 @@ fn replay_of<S: Source>(
 ) -> Result<Ran, Stopped>
     ensures ran { IfOk result (HasReplayed (S.tells source.old) air.now (arc_value plan.now) log) }
     ensures lines { IfOk result (λ ran. string_bytes ran.lines ≡ flat_map (miss_line (arc_value plan.now).graph) ran.misses.items) }
-    ensures stopped { IfErr result (λ s. StopsReplay s.fault s.platforms.items air.now (S.tells source.old) (arc_value plan.now)
-        (record { asked_before = S.asked source.old; asked_now = S.asked source.new; before = S.faults source.old; now = S.faults source.new })) }
-    ensures asks { AsksReplayed (stop_in result) air.now (arc_value plan.now).graph (S.asked source.old) (S.asked source.new) }
+    ensures stopped { IfErr result (λ s. StopsAsDue s.fault s.platforms.items
+        (record { asked_before = S.asked source.old; asked_now = S.asked source.new; before = S.faults source.old; now = S.faults source.new })
+        (IsReplayed air.now log (S.tells source.old) (arc_value plan.now).graph [])) }
+    ensures asks { AsksOver (stop_in result) [] (all_sensors (arc_value plan.now).graph) (air.now ∷ []) (S.asked source.old) (S.asked source.new) }
 {
     let Inputs { entries, air } = match read_inputs(alloc, plan, air, source) {
         Ok(recorded) => recorded,
@@ -157,9 +158,10 @@ fn read_inputs<S: Source>(
     source: &mut S,
 ) -> Result<Inputs, Fault>
     ensures recorded { IfOk result (λ found. IsRecorded (S.tells source.old) air.now (arc_value plan.now) found.entries.items found.air) }
-    ensures fault { IfErr result (λ f. CauseOfNoAir f air.now (S.tells source.old) (arc_value plan.now)
-        (record { asked_before = S.asked source.old; asked_now = S.asked source.new; before = S.faults source.old; now = S.faults source.new })) }
-    ensures asks { AsksReplayed (fault_in result) air.now (arc_value plan.now).graph (S.asked source.old) (S.asked source.new) }
+    ensures refused { IfErr result (λ f. RefusesAsDue f
+        (record { asked_before = S.asked source.old; asked_now = S.asked source.new; before = S.faults source.old; now = S.faults source.new })
+        (λ a. AfterAdmission (S.tells source.old) (arc_value plan.now).graph [] a (λ p rows. AfterAir air.now (S.tells source.old) (arc_value plan.now).graph [] a ⊥))) }
+    ensures asks { AsksOver (fault_in result) [] (all_sensors (arc_value plan.now).graph) (air.now ∷ []) (S.asked source.old) (S.asked source.new) }
 {
     let entries = match recorded(alloc, source, plan.graph(), LateRows::Refused) {
         Ok(entries) => entries,

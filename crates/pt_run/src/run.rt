@@ -6,11 +6,12 @@ ghost use Rattle.pt_types.specs.Lawful.{IsLawful};
 ghost use Rattle.pt_offsets.specs.Plans.{IsAdmitted};
 ghost use Rattle.pt_words.specs.declared.orders.ClockChoice.TheVariants.{Paced};
 ghost use Rattle.pt_run.specs.declared.words.Command.TheVariants.{Run};
-ghost use Rattle.pt_run.specs.Due.{IsDueFor, UnlessMemory};
+ghost use Rattle.pt_run.specs.Asks.{AsksOver, all_sensors};
+ghost use Rattle.pt_run.specs.Due.{AfterCycles, AfterOffsets, EndsRefused, IsDueFor, UnlessMemory};
 ghost use Rattle.pt_run.specs.Statuses.{status_of};
 ghost use Rattle.pt_tables.specs.Misses.{miss_line};
 ghost use Rattle.pt_run.specs.Telling.{Tells};
-ghost use Rattle.pt_run.specs.Texts.{AsksFor, HasEnded, IsFaultOfRun, IsStopped, IsUnplanned, LeftAll, WroteRun, left_by};
+ghost use Rattle.pt_run.specs.Texts.{HasEnded, IsFaultOfRun, IsStopped, LeftAll, WroteRun, left_by};
 
 use crate::fault::{Fault, fault_of_plan, fault_of_rows};
 use crate::notes::{tell, tell_write};
@@ -38,7 +39,7 @@ pub fn run_graph<S: Source, K: Sink, E: Sink>(
 ) -> Ending
     requires { IsLawful graph }
     ensures status { result.status ≡ status_of result.fault result.misses }
-    ensures asks { AsksFor (Run workers Paced log) result.fault graph (S.asked source.old) (S.asked source.new) }
+    ensures asks { AsksOver result.fault [] (all_sensors graph) [] (S.asked source.old) (S.asked source.new) }
     ensures due { UnlessMemory (record {
       fault = result.fault;
       left = left_by result;
@@ -65,7 +66,7 @@ pub fn planned<E: Sink>(alloc: Global, graph: Graph, notes: &mut E) -> Result<Ar
     ensures admitted { IfOk result (λ plan. IsAdmitted (arc_value plan)) }
     ensures quiet { IfOk result (λ plan. (E.faults notes.new ≡ E.faults notes.old) × (E.written notes.new ≡ E.written notes.old)) }
     ensures status { IfErr result (λ o. o.status ≡ status_of o.fault o.misses) }
-    ensures refused { IfErr result (IsUnplanned graph) }
+    ensures refused { IfErr result (λ o. EndsRefused o (λ a. AfterCycles graph a (AfterOffsets graph a ⊥))) }
     ensures notes { IfErr result (λ o. Tells o.fault o.misses (Some graph)
         (record { before = E.faults notes.old; now = E.faults notes.new; written_before = E.written notes.old; written_now = E.written notes.new })) }
 {

@@ -4,19 +4,20 @@ ghost use Rattle.std.specs.Prelude.{◌≡◌, ◌≢◌, ◌↔◌, None, Some,
 ghost use Rattle.pt_io.specs.Told.{tell};
 ghost use Rattle.pt_types.specs.Lawful.{IsLawful};
 ghost use Rattle.pt_monitors.specs.Platforms.{missed_by};
+ghost use Rattle.pt_run.specs.Asks.{AsksFrom, AsksOf, AsksOver, files_for};
 ghost use Rattle.pt_run.specs.Clocks.{AreBack, AreBackFor};
 ghost use Rattle.pt_run.specs.Complete.{IsComplete, IsCompleteByAnyClock};
 ghost use Rattle.pt_run.specs.declared.fault.Fault.TheVariants.{Memory};
 ghost use Rattle.pt_run.specs.Due.{IsDue, IsDueFor, UnlessMemory};
 ghost use Rattle.pt_run.specs.Exact.{IsExact};
-ghost use Rattle.pt_run.specs.Headline.{IsHeadline};
 ghost use Rattle.pt_run.specs.InBounds.{IsCompleteInBounds};
+ghost use Rattle.pt_run.specs.OverFiles.{HasHeadline};
 ghost use Rattle.pt_run.specs.Statuses.{status_of};
 ghost use Rattle.pt_run.specs.Words.{order_of, over};
-ghost use Rattle.pt_run.specs.Making.{AsksOf, TellsOf};
+ghost use Rattle.pt_run.specs.Making.{TellsOf};
 ghost use Rattle.pt_run.specs.Replaying.{IsReplayHeadline};
 ghost use Rattle.pt_run.specs.Telling.{Tells, TellsBy};
-ghost use Rattle.pt_run.specs.Texts.{AsksBy, AsksFor, PutsOrTells, left_at, left_of, left_over};
+ghost use Rattle.pt_run.specs.Texts.{PutsOrTells, left_at, left_of, left_over};
 
 use crate::admission::graph_at;
 use crate::audit::audit;
@@ -63,12 +64,12 @@ pub fn ptides<S: Source, K: Sink, E: Sink, C: Clock + Send, R: Threads + Wait + 
 ) -> Outcome<C>
     requires clocks { length clocks.items ≡ 16 }
     ensures status { result.status ≡ status_of result.fault result.misses }
-    // The source is asked for the graph file and, if the graph is not refused, for the files of its sensors, in order, and then
-    // for the log of an audit, or the recording of a replay.
+    // The source is asked for the graph file, then for the files of its sensors, in order, and then for the log of an audit, or the
+    // recording of a replay: for all of them, unless the call is refused before or memory runs out.
     ensures asks { AsksOf result.fault (order_of words.now) (S.tells source.old) blocks.now.listed.items
         (record { asked_before = S.asked source.old; asked_now = S.asked source.new; before = S.faults source.old; now = S.faults source.new }) }
     // The headline: what a run has written, what it leaves, by which readings, and why it stopped.
-    ensures headline { IsHeadline result.fault (left_of result (order_of words.now) (tell C.told C.ahead clocks.items) (tell C.told C.ahead result.clocks.items)) (order_of words.now) (S.tells source.old) blocks.now.listed.items
+    ensures headline { HasHeadline result.fault (left_of result (order_of words.now) (tell C.told C.ahead clocks.items) (tell C.told C.ahead result.clocks.items)) (order_of words.now) (S.tells source.old) blocks.now.listed.items
         (record { before = K.faults out.old; now = K.faults out.new; written_before = K.written out.old; written_now = K.written out.new }) }
     // The same of a replay: what it has written, what it leaves, by which lags and transits, and why it stopped.
     ensures replay_headline { IsReplayHeadline result.fault (left_of result (order_of words.now) (tell C.told C.ahead clocks.items) (tell C.told C.ahead result.clocks.items)) (order_of words.now) (S.tells source.old) blocks.now.listed.items
@@ -190,8 +191,7 @@ fn run_file<S: Source, K: Sink, E: Sink, C: Clock + Send, R: Threads + Wait + Sy
 ) -> Ending
     requires clocks { length clocks.old.items ≡ 16 }
     ensures status { result.status ≡ status_of result.fault result.misses }
-    ensures asks { AsksBy result.fault (Some (command, name.now)) (S.tells source.old) blocks.now.listed.items
-        (record { asked_before = S.asked source.old; asked_now = S.asked source.new; before = S.faults source.old; now = S.faults source.new }) }
+    ensures asks { AsksFrom result.fault (S.tells source.old) blocks.now.listed.items name.now (files_for command) [] (S.asked source.old) (S.asked source.new) }
     ensures due { IsDue (Some (over command name.now)) (S.tells source.old) blocks.now.listed.items (record {
       fault = result.fault;
       left = left_over result command (tell C.told C.ahead clocks.old.items) (tell C.told C.ahead clocks.new.items);
@@ -231,7 +231,7 @@ fn run_command<S: Source, K: Sink, E: Sink, C: Clock + Send, R: Threads + Wait +
     requires lawful { IsLawful graph }
     requires clocks { length clocks.old.items ≡ 16 }
     ensures status { result.status ≡ status_of result.fault result.misses }
-    ensures asks { AsksFor command result.fault graph (S.asked source.old) (S.asked source.new) }
+    ensures asks { AsksOver result.fault [] (files_for command graph) [] (S.asked source.old) (S.asked source.new) }
     ensures due { UnlessMemory (record {
       fault = result.fault;
       left = left_over result command (tell C.told C.ahead clocks.old.items) (tell C.told C.ahead clocks.new.items);

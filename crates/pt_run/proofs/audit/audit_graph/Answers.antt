@@ -1,7 +1,15 @@
+use Rattle.std.proofs.Common.{[], ◌∷◌, subst, refl}
 use Rattle.std.specs.Arc.{arc_value}
+use Rattle.pt_types.specs.declared.graph.Graph.{Graph}
 use Rattle.pt_sensors.specs.Asked.{Reading}
+use Rattle.pt_run.specs.Auditing.{lawful_line}
 use Rattle.pt_run.specs.Causes.{Writing}
-use Rattle.pt_run.proofs.Auditing.{audited, judged_asks}
+use Rattle.pt_run.specs.Asks.{AsksOver, all_sensors}
+use Rattle.pt_run.specs.Due.{IsAudited, IsJudgedBy, UnlessMemory}
+use Rattle.pt_run.specs.Texts.{fault_in, left_by}
+use Rattle.pt_run.proofs.Asks.{given_asks, unplanned_asks}
+use Rattle.pt_run.proofs.Ending.{given_due}
+use Rattle.pt_run.proofs.Planned.{unplanned}
 use Rattle.pt_run.proofs.audit.audit_graph.Goals as goal
 
 pub returns-clause-due : goal.returns-clause-due
@@ -9,9 +17,22 @@ returns-clause-due g c =
     let tells = g.S.Source.tells c.args.source.now in
     let r : Reading = record { asked_before = g.S.Source.asked c.args.source.now; asked_now = g.S.Source.asked c.judge-judged.new.source; before = g.S.Source.faults c.args.source.now; now = g.S.Source.faults c.judge-judged.new.source } in
     let w : Writing = record { before = g.K.Sink.faults c.args.out.now; now = g.K.Sink.faults c.end_audit.new.out; written_before = g.K.Sink.written c.args.out.now; written_now = g.K.Sink.written c.end_audit.new.out } in
-    audited c.args.log.now tells (arc_value c.in-Ok.plan) r w c.judge-judged.result c.args.graph c.end_audit.result c.in-Ok.ensures.admitted c.in-Ok.ensures.plan c.judge-judged.ensures.lawful c.judge-judged.ensures.fault c.end_audit.ensures.gives
+    subst (λ (z : Graph). UnlessMemory (record { fault = c.end_audit.result.fault; left = left_by c.end_audit.result; read = r; wrote = w }) (IsAudited c.args.log.now tells z [])) c.in-Ok.ensures.plan
+    (given_due c.end_audit.result r w (λ unit. lawful_line) c.judge-judged.result (IsAudited c.args.log.now tells (arc_value c.in-Ok.plan).graph []) c.judge-judged.ensures.due c.end_audit.ensures.gives)
 
 pub returns-clause-asks : goal.returns-clause-asks
 returns-clause-asks g c =
+    let last = c.args.log.now ∷ [] in
     let w : Writing = record { before = g.K.Sink.faults c.args.out.now; now = g.K.Sink.faults c.end_audit.new.out; written_before = g.K.Sink.written c.args.out.now; written_now = g.K.Sink.written c.end_audit.new.out } in
-    judged_asks c.judge-judged.result c.end_audit.result w c.args.log.now c.args.graph (arc_value c.in-Ok.plan).graph (g.S.Source.asked c.args.source.now) (g.S.Source.asked c.judge-judged.new.source) c.in-Ok.ensures.plan c.end_audit.ensures.gives c.judge-judged.ensures.asks
+    given_asks [] (all_sensors c.args.graph) last (g.S.Source.asked c.args.source.now) (g.S.Source.asked c.judge-judged.new.source) (λ unit. lawful_line) c.judge-judged.result c.end_audit.result w c.end_audit.ensures.gives
+    (subst (λ (h : Graph). AsksOver (fault_in c.judge-judged.result) [] (all_sensors h) last (g.S.Source.asked c.args.source.now) (g.S.Source.asked c.judge-judged.new.source)) c.in-Ok.ensures.plan c.judge-judged.ensures.asks)
+
+pub returns-in-Err-clause-asks : goal.returns-in-Err-clause-asks
+returns-in-Err-clause-asks g c = unplanned_asks (all_sensors c.args.graph) (c.args.log.now ∷ []) (g.S.Source.asked c.args.source.now) (g.S.Source.asked c.args.source.now) c.args.graph c.in-Err.ending c.in-Err.ensures.refused refl
+
+pub returns-in-Err-clause-due : goal.returns-in-Err-clause-due
+returns-in-Err-clause-due g c =
+    let tells = g.S.Source.tells c.args.source.now in
+    let r : Reading = record { asked_before = g.S.Source.asked c.args.source.now; asked_now = g.S.Source.asked c.args.source.now; before = g.S.Source.faults c.args.source.now; now = g.S.Source.faults c.args.source.now } in
+    let w : Writing = record { before = g.K.Sink.faults c.args.out.now; now = g.K.Sink.faults c.args.out.now; written_before = g.K.Sink.written c.args.out.now; written_now = g.K.Sink.written c.args.out.now } in
+    unplanned c.in-Err.ending c.args.graph c.in-Err.ensures.refused [] [] tells r w (IsJudgedBy c.args.log.now tells c.args.graph []) refl

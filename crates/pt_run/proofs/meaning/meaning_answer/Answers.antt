@@ -1,9 +1,10 @@
-use Rattle.std.proofs.Common.{[]}
+use Rattle.pt_run.proofs.Asks.{cycle_asks}
+use Rattle.pt_run.specs.Asks.{AsksOver, all_sensors}
+use Rattle.std.proofs.Common.{[], Some, subst, sym, refl}
 use Rattle.std.specs.Prelude.{string_bytes}
 use Rattle.pt_causality.specs.Ranked.{level_of}
 use Rattle.pt_sensors.specs.declared.recorded_fault.LateRows.TheVariants.{Taken}
 use Rattle.pt_run.specs.Due.{AfterRows, IsMeantBy}
-use Rattle.pt_run.proofs.Asks.{meaning_asks}
 use Rattle.pt_run.proofs.Ending.{free_due}
 use Rattle.pt_run.proofs.meaning.meaning_answer.Goals as goal
 
@@ -11,6 +12,6 @@ pub returns-in-Ok-clause-due : goal.returns-in-Ok-clause-due
 returns-in-Ok-clause-due g c =
     free_due string_bytes c.meaning_text.result c.args.graph.now (level_of c.in-Ok.ranks) _ (λ a. AfterRows Taken (g.S.Source.tells c.args.source.now) c.args.graph.now [] a (λ rows. IsMeantBy c.args.graph.now rows a)) c.in-Ok.ensures.levels c.meaning_text.ensures.due
 
-pub returns-in-Ok-clause-asks : goal.returns-in-Ok-clause-asks
-returns-in-Ok-clause-asks g c =
-    meaning_asks (g.S.Source.tells c.args.source.now) c.args.graph.now _ c.meaning_text.result (g.S.Source.asked c.args.source.now) (g.S.Source.asked c.meaning_text.new.source) c.meaning_text.ensures.due c.meaning_text.ensures.asks
+pub returns-in-Err-clause-asks : goal.returns-in-Err-clause-asks
+returns-in-Err-clause-asks g c =
+    subst (λ e. AsksOver (Some e) [] (all_sensors c.args.graph.now) [] (g.S.Source.asked c.args.source.now) (g.S.Source.asked c.args.source.now)) (sym c.fault_of_cycle.ensures) (cycle_asks (all_sensors c.args.graph.now) [] (g.S.Source.asked c.args.source.now) (g.S.Source.asked c.args.source.now) c.in-Err.fault refl)

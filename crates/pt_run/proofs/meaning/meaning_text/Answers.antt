@@ -1,10 +1,12 @@
-use Rattle.std.proofs.Common.{List, subst}
+use Rattle.pt_run.specs.Asks.{AsksOver, all_sensors}
+use Rattle.std.proofs.Common.{List, subst, Some, [], sym}
 use Rattle.std.specs.Prelude.{string_bytes}
 use Rattle.std.specs.declared.alloc.Global.{Global}
 use Rattle.pt_sensors.specs.declared.sensor_rows.SensorRows.{SensorRows}
 use Rattle.pt_sensors.specs.Asked.{Reading}
 use Rattle.pt_sensors.specs.Listed.{rows_for}
 use Rattle.pt_run.specs.Due.{AnswersAsDue, IsMeantBy}
+use Rattle.pt_run.proofs.Asks.{meant_asks, rows_asked}
 use Rattle.pt_run.proofs.Ending.{read_due}
 use Rattle.pt_run.proofs.meaning.meaning_text.Goals as goal
 
@@ -13,3 +15,14 @@ returns-clause-due g c =
     let r : Reading = record { asked_before = g.S.Source.asked c.args.source.now; asked_now = g.S.Source.asked c.recorded.new.source; before = g.S.Source.faults c.args.source.now; now = g.S.Source.faults c.recorded.new.source } in
     read_due (string_bytes {Z = Global}) c.meaning_tables.result (g.S.Source.tells c.args.source.now) c.args.graph.now r (rows_for c.in-Ok.sensors.items) c.in-Ok.ensures.rows
     (subst (λ (xs : List SensorRows). AnswersAsDue (string_bytes {Z = Global}) c.meaning_tables.result r (IsMeantBy c.args.graph.now (rows_for xs))) c.as_slice.ensures.value (c.meaning_tables.ensures r))
+
+pub returns-clause-asks : goal.returns-clause-asks
+returns-clause-asks g c =
+    let r : Reading = record { asked_before = g.S.Source.asked c.args.source.now; asked_now = g.S.Source.asked c.recorded.new.source; before = g.S.Source.faults c.args.source.now; now = g.S.Source.faults c.recorded.new.source } in
+    meant_asks c.args.graph.now (rows_for c.in-Ok.sensors.items) r (g.S.Source.asked c.args.source.now) (g.S.Source.asked c.recorded.new.source) c.in-Ok.ensures.asks_all (string_bytes {Z = Global}) c.meaning_tables.result
+    (subst (λ (xs : List SensorRows). AnswersAsDue (string_bytes {Z = Global}) c.meaning_tables.result r (IsMeantBy c.args.graph.now (rows_for xs))) c.as_slice.ensures.value (c.meaning_tables.ensures r))
+
+pub returns-in-Err-clause-asks : goal.returns-in-Err-clause-asks
+returns-in-Err-clause-asks g c =
+    let now = g.S.Source.asked c.recorded.new.source in
+    subst (λ e. AsksOver (Some e) [] (all_sensors c.args.graph.now) [] (g.S.Source.asked c.args.source.now) now) (sym c.fault_of_rows.ensures) (rows_asked c.args.graph.now [] (g.S.Source.asked c.args.source.now) now c.in-Err.fault c.recorded.ensures.asks)

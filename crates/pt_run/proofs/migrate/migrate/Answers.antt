@@ -1,11 +1,13 @@
-use Rattle.std.proofs.Common.{[], refl}
+use Rattle.std.proofs.Common.{rules, ◌≡◌, [], inl, inr, refl}
+use Rattle.pt_io.specs.Causes.{Appends, AppendsPart, Rose}
+use Rattle.pt_run.proofs.Asks.{from_told}
 use Rattle.pt_sensors.specs.Asked.{Reading}
 use Rattle.pt_run.specs.Causes.{Writing}
-use Rattle.pt_run.specs.Due.{Answer, OnlyPuts}
-use Rattle.pt_run.specs.Migrating.{IsMigrated}
+use Rattle.pt_run.specs.Due.{Answer, IsDueTo}
 use Rattle.pt_run.specs.Texts.{left_by}
-use Rattle.pt_run.proofs.Ending.{has_nothing}
-use Rattle.pt_run.proofs.Stages.{graph_told}
+use Rattle.pt_run.specs.Words.{migrate}
+use Rattle.pt_run.specs.Written.{leaves_nothing}
+use Rattle.pt_run.proofs.Ending.{has_nothing, told_due}
 use Rattle.pt_run.proofs.migrate.migrate.Goals as goal
 
 pub returns-in-Err-clause-due : goal.returns-in-Err-clause-due
@@ -15,4 +17,27 @@ returns-in-Err-clause-due g c =
     let r : Reading = record { asked_before = g.S.Source.asked c.args.source.now; asked_now = g.S.Source.asked c.migrated.new.source; before = g.S.Source.faults c.args.source.now; now = g.S.Source.faults c.migrated.new.source } in
     let w : Writing = record { before = g.K.Sink.faults c.args.out.now; now = g.K.Sink.faults c.args.out.now; written_before = g.K.Sink.written c.args.out.now; written_now = g.K.Sink.written c.args.out.now } in
     let a : Answer = record { fault = c.refused.result.fault; left = left_by c.refused.result; read = r; wrote = w } in
-    graph_told tells blocks c.args.name.now a (λ z. OnlyPuts a (IsMigrated z blocks)) (has_nothing c.refused.result [] [] c.refused.ensures.left) refl c.in-Err.fault c.tell-fault.result c.refused.ensures.fault c.tell-fault.ensures.fault c.in-Err.ensures.fault
+    told_due a c.in-Err.fault c.tell-fault.result (IsDueTo (migrate c.args.name.now) tells blocks) (has_nothing c.refused.result [] [] c.refused.ensures.left) refl c.refused.ensures.fault c.tell-fault.ensures.fault c.in-Err.ensures.due
+
+pub returns-then-is_err-clause-due : goal.returns-then-is_err-clause-due
+returns-then-is_err-clause-due g c =
+    let r : Reading = record { asked_before = g.S.Source.asked c.args.source.now; asked_now = g.S.Source.asked c.migrated.new.source; before = g.S.Source.faults c.args.source.now; now = g.S.Source.faults c.migrated.new.source } in
+    let w : Writing = record { before = g.K.Sink.faults c.args.out.now; now = g.K.Sink.faults c.put_text.new.out; written_before = g.K.Sink.written c.args.out.now; written_now = g.K.Sink.written c.put_text.new.out } in
+    let o = c.refused-then-is_err.result in
+    let rose : Rose (g.K.Sink.faults c.args.out.now) (g.K.Sink.faults c.put_text.new.out) = search rules in
+    let part : AppendsPart (g.K.Sink.written c.args.out.now) (g.K.Sink.written c.put_text.new.out) c.in-Ok.text.items = search rules in
+    c.in-Ok.ensures.due (record { fault = o.fault; left = left_by o; read = r; wrote = w }) refl (has_nothing o [] [] c.refused-then-is_err.ensures.left, inr (c.refused-then-is_err.ensures.fault, rose, c.in-Ok.text.items, refl, part))
+
+pub returns-clause-due : goal.returns-clause-due
+returns-clause-due g c =
+    let r : Reading = record { asked_before = g.S.Source.asked c.args.source.now; asked_now = g.S.Source.asked c.migrated.new.source; before = g.S.Source.faults c.args.source.now; now = g.S.Source.faults c.migrated.new.source } in
+    let w : Writing = record { before = g.K.Sink.faults c.args.out.now; now = g.K.Sink.faults c.put_text.new.out; written_before = g.K.Sink.written c.args.out.now; written_now = g.K.Sink.written c.put_text.new.out } in
+    let o = c.done.result in
+    let none : left_by o ≡ leaves_nothing = search rules in
+    let all : Appends (g.K.Sink.written c.args.out.now) (g.K.Sink.written c.put_text.new.out) c.in-Ok.text.items = search rules in
+    c.in-Ok.ensures.due (record { fault = o.fault; left = left_by o; read = r; wrote = w }) refl (has_nothing o [] [] none, inl (c.done.ensures.fault, c.in-Ok.text.items, refl, all))
+
+pub returns-in-Err-clause-asks : goal.returns-in-Err-clause-asks
+returns-in-Err-clause-asks g c =
+    from_told (g.S.Source.tells c.args.source.now) c.args.blocks.now.listed.items c.args.name.now (λ z. []) [] (g.S.Source.asked c.args.source.now) (g.S.Source.asked c.migrated.new.source)
+    c.refused.result.fault c.in-Err.fault c.tell-fault.result c.refused.ensures.fault c.tell-fault.ensures.fault c.in-Err.ensures.asks

@@ -1,10 +1,13 @@
+use Rattle.std.proofs.Common.{[], refl}
+use Rattle.pt_run.specs.Asks.{all_sensors}
 use Rattle.std.specs.Arc.{arc_value}
 use Rattle.pt_io.specs.Told.{tell}
 use Rattle.pt_sensors.specs.Asked.{Reading}
 use Rattle.pt_run.specs.Causes.{Writing}
+use Rattle.pt_run.specs.Due.{HasRunBy}
 use Rattle.pt_run.specs.Readings.{read_by}
-use Rattle.pt_run.proofs.Asks.{run_asks}
-use Rattle.pt_run.proofs.Planned.{back, ended_run}
+use Rattle.pt_run.proofs.Asks.{run_asks, unplanned_asks}
+use Rattle.pt_run.proofs.Planned.{back, ended_run, unplanned}
 use Rattle.pt_run.proofs.own_clocks.run_own.Goals as goal
 
 pub returns-clause-due : goal.returns-clause-due
@@ -25,4 +28,15 @@ returns-clause-clocks g c = λ never.
 pub returns-clause-asks : goal.returns-clause-asks
 returns-clause-asks g c =
     let w : Writing = record { before = g.K.Sink.faults c.args.out.now; now = g.K.Sink.faults c.end_run.new.out; written_before = g.K.Sink.written c.args.out.now; written_now = g.K.Sink.written c.end_run.new.out } in
-    run_asks c.own_run_of-ran.result c.end_run.result w c.args.workers c.args.clock c.args.log c.args.graph (arc_value c.in-Ok.plan).graph (g.S.Source.asked c.args.source.now) (g.S.Source.asked c.own_run_of-ran.new.source) c.in-Ok.ensures.plan c.end_run.ensures.ended c.own_run_of-ran.ensures.asks
+    run_asks c.own_run_of-ran.result c.end_run.result w c.args.graph (arc_value c.in-Ok.plan).graph (g.S.Source.asked c.args.source.now) (g.S.Source.asked c.own_run_of-ran.new.source) c.in-Ok.ensures.plan c.end_run.ensures.ended c.own_run_of-ran.ensures.asks c.own_run_of-ran.ensures.asks_all
+
+pub returns-in-Err-clause-asks : goal.returns-in-Err-clause-asks
+returns-in-Err-clause-asks g c = unplanned_asks (all_sensors c.args.graph) [] (g.S.Source.asked c.args.source.now) (g.S.Source.asked c.args.source.now) c.args.graph c.in-Err.ending c.in-Err.ensures.refused refl
+
+pub returns-in-Err-clause-due : goal.returns-in-Err-clause-due
+returns-in-Err-clause-due g c =
+    let tells = g.S.Source.tells c.args.source.now in
+    let r : Reading = record { asked_before = g.S.Source.asked c.args.source.now; asked_now = g.S.Source.asked c.args.source.now; before = g.S.Source.faults c.args.source.now; now = g.S.Source.faults c.args.source.now } in
+    let w : Writing = record { before = g.K.Sink.faults c.args.out.now; now = g.K.Sink.faults c.args.out.now; written_before = g.K.Sink.written c.args.out.now; written_now = g.K.Sink.written c.args.out.now } in
+    let views = read_by c.args.clock (tell g.C.Clock.told g.C.Clock.ahead c.args.clocks.now.items) in
+    unplanned c.in-Err.ending c.args.graph c.in-Err.ensures.refused views views tells r w (HasRunBy c.args.workers c.args.clock c.args.log) refl

@@ -5,7 +5,8 @@ use Rattle.pt_run.specs.Due.{Answer, IsReplayed, UnlessMemory}
 use Rattle.pt_run.specs.Texts.{left_by}
 use Rattle.pt_run.specs.Words.{paced_run}
 use Rattle.pt_run.specs.Written.{Leaves}
-use Rattle.pt_run.proofs.Replaying.{asks_replay}
+use Rattle.pt_run.specs.Asks.{all_sensors}
+use Rattle.pt_run.proofs.Asks.{asks_on, from_graph}
 use Rattle.pt_run.proofs.Ending.{has_nothing}
 use Rattle.pt_run.proofs.Stages.{graph_told, replay_on_file, replay_past}
 use Rattle.pt_run.proofs.Told.{told_file}
@@ -25,11 +26,8 @@ returns-in-Ok-clause-due g c =
 
 pub returns-in-Ok-clause-asks : goal.returns-in-Ok-clause-asks
 returns-in-Ok-clause-asks g c =
-    let r : Reading = record { asked_before = g.S.Source.asked c.graph_at.new.source; asked_now = g.S.Source.asked c.replay_graph.new.source; before = g.S.Source.faults c.graph_at.new.source; now = g.S.Source.faults c.replay_graph.new.source } in
-    let w : Writing = record { before = g.K.Sink.faults c.args.out.now; now = g.K.Sink.faults c.replay_graph.new.out; written_before = g.K.Sink.written c.args.out.now; written_now = g.K.Sink.written c.replay_graph.new.out } in
-    let past = replay_past (g.S.Source.tells c.graph_at.new.source) c.in-Ok.graph [] (record { fault = c.replay_graph.result.fault; left = left_by c.replay_graph.result; read = r; wrote = w }) c.args.air.now c.args.log c.replay_graph.ensures.due in
-    asks_replay c.args.name.now c.args.air.now (g.S.Source.tells c.args.source.now) c.args.blocks.now.listed.items c.in-Ok.graph (g.S.Source.asked c.args.source.now) (g.S.Source.asked c.graph_at.new.source) (g.S.Source.asked c.replay_graph.new.source)
-    c.in-Ok.ensures.graph c.in-Ok.ensures.asks c.replay_graph.result.fault past.1 c.replay_graph.ensures.asks
+    asks_on (g.S.Source.tells c.args.source.now) c.args.blocks.now.listed.items c.args.name.now all_sensors (c.args.air.now ∷ []) (g.S.Source.asked c.args.source.now) (g.S.Source.asked c.replay_graph.new.source) c.in-Ok.graph c.replay_graph.result.fault (g.S.Source.asked c.graph_at.new.source)
+    c.in-Ok.ensures.graph c.in-Ok.ensures.asks c.replay_graph.ensures.asks
 
 pub returns-in-Ok-clause-notes : goal.returns-in-Ok-clause-notes
 returns-in-Ok-clause-notes g c =
@@ -46,4 +44,9 @@ returns-in-Err-clause-due g c =
     let r : Reading = record { asked_before = g.S.Source.asked c.args.source.now; asked_now = g.S.Source.asked c.graph_at.new.source; before = g.S.Source.faults c.args.source.now; now = g.S.Source.faults c.graph_at.new.source } in
     let w : Writing = record { before = g.K.Sink.faults c.args.out.now; now = g.K.Sink.faults c.args.out.now; written_before = g.K.Sink.written c.args.out.now; written_now = g.K.Sink.written c.args.out.now } in
     let a : Answer = record { fault = c.refused.result.fault; left = left_by c.refused.result; read = r; wrote = w } in
-    graph_told tells blocks c.args.name.now a (λ z. IsReplayed c.args.air.now c.args.log tells z (c.args.name.now ∷ []) a) (has_nothing c.refused.result [] [] c.refused.ensures.left) refl c.in-Err.fault c.tell-fault.result c.refused.ensures.fault c.tell-fault.ensures.fault c.in-Err.ensures.fault
+    graph_told tells blocks c.args.name.now a (λ z. IsReplayed c.args.air.now c.args.log tells z (c.args.name.now ∷ []) a) (has_nothing c.refused.result [] [] c.refused.ensures.left) refl c.in-Err.fault c.tell-fault.result c.refused.ensures.fault c.tell-fault.ensures.fault c.in-Err.ensures.refused
+
+pub returns-in-Err-clause-asks : goal.returns-in-Err-clause-asks
+returns-in-Err-clause-asks g c =
+    from_graph (g.S.Source.tells c.args.source.now) c.args.blocks.now.listed.items c.args.name.now all_sensors (c.args.air.now ∷ []) (g.S.Source.asked c.args.source.now) (g.S.Source.asked c.graph_at.new.source)
+    c.refused.result.fault c.in-Err.fault c.tell-fault.result c.refused.ensures.fault c.tell-fault.ensures.fault c.in-Err.ensures.asks_alone

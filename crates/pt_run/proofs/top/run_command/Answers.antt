@@ -10,7 +10,8 @@ use Rattle.pt_run.specs.Clocks.{AreBackFor}
 use Rattle.pt_run.specs.Texts.{left_over}
 use Rattle.pt_words.specs.declared.orders.ClockChoice.{ClockChoice}
 use Rattle.pt_words.specs.declared.orders.ClockChoice.TheVariants.{Paced}
-use Rattle.pt_run.proofs.Asks.{answer_asks, asks_nothing, whatever_clock}
+use Rattle.pt_run.specs.Asks.{all_sensors}
+use Rattle.pt_run.proofs.Asks.{asks_no_files, given_asks, of_command}
 use Rattle.pt_run.proofs.Ending.{given_due}
 use Rattle.pt_run.proofs.top.run_command.Goals as goal
 
@@ -31,7 +32,7 @@ returns-in-Meaning-clause-due g c =
 pub returns-in-Meaning-clause-asks : goal.returns-in-Meaning-clause-asks
 returns-in-Meaning-clause-asks g c =
     let w : Writing = record { before = g.K.Sink.faults c.args.out.now; now = g.K.Sink.faults c.give-in-Meaning.new.out; written_before = g.K.Sink.written c.args.out.now; written_now = g.K.Sink.written c.give-in-Meaning.new.out } in
-    rw c.in-Meaning.is (answer_asks Meaning c.meaning_answer-answer.result c.give-in-Meaning.result w c.args.graph (g.S.Source.asked c.args.source.now) (g.S.Source.asked c.meaning_answer-answer.new.source) c.give-in-Meaning.ensures.gives c.meaning_answer-answer.ensures.asks)
+    rw c.in-Meaning.is (given_asks [] (all_sensors c.args.graph) [] (g.S.Source.asked c.args.source.now) (g.S.Source.asked c.meaning_answer-answer.new.source) string_bytes c.meaning_answer-answer.result c.give-in-Meaning.result w c.give-in-Meaning.ensures.gives c.meaning_answer-answer.ensures.asks)
 
 pub returns-in-Slacks-clause-due : goal.returns-in-Slacks-clause-due
 returns-in-Slacks-clause-due g c =
@@ -42,7 +43,7 @@ returns-in-Slacks-clause-due g c =
 
 pub returns-in-Paced-clause-asks : goal.returns-in-Paced-clause-asks
 returns-in-Paced-clause-asks g c =
-    whatever_clock c.args.command c.in-Run.workers c.in-Run.clock Paced c.in-Run.log c.run_graph.result.fault c.args.graph (g.S.Source.asked c.args.source.now) (g.S.Source.asked c.run_graph.new.source) c.in-Run.is c.run_graph.ensures.asks
+    of_command c.args.command (Run c.in-Run.workers c.in-Run.clock c.in-Run.log) c.run_graph.result.fault c.args.graph (g.S.Source.asked c.args.source.now) (g.S.Source.asked c.run_graph.new.source) c.in-Run.is c.run_graph.ensures.asks
 
 pub returns-in-Paced-clause-due : goal.returns-in-Paced-clause-due
 returns-in-Paced-clause-due g c =
@@ -53,7 +54,7 @@ returns-in-Paced-clause-due g c =
     subst (λ (d : Command). UnlessMemory (record { fault = c.run_graph.result.fault; left = left_over c.run_graph.result d views views; read = r; wrote = w }) (IsDueFor d (g.S.Source.tells c.args.source.now) c.args.graph [])) (sym command) c.run_graph.ensures.due
 
 pub returns-in-Slacks-clause-asks : goal.returns-in-Slacks-clause-asks
-returns-in-Slacks-clause-asks g c = rw c.in-Slacks.is (asks_nothing Slacks c.give-in-Slacks.result.fault c.args.graph (g.S.Source.asked c.args.source.now) (g.S.Source.asked c.args.source.now) refl)
+returns-in-Slacks-clause-asks g c = rw c.in-Slacks.is (asks_no_files c.give-in-Slacks.result.fault (g.S.Source.asked c.args.source.now) (g.S.Source.asked c.args.source.now) refl)
 
 pub returns-in_default : goal.returns-in_default
 returns-in_default g c =
@@ -63,9 +64,12 @@ returns-in_default g c =
     let now : List ClockView = tell g.C.Clock.told g.C.Clock.ahead c.run_own.new.clocks.items in
     record {
       status = c.run_own.ensures.status;
-      asks = whatever_clock c.args.command c.in-Run.workers c.in-Run.clock c.in-Run.clock c.in-Run.log c.run_own.result.fault c.args.graph (g.S.Source.asked c.args.source.now) (g.S.Source.asked c.run_own.new.source) c.in-Run.is c.run_own.ensures.asks;
+      asks = of_command c.args.command (Run c.in-Run.workers c.in-Run.clock c.in-Run.log) c.run_own.result.fault c.args.graph (g.S.Source.asked c.args.source.now) (g.S.Source.asked c.run_own.new.source) c.in-Run.is c.run_own.ensures.asks;
       due = subst (λ (d : Command). UnlessMemory (record { fault = c.run_own.result.fault; left = left_over c.run_own.result d before now; read = r; wrote = w }) (IsDueFor d (g.S.Source.tells c.args.source.now) c.args.graph [])) (sym c.in-Run.is) c.run_own.ensures.due;
       clocks = λ never. subst (λ (d : Command). AreBackFor d c.run_own.result.fault c.args.clocks.now.items c.run_own.new.clocks.items) (sym c.in-Run.is) (c.run_own.ensures.clocks never);
       flushed = c.run_own.ensures.flushed;
       notes = c.run_own.ensures.notes;
     }
+
+pub returns-in-Check-clause-asks : goal.returns-in-Check-clause-asks
+returns-in-Check-clause-asks g c = rw c.in-Check.is (asks_no_files c.give.result.fault (g.S.Source.asked c.args.source.now) (g.S.Source.asked c.args.source.now) refl)

@@ -6,9 +6,9 @@ use Rattle.pt_io.specs.Told.{ClockView, tell}
 use Rattle.pt_run.specs.Asking.{in_words}
 use Rattle.pt_run.specs.Causes.{Writing}
 use Rattle.pt_run.specs.Due.{IsDue}
-use Rattle.pt_run.specs.Making.{AsksOf}
+use Rattle.pt_run.specs.Asks.{AsksOf}
 use Rattle.pt_run.specs.Texts.{left_at}
-use Rattle.pt_run.specs.Words.{Order, order_of, replay}
+use Rattle.pt_run.specs.Words.{Order, order_of, replay, over, audit}
 use Rattle.pt_run.specs.declared.fault.Fault.TheVariants.{Memory}
 use Rattle.pt_run.proofs.Asks.{asked_nothing}
 use Rattle.pt_run.proofs.Made.{asks_for_none, made_number_in, order_is}
@@ -55,3 +55,24 @@ returns-in-Ok-Some-Replay-clause-due g c =
     let order : Some (replay c.in-Ok-Some-Replay.graph.now c.in-Ok-Some-Replay.air.now c.in-Ok-Some-Replay.workers c.in-Ok-Some-Replay.log) ≡ order_of c.args.words.now =
     sym (ap (option_map in_words) (c.in-Ok-Some-Replay.field-0-is ∙ ap Some c.in-Ok-Some-Replay.field-0-0-is)) ∙ c.in-Ok-Some-Replay.ensures in
     subst (λ (o : Option Order). IsDue o tells c.args.blocks.now.listed.items (record { fault = c.replay.result.fault; left = left_at c.replay.result o views views; read = r; wrote = w })) order c.replay.ensures.due
+
+pub returns-in-Ok-Some-Over-clause-due : goal.returns-in-Ok-Some-Over-clause-due
+returns-in-Ok-Some-Over-clause-due g c =
+    let tells = g.S.Source.tells c.args.source.now in
+    let r : Reading = record { asked_before = g.S.Source.asked c.args.source.now; asked_now = g.S.Source.asked c.run_file.new.source; before = g.S.Source.faults c.args.source.now; now = g.S.Source.faults c.run_file.new.source } in
+    let w : Writing = record { before = g.K.Sink.faults c.args.out.now; now = g.K.Sink.faults c.run_file.new.out; written_before = g.K.Sink.written c.args.out.now; written_now = g.K.Sink.written c.run_file.new.out } in
+    let views : List ClockView = tell g.C.Clock.told g.C.Clock.ahead c.args.clocks.now.items in
+    let after : List ClockView = tell g.C.Clock.told g.C.Clock.ahead c.run_file.new.clocks.items in
+    let order : Some (over c.in-Ok-Some-Over.command c.in-Ok-Some-Over.graph.now) ≡ order_of c.args.words.now =
+    sym (ap (option_map in_words) (c.in-Ok-Some-Over.field-0-is ∙ ap Some c.in-Ok-Some-Over.field-0-0-is)) ∙ c.in-Ok-Some-Over.ensures in
+    subst (λ (o : Option Order). IsDue o tells c.args.blocks.now.listed.items (record { fault = c.run_file.result.fault; left = left_at c.run_file.result o views after; read = r; wrote = w })) order c.run_file.ensures.due
+
+pub returns-in-Ok-Some-Audit-clause-due : goal.returns-in-Ok-Some-Audit-clause-due
+returns-in-Ok-Some-Audit-clause-due g c =
+    let tells = g.S.Source.tells c.args.source.now in
+    let r : Reading = record { asked_before = g.S.Source.asked c.args.source.now; asked_now = g.S.Source.asked c.audit.new.source; before = g.S.Source.faults c.args.source.now; now = g.S.Source.faults c.audit.new.source } in
+    let w : Writing = record { before = g.K.Sink.faults c.args.out.now; now = g.K.Sink.faults c.audit.new.out; written_before = g.K.Sink.written c.args.out.now; written_now = g.K.Sink.written c.audit.new.out } in
+    let views : List ClockView = tell g.C.Clock.told g.C.Clock.ahead c.args.clocks.now.items in
+    let order : Some (audit c.in-Ok-Some-Audit.graph.now c.in-Ok-Some-Audit.log.now) ≡ order_of c.args.words.now =
+    sym (ap (option_map in_words) (c.in-Ok-Some-Audit.field-0-is ∙ ap Some c.in-Ok-Some-Audit.field-0-0-is)) ∙ c.in-Ok-Some-Audit.ensures in
+    subst (λ (o : Option Order). IsDue o tells c.args.blocks.now.listed.items (record { fault = c.audit.result.fault; left = left_at c.audit.result o views views; read = r; wrote = w })) order c.audit.ensures.due
