@@ -4,9 +4,16 @@
 //! written. The program ends with the status of the outcome.
 #![tactic(auto)]
 
-ghost use Rattle.std.specs.Prelude.{◌≡◌, IfOk, length, pos};
+ghost use Rattle.std.specs.Prelude.{◌≡◌, IfOk, Option, length, pos};
 ghost use Rattle.pt_semantics.specs.Laws.{law_value};
 ghost use Rattle.pt_types.specs.declared.kind.Law.TheVariants.{Weighted};
+ghost use Rattle.pt_run.specs.declared.fault.Fault.{Fault};
+ghost use Rattle.pt_run.specs.Complete.{IsComplete};
+ghost use Rattle.pt_run.specs.Due.{IsDue};
+ghost use Rattle.pt_run.specs.InBounds.{IsCompleteInBounds};
+ghost use Rattle.pt_run.specs.Statuses.{status_of};
+ghost use Rattle.pt_run.specs.Words.{order_of};
+ghost use Rattle.pt_run.specs.Written.{Leaves};
 
 use pt_blocks::{Blocks, Function, clip100, dead5, greatest, least, shipped_blocks};
 use pt_io::{Clock, FileSource, MachineClock, NotesSink, OutSink, Sink, Source, SystemFiles};
@@ -57,7 +64,7 @@ fn machine_clocks<'r>(rt: &'r HostRuntime) -> Result<Vec<MachineClock<&'r HostRu
     Ok(clocks)
 }
 
-/// The status of the command of these words. The clocks are let go, and so is all that a run leaves.
+/// The status of the command of these words, which is that of the call. The clocks are let go, and so is all that a run leaves.
 fn status<S: Source, K: Sink, E: Sink, C: Clock + Send, R: Threads + Wait + Sync>(
     rt: &R,
     alloc: Global,
@@ -69,6 +76,19 @@ fn status<S: Source, K: Sink, E: Sink, C: Clock + Send, R: Threads + Wait + Sync
     blocks: &Blocks,
 ) -> u8
     requires clocks { length clocks.items ≡ 16 }
+    // It is the status of a fault, or of none, with which the command may end so.
+    ensures ended { (fault : Option Fault) × (left : Leaves) × (result ≡ status_of fault left.misses) × IsDue (order_of words.now) (S.tells source.old) blocks.now.listed.items (record {
+      fault = fault;
+      left = left;
+      read = record { asked_before = S.asked source.old; asked_now = S.asked source.new; before = S.faults source.old; now = S.faults source.new };
+      wrote = record { before = K.faults out.old; now = K.faults out.new; written_before = K.written out.old; written_now = K.written out.new };
+    }) }
+    ensures complete { IsComplete result (order_of words.now) (S.tells source.old) blocks.now.listed.items
+        (record { asked_before = S.asked source.old; asked_now = S.asked source.new; before = S.faults source.old; now = S.faults source.new })
+        (record { before = K.faults out.old; now = K.faults out.new; written_before = K.written out.old; written_now = K.written out.new }) }
+    ensures complete_in_bounds { IsCompleteInBounds result (order_of words.now) (S.tells source.old) blocks.now.listed.items
+        (record { asked_before = S.asked source.old; asked_now = S.asked source.new; before = S.faults source.old; now = S.faults source.new })
+        (record { before = K.faults out.old; now = K.faults out.new; written_before = K.written out.old; written_now = K.written out.new }) }
 {
     let outcome = ptides(rt, alloc, words, source, out, notes, clocks, blocks);
     outcome.status

@@ -1,0 +1,13 @@
+use Rattle.pt_io.specs.Told.{tell}
+use Rattle.pt_run.specs.Texts.{left_of}
+use Rattle.pt_run.specs.Words.{order_of}
+use Rattle.ptides.proofs.status.Goals as goal
+
+pub returns-clause-ended : goal.returns-clause-ended
+returns-clause-ended g c =
+    let order = order_of c.args.words.now in (
+      c.ptides-outcome.result.fault,
+      left_of c.ptides-outcome.result order (tell g.C.Clock.told g.C.Clock.ahead c.args.clocks.items) (tell g.C.Clock.told g.C.Clock.ahead c.ptides-outcome.result.clocks.items),
+      c.ptides-outcome.ensures.status,
+      c.ptides-outcome.ensures.due,
+    )
