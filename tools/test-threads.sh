@@ -7,6 +7,7 @@
 # and 5 the tables are those of the meaning, at 4 a message is named that is past its limit and nothing is written, and nothing else
 # occurs. TIMES says how often each run is made, 10 if it is unset.
 #   Examples: all whose run is over within a second, by 1 to 64 workers, alone and with more runs beside.
+#   Visits: of 40 units that are safe at once, each visit claims 8, as its turn in the log shows.
 #   Threads: a run starts as many as there are workers. If some or all can't be started, it ends as any other.
 #   Memory: if it is refused, at each allocation of a short run in turn, once or from there on, and at some of a longer one, the run
 #     ends as any other, or with 9 and nothing on standard output.
@@ -135,6 +136,23 @@ try_beside() {
     done
 }
 
+# 40 sensors of one platform with one row each, of one time: no turn claims more than 8 of them, and some turn 8.
+try_visits() {
+    local sensors='' k most
+    place=$work/many
+    mkdir -p -- "$place"
+    for ((k = 0; k < 40; k++)); do
+        sensors+=",{\"name\":\"s$k\",\"platform\":\"p\",\"kind\":\"sensor\",\"file\":\"s.csv\",\"bound\":10}"
+    done
+    echo "{\"ptides\":1,\"until\":1000,\"clock_error\":0,\"platforms\":[\"p\"],\"actors\":[${sensors#,}],\"wires\":[],\"links\":[]}" >"$place/graph.json"
+    printf '%s\n' time,seen,value 500,500,7 >"$place/s.csv"
+    for ((k = 0; k < times; k++)); do
+        (cd "$place" && exec "$program" run graph.json --clock machine --workers 4 --log) >"$work/out" 2>"$work/notes" </dev/null
+        most=$(awk -F, '$1 == "turn" { n = 0 } $1 == "claim" && ++n > most { most = n } END { print most + 0 }' "$work/out")
+        if [ "$most" -eq 8 ]; then pass; else fail "a visit by 4 workers claims $most units"; fi
+    done
+}
+
 build_library() {
     library=$work/refuse.so
     command -v cc >/dev/null && cc -std=gnu11 -O2 -shared -fPIC -o "$library" tools/src/refuse.c -ldl 2>/dev/null || return
@@ -245,6 +263,7 @@ try_signals() {
 }
 
 try_examples
+try_visits
 make_graph 100000 20000
 try_beside
 try_refusals
