@@ -1,8 +1,8 @@
 -- How a call ends: for each order what is due, in the order of its refusals.
 --
 -- A command goes from stage to stage: the graph file, the cycles of its graph, the offsets, the rows of its sensors, and so on. At
--- each stage it is refused, for a cause that is this stage's alone, or it goes on to the next. `IsDueOver` lists the stages of each
--- command.
+-- each stage it is refused, for a cause that is this stage's alone, or it goes on to the next. `IsDueTo` and `IsDueFor` list the stages
+-- of each order and of each command.
 use Rattle.std.specs.Prelude.{◌≡◌, ◌⊎◌, ℕ, ℤ, Bool, true, List, [], ◌∷◌, Option, Some, None, Result, Ok, Err, IfSome}
 use Rattle.pt_io.specs.Causes.{Appends, AppendsPart, Rose}
 use Rattle.pt_types.specs.declared.graph.Graph.{Graph}

@@ -114,8 +114,8 @@ pub record HasRunOn (inputs : Inputs) (By : ByReadings) (name : List ℕ) (log :
   pub leaves : LeavesTurns log outcome platforms misses w graph rank level rows
   pub readings : By graph level rows (stop_of outcome)
 
--- what holds of a run: of what it leaves, if it has platforms; else it leaves nothing and nothing is written. In a paced run no
--- message is late. If the fault is a late row, the row that is named is the first late one
+-- what holds of a run: of what it leaves, if it has platforms; else it leaves nothing and nothing is written. A paced run never ends
+-- with a late message. If the fault is a late row, the row that is named is the first late one
 pub record Headline (inputs : Inputs) (By : ByReadings) (name : List ℕ) (clock : ClockChoice) (log : Bool) (outcome : Option Fault) (platforms : List AtEnd) (misses : List Miss) (w : Writing) : Type 0 where
   pub run : has_run outcome ≡ true → HasRunOn inputs By name log outcome platforms misses w
   pub nothing_else : has_run outcome ≡ false → (platforms ≡ []) × (misses ≡ []) × (w.written_now ≡ w.written_before)

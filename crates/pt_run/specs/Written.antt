@@ -1,4 +1,4 @@
--- What a command must write.
+-- What a command leaves, and what it must write.
 use Rattle.std.specs.Prelude.{◌≡◌, ◌≤◌, ◌*◌, [], ℕ, ℤ, Bool, true, false, List, length, Option, None, Some, Ok, IfSome}
 use Rattle.pt_types.specs.declared.graph.Graph.{Graph}
 use Rattle.pt_types.specs.declared.rows.Row.{Row}
