@@ -43,7 +43,10 @@ pub(crate) fn scaled(a: i64, num: i64, den: i64) -> i64
     requires { pos 1 ≤ℤ den }
     ensures { result ≡ nearest (int_div (a *ℤ num) den) }
 {
-    nearest(quotient(product(a, num), i128::from(den)))
+    match a.checked_mul(num) {
+        Some(product) => product / den,
+        None => nearest(quotient(product(a, num), i128::from(den))),
+    }
 }
 
 /// The product of two values; it fits in 128 bits.
