@@ -1,5 +1,5 @@
 -- The rows of a run fit its graph.
-use Rattle.std.proofs.Common.{◌≡◌, ◌==◌, ℕ, ◌+◌, ◌<◌, ◌≤◌, ◌⊎◌, Bool, true, false, List, [], ◌∷◌, Option, Some, None, nat_le, nat_lt, ◌&&◌, refl, sym, ap, subst, ◌∙◌, arith, ⊎_elim, option_map, filter, length, not, cond, suc, if◌then◌else◌}
+use Rattle.std.proofs.Common.{◌≡◌, ℕ, ◌+◌, ◌<◌, ◌≤◌, Bool, true, false, List, [], ◌∷◌, Option, Some, None, nat_le, nat_lt, ◌&&◌, refl, sym, ap, subst, ◌∙◌, arith, option_map, filter, length, not, cond, suc, if◌then◌else◌}
 use Rattle.std.specs.List.{prefix_len}
 use Rattle.std.proofs.lemmas.Bool.{false≢true}
 use Rattle.std.proofs.lemmas.Bool.Decides.{nat_tests}

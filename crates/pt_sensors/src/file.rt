@@ -5,7 +5,7 @@ ghost use Rattle.pt_sensors.specs.Late.{late_row};
 ghost use Rattle.pt_sensors.specs.Order.{RowsAreInOrder};
 ghost use Rattle.pt_sensors.specs.RowsOf.{rows_of};
 ghost use Rattle.pt_sensors.specs.declared.recorded_fault.LateRows.TheVariants.{Refused};
-ghost use Rattle.pt_sensors.specs.Asked.{Asks, AsksOrNot};
+ghost use Rattle.pt_sensors.specs.Asked.{Asks, AsksBy};
 ghost use Rattle.pt_sensors.specs.Files.{CauseOfFile, IsLateFault};
 
 use crate::recorded_fault::{LateRows, RecordedFault, fault_of_rows};
@@ -29,7 +29,7 @@ pub fn rows_of_file<S: Source>(
     ensures keeps { S.tells source.new ≡ S.tells source.old }
     ensures grows { S.faults source.old ≤ S.faults source.new }
     ensures asks { IfOk result (λ rows. Asks (S.asked source.old) (S.asked source.new) (name.now ∷ [])) }
-    ensures asks_at_most { IfErr result (λ f. AsksOrNot (S.asked source.old) (S.asked source.new) (name.now ∷ [])) }
+    ensures asks_by { IfErr result (λ f. AsksBy f (S.asked source.old) (S.asked source.new) (name.now ∷ [])) }
 {
     let bytes = match source.fetch(alloc, name, MOST_BYTES) {
         Ok(bytes) => bytes,

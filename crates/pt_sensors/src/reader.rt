@@ -20,6 +20,9 @@ pub const MOST_BYTES: usize = 8_388_608;
 /// The most rows of a sensor file.
 pub const MOST_ROWS: u32 = 100_000;
 
+/// Room for the bytes of a usual record, so that csv reads it in one step.
+const LINE_BYTES: usize = 128;
+
 /// The rows of a sensor file, or its first fault.
 ///
 /// Faults are looked for in the order in which `RowFault` lists them: first those of the file and its header,
@@ -43,7 +46,9 @@ fn read(alloc: Global, bytes: &[u8]) -> Result<List<Row>, RowFault>
         .has_headers(false)
         .flexible(true)
         .from_reader(alloc, bytes);
-    let mut line = ByteRecord::new(alloc);
+    let Ok(mut line) = ByteRecord::with_capacity(alloc, LINE_BYTES, 4) else {
+        return Err(RowFault::Memory);
+    };
     match advance(&mut reader, &mut line) {
         Ok(found) => {
             if found && is_header(&line) {

@@ -6,7 +6,7 @@ ghost use Rattle.pt_types.specs.Lookups.{kind_of};
 ghost use Rattle.pt_semantics.specs.Rows.{FitRows};
 ghost use Rattle.pt_sensors.specs.Order.{RowsAreInOrder};
 ghost use Rattle.pt_sensors.specs.Listed.{rows_for, IsOfActors};
-ghost use Rattle.pt_sensors.specs.Asked.{Asks, AsksFiles, AsksOrNot, file_of, sensor_files};
+ghost use Rattle.pt_sensors.specs.Asked.{Asks, AsksBy, AsksFiles, AsksUpTo, file_of, sensor_files};
 ghost use Rattle.pt_sensors.specs.Recorded.{AllPass, AreRows, CauseOfRows, RowsPass, RowsOfKind};
 ghost use Rattle.pt_sensors.specs.declared.recorded_fault.LateRows.TheVariants.{Refused};
 ghost use Rattle.pt_sensors.specs.Files.{CauseOfActor};
@@ -37,7 +37,7 @@ fn rows_of_actor<S: Source>(
     ensures keeps { S.tells source.new ≡ S.tells source.old }
     ensures grows { S.faults source.old ≤ S.faults source.new }
     ensures asks { IfOk result (λ rows. Asks (S.asked source.old) (S.asked source.new) (file_of (kind_of graph.now actor))) }
-    ensures asks_at_most { IfErr result (λ f. AsksOrNot (S.asked source.old) (S.asked source.new) (file_of (kind_of graph.now actor))) }
+    ensures asks_by { IfErr result (λ f. AsksBy f (S.asked source.old) (S.asked source.new) (file_of (kind_of graph.now actor))) }
 {
     let Kind::Sensor { file, bound } = &graph.actors.as_slice()[actor as usize].kind else {
         return Ok(List::new(Vec::new(alloc)));
@@ -70,6 +70,7 @@ pub fn recorded<S: Source>(
     ensures fault { IfErr result (λ f. CauseOfRows late f (S.tells source.old) graph.now []
         (record { asked_before = S.asked source.old; asked_now = S.asked source.new; before = S.faults source.old; now = S.faults source.new })) }
     ensures asks { AsksFiles graph.now (S.asked source.old) (S.asked source.new) }
+    ensures asks_up_to { IfErr result (λ f. AsksUpTo f graph.now (S.asked source.old) (S.asked source.new)) }
     ensures asks_all { IfOk result (λ all. Asks (S.asked source.old) (S.asked source.new) (sensor_files graph.now.actors)) }
     ensures keeps { S.tells source.new ≡ S.tells source.old }
     ensures grows { S.faults source.old ≤ S.faults source.new }

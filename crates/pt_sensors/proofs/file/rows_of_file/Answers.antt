@@ -1,9 +1,9 @@
-use Rattle.std.proofs.Common.{Ok, Err, sym, subst}
+use Rattle.std.proofs.Common.{Ok, Err, [], ◌∷◌, sym, subst}
 use Rattle.pt_sensors.specs.RowsOf.{rows_of}
 use Rattle.pt_sensors.proofs.Fetched.{rows_of-fetched}
-use Rattle.pt_sensors.specs.Asked.{Reading}
+use Rattle.pt_sensors.specs.Asked.{AsksBy, Reading}
 use Rattle.pt_sensors.specs.Files.{CauseOfFile}
-use Rattle.pt_sensors.proofs.Asking.{of_content}
+use Rattle.pt_sensors.proofs.Asking.{asks_before_fault, of_content}
 use Rattle.pt_sensors.proofs.Recording.{rows_fail}
 use Rattle.pt_sensors.proofs.file.rows_of_file.Goals as goal
 
@@ -19,3 +19,10 @@ returns-clause-fault g c =
     subst (λ f. CauseOfFile c.args.actor f tells c.args.name.now r) (sym c.fault_of_rows.ensures)
     (rows_fail tells c.args.actor c.args.name.now c.in-Err.fault r (λ other.
     of_content rows_of 8388609 rows_of-fetched (tells c.args.name.now) c.in-Ok.bytes.items (Err c.in-Err.fault) c.in-Ok.ensures.bytes (rw c.as_slice.ensures.value at (c.in-Err.ensures.rows other))))
+
+pub returns-clause-asks_by : goal.returns-clause-asks_by
+returns-clause-asks_by g c =
+    let before = g.S.Source.asked c.args.source.now in
+    let now = g.S.Source.asked c.fetch.new.self in
+    let names = c.args.name.now ∷ [] in
+    subst (λ f. AsksBy f before now names) (sym c.fault_of_rows.ensures) (asks_before_fault c.args.actor c.in-Err.fault before now names c.in-Ok.ensures.names)

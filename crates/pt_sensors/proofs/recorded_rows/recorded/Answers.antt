@@ -1,8 +1,9 @@
 use Rattle.std.proofs.Common.{◌≡◌, ◌<◌, ◌≤◌, ◌+◌, ◌∙◌, refl, subst, sym, arith, is_ok, true, length, rules}
 use Rattle.pt_sensors.specs.declared.sensor_rows.SensorRows.{SensorRows}
+use Rattle.pt_sensors.specs.Asked.{Reading}
 use Rattle.pt_sensors.specs.Recorded.{RowsOfKind}
 use Rattle.pt_types.specs.Lookups.{kind_of}
-use Rattle.pt_sensors.proofs.Asking.{asks_all, asks_files, asks_at_most}
+use Rattle.pt_sensors.proofs.Asking.{asks_all, asks_by_files, asks_files, asks_up_to}
 use Rattle.pt_sensors.proofs.Recording.{AreFirstRows, first_rows_more, fit_rows, later}
 use Rattle.pt_sensors.proofs.recorded_rows.recorded.Goals as goal
 
@@ -16,7 +17,14 @@ returns-in-Err-clause-fault g c =
 pub returns-in-Err-clause-asks : goal.returns-in-Err-clause-asks
 returns-in-Err-clause-asks g c =
     let within : c.loop-number.number < length c.args.graph.now.actors = search rules in
-    asks_at_most c.args.graph.now c.loop-number.number (g.S.Source.asked c.args.source.now) (g.S.Source.asked c.loop-number.source) (g.S.Source.asked c.rows_of_actor.new.source) within c.loop-number.invariant.asks c.in-Err.ensures.asks_at_most
+    asks_by_files c.args.graph.now c.loop-number.number c.in-Err.fault (g.S.Source.asked c.args.source.now) (g.S.Source.asked c.loop-number.source) (g.S.Source.asked c.rows_of_actor.new.source) within c.loop-number.invariant.asks c.in-Err.ensures.asks_by
+
+pub returns-in-Err-clause-asks_up_to : goal.returns-in-Err-clause-asks_up_to
+returns-in-Err-clause-asks_up_to g c =
+    let within : c.loop-number.number < length c.args.graph.now.actors = search rules in
+    let reading : Reading = record { asked_before = g.S.Source.asked c.loop-number.source; asked_now = g.S.Source.asked c.rows_of_actor.new.source; before = g.S.Source.faults c.loop-number.source; now = g.S.Source.faults c.rows_of_actor.new.source } in
+    asks_up_to c.args.late (g.S.Source.tells c.loop-number.source) c.args.graph.now c.loop-number.number c.in-Err.fault reading (g.S.Source.asked c.args.source.now) (g.S.Source.asked c.loop-number.source) (g.S.Source.asked c.rows_of_actor.new.source) within c.loop-number.invariant.asks
+    c.in-Err.ensures.fault c.in-Err.ensures.asks_by
 
 pub loop-number-preserved : goal.loop-number-preserved
 loop-number-preserved g c =
@@ -38,6 +46,13 @@ loop-number-preserved g c =
 
 pub returns-then-is_err-clause-asks : goal.returns-then-is_err-clause-asks
 returns-then-is_err-clause-asks g c =
+    let within : c.loop-number.number < length c.args.graph.now.actors = search rules in (
+      c.loop-number.number + 1,
+      asks_files c.args.graph.now c.loop-number.number (g.S.Source.asked c.args.source.now) (g.S.Source.asked c.loop-number.source) (g.S.Source.asked c.rows_of_actor.new.source) within c.loop-number.invariant.asks c.in-Ok.ensures.asks,
+    )
+
+pub returns-then-is_err-clause-asks_up_to : goal.returns-then-is_err-clause-asks_up_to
+returns-then-is_err-clause-asks_up_to g c =
     let within : c.loop-number.number < length c.args.graph.now.actors = search rules in (
       c.loop-number.number + 1,
       asks_files c.args.graph.now c.loop-number.number (g.S.Source.asked c.args.source.now) (g.S.Source.asked c.loop-number.source) (g.S.Source.asked c.rows_of_actor.new.source) within c.loop-number.invariant.asks c.in-Ok.ensures.asks,
