@@ -1,12 +1,13 @@
 -- The invariant of stored indices.
-use Rattle.std.specs.Prelude.{◌+◌, ◌-◌, ◌*◌, ◌<◌, ◌≤◌, length, slice_index_or, vec_capacity, vec_len}
+use Rattle.std.specs.Prelude.{◌≡◌, ◌+◌, ◌-◌, ◌/◌, ◌%◌, ◌^◌, ◌<◌, ◌≤◌, ◌++◌, ◌∷◌, [], count_ones, length, slice_index_or, vec_capacity}
 use Rattle.pt_history.specs.declared.indices.Indices.TheInside.{Inside}
+use Rattle.pt_history.specs.Indices.{indices_from}
 
--- only the last block may have fewer than 128, the last excess is less than the number of indices in its block, and the
--- promised room is allocated
+-- all blocks but the newest are full, `last` is the last index, and the promised room is allocated
 pub record AreIndices (n : Inside) : Type 0 where
-  pub blocks : length n.excesses.items ≤ 128 * length n.bases.items
-  pub full : 128 * length n.bases.items < length n.excesses.items + 128
-  pub climbs : slice_index_or n.excesses.items (length n.excesses.items - 1) 0 + 128 * length n.bases.items ≤ length n.excesses.items + 127
-  pub bases : vec_len n.bases + n.spare ≤ vec_capacity n.bases
-  pub excesses : vec_len n.excesses + n.spare ≤ vec_capacity n.excesses
+  pub blocks : length n.blocks.items ≡ n.count / 64
+  pub bits : n.newest.bits < 2 ^ (n.count % 64)
+  pub rises : n.last ≡ n.newest.base + count_ones n.newest.bits
+  pub last : n.last ≡ slice_index_or (indices_from (n.blocks.items ++ n.newest ∷ []) 0 n.count) (n.count - 1) 0
+  pub count : n.count ≤ n.limit
+  pub room : n.limit / 64 ≤ vec_capacity n.blocks

@@ -1,6 +1,6 @@
 //! Where each of many lists ends that are stored one after another.
 
-ghost use Rattle.std.specs.Prelude.{◌≡◌, ◌+◌, ◌<◌, ◌≤◌, ◌-◌, ◌^◌, ◌++◌, ◌∷◌, [], IsOk, OnErr, OnOk, length, max, slice_index, slice_set};
+ghost use Rattle.std.specs.Prelude.{◌≡◌, ◌+◌, ◌<◌, ◌≤◌, ◌-◌, ◌^◌, ◌++◌, ◌∷◌, [], IsOk, OnErr, OnOk, length, max, slice_index, slice_set, true};
 
 use crate::repeats::Repeats;
 use pt_tags::Memory;
@@ -56,6 +56,7 @@ impl Ends {
     }
 
     /// Begins an empty list at the end. Allocates nothing.
+    #[inline(always)]
     pub fn begin(&mut self)
         requires { 0 < self.old.spare }
         ensures ends { self.new.ends ≡ self.old.ends ++ self.old.total ∷ [] }
@@ -65,9 +66,20 @@ impl Ends {
         if self.empty {
             self.starts.again();
         } else {
-            self.empty = true;
-            self.starts.push(self.total as u32);
+            self.begin_anew();
         }
+    }
+
+    /// Begins an empty list at the end. Not inlined, since most lists come after an empty one.
+    #[inline(never)]
+    fn begin_anew(&mut self)
+        requires { 0 < self.old.spare }
+        ensures ends { self.new.ends ≡ self.old.ends ++ self.old.total ∷ [] }
+        ensures total { self.new.total ≡ self.old.total }
+        ensures room { self.new.spare + 1 ≡ self.old.spare }
+    {
+        self.empty = true;
+        self.starts.push(self.total as u32);
     }
 
     /// Makes the last list end `more` items later. Allocates nothing.
@@ -114,5 +126,17 @@ impl Ends {
         } else {
             self.starts.get(number + 1) as usize
         }
+    }
+
+    /// Whether a list is known to be empty. `false` says nothing.
+    #[inline(always)]
+    pub fn is_bare(&self, number: usize) -> bool
+        requires { number < length self.now.ends }
+        ensures { result ≡ true → slice_index (0 ∷ self.now.ends) number ≡ slice_index self.now.ends number }
+    {
+        if self.starts.len() - number == 1 {
+            return false;
+        }
+        self.starts.stays(number)
     }
 }

@@ -89,8 +89,7 @@ impl Heads {
             Recent::Empty => self.recent = Recent::One(head),
             Recent::One(first) => self.recent = Recent::Two(first, head),
             Recent::Two(first, second) => {
-                store(&mut self.past, self.newest, first);
-                self.newest = Some(first);
+                store(&mut self.past, &mut self.newest, first);
                 self.recent = Recent::Two(second, head);
             }
         }
@@ -140,22 +139,21 @@ impl Heads {
 }
 
 /// Appends a head to the past ones, of which `newest` is the last.
-fn store(past: &mut Repeats<Head>, newest: Option<Head>, head: Head)
+fn store(past: &mut Repeats<Head>, newest: &mut Option<Head>, head: Head)
     requires room { 0 < past.old.spare }
-    requires newest { newest ≡ slice_get past.old.items (length past.old.items - 1) }
+    requires newest { newest.old ≡ slice_get past.old.items (length past.old.items - 1) }
     ensures items { past.new.items ≡ past.old.items ++ head ∷ [] }
+    ensures newest { newest.new ≡ Some head }
     ensures room { past.new.spare + 1 ≡ past.old.spare }
 {
-    match newest {
-        None => past.push(head),
-        Some(newest) => {
-            if same_head(newest, head) {
-                past.again();
-            } else {
-                past.push(head);
-            }
+    if let Some(last) = *newest {
+        if same_head(last, head) {
+            past.again();
+            return;
         }
     }
+    past.push(head);
+    *newest = Some(head);
 }
 
 /// Whether two heads are equal.

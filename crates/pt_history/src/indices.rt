@@ -1,6 +1,7 @@
 //! Indices that rise by at most 1 from each to the next.
 
-ghost use Rattle.std.specs.Prelude.{◌≡◌, ◌+◌, ◌-◌, ◌*◌, ◌/◌, ◌<◌, ◌≤◌, ◌++◌, ◌∷◌, [], IsOk, OnErr, OnOk, length, max, slice_index_or};
+ghost use Rattle.std.specs.Prelude.{◌≡◌, ◌+◌, ◌-◌, ◌^◌, ◌<◌, ◌≤◌, ◌++◌, ◌∷◌, [], OnErr, OnOk, length, max, slice_index_or, true, vec_len, vec_capacity};
+ghost use Rattle.pt_history.specs.Indices.{index_in, no_block};
 
 use crate::pieces::widened;
 use pt_tags::Memory;
@@ -8,26 +9,38 @@ use std::alloc::Global;
 use std::marker::Model;
 
 /// The number of indices in a block.
-const BLOCK: usize = 128;
+const PER_BLOCK: usize = 64;
+
+/// 64 indices in a row.
+#[derive(Clone, Copy, Debug, PartialEq, Eq)]
+pub(crate) struct Block {
+    /// The index before the first.
+    base: u32,
+    /// A bit for each index, from the lowest on: whether it is one more than the index before it.
+    bits: u64,
+}
 
 /// Indices of which each is the one before it or the next, and room reserved for more. Contracts see `indices` and `spare`.
-///
-/// They are stored in blocks: the first index of each block, and of each index, in 8 bits, by how much it is greater.
 #[derive(Drop)]
 pub(crate) struct Indices {
-    bases: Vec<u32>,
-    excesses: Vec<u8>,
-    spare: usize,
+    blocks: Vec<Block>,
+    /// The last block, which is not full.
+    newest: Block,
+    count: usize,
+    /// The last index, or 0.
+    last: u32,
+    /// The number of indices for which there is room, with those that are there.
+    limit: usize,
 }
 
 impl Model for Indices {
-    ghost use Rattle.std.specs.Prelude.{◌≡◌, ◌+◌, ◌*◌, ◌<◌, ◌≤◌, length, vec_len, vec_capacity};
+    ghost use Rattle.std.specs.Prelude.{◌≡◌, ◌+◌, ◌-◌, ◌<◌, ◌≤◌, ◌++◌, ◌∷◌, [], length, vec_len, vec_capacity};
     ghost use Rattle.pt_history.specs.Indices.{RoomyIndices, indices_from};
     ghost use Rattle.pt_history.specs.IndicesWhole.{AreIndices};
 
     ghost Value = { RoomyIndices };
 
-    ghost view = { λ n. record { indices = indices_from n.bases.items 0 n.excesses.items; spare = n.spare } };
+    ghost view = { λ n. record { indices = indices_from (n.blocks.items ++ n.newest ∷ []) 0 n.count; spare = n.limit - n.count } };
 
     ghost invariant = { AreIndices };
 }
@@ -38,9 +51,11 @@ impl Indices {
         ensures { result ≡ record { indices = []; spare = 0 } }
     {
         Indices {
-            bases: Vec::new(alloc),
-            excesses: Vec::new(alloc),
-            spare: 0,
+            blocks: Vec::new(alloc),
+            newest: Block { base: 0, bits: 0 },
+            count: 0,
+            last: 0,
+            limit: 0,
         }
     }
 
@@ -50,8 +65,16 @@ impl Indices {
         ensures room { OnOk result (self.new.spare ≡ max self.old.spare more) }
         ensures unchanged { OnErr result (self.new ≡ self.old) }
     {
-        widened(&mut self.bases, self.spare, more)?;
-        self.spare = widened(&mut self.excesses, self.spare, more)?;
+        if more <= self.limit - self.count {
+            return Ok(());
+        }
+        let Some(limit) = self.count.checked_add(more) else {
+            return Err(Memory);
+        };
+        let full = self.blocks.len();
+        let (held, wanted) = (self.limit / PER_BLOCK - full, limit / PER_BLOCK - full);
+        widened(&mut self.blocks, held, wanted)?;
+        self.limit = limit;
         Ok(())
     }
 
@@ -63,13 +86,38 @@ impl Indices {
         ensures indices { self.new.indices ≡ self.old.indices ++ index ∷ [] }
         ensures room { self.new.spare + 1 ≡ self.old.spare }
     {
-        self.spare -= 1;
-        if self.excesses.len() == BLOCK * self.bases.len() {
-            self.bases.push_reserved(index);
-            self.excesses.push_reserved(0);
+        if index == self.last {
+            self.again();
         } else {
-            let base = self.bases[self.bases.len() - 1];
-            self.excesses.push_reserved((index - base) as u8);
+            self.next();
+        }
+    }
+
+    /// Appends the last index again, or 0. Allocates nothing.
+    #[inline(always)]
+    pub fn again(&mut self)
+        requires { 0 < self.old.spare }
+        ensures indices { self.new.indices ≡ self.old.indices ++ slice_index_or self.old.indices (length self.old.indices - 1) 0 ∷ [] }
+        ensures room { self.new.spare + 1 ≡ self.old.spare }
+    {
+        self.count += 1;
+        if self.count % PER_BLOCK == 0 {
+            self.newest = next_block(&mut self.blocks, self.newest, self.last);
+        }
+    }
+
+    /// Appends the index after the last one, or 1. Allocates nothing.
+    fn next(&mut self)
+        requires room { 0 < self.old.spare }
+        requires fits { slice_index_or self.old.indices (length self.old.indices - 1) 0 + 1 < 2 ^ 32 }
+        ensures indices { self.new.indices ≡ self.old.indices ++ (slice_index_or self.old.indices (length self.old.indices - 1) 0 + 1) ∷ [] }
+        ensures room { self.new.spare + 1 ≡ self.old.spare }
+    {
+        self.newest = raised(self.newest, self.count % PER_BLOCK);
+        self.last += 1;
+        self.count += 1;
+        if self.count % PER_BLOCK == 0 {
+            self.newest = next_block(&mut self.blocks, self.newest, self.last);
         }
     }
 
@@ -77,7 +125,14 @@ impl Indices {
     pub fn len(&self) -> usize
         ensures { result ≡ length self.now.indices }
     {
-        self.excesses.len()
+        self.count
+    }
+
+    /// For how many more indices there is room.
+    pub fn spare(&self) -> usize
+        ensures { result ≡ self.now.spare }
+    {
+        self.limit - self.count
     }
 
     /// Index `number`, counted from 0.
@@ -85,6 +140,76 @@ impl Indices {
         requires { number < length self.now.indices }
         ensures { result ≡ slice_index_or self.now.indices number 0 }
     {
-        self.bases[number / BLOCK] as usize + self.excesses[number] as usize
+        let block = block_at(self.blocks.as_slice(), self.newest, number / PER_BLOCK);
+        index_in(block, number % PER_BLOCK)
     }
+
+    /// Whether the index after index `number` is known to be the same. `false` says nothing.
+    #[inline(always)]
+    pub fn stays(&self, number: usize) -> bool
+        requires { number + 1 < length self.now.indices }
+        ensures { result ≡ true → slice_index_or self.now.indices (number + 1) 0 ≡ slice_index_or self.now.indices number 0 }
+    {
+        if number % PER_BLOCK == PER_BLOCK - 1 {
+            return false;
+        }
+        let block = block_at(self.blocks.as_slice(), self.newest, number / PER_BLOCK);
+        stays_in(block, number % PER_BLOCK)
+    }
+}
+
+/// Appends a full block, whose last index is `last`, and returns the next one. Allocates nothing.
+#[inline(never)]
+fn next_block(blocks: &mut Vec<Block>, full: Block, last: u32) -> Block
+    requires { vec_len blocks.old < vec_capacity blocks.old }
+    ensures blocks { blocks.new.items ≡ blocks.old.items ++ full ∷ [] }
+    ensures room { vec_capacity blocks.old ≤ vec_capacity blocks.new }
+    ensures next { result ≡ record { base = last; bits = 0 } }
+{
+    blocks.push_reserved(full);
+    Block {
+        base: last,
+        bits: 0,
+    }
+}
+
+/// A block with one more bit set, above all others.
+fn raised(block: Block, number: usize) -> Block
+    requires number { number < 64 }
+    requires above { block.bits < 2 ^ number }
+    ensures { result ≡ record block { bits = block.bits + 2 ^ number } }
+{
+    Block {
+        base: block.base,
+        bits: block.bits + (1 << number),
+    }
+}
+
+/// Block `number`, counted from 0, where `newest` is the last one.
+fn block_at(blocks: &[Block], newest: Block, number: usize) -> Block
+    requires { number ≤ length blocks.now }
+    ensures { result ≡ slice_index_or (blocks.now ++ newest ∷ []) number no_block }
+{
+    if number < blocks.len() {
+        blocks[number]
+    } else {
+        newest
+    }
+}
+
+/// Index `number` of a block, counted from 0.
+fn index_in(block: Block, number: usize) -> usize
+    requires { number < 64 }
+    ensures { result ≡ index_in block number }
+{
+    let rises = (block.bits << (63 - number)).count_ones();
+    block.base as usize + rises as usize
+}
+
+/// Whether the index after index `number` of a block is the same.
+fn stays_in(block: Block, number: usize) -> bool
+    requires { number < 63 }
+    ensures { result ≡ true → index_in block (number + 1) ≡ index_in block number }
+{
+    (block.bits >> (number + 1)) % 2 == 0
 }

@@ -65,6 +65,7 @@ impl<T: Drop> Pieces<T> {
     }
 
     /// Begins an empty list at the end. Allocates nothing.
+    #[inline(always)]
     pub fn begin(&mut self)
         requires { 0 < self.old.spare_lists }
         ensures lists { self.new.lists ≡ self.old.lists ++ [] ∷ [] }
@@ -100,6 +101,9 @@ impl<T: Drop> Pieces<T> {
         requires { number < length self.now.lists }
         ensures { slice_get self.now.lists number ≡ Some result.now }
     {
+        if self.ends.is_bare(number) {
+            return &[];
+        }
         part(
             self.items.as_slice(),
             self.ends.start(number),

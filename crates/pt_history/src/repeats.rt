@@ -1,6 +1,6 @@
 //! A list in which neighbours are often equal.
 
-ghost use Rattle.std.specs.Prelude.{◌≡◌, ◌+◌, ◌-◌, ◌<◌, ◌≤◌, ◌++◌, ◌∷◌, [], IsOk, OnErr, OnOk, Some, length, max, slice_get};
+ghost use Rattle.std.specs.Prelude.{◌≡◌, ◌+◌, ◌-◌, ◌<◌, ◌≤◌, ◌++◌, ◌∷◌, [], IsOk, OnErr, OnOk, Some, length, max, slice_get, true};
 
 use crate::indices::Indices;
 use crate::pieces::{MOST_ITEMS, widened};
@@ -16,7 +16,6 @@ pub(crate) struct Repeats<T> {
     values: Vec<T>,
     /// For each item, where its value is.
     indices: Indices,
-    spare: usize,
 }
 
 impl<T> Model for Repeats<T> {
@@ -25,9 +24,9 @@ impl<T> Model for Repeats<T> {
 
     ghost Value = { RoomyItems T };
 
-    ghost view = { λ r. record { items = values_at r.values.items r.indices.indices; spare = r.spare } };
+    ghost view = { λ r. record { items = values_at r.values.items r.indices.indices; spare = r.indices.spare } };
 
-    ghost invariant = { λ r. AreBelow (length r.values.items) r.indices.indices × (slice_index_or r.indices.indices (length r.indices.indices - 1) 0 ≡ length r.values.items - 1) × (vec_len r.values + r.spare ≤ vec_capacity r.values) × (r.spare ≤ r.indices.spare) × (length r.values.items + r.spare < 2 ^ 32) };
+    ghost invariant = { λ r. AreBelow (length r.values.items) r.indices.indices × (slice_index_or r.indices.indices (length r.indices.indices - 1) 0 ≡ length r.values.items - 1) × (vec_len r.values + r.indices.spare ≤ vec_capacity r.values) × (length r.values.items + r.indices.spare < 2 ^ 32) };
 }
 
 impl<T: Drop> Repeats<T> {
@@ -39,7 +38,6 @@ impl<T: Drop> Repeats<T> {
         Repeats {
             values: Vec::new(alloc),
             indices: Indices::new(alloc),
-            spare: 0,
         }
     }
 
@@ -51,16 +49,15 @@ impl<T: Drop> Repeats<T> {
         ensures unchanged { OnErr result (self.new ≡ self.old) }
         ensures there { more ≤ self.old.spare → IsOk result × (self.new ≡ self.old) }
     {
-        if more <= self.spare {
+        let spare = self.indices.spare();
+        if more <= spare {
             return Ok(());
         }
         if more >= MOST_ITEMS - self.values.len() {
             return Err(Memory);
         }
-        let spare = widened(&mut self.values, self.spare, more)?;
-        self.indices.reserve(more)?;
-        self.spare = spare;
-        Ok(())
+        widened(&mut self.values, spare, more)?;
+        self.indices.reserve(more)
     }
 
     /// Appends an item. Allocates nothing.
@@ -72,18 +69,17 @@ impl<T: Drop> Repeats<T> {
         let index = self.values.len() as u32;
         self.values.push_reserved(item);
         self.indices.push(index);
-        self.spare -= 1;
     }
 
     /// Appends the last item again. Allocates nothing.
+    #[inline(always)]
     pub fn again(&mut self)
         requires room { 0 < self.old.spare }
         requires begun { 0 < length self.old.items }
         ensures items { (x : T) → slice_get self.old.items (length self.old.items - 1) ≡ Some x → self.new.items ≡ self.old.items ++ x ∷ [] }
         ensures room { self.new.spare + 1 ≡ self.old.spare }
     {
-        self.indices.push(self.values.len() as u32 - 1);
-        self.spare -= 1;
+        self.indices.again();
     }
 
     /// The number of items.
@@ -91,6 +87,15 @@ impl<T: Drop> Repeats<T> {
         ensures { result ≡ length self.now.items }
     {
         self.indices.len()
+    }
+
+    /// Whether the item after item `number` is known to be the same. `false` says nothing.
+    #[inline(always)]
+    pub fn stays(&self, number: usize) -> bool
+        requires { number + 1 < length self.now.items }
+        ensures { result ≡ true → slice_get self.now.items (number + 1) ≡ slice_get self.now.items number }
+    {
+        self.indices.stays(number)
     }
 }
 

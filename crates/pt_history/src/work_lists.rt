@@ -66,6 +66,7 @@ impl WorkLists {
     }
 
     /// Begins an empty list of claims and an empty one of results. Allocates nothing.
+    #[inline(always)]
     pub fn begin(&mut self)
         requires claimed { 0 < self.old.claimed.spare_lists }
         requires posted { 0 < self.old.posted.spare_lists }
@@ -138,6 +139,9 @@ impl WorkLists {
         requires { list < length self.now.claimed.lists }
         ensures { result ≡ length (slice_index_or self.now.claimed.lists list []) }
     {
+        if self.claimed.is_bare(list) {
+            return 0;
+        }
         self.claimed.end(list) - self.claimed.start(list)
     }
 
@@ -155,6 +159,9 @@ impl WorkLists {
         requires { list < length self.now.posted.lists }
         ensures { result ≡ length (slice_index_or self.now.posted.lists list []) }
     {
+        if self.posted.is_bare(list) {
+            return 0;
+        }
         self.posted.end(list) - self.posted.start(list)
     }
 

@@ -1,4 +1,4 @@
-use Rattle.std.proofs.Common.{◌≡◌, ◌<◌, [], get_or, length, ap, sym, subst, ◌∙◌, arith}
+use Rattle.std.proofs.Common.{◌≡◌, ◌-◌, ◌<◌, ◌∷◌, [], refl, get_or, length, ap, sym, subst, ◌∙◌, arith}
 use Rattle.pt_history.specs.WorkLists.{RoomyWorkLists}
 use Rattle.pt_history.proofs.Cutting.{length-pieces}
 use Rattle.pt_history.proofs.Ended.{IsCut, cut_at, cut_length}
@@ -25,4 +25,21 @@ returns c =
     let cut : IsCut c.self.inside.claimed.ends c.self.inside.work.tasks c.args.list c.start.result c.end.result = cut_at c.self.inside.claimed c.self.inside.work.tasks c.self.inside.work.spare_tasks c.args.list c.start.result c.end.result c.self.invariant.claimed
     (subst (λ (v : RoomyWorkLists). c.args.list < length v.claimed.lists) (sym c.self.view_is) c.requires) c.start.ensures c.end.ensures in
     cut_length c.self.inside.claimed.ends c.self.inside.work.tasks c.args.list c.start.result c.end.result cut
+    ∙ ap (λ (v : RoomyWorkLists). length (get_or v.claimed.lists c.args.list [])) c.self.view_is
+
+pub is_bare-requires : goal.is_bare-requires
+is_bare-requires c =
+    let lists : length c.args.self.now.claimed.lists ≡ length c.self.inside.claimed.ends = ap (λ (v : RoomyWorkLists). length v.claimed.lists) (sym c.self.view_is) ∙ length-pieces 0 c.self.inside.claimed.ends c.self.inside.work.tasks in
+    omega (arith, lists, c.requires)
+
+pub returns-then-is_bare : goal.returns-then-is_bare
+returns-then-is_bare c =
+    let start = get_or (0 ∷ c.self.inside.claimed.ends) c.args.list 0 in
+    let end = get_or c.self.inside.claimed.ends c.args.list 0 in
+    let cut : IsCut c.self.inside.claimed.ends c.self.inside.work.tasks c.args.list start end = cut_at c.self.inside.claimed c.self.inside.work.tasks c.self.inside.work.spare_tasks c.args.list start end c.self.invariant.claimed
+    (subst (λ (v : RoomyWorkLists). c.args.list < length v.claimed.lists) (sym c.self.view_is) c.requires) refl refl in
+    let same : start ≡ end = c.is_bare.ensures c.if-is_bare.true in
+    let none : 0 ≡ end - start = omega (arith, same) in
+    none
+    ∙ cut_length c.self.inside.claimed.ends c.self.inside.work.tasks c.args.list start end cut
     ∙ ap (λ (v : RoomyWorkLists). length (get_or v.claimed.lists c.args.list [])) c.self.view_is
