@@ -54,6 +54,13 @@ not_false false h = refl
 other_unit : (x u : Part) → same_part x u ≡ false → x ≢ u
 other_unit x u h e = false≢true (sym h ∙ subst (λ z. same_part x z ≡ true) e (same_part-refl x))
 
+-- a unit doesn't hold up itself
+pub only_itself : (table : List Groups) (least : Part → Part → Option Delay) (u : Part) (t : Tag) (ws : List Waiting) → Each (λ (w : Waiting). same_part w.unit u ≡ true) ws → list_any (holds_up table least u t) ws ≡ false
+only_itself table least u t [] h = refl
+only_itself table least u t (w ∷ ws) h =
+    ap (λ b. (not b && (reaches (least w.unit u) w.tag t && nat_lt w.unit.group (groups_at table w.unit.actor).count)) || list_any (holds_up table least u t) ws) h.0
+    ∙ only_itself table least u t ws h.1
+
 -- what leads there from a later tag along a longer delay leads there
 sooner_still : (d e : Delay) (v w t : Tag) → AtMost d e → UpTo v w → UpTo (plus w e) t → tag_lt t (plus v d) ≡ false
 sooner_still d e v w t a u h = plain d.time d.step e.time e.step v.time v.step w.time w.step t.time t.step a u h

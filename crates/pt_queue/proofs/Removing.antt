@@ -42,6 +42,11 @@ unit_line table u p t line l h eq = filter_alike (λ (e : Event). not (same_tag 
 stays : (table : List Groups) (u : Part) (t : Tag) (e : Event) → is_of table u e ≡ false → not (is_at table u t e) ≡ true
 stays table u t e h = ap (λ b. not (b && same_tag t e.tag)) h
 
+-- no event is removed where none waits for the unit
+pub none_at : (table : List Groups) (u : Part) (t : Tag) (xs : List Event) → Each (λ (e : Event). is_of table u e ≡ false) xs → filter (λ (e : Event). not (is_at table u t e)) xs ≡ xs
+none_at table u t xs h = filter_all (λ (e : Event). not (is_at table u t e)) xs
+    (each_map (λ (e : Event). is_of table u e ≡ false) (λ (e : Event). not (is_at table u t e) ≡ true) xs (λ e k. stays table u t e k) h)
+
 -- a line of another unit stays
 pub other_line : (table : List Groups) (u : Part) (p : ℕ) (t : Tag) (line : List Event) → p < 8 → Each (IsInLine table (8 * u.actor + p)) line → (group_in table u.actor p == u.group) ≡ false → filter (λ (e : Event). not (is_at table u t e)) line ≡ line
 other_line table u p t line l h ne = filter_all (λ (e : Event). not (is_at table u t e)) line

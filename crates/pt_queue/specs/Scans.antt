@@ -1,5 +1,5 @@
 -- Searches through a list of events.
-use Rattle.std.specs.Prelude.{◌&&◌, Bool, false, not, List, [], ◌∷◌, Option, Some, None, if◌then◌else◌}
+use Rattle.std.specs.Prelude.{ℕ, ◌==◌, ◌&&◌, Bool, false, not, List, [], ◌∷◌, Option, Some, None, if◌then◌else◌}
 use Rattle.pt_tags.specs.declared.tag.Tag.{Tag}
 use Rattle.pt_tags.specs.declared.tag.Delay.{Delay}
 use Rattle.pt_tags.specs.Tags.{same_tag, tag_lt, plus}
@@ -12,6 +12,10 @@ use Rattle.pt_queue.specs.Groups.{group_in}
 -- the unit that an event waits for
 abbrev pub unit_in : List Groups → Event → Part
 unit_in table e = record { actor = e.actor; group = group_in table e.actor e.port }
+
+-- an event waits at an input of this actor
+abbrev pub is_for : ℕ → Event → Bool
+is_for a e = e.actor == a
 
 -- an event waits for this unit
 abbrev pub is_of : List Groups → Part → Event → Bool

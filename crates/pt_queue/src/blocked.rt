@@ -5,6 +5,7 @@ ghost use Rattle.std.specs.Int.{bit_at};
 ghost use Rattle.std.specs.List.{list_any};
 ghost use Rattle.pt_types.specs.declared.graph.Unit.{Unit as Part};
 ghost use Rattle.pt_semantics.specs.Lists.{Each};
+ghost use Rattle.pt_semantics.specs.Units.{same_part};
 ghost use Rattle.pt_causality.specs.Before.{MayHave};
 ghost use Rattle.pt_causality.specs.Delays.{HasAllBefore, least_of};
 ghost use Rattle.pt_queue.specs.Events.{IsRising};
@@ -24,7 +25,7 @@ use pt_types::Unit;
 /// Whether a listed unit differs from this one, and its least tag leads here at the tag or before.
 ///
 /// The least tag is enough: the unit's later events lead here later.
-fn holds_up(table: &[Groups], least: &Least, unit: Unit, tag: Tag, other: &Waiting) -> bool
+fn other_holds_up(table: &[Groups], least: &Least, unit: Unit, tag: Tag, other: &Waiting) -> bool
     ensures { result ≡ holds_up table.now (least_of least.now) unit tag other.now }
 {
     if tag.is_before(other.tag) || other.unit == unit {
@@ -32,6 +33,27 @@ fn holds_up(table: &[Groups], least: &Least, unit: Unit, tag: Tag, other: &Waiti
     }
     reaches(least.get(other.unit, unit), other.tag, tag)
         && other.unit.group < count_at(table, other.unit.actor)
+}
+
+/// As `other_holds_up`. Inlined, because the listed unit is often this one itself.
+#[inline(always)]
+fn holds_up(table: &[Groups], least: &Least, unit: Unit, tag: Tag, other: &Waiting) -> bool
+    ensures { result ≡ holds_up table.now (least_of least.now) unit tag other.now }
+{
+    if other.unit == unit {
+        return false;
+    }
+    other_holds_up(table, least, unit, tag, other)
+}
+
+/// Whether this unit is the only one in the list.
+fn is_only(listed: &[Waiting], unit: Unit) -> bool
+    ensures { result ≡ true → Each (λ w. same_part w.unit unit ≡ true) listed.now }
+{
+    if listed.len() != 1 {
+        return false;
+    }
+    listed[0].unit == unit
 }
 
 /// The last listed unit that holds up this one; `None` if there is none.
@@ -48,8 +70,8 @@ fn holder_listed(
     ensures { is_some result ≡ list_any (holds_up table.now (least_of least.now) unit tag) listed.now }
 {
     for behind in 0..listed.len() {
-        let other = listed[listed.len() - behind - 1];
-        if holds_up(table, least, unit, tag, &other) {
+        let other = &listed[listed.len() - behind - 1];
+        if holds_up(table, least, unit, tag, other) {
             return Some(other.unit);
         }
     }
@@ -101,8 +123,8 @@ fn holder_before(
     ensures { is_some result ≡ list_any (holds_up table.now (least_of least.now) unit tag) listed.now }
 {
     for behind in 0..listed.len() {
-        let other = listed[listed.len() - behind - 1];
-        if holds_up_before(table, least, before, unit, tag, &other) {
+        let other = &listed[listed.len() - behind - 1];
+        if holds_up_before(table, least, before, unit, tag, other) {
             return Some(other.unit);
         }
     }
@@ -340,6 +362,9 @@ pub fn is_blocked(
     requires tags { AreTags table.now listed.now tags.now }
     ensures { result ≡ list_any (holds_up table.now (least_of least.now) unit tag) listed.now }
 {
+    if is_only(listed, unit) {
+        return false;
+    }
     if is_held_still(table, tags, holders, unit, tag, least) {
         return true;
     }

@@ -1,10 +1,11 @@
 //! Events: which unit each waits for, and where its tag leads.
 
 ghost use Rattle.std.specs.Prelude.{◌≡◌, ◌≤◌, not, filter};
+ghost use Rattle.std.specs.List.{list_any};
 ghost use Rattle.std.specs.VecDeque.{deque_len, deque_capacity};
 ghost use Rattle.pt_tags.specs.Tags.{tag_lt, plus};
 ghost use Rattle.pt_queue.specs.Events.{waiting_in};
-ghost use Rattle.pt_queue.specs.Scans.{is_at, is_of, least_from, sooner, reaches, unit_in};
+ghost use Rattle.pt_queue.specs.Scans.{is_at, is_for, is_of, least_from, sooner, reaches, unit_in};
 
 use crate::groups::{Groups, group_in};
 use pt_tags::{Delay, Tag};
@@ -35,15 +36,53 @@ fn is_at(table: &[Groups], unit: Unit, tag: Tag, event: &Event) -> bool
     is_of(table, unit, event) && tag == event.tag
 }
 
+/// Whether an event waits at an input of an actor.
+fn is_for(actor: u32, event: &Event) -> bool
+    ensures { result ≡ is_for actor event.now }
+{
+    event.actor == actor
+}
+
+/// Whether one of the events waits at an input of an actor. Inlined up to the test whether there are events: mostly there
+/// are none.
+#[inline(always)]
+pub fn has_events(events: &VecDeque<Event>, actor: u32) -> bool
+    ensures { result ≡ list_any (is_for actor) events.now.items }
+{
+    if events.is_empty() {
+        return false;
+    }
+    is_one_for(actor, events)
+}
+
+/// As `has_events`, by a search.
+#[inline(never)]
+fn is_one_for(actor: u32, events: &VecDeque<Event>) -> bool
+    ensures { result ≡ list_any (is_for actor) events.now.items }
+{
+    let (front, back) = events.as_slices();
+    front.iter().chain(back).any(|event| is_for(actor, event))
+}
+
 /// Removes the events of a tag that wait for a unit.
 pub fn remove(events: &mut VecDeque<Event>, table: &[Groups], unit: Unit, tag: Tag)
     ensures left { events.new.items ≡ filter (λ e. not (is_at table.now unit tag e)) events.old.items }
     ensures len { deque_len events.new ≤ deque_len events.old }
     ensures capacity { deque_capacity events.new ≡ deque_capacity events.old }
 {
-    if events.is_empty() {
+    if !has_events(events, unit.actor) {
         return;
     }
+    remove_some(events, table, unit, tag);
+}
+
+/// As `remove`, by a pass over all events.
+#[inline(never)]
+fn remove_some(events: &mut VecDeque<Event>, table: &[Groups], unit: Unit, tag: Tag)
+    ensures left { events.new.items ≡ filter (λ e. not (is_at table.now unit tag e)) events.old.items }
+    ensures len { deque_len events.new ≤ deque_len events.old }
+    ensures capacity { deque_capacity events.new ≡ deque_capacity events.old }
+{
     events.retain(|event| !is_at(table, unit, tag, event));
 }
 
@@ -72,6 +111,22 @@ pub fn least_tag(
 ) -> Option<Tag>
     ensures { result ≡ least_from table.now unit so_far events.now.items }
 {
+    if !has_events(events, unit.actor) {
+        return so_far;
+    }
+    least_among(table, events, unit, so_far)
+}
+
+/// As `least_tag`, by a pass over all events.
+#[inline(never)]
+fn least_among(
+    table: &[Groups],
+    events: &VecDeque<Event>,
+    unit: Unit,
+    so_far: Option<Tag>,
+) -> Option<Tag>
+    ensures { result ≡ least_from table.now unit so_far events.now.items }
+{
     let mut best = so_far;
     for place in 0..events.len() {
         let event = events[place];
@@ -82,7 +137,8 @@ pub fn least_tag(
     best
 }
 
-/// The value that waits at an input of an actor at a tag.
+/// The value that waits at an input of an actor at a tag, by a search.
+#[inline(never)]
 pub fn value_at(events: &VecDeque<Event>, actor: u32, port: u32, tag: Tag) -> Option<i64>
     ensures { result ≡ waiting_in events.now.items actor port tag }
 {

@@ -5,10 +5,8 @@ ghost use Rattle.pt_types.specs.declared.graph.Unit.{Unit as Part};
 ghost use Rattle.pt_semantics.specs.Units.{same_part};
 ghost use Rattle.pt_queue.specs.Listed.{FitsIn, tag_in};
 ghost use Rattle.pt_queue.specs.Marks.{AreMarks, most_places, unit_with};
-ghost use Rattle.pt_queue.specs.Scans.{sooner};
 
 use crate::marks::mark;
-use crate::waiting::earlier;
 use pt_tags::{Memory, Tag};
 use pt_types::Unit;
 use std::alloc::{AllocError, Global};
@@ -108,16 +106,6 @@ impl LeastTags {
             return;
         }
         self.put(place, tag);
-    }
-
-    /// Gives a unit a tag, or lowers its tag to that one if it is greater.
-    pub fn lower(&mut self, unit: Unit, tag: Tag)
-        requires { FitsIn (length self.old) unit }
-        ensures tags { (x : Part) → tag_in self.new x ≡ (if same_part unit x then sooner (tag_in self.old unit) tag else tag_in self.old x) }
-        ensures len { length self.new ≡ length self.old }
-    {
-        let so_far = self.of(unit);
-        self.set(unit, Some(earlier(so_far, tag)));
     }
 
     /// A bit for each place, set where there is a tag.

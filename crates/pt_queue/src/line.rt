@@ -88,10 +88,19 @@ impl Line {
         if tag.is_before(event.tag) {
             return None;
         }
-        let value = value_among(&self.events, tag);
-        self.events.retain(|event| tag != event.tag);
-        value
+        take_behind(&mut self.events, tag)
     }
+}
+
+/// Takes the event at a tag, if there is one, and returns its value, by a search. Mostly the first event is taken instead.
+#[inline(never)]
+fn take_behind(events: &mut VecDeque<Event>, tag: Tag) -> Option<i64>
+    ensures value { result ≡ value_on events.old.items tag }
+    ensures left { events.new.items ≡ filter (λ e. not (same_tag tag e.tag)) events.old.items }
+{
+    let value = value_among(events, tag);
+    events.retain(|event| tag != event.tag);
+    value
 }
 
 /// The value at a tag, by a search from the front.

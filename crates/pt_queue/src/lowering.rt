@@ -1,6 +1,6 @@
 //! Lowering the least tag of a unit, where both the list and the tags by unit have it.
 
-ghost use Rattle.std.specs.Prelude.{◌≡◌, ◌≤◌, true, length, if◌then◌else◌, vec_capacity};
+ghost use Rattle.std.specs.Prelude.{◌≡◌, ◌≤◌, Some, true, false, length, if◌then◌else◌, vec_capacity};
 ghost use Rattle.pt_types.specs.declared.graph.Unit.{Unit as Part};
 ghost use Rattle.pt_semantics.specs.Lists.{Each};
 ghost use Rattle.pt_semantics.specs.Units.{same_part};
@@ -9,13 +9,14 @@ ghost use Rattle.pt_queue.specs.Listed.{FitsIn, tag_in, tag_of};
 ghost use Rattle.pt_queue.specs.Scans.{sooner};
 
 use crate::least_tags::LeastTags;
-use crate::waiting::{Waiting, lower};
+use crate::waiting::{Waiting, list};
 use pt_tags::Tag;
 use pt_types::Unit;
 
 /// Whether another tag doesn't lower the least tag so far.
 fn is_least(so_far: Option<Tag>, tag: Tag) -> bool
-    ensures { result ≡ true → sooner so_far tag ≡ so_far }
+    ensures stays { result ≡ true → sooner so_far tag ≡ so_far }
+    ensures less { result ≡ false → sooner so_far tag ≡ Some tag }
 {
     match so_far {
         None => false,
@@ -41,6 +42,6 @@ pub fn lower_both(listed: &mut Vec<Waiting>, tags: &mut LeastTags, unit: Unit, t
     if is_least(tags.of(unit), tag) {
         return;
     }
-    lower(listed, unit, tag);
-    tags.lower(unit, tag);
+    list(listed, unit, tag);
+    tags.set(unit, Some(tag));
 }

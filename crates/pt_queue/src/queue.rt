@@ -90,8 +90,35 @@ impl Queue {
         })
     }
 
+    /// Whether there is memory for `count` more events, and each line has room for the event that it refused.
+    #[inline(always)]
+    fn has_room(&self, count: usize) -> bool
+        ensures { result ≡ true → count ≤ self.now.spare }
+    {
+        self.spare >= count && self.short == usize::MAX && self.loose.is_empty()
+    }
+
     /// Reserves memory for at least `count` more events. An error leaves the events and `spare` as they were.
+    ///
+    /// Inlined up to the test whether anything is to be done: mostly nothing is.
+    #[inline(always)]
     pub fn reserve(&mut self, count: usize) -> Result<(), Memory>
+        ensures spare { OnOk result (count ≤ self.new.spare) }
+        ensures no_less { self.old.spare ≤ self.new.spare }
+        ensures events { self.new.events ≡ self.old.events }
+        ensures groups { self.new.groups ≡ self.old.groups }
+        ensures refused { OnErr result (self.new ≡ self.old) }
+        ensures there { count ≤ self.old.spare → IsOk result }
+    {
+        if self.has_room(count) {
+            return Ok(());
+        }
+        self.make_room(count)
+    }
+
+    /// As `reserve`. Moves loose events into their lines, and makes room in the line that last refused an event.
+    #[inline(never)]
+    fn make_room(&mut self, count: usize) -> Result<(), Memory>
         ensures spare { OnOk result (count ≤ self.new.spare) }
         ensures no_less { self.old.spare ≤ self.new.spare }
         ensures events { self.new.events ≡ self.old.events }

@@ -1,6 +1,7 @@
 //! Taking the events of a unit at a tag, in one pass over the lines of its actor.
 
 ghost use Rattle.std.specs.Prelude.{◌≡◌, ℕ, ◌+◌, ◌*◌, ◌<◌, ◌≤◌, ◌==◌, ◌++◌, [], None, not, filter, map, slice_set};
+ghost use Rattle.pt_tags.specs.declared.tag.Tag.{Tag};
 ghost use Rattle.pt_tags.specs.Tags.{same_tag};
 ghost use Rattle.pt_types.specs.Ports.{at_port, when, eight};
 ghost use Rattle.pt_queue.specs.Groups.{group_in};
@@ -8,7 +9,7 @@ ghost use Rattle.pt_queue.specs.Events.{waiting_in};
 ghost use Rattle.pt_queue.specs.Lines.{AreInLines, all_of, line_at};
 ghost use Rattle.pt_queue.specs.Scans.{is_at, least_from};
 
-use crate::events::{sooner, value_at};
+use crate::events::{has_events, sooner, value_at};
 use crate::groups::{Groups, group_in};
 use crate::lines::{Lines, line_number};
 use pt_tags::Tag;
@@ -104,12 +105,12 @@ fn take_port(
     taken.least = sooner_in_line(table, lines, unit, port, taken.least);
 }
 
-/// A number below which are all inputs of an actor that have events; 8 if there are loose events.
+/// A number below which are all inputs of an actor that have events; 8 if it has loose events.
 fn end_of(lines: &Lines, loose: &VecDeque<Event>, actor: u32) -> u32
-    ensures none { (p : ℕ) → result ≤ p → p < 8 → (line_at lines.now (8 * actor + p) ≡ []) × (loose.now.items ≡ []) }
+    ensures none { (p : ℕ) → result ≤ p → p < 8 → (line_at lines.now (8 * actor + p) ≡ []) × ((t : Tag) → waiting_in loose.now.items actor p t ≡ None) }
     ensures few { result ≤ 8 }
 {
-    if !loose.is_empty() {
+    if has_events(loose, actor) {
         return 8;
     }
     lines.end(actor)

@@ -1,12 +1,11 @@
 //! The units that have events, each with its least tag.
 
-ghost use Rattle.std.specs.Prelude.{◌≡◌, ◌≤◌, None, Some, IsSome, if◌then◌else◌, vec_capacity};
+ghost use Rattle.std.specs.Prelude.{◌≡◌, ◌<◌, ◌≤◌, length, remove, None, Some, IsSome, if◌then◌else◌, vec_capacity};
 ghost use Rattle.pt_types.specs.declared.graph.Unit.{Unit as Part};
 ghost use Rattle.pt_semantics.specs.Lists.{Each};
 ghost use Rattle.pt_semantics.specs.Units.{same_part};
 ghost use Rattle.pt_queue.specs.Events.{IsRising};
 ghost use Rattle.pt_queue.specs.Listed.{FitsIn, IsPlace, tag_of, unit_lt};
-ghost use Rattle.pt_queue.specs.Scans.{sooner};
 
 use pt_tags::Tag;
 use pt_types::Unit;
@@ -85,32 +84,8 @@ fn put(listed: &mut Vec<Waiting>, place: usize, unit: Unit, tag: Tag)
     }
 }
 
-/// The lesser of a tag and the least tag so far.
-pub fn earlier(so_far: Option<Tag>, tag: Tag) -> Tag
-    ensures { Some result ≡ sooner so_far tag }
-{
-    match so_far {
-        None => tag,
-        Some(least) => { if tag.is_before(least) { tag } else { least } }
-    }
-}
-
-/// Lists a unit with a tag, or lowers its tag to that one if it is greater. Allocates nothing.
-pub fn lower(listed: &mut Vec<Waiting>, unit: Unit, tag: Tag)
-    requires rises { IsRising listed.old.items }
-    requires room { Each (λ w. FitsIn (vec_capacity listed.old) w.unit) listed.old.items }
-    requires unit { FitsIn (vec_capacity listed.old) unit }
-    ensures rises { IsRising listed.new.items }
-    ensures tags { (x : Part) → tag_of listed.new.items x ≡ (if same_part unit x then sooner (tag_of listed.old.items unit) tag else tag_of listed.old.items x) }
-    ensures capacity { vec_capacity listed.old ≤ vec_capacity listed.new }
-{
-    let place = place_of(listed.as_slice(), unit);
-    let so_far = tag_at(listed.as_slice(), place, unit);
-    put(listed, place, unit, earlier(so_far, tag));
-}
-
 /// Lists a unit with a tag. Allocates nothing.
-fn list(listed: &mut Vec<Waiting>, unit: Unit, tag: Tag)
+pub fn list(listed: &mut Vec<Waiting>, unit: Unit, tag: Tag)
     requires rises { IsRising listed.old.items }
     requires room { Each (λ w. FitsIn (vec_capacity listed.old) w.unit) listed.old.items }
     requires unit { FitsIn (vec_capacity listed.old) unit }
@@ -122,6 +97,19 @@ fn list(listed: &mut Vec<Waiting>, unit: Unit, tag: Tag)
     put(listed, place, unit, tag);
 }
 
+/// Removes the unit at a place. No unit moves if that is the last place, as mostly in a short list.
+fn unlist_at(listed: &mut Vec<Waiting>, place: usize)
+    requires { place < length listed.old.items }
+    ensures items { listed.new.items ≡ remove listed.old.items place }
+    ensures capacity { vec_capacity listed.old ≤ vec_capacity listed.new }
+{
+    if place + 1 == listed.len() {
+        listed.truncate(place);
+        return;
+    }
+    listed.remove(place);
+}
+
 /// Removes a unit from the list.
 fn unlist(listed: &mut Vec<Waiting>, unit: Unit)
     requires rises { IsRising listed.old.items }
@@ -131,7 +119,7 @@ fn unlist(listed: &mut Vec<Waiting>, unit: Unit)
 {
     let place = place_of(listed.as_slice(), unit);
     if tag_at(listed.as_slice(), place, unit).is_some() {
-        listed.remove(place);
+        unlist_at(listed, place);
     }
 }
 

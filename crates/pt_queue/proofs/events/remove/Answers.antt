@@ -1,8 +1,7 @@
-use Rattle.std.proofs.Common.{rules, not}
-use Rattle.std.proofs.lemmas.Fn.{filter_same}
-use Rattle.pt_types.specs.declared.firing.Event.{Event}
-use Rattle.pt_queue.specs.Scans.{is_at}
+use Rattle.std.proofs.Common.{sym, ◌∙◌}
+use Rattle.pt_queue.proofs.Quiet.{none_for}
+use Rattle.pt_queue.proofs.Removing.{none_at}
 use Rattle.pt_queue.proofs.events.remove.Goals as goal
 
-pub returns-clause-left : goal.returns-clause-left
-returns-clause-left c = filter_same _ (λ (e : Event). not (is_at c.args.table.now c.args.unit c.args.tag e)) _ (λ x b f' k. search rules) _ _ c.retain.ensures.filtered
+pub returns-then-not-has_events-clause-left : goal.returns-then-not-has_events-clause-left
+returns-then-not-has_events-clause-left c = sym (none_at c.args.table.now c.args.unit c.args.tag c.args.events.now.items (none_for c.args.table.now c.args.unit c.args.events.now.items (sym c.has_events.ensures ∙ c.if-not-has_events.true)))

@@ -18,9 +18,21 @@ all_stay tags u x t stays = by (same_part u x) refl
 pub returns-then-is_least-clause-listed : goal.returns-then-is_least-clause-listed
 returns-then-is_least-clause-listed c = λ x.
     all_stay (tag_of c.args.listed.now.items) c.args.unit x c.args.tag
-    (ap (λ o. sooner o c.args.tag) (sym (c.of.ensures ∙ c.requires.same c.args.unit)) ∙ c.is_least.ensures c.if-is_least.true ∙ c.of.ensures ∙ c.requires.same c.args.unit)
+    (ap (λ o. sooner o c.args.tag) (sym (c.of.ensures ∙ c.requires.same c.args.unit)) ∙ c.is_least.ensures.stays c.if-is_least.true ∙ c.of.ensures ∙ c.requires.same c.args.unit)
 
 pub returns-then-is_least-clause-tags : goal.returns-then-is_least-clause-tags
 returns-then-is_least-clause-tags c = λ x.
     all_stay (tag_in c.args.tags.now) c.args.unit x c.args.tag
-    (ap (λ o. sooner o c.args.tag) (sym c.of.ensures) ∙ c.is_least.ensures c.if-is_least.true ∙ c.of.ensures)
+    (ap (λ o. sooner o c.args.tag) (sym c.of.ensures) ∙ c.is_least.ensures.stays c.if-is_least.true ∙ c.of.ensures)
+
+pub returns-clause-listed : goal.returns-clause-listed
+returns-clause-listed c = λ x.
+    c.list.ensures.tags x
+    ∙ ap (λ o. if same_part c.args.unit x then o else tag_of c.args.listed.now.items x)
+    (sym (ap (λ o. sooner o c.args.tag) (sym (c.of.ensures ∙ c.requires.same c.args.unit)) ∙ c.is_least.ensures.less c.if-is_least.false))
+
+pub returns-clause-tags : goal.returns-clause-tags
+returns-clause-tags c = λ x.
+    c.set.ensures.tags x
+    ∙ ap (λ o. if same_part c.args.unit x then o else tag_in c.args.tags.now x)
+    (sym (ap (λ o. sooner o c.args.tag) (sym c.of.ensures) ∙ c.is_least.ensures.less c.if-is_least.false))

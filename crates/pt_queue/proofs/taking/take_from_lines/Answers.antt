@@ -80,7 +80,7 @@ returns-clause-inputs c =
     c.loop-port.invariant.inputs
     ∙ rest_none f c.loop-port.port (λ p le l.
     let none = c.end_of-port-end.ensures.none p (omega (arith, le, c.loop-port-test.false)) l in
-    no_value c.args.table.now c.args.lines.now c.args.loose.now.items c.args.unit.actor p c.args.tag (group_in c.args.table.now c.args.unit.actor p == c.args.unit.group) c.requires.in_lines none.0 none.1)
+    no_value c.args.table.now c.args.lines.now c.args.loose.now.items c.args.unit.actor p c.args.tag (group_in c.args.table.now c.args.unit.actor p == c.args.unit.group) c.requires.in_lines none.0 (none.1 c.args.tag))
 
 pub returns-clause-least : goal.returns-clause-least
 returns-clause-least c =

@@ -28,7 +28,7 @@ returns-then-is_empty-2-clause-inputs c =
     keeps_none c.args.taken.now.inputs c.args.port _ c.requires.none (
     no_value c.args.table.now c.args.lines.now c.args.loose.now.items c.args.unit.actor c.args.port c.args.tag (group_in c.args.table.now c.args.unit.actor c.args.port == c.args.unit.group) c.requires.in_lines
     (no_events (line_at c.args.lines.now n) (sym (c.is_empty-then-is_empty.ensures ∙ ap (λ n. length (line_at c.args.lines.now n) == 0) c.line_number.ensures) ∙ c.if-is_empty-2.true))
-    (no_events c.args.loose.now.items (sym (c.is_empty.ensures ∙ ap (λ n. n == 0) c.args.loose.now.ok.0) ∙ c.if-is_empty.true)))
+    (ap (λ es. waiting_in es c.args.unit.actor c.args.port c.args.tag) (no_events c.args.loose.now.items (sym (c.is_empty.ensures ∙ ap (λ n. n == 0) c.args.loose.now.ok.0) ∙ c.if-is_empty.true))))
 
 pub returns-then-is_empty-2-clause-least : goal.returns-then-is_empty-2-clause-least
 returns-then-is_empty-2-clause-least c =

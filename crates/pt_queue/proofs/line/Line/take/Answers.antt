@@ -1,5 +1,4 @@
-use Rattle.std.proofs.Common.{◌≡◌, not, filter, drop, rules, subst, sym, ◌∙◌, ap}
-use Rattle.std.proofs.lemmas.Fn.{filter_same}
+use Rattle.std.proofs.Common.{not, filter, drop, subst, sym, ◌∙◌, ap}
 use Rattle.pt_tags.specs.Tags.{same_tag}
 use Rattle.pt_types.specs.declared.firing.Event.{Event}
 use Rattle.pt_queue.specs.Lines.{TagsRise}
@@ -8,12 +7,11 @@ use Rattle.pt_queue.proofs.line.Line.take.Goals as goal
 
 pub invariant_of-self-2 : goal.invariant_of-self-2
 invariant_of-self-2 c =
-    let left : c.retain.new.self.items ≡ filter (λ (e : Event). not (same_tag c.args.tag e.tag)) c.self.inside.events.items = filter_same _ (λ (e : Event). not (same_tag c.args.tag e.tag)) _ (λ x b f' k. search rules) _ _ c.retain.ensures.filtered in
-    subst TagsRise (sym left) (in_order_filter (λ (e : Event). not (same_tag c.args.tag e.tag)) c.self.inside.events.items c.self.invariant)
+    subst TagsRise (sym c.take_behind.ensures.left) (in_order_filter (λ (e : Event). not (same_tag c.args.tag e.tag)) c.self.inside.events.items c.self.invariant)
 
 pub returns-clause-left : goal.returns-clause-left
 returns-clause-left c =
-    filter_same _ (λ (e : Event). not (same_tag c.args.tag e.tag)) _ (λ x b f' k. search rules) _ _ c.retain.ensures.filtered
+    c.take_behind.ensures.left
     ∙ ap (filter (λ (e : Event). not (same_tag c.args.tag e.tag))) c.self.view_is
 
 pub returns-then-eq-clause-left : goal.returns-then-eq-clause-left
