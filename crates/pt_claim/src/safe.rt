@@ -1,11 +1,14 @@
 //! Whether a unit is safe.
 
-ghost use Rattle.std.specs.Prelude.{◌≡◌, ◌≤◌, ◌↔◌, ℕ, IfSome, Option, Some, true};
+ghost use Rattle.std.specs.Prelude.{◌≡◌, ◌+◌, ◌<◌, ◌≤◌, ◌↔◌, ℕ, IfSome, List as Sequence, Option, Some, true};
 ghost use Rattle.std.specs.List.{list_any};
 ghost use Rattle.pt_types.specs.Lawful.{IsLawful};
 ghost use Rattle.pt_types.specs.declared.firing.Task.{Task};
 ghost use Rattle.pt_types.specs.declared.graph.Unit.{Unit as Part};
+ghost use Rattle.pt_semantics.specs.Bounds.{Feeds};
+ghost use Rattle.pt_semantics.specs.Edges.{Edge};
 ghost use Rattle.pt_semantics.specs.Paced.{paced_by};
+ghost use Rattle.pt_semantics.specs.Ranks.{sum_along};
 ghost use Rattle.pt_semantics.specs.Safe.{IsSafe};
 ghost use Rattle.pt_semantics.specs.Units.{HasEvent};
 ghost use Rattle.pt_causality.specs.Delays.{AreLeast, IsUnit, least_of};
@@ -43,6 +46,9 @@ fn leads_to(least: &Least, unit: Unit, tag: Tag, claim: &OpenClaim) -> bool
 fn is_held_up(claims: &OpenClaims, least: &Least, unit: Unit, tag: Tag) -> bool
     ensures { result ≡ list_any (may_lead_to (least_of least.now) unit tag) claims.now.items }
 {
+    if claims.is_empty() {
+        return false;
+    }
     let (front, back) = claims.as_slices();
     front
         .iter()
@@ -101,10 +107,40 @@ pub fn is_refused(
     true
 }
 
+/// Whether a unit that is due is safe: it has no open claim, and no event and no open claim leads to it in time.
+#[inline(never)]
+fn is_free(
+    fields: &Fields,
+    graph: &Graph,
+    least: &Least,
+    reading: u64,
+    unit: Unit,
+    tag: Tag,
+) -> bool
+    requires lawful { IsLawful graph.now }
+    requires sound { IsSound graph.now fields.now }
+    requires least { AreLeast graph.now (least_of least.now) }
+    requires unit { IsUnit graph.now unit }
+    requires tag { IsLeastTag graph.now (waiting_in fields.now.queue.events) unit (Some tag) }
+    requires due { (x b : ℕ) (path : Sequence Edge) → Feeds graph.now x b path unit → tag.time + b < reading + (sum_along path).time }
+    ensures { (result ≡ true) ↔ IsSafe graph.now (waiting_in fields.now.queue.events) (busy_in fields.now.open_claims.items) reading unit tag }
+{
+    if fields.open_claims.has(unit) {
+        return false;
+    }
+    if fields.queue.blocked(unit, tag, least) {
+        return false;
+    }
+    !is_held_up(&fields.open_claims, least, unit, tag)
+}
+
 /// Whether a unit is safe to process at a reading (in microseconds), where `tag` is the least tag of its events.
+///
+/// Inlined up to the test whether the unit is due: often it isn't.
 ///
 /// (That a unit waits for its offset is from RTAS 2009, and that it waits for what leads to it from RTAS 2007; that it waits
 /// for an equal tag too is this project's own choice.)
+#[inline(always)]
 pub fn is_safe(
     fields: &Fields,
     graph: &Graph,
@@ -125,11 +161,5 @@ pub fn is_safe(
     if !is_due(offsets.of_unit(unit), tag, reading) {
         return false;
     }
-    if fields.open_claims.has(unit) {
-        return false;
-    }
-    if fields.queue.blocked(unit, tag, least) {
-        return false;
-    }
-    !is_held_up(&fields.open_claims, least, unit, tag)
+    is_free(fields, graph, least, reading, unit, tag)
 }

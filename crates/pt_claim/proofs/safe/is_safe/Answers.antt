@@ -1,26 +1,9 @@
-use Rattle.std.proofs.Common.{◌≡◌, Bool, true, false, not, refl, sym, ap, subst, ◌∙◌}
-use Rattle.std.proofs.lemmas.Bool.{false≢true}
+use Rattle.std.proofs.Common.{sym, subst}
 use Rattle.pt_semantics.specs.Offsets.{HasOffset}
-use Rattle.pt_causality.specs.Delays.{least_of}
-use Rattle.pt_state.specs.State.{busy_in}
-use Rattle.pt_claim.proofs.SafeTags.{open_clear, not_some, paced_bounds}
+use Rattle.pt_claim.proofs.SafeTags.{paced_bounds}
 use Rattle.pt_claim.proofs.safe.is_safe.Goals as goal
 
-not_true : (b : Bool) → not b ≡ true → b ≡ false
-not_true true h = absurd (false≢true h)
-not_true false h = refl
-
-pub returns : goal.returns
-returns c =
+pub is_free-requires-clause-due : goal.is_free-requires-clause-due
+is_free-requires-clause-due c =
     let has : HasOffset c.args.graph.now c.args.unit c.of_unit.result = subst (HasOffset c.args.graph.now c.args.unit) (sym c.of_unit.ensures) (c.requires.offsets.units c.args.unit) in
-    let claims = open_clear c.args.graph.now (least_of c.args.least.now) c.args.fields.now.open_claims.items c.args.unit c.args.tag c.requires.least c.requires.unit c.requires.sound.open_claims in (
-      λ h. record {
-        event = c.requires.tag.0;
-        least = c.requires.tag.1;
-        free = not_some (busy_in c.args.fields.now.open_claims.items c.args.unit) (sym c.has.ensures ∙ c.if-has.false);
-        bounds = paced_bounds c.args.graph.now c.args.unit c.of_unit.result c.args.tag c.args.reading has (c.is_due.ensures.0 c.if-not-is_due.false);
-        events = (c.blocked.ensures.clear c.args.graph.now c.requires.lawful c.requires.sound.groups c.requires.least c.requires.unit).0 c.if-blocked.false;
-        claims = claims.0 (sym c.is_held_up.ensures ∙ not_true c.is_held_up.result h);
-      },
-      λ safe. ap not (c.is_held_up.ensures ∙ claims.1 safe.claims),
-    )
+    paced_bounds c.args.graph.now c.args.unit c.of_unit.result c.args.tag c.args.reading has (c.is_due.ensures.0 c.if-not-is_due.false)
