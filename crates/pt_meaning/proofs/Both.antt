@@ -9,7 +9,7 @@ use Rattle.pt_semantics.specs.Meaning.{Values, IsFirst, NotAfter, added, waiting
 use Rattle.pt_meaning.specs.declared.place.Place.{Place}
 use Rattle.pt_meaning.specs.declared.world.Waiting.{Waiting}
 use Rattle.pt_meaning.specs.Both.{with_first, AreSound, IsUpTo}
-use Rattle.pt_meaning.specs.Held.{pending_value}
+use Rattle.pt_meaning.specs.Held.{late_value}
 use Rattle.pt_meaning.proofs.Places.{sound_more}
 
 -- what is first of all is first of a part
@@ -121,5 +121,5 @@ taken_both e l a t (Some v) late early is = ap (with_first (Some v)) is ∙ ap (
 pub are_sound_more : (rank : ℕ → ℕ) (actors steps more : ℕ) (w : Waiting) → steps ≤ more → AreSound rank actors steps w → AreSound rank actors more w
 are_sound_more rank actors steps more w grows sound = record {
   early = sound.early;
-  late = sound_more rank actors steps more (pending_value w.late) grows sound.late;
+  late = sound_more rank actors steps more (late_value w.late) grows sound.late;
 }

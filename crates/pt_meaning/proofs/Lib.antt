@@ -10,3 +10,7 @@ pub mod Earlies
 pub mod Opens
 pub mod FiredOn
 pub mod Runnable
+pub mod Cleared
+pub mod Standings
+pub mod Readies
+pub mod Currents

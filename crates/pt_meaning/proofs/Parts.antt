@@ -1,14 +1,15 @@
 -- Two parts of the events that wait, of which the first one's count first.
-use Rattle.std.proofs.Common.{◌≡◌, ℕ, zero, suc, true, Some, None, Option, IsSome, IfSome, IfNone, MatchOption, ℤ, List, [], ◌∷◌, slice_index_or, refl, sym, ap, subst, ◌∙◌}
+use Rattle.std.proofs.Common.{◌≡◌, ℕ, zero, suc, Bool, true, false, Some, None, Option, IsSome, IfSome, IfNone, MatchOption, ℤ, List, [], ◌∷◌, slice_index_or, refl, sym, ap, subst, ◌∙◌}
 use Rattle.pt_tags.specs.declared.tag.Tag.{Tag}
-use Rattle.pt_types.specs.Ports.{at_port, eight, nothing}
+use Rattle.std.specs.Ordering.{is_eq}
+use Rattle.pt_types.specs.Ports.{at_port, eight, when}
 use Rattle.pt_semantics.specs.Firing.{any_present}
 use Rattle.pt_semantics.specs.Lists.{or_else}
 use Rattle.pt_semantics.specs.Meaning.{Values, IsFirst, added, waiting}
 use Rattle.pt_meaning.specs.declared.place.Place.{Place}
-use Rattle.pt_meaning.specs.Waiting.{place_of, waits_in, IsPlaceIn, EventsArePlaced}
-use Rattle.pt_meaning.specs.Front.{IsLeastPlace}
-use Rattle.pt_meaning.proofs.Places.{up_to}
+use Rattle.pt_meaning.specs.Waiting.{place_cmp, place_of, waits_in, IsPlaceIn, EventsArePlaced}
+use Rattle.pt_meaning.specs.Front.{Enters, IsLeastPlace}
+use Rattle.pt_meaning.proofs.Places.{one_place, up_to}
 use Rattle.pt_meaning.proofs.Taking.{its_place, at_eight}
 
 -- what is at a place in the one part, or else in the other
@@ -30,7 +31,7 @@ least_first rank actors steps all x least sound b p u v is =
     let here = sound x least.there in
     (up.0, λ t. let after = up.1 t in (after.0, λ s. let later = after.1 s in rw (← here.rank_is) later))
 
-any_at : (xs : List (Option ℤ)) (p : ℕ) → IsSome (slice_index_or xs p None) → any_present xs ≡ true
+pub any_at : (xs : List (Option ℤ)) (p : ℕ) → IsSome (slice_index_or xs p None) → any_present xs ≡ true
 any_at [] p h = absurd cc
 any_at (Some v ∷ xs) p h = refl
 any_at (None ∷ xs) zero h = absurd cc
@@ -73,13 +74,28 @@ module _ (near far : Place → Option ℤ) where
   pub within_far : (rank : ℕ → ℕ) (actors steps : ℕ) (x : Place) → IsLeastPlace far x → EventsArePlaced rank actors steps (either_of near far) → IsPlaceIn rank actors steps x
   within_far rank actors steps x least sound = sound x (some_far (near x) (far x) least.there)
 
-or_with_none : (x : Option ℤ) → or_else x None ≡ x
-or_with_none None = refl
-or_with_none (Some v) = refl
+or_twice : (x y z : Option ℤ) → or_else x (or_else y z) ≡ or_else (or_else x y) z
+or_twice None y z = refl
+or_twice (Some v) y z = refl
 
 -- the values of the second part are written, and then those of the first
-pub taken_parts : (n l : Values) (a : ℕ) (t : Tag) (empty one two : List (Option ℤ)) → empty ≡ eight nothing
-    → one ≡ eight (λ p. or_else (l a p t) (at_port empty p)) → two ≡ eight (λ p. or_else (n a p t) (at_port one p)) → two ≡ waiting (added n l) a t
-taken_parts n l a t empty one two none first second =
-    second ∙ ap (λ m. eight (λ p. or_else (n a p t) (at_port m p))) (first ∙ ap (λ m. eight (λ p. or_else (l a p t) (at_port m p))) none)
-    ∙ ap (λ (g : ℕ → Option ℤ). eight (λ p. or_else (n a p t) (g p))) (λ i p. or_with_none (l a p t) i)
+pub taken_parts : (n l : Values) (a : ℕ) (t : Tag) (old one two : List (Option ℤ))
+    → one ≡ eight (λ p. or_else (l a p t) (at_port old p)) → two ≡ eight (λ p. or_else (n a p t) (at_port one p)) → two ≡ eight (λ p. or_else (added n l a p t) (at_port old p))
+taken_parts n l a t old one two first second =
+    second ∙ ap (λ m. eight (λ p. or_else (n a p t) (at_port m p))) first
+    ∙ ap (λ (g : ℕ → Option ℤ). eight g) (λ i p. or_twice (n a p t) (l a p t) (at_port old p) i)
+
+-- an event enters the second part
+pub enters_far : (p : Place) (v : ℤ) (near far new : Place → Option ℤ) → Enters p v far new → Enters p v (either_of near far) (either_of near new)
+enters_far p v near far new enters q = ap (or_else (near q)) (enters q) ∙ or_twice (near q) (far q) (when (is_eq (place_cmp p q)) (Some v))
+
+-- or the first, where the second has none at its place
+pub enters_near : (p : Place) (v : ℤ) (near far new : Place → Option ℤ) → far p ≡ None → Enters p v near new → Enters p v (either_of near far) (either_of new far)
+enters_near p v near far new none enters q =
+    ap (λ x. or_else x (far q)) (enters q) ∙ by (is_eq (place_cmp p q)) (near q) (far q) (λ e. subst (λ z. far z ≡ None) (one_place p q e) none)
+  where
+    by : (b : Bool) (x z : Option ℤ) → (b ≡ true → z ≡ None) → or_else (or_else x (when b (Some v))) z ≡ or_else (or_else x z) (when b (Some v))
+    by b (Some w) z h = refl
+    by true None z h = rw (h refl) refl
+    by false None None h = refl
+    by false None (Some w) h = refl

@@ -5,16 +5,16 @@ use Rattle.pt_meaning.specs.declared.place.Place.{Place}
 use Rattle.pt_meaning.specs.declared.world.Waiting.{Waiting}
 use Rattle.pt_meaning.specs.Early.{early_waits, left, IsFiringOrder}
 use Rattle.pt_meaning.specs.Waiting.{waits_in, EventsArePlaced}
-use Rattle.pt_meaning.specs.Held.{pending_value}
+use Rattle.pt_meaning.specs.Held.{late_value}
 
 -- the value that waits at each input and tag, in either part; if both have one, the early one
 abbrev pub all_waits : (ℕ → ℕ) → Waiting → Values
-all_waits rank w = added (early_waits (left w.early)) (waits_in rank (pending_value w.late))
+all_waits rank w = added (early_waits (left w.early)) (waits_in rank (late_value w.late))
 
 -- the events of both parts are sound
 pub record AreSound (rank : ℕ → ℕ) (actors steps : ℕ) (w : Waiting) : Type 0 where
   pub early : IsFiringOrder rank actors (left w.early)
-  pub late : EventsArePlaced rank actors steps (pending_value w.late)
+  pub late : EventsArePlaced rank actors steps (late_value w.late)
 
 -- place x does not come after place y, by tag, rank and actor
 abbrev pub IsUpTo : Place → Place → Type 0

@@ -8,4 +8,7 @@ pub mod Early
 pub mod Both
 pub mod Emission
 pub mod Opening
+pub mod Ready
+pub mod Current
+pub mod ComesFirst
 pub mod Running

@@ -6,10 +6,10 @@ ghost use Rattle.pt_types.specs.declared.graph.Graph.{Graph};
 ghost use Rattle.pt_semantics.specs.Lists.{Each};
 ghost use Rattle.pt_semantics.specs.Meaning.{added, going, leaves_actor};
 ghost use Rattle.pt_meaning.specs.Waiting.{waits_in, rank_in, EventsArePlaced};
-ghost use Rattle.pt_meaning.specs.Held.{pending_value};
+ghost use Rattle.pt_meaning.specs.Held.{late_value};
 ghost use Rattle.pt_meaning.specs.Emission.{IsUsable, AddsOneStep};
 
-use crate::pending::Pending;
+use crate::late::Late;
 use crate::place::Place;
 use pt_tags::{Delay, Memory, Tag};
 use pt_types::{Edge, Ports};
@@ -37,7 +37,7 @@ fn within(tag: Tag, weight: Delay, until: u64) -> Option<Tag>
 
 /// Sends the output along one edge, if the edge leaves the actor, the output has a value, and the tag isn't past the horizon.
 fn emit_along(
-    pending: &mut Pending,
+    late: &mut Late,
     ranks: &[u32],
     until: u64,
     actor: u32,
@@ -46,10 +46,10 @@ fn emit_along(
     outputs: &Ports,
 ) -> Result<(), Memory>
     requires step { tag.step + edge.weight.step < 2 ^ 64 }
-    ensures waits { OnOk result ((g : Graph) → g.until ≡ until → waits_in (rank_in ranks.now) (pending_value pending.new)
-        ≡ added (waits_in (rank_in ranks.now) (pending_value pending.old)) (going g (edge ∷ []) (leaves_actor actor) tag outputs.now)) }
+    ensures waits { OnOk result ((g : Graph) → g.until ≡ until → waits_in (rank_in ranks.now) (late_value late.new)
+        ≡ added (waits_in (rank_in ranks.now) (late_value late.old)) (going g (edge ∷ []) (leaves_actor actor) tag outputs.now)) }
     ensures sound { OnOk result ((actors steps : ℕ) → IsUsable actors edge → tag.step + 1 ≤ steps
-        → EventsArePlaced (rank_in ranks.now) actors steps (pending_value pending.old) → EventsArePlaced (rank_in ranks.now) actors steps (pending_value pending.new)) }
+        → EventsArePlaced (rank_in ranks.now) actors steps (late_value late.old) → EventsArePlaced (rank_in ranks.now) actors steps (late_value late.new)) }
 {
     if edge.from != actor {
         return Ok(());
@@ -66,12 +66,12 @@ fn emit_along(
         actor: edge.to,
         port: edge.input,
     };
-    pending.add(place, value)
+    late.add(place, value)
 }
 
 /// Sends the outputs of an actor that fired at a tag along those of these edges that leave it.
 pub fn emit(
-    pending: &mut Pending,
+    late: &mut Late,
     ranks: &[u32],
     until: u64,
     actor: u32,
@@ -81,13 +81,13 @@ pub fn emit(
 ) -> Result<(), Memory>
     requires step { tag.step + 1 < 2 ^ 64 }
     requires edges { Each AddsOneStep edges.now }
-    ensures waits { OnOk result ((g : Graph) → g.until ≡ until → waits_in (rank_in ranks.now) (pending_value pending.new)
-        ≡ added (waits_in (rank_in ranks.now) (pending_value pending.old)) (going g edges.now (leaves_actor actor) tag outputs.now)) }
+    ensures waits { OnOk result ((g : Graph) → g.until ≡ until → waits_in (rank_in ranks.now) (late_value late.new)
+        ≡ added (waits_in (rank_in ranks.now) (late_value late.old)) (going g edges.now (leaves_actor actor) tag outputs.now)) }
     ensures sound { OnOk result ((actors steps : ℕ) → Each (IsUsable actors) edges.now → tag.step + 1 ≤ steps
-        → EventsArePlaced (rank_in ranks.now) actors steps (pending_value pending.old) → EventsArePlaced (rank_in ranks.now) actors steps (pending_value pending.new)) }
+        → EventsArePlaced (rank_in ranks.now) actors steps (late_value late.old) → EventsArePlaced (rank_in ranks.now) actors steps (late_value late.new)) }
 {
     for edge in edges {
-        emit_along(pending, ranks, until, actor, *edge, tag, outputs)?;
+        emit_along(late, ranks, until, actor, *edge, tag, outputs)?;
     }
     Ok(())
 }

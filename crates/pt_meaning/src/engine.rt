@@ -13,8 +13,8 @@ ghost use Rattle.pt_sensors.specs.Listed.{rows_for, IsOfActors};
 ghost use Rattle.pt_meaning.specs.Running.{world_in, states_from, state_at_start, actor_firing, IsRunnable};
 
 use crate::emission::emit;
+use crate::late::Late;
 use crate::opening::opening;
-use crate::pending::Pending;
 use crate::world::Waiting;
 use pt_actors::fire_into;
 use pt_sensors::SensorRows;
@@ -65,7 +65,7 @@ pub fn begin(
     ensures sound { IfOk result (λ list. AreSound (rank_in ranks.now) (length graph.now.actors) 0 list.waiting) }
 {
     let early = opening(alloc, graph, ranks, sensors)?;
-    let late = Pending::new(alloc);
+    let late = Late::new(alloc, ranks)?;
     let waiting = Waiting { early, late };
     let states = states(alloc, graph)?;
     Ok(GlobalList { waiting, states })
@@ -134,7 +134,6 @@ pub fn fire_next(
 {
     firing.actor = actor;
     firing.tag = tag;
-    firing.inputs = Ports::new();
     list.waiting.take(tag, actor, &mut firing.inputs);
     fire(graph, list.states.as_slice(), firing);
     set_state(&mut list.states, actor, firing.after);

@@ -1,11 +1,12 @@
-//! The events sent since the start, in the order in which they fire.
+//! The events sent since the start for later tags, in the order in which they fire.
 
-ghost use Rattle.std.specs.Prelude.{◌≡◌, ℕ, IfSome, IfNone, OnOk, None, true};
+ghost use Rattle.std.specs.Prelude.{◌≡◌, ℕ, IfSome, IfNone, OnOk, None, true, length};
 ghost use Rattle.pt_tags.specs.declared.tag.Tag.{Tag};
-ghost use Rattle.pt_types.specs.Ports.{eight, nothing};
-ghost use Rattle.pt_semantics.specs.Meaning.{IsFirst, added, waiting, without};
+ghost use Rattle.pt_types.specs.Ports.{at_port, eight};
+ghost use Rattle.pt_semantics.specs.Lists.{or_else};
+ghost use Rattle.pt_semantics.specs.Meaning.{IsFirst, waiting, without};
 ghost use Rattle.pt_semantics.specs.Firing.{any_present};
-ghost use Rattle.pt_meaning.specs.Waiting.{waits_in, value_at, IsPlaceIn, EventsArePlaced};
+ghost use Rattle.pt_meaning.specs.Waiting.{waits_in, IsPlaceIn, EventsArePlaced};
 ghost use Rattle.pt_meaning.specs.Front.{Enters};
 ghost use Rattle.pt_meaning.specs.Held.{pending_value};
 
@@ -54,16 +55,8 @@ impl Pending {
         Some(sooner(near, far))
     }
 
-    /// Adds an event, unless one waits at its place.
-    pub fn add(&mut self, place: Place, value: i64) -> Result<(), Memory>
-        ensures waits { OnOk result ((rank : ℕ → ℕ) → place.rank ≡ rank place.actor → waits_in rank (pending_value self.new) ≡ added (waits_in rank (pending_value self.old)) (value_at place value)) }
-        ensures sound { OnOk result ((rank : ℕ → ℕ) (actors steps : ℕ) → IsPlaceIn rank actors steps place → EventsArePlaced rank actors steps (pending_value self.old) → EventsArePlaced rank actors steps (pending_value self.new)) }
-    {
-        self.enter(place, value)
-    }
-
     /// Puts an event where it belongs, unless one waits at its place.
-    fn enter(&mut self, place: Place, value: i64) -> Result<(), Memory>
+    pub fn enter(&mut self, place: Place, value: i64) -> Result<(), Memory>
         ensures { OnOk result (Enters place value (pending_value self.old) (pending_value self.new)) }
     {
         if self.later.is_after(place) && self.line.enter(place, value)? {
@@ -72,10 +65,10 @@ impl Pending {
         self.later.enter(place, value)
     }
 
-    /// Takes an actor's events of a tag, which must be the first, and writes their values at its inputs, which had none.
+    /// Takes an actor's events of a tag, which must be the first, and writes their values at its inputs.
     pub fn take(&mut self, tag: Tag, actor: u32, inputs: &mut Ports)
-        requires { inputs.old ≡ eight nothing }
-        ensures inputs { (rank : ℕ → ℕ) (actors steps : ℕ) → EventsArePlaced rank actors steps (pending_value self.old) → IsFirst rank (waits_in rank (pending_value self.old)) actor tag → inputs.new ≡ waiting (waits_in rank (pending_value self.old)) actor tag }
+        requires { length inputs.old ≡ 8 }
+        ensures inputs { (rank : ℕ → ℕ) (actors steps : ℕ) → EventsArePlaced rank actors steps (pending_value self.old) → IsFirst rank (waits_in rank (pending_value self.old)) actor tag → inputs.new ≡ eight (λ p. or_else (waits_in rank (pending_value self.old) actor p tag) (at_port inputs.old p)) }
         ensures waits { (rank : ℕ → ℕ) (actors steps : ℕ) → EventsArePlaced rank actors steps (pending_value self.old) → IsFirst rank (waits_in rank (pending_value self.old)) actor tag → waits_in rank (pending_value self.new) ≡ without (waits_in rank (pending_value self.old)) actor tag }
         ensures sound { (rank : ℕ → ℕ) (actors steps : ℕ) → EventsArePlaced rank actors steps (pending_value self.old) → EventsArePlaced rank actors steps (pending_value self.new) }
     {

@@ -2,14 +2,13 @@
 
 ghost use Rattle.std.specs.Prelude.{◌≡◌, ℕ, IfSome, IfNone, None, true};
 ghost use Rattle.pt_tags.specs.declared.tag.Tag.{Tag};
-ghost use Rattle.pt_types.specs.Ports.{eight, nothing};
 ghost use Rattle.pt_semantics.specs.Firing.{any_present};
 ghost use Rattle.pt_semantics.specs.Meaning.{IsFirst, waiting, without};
 ghost use Rattle.pt_meaning.specs.Waiting.{IsPlaceIn};
 ghost use Rattle.pt_meaning.specs.Both.{all_waits, with_first, AreSound};
 
 use crate::early::EarlyList;
-use crate::pending::Pending;
+use crate::late::Late;
 use crate::place::{Place, sooner};
 use pt_tags::Tag;
 use pt_types::Ports;
@@ -19,7 +18,7 @@ use pt_types::Ports;
 #[derive(Drop)]
 pub struct Waiting {
     pub early: EarlyList,
-    pub late: Pending,
+    pub late: Late,
 }
 
 impl Waiting {
@@ -39,9 +38,8 @@ impl Waiting {
         Some(sooner(early, late))
     }
 
-    /// Takes an actor's events of a tag, which must be the first, and writes their values at its inputs, which had none.
+    /// Takes an actor's events of a tag, which must be the first, and writes their values at its inputs.
     pub fn take(&mut self, tag: Tag, actor: u32, inputs: &mut Ports)
-        requires { inputs.old ≡ eight nothing }
         ensures inputs { (rank : ℕ → ℕ) (actors steps : ℕ) → AreSound rank actors steps self.old → IsFirst rank (all_waits rank self.old) actor tag → inputs.new ≡ waiting (all_waits rank self.old) actor tag }
         ensures waits { (rank : ℕ → ℕ) (actors steps : ℕ) → AreSound rank actors steps self.old → IsFirst rank (all_waits rank self.old) actor tag → all_waits rank self.new ≡ without (all_waits rank self.old) actor tag }
         ensures sound { (rank : ℕ → ℕ) (actors steps : ℕ) → AreSound rank actors steps self.old → AreSound rank actors steps self.new }

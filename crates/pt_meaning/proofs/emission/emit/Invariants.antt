@@ -4,12 +4,12 @@ use Rattle.pt_semantics.specs.Lists.{Each}
 use Rattle.pt_semantics.specs.Meaning.{added, going, leaves_actor}
 use Rattle.pt_meaning.specs.Waiting.{waits_in, rank_in, EventsArePlaced}
 use Rattle.pt_meaning.specs.Emission.{IsUsable}
-use Rattle.pt_meaning.specs.Held.{pending_value}
+use Rattle.pt_meaning.specs.Held.{late_value}
 use Rattle.pt_meaning.proofs.emission.emit.Given as goal
 
 abbrev pub invariant-loop-edge : goal.invariant-loop-edge
 invariant-loop-edge l = record {
-  waits : (g : Graph) → g.until ≡ l.until → added (waits_in (rank_in l.ranks) (pending_value l.pending)) (going g (drop l.edge-index l.edges) (leaves_actor l.actor) l.tag l.outputs)
-      ≡ added (waits_in (rank_in l.ranks) (pending_value l.fn.pending)) (going g l.edges (leaves_actor l.actor) l.tag l.outputs);
-  sound : (actors steps : ℕ) → Each (IsUsable actors) l.edges → l.tag.step + 1 ≤ steps → EventsArePlaced (rank_in l.ranks) actors steps (pending_value l.fn.pending) → EventsArePlaced (rank_in l.ranks) actors steps (pending_value l.pending);
+  waits : (g : Graph) → g.until ≡ l.until → added (waits_in (rank_in l.ranks) (late_value l.late)) (going g (drop l.edge-index l.edges) (leaves_actor l.actor) l.tag l.outputs)
+      ≡ added (waits_in (rank_in l.ranks) (late_value l.fn.late)) (going g l.edges (leaves_actor l.actor) l.tag l.outputs);
+  sound : (actors steps : ℕ) → Each (IsUsable actors) l.edges → l.tag.step + 1 ≤ steps → EventsArePlaced (rank_in l.ranks) actors steps (late_value l.fn.late) → EventsArePlaced (rank_in l.ranks) actors steps (late_value l.late);
 }

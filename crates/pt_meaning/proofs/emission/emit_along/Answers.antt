@@ -4,7 +4,7 @@ use Rattle.pt_tags.specs.declared.tag.Tag.{Tag}
 use Rattle.pt_semantics.specs.Meaning.{added}
 use Rattle.pt_meaning.specs.declared.place.Place.{Place}
 use Rattle.pt_meaning.specs.Waiting.{waits_in, rank_in, value_at}
-use Rattle.pt_meaning.specs.Held.{pending_value}
+use Rattle.pt_meaning.specs.Held.{late_value}
 use Rattle.pt_meaning.proofs.Emitting.{goes_one}
 use Rattle.pt_meaning.proofs.emission.emit_along.Goals as goal
 
@@ -12,9 +12,9 @@ pub returns-clause-waits : goal.returns-clause-waits
 returns-clause-waits c = IfOk-weaker c.add.result _ _ (λ u h g until.
     let place : Place = record { tag = c.in-Some-within.tag; rank = c.rank_at.result; actor = c.args.edge.to; port = c.args.edge.input } in
     let was = h (rank_in c.args.ranks.now) c.rank_at.ensures in
-    let stored : waits_in (rank_in c.args.ranks.now) (pending_value c.add.new.self) ≡ added (waits_in (rank_in c.args.ranks.now) (pending_value c.args.pending.now)) (value_at place c.in-Some.value) = search (rules, was) in
+    let stored : waits_in (rank_in c.args.ranks.now) (late_value c.add.new.self) ≡ added (waits_in (rank_in c.args.ranks.now) (late_value c.args.late.now)) (value_at place c.in-Some.value) = search (rules, was) in
     stored
-    ∙ ap (added (waits_in (rank_in c.args.ranks.now) (pending_value c.args.pending.now)))
+    ∙ ap (added (waits_in (rank_in c.args.ranks.now) (late_value c.args.late.now)))
     (goes_one g c.args.actor c.args.edge c.args.tag c.in-Some-within.tag c.args.outputs.now place c.in-Some.value c.if-edge-actor.false (sym c.in-Some.ensures)
     c.in-Some-within.ensures.some.0 (subst (λ z. c.in-Some-within.tag.time ≤ z) (sym until) c.in-Some-within.ensures.some.1) refl refl refl)) c.add.ensures.waits
 

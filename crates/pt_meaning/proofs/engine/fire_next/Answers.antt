@@ -8,7 +8,7 @@ use Rattle.pt_meaning.specs.Waiting.{waits_in, rank_in}
 use Rattle.pt_meaning.specs.Running.{world_in, states_from, actor_firing}
 use Rattle.pt_meaning.specs.Emission.{IsUsable, AddsOneStep}
 use Rattle.pt_meaning.specs.Both.{all_waits}
-use Rattle.pt_meaning.specs.Held.{pending_value}
+use Rattle.pt_meaning.specs.Held.{late_value}
 use Rattle.pt_meaning.proofs.Both.{added_late}
 use Rattle.pt_meaning.proofs.FiredOn.{fires_by, after_by, each_filter, each_adds}
 use Rattle.pt_meaning.proofs.engine.fire_next.Goals as goal
@@ -33,8 +33,8 @@ returns-clause-after c =
     let kept : states_from c.set_state.new.states.items ≡ put_state (states_from c.args.list.now.states.items) c.args.actor c.fire.new.firing.after = search rules in
     let rank = rank_in c.args.ranks.now in
     let sent = ap (added (early_waits (left c.take.new.self.early))) (c.in_ok-emit.ensures.waits g refl)
-    ∙ added_late (early_waits (left c.take.new.self.early)) (waits_in rank (pending_value c.take.new.self.late)) (going g c.args.leaving.now (leaves_actor c.args.actor) c.args.tag c.fire.new.firing.outputs) in
-    after_by g w c.fire.new.firing c.args.actor c.args.tag (all_waits rank c.take.new.self) (added (early_waits (left c.take.new.self.early)) (waits_in rank (pending_value c.emit.new.pending)))
+    ∙ added_late (early_waits (left c.take.new.self.early)) (waits_in rank (late_value c.take.new.self.late)) (going g c.args.leaving.now (leaves_actor c.args.actor) c.args.tag c.fire.new.firing.outputs) in
+    after_by g w c.fire.new.firing c.args.actor c.args.tag (all_waits rank c.take.new.self) (added (early_waits (left c.take.new.self.early)) (waits_in rank (late_value c.emit.new.late)))
     (states_from c.set_state.new.states.items) c.args.leaving.now (ap (λ (x : ActorFiring). x.actor) c.fire.ensures) (ap (λ (x : ActorFiring). x.tag) c.fire.ensures)
     (c.take.ensures.waits rank (length g.actors) c.requires.sound.0 c.requires.sound.1 c.requires.first) c.requires.leaving sent kept
 

@@ -10,7 +10,7 @@ use Rattle.pt_meaning.proofs.pending.Pending.take.Goals as goal
 pub returns-clause-inputs : goal.returns-clause-inputs
 returns-clause-inputs c = λ rank actors steps sound first.
     let n = in_line place_cmp c.args.self.now.line in let f = tree.get place_cmp c.args.self.now.later.events in
-    taken_parts (waits_in rank n) (waits_in rank f) c.args.actor c.args.tag c.args.inputs.now c.take_all.new.inputs c.take_all-2.new.inputs c.requires
+    taken_parts (waits_in rank n) (waits_in rank f) c.args.actor c.args.tag c.args.inputs.now c.take_all.new.inputs c.take_all-2.new.inputs
     (c.take_all.ensures.inputs rank actors steps (sound_far n f rank actors steps sound) (first_late rank (waits_in rank n) (waits_in rank f) c.args.actor c.args.tag first))
     (c.take_all-2.ensures.inputs rank actors steps (sound_near n f rank actors steps sound) (first_early rank (waits_in rank n) (waits_in rank f) c.args.actor c.args.tag first))
 

@@ -1,0 +1,150 @@
+//! The events of the tag that runs.
+
+ghost use Rattle.std.specs.Prelude.{◌≡◌, ◌==◌, ◌&&◌, ℕ, nat_lt, IfOk, IfSome, IfNone, MatchBool, MatchOption, None, true, length};
+ghost use Rattle.pt_tags.specs.declared.tag.Tag.{Tag};
+ghost use Rattle.pt_semantics.specs.Firing.{any_present};
+ghost use Rattle.pt_semantics.specs.Meaning.{IsFirst, waiting, without};
+ghost use Rattle.pt_meaning.specs.declared.place.Place.{Place};
+ghost use Rattle.pt_meaning.specs.Current.{current_value, is_standing_of, standing_at};
+ghost use Rattle.pt_meaning.specs.ComesFirst.{ComesFirst};
+ghost use Rattle.pt_meaning.specs.Front.{Enters};
+ghost use Rattle.pt_meaning.specs.Waiting.{waits_in, IsPlaceIn, EventsArePlaced};
+
+use crate::moments::number;
+use crate::order::{Standing, firing_order, position_of, positions_in};
+use crate::place::Place;
+use crate::ready::ReadyInputs;
+use pt_tags::{Memory, Tag};
+use pt_types::Ports;
+use std::alloc::Global;
+use std::marker::Model;
+
+/// Events of one tag, by the position of their actor in the order in which actors fire. Contracts see these lists; `current_value` is the value
+/// at each place.
+///
+/// An event of the tag that runs, sent without delay, mostly has its place here: it moves no other.
+#[derive(Drop)]
+pub struct Current {
+    tag: Tag,
+    order: Vec<Standing>,
+    positions: Vec<u32>,
+    inputs: ReadyInputs,
+}
+
+impl Model for Current {
+    ghost use Rattle.pt_meaning.specs.Current.{IsCurrent, Slate};
+
+    ghost Value = { Slate };
+
+    ghost view = { λ c. record { tag = c.tag; order = c.order.items; positions = c.positions.items; inputs = c.inputs } };
+
+    ghost invariant = { λ c. IsCurrent c.order.items c.positions.items c.inputs };
+}
+
+impl Current {
+    /// No events, of actors with these ranks.
+    pub fn new(alloc: Global, ranks: &[u32]) -> Result<Current, Memory>
+        ensures { IfOk result (λ current. (q : Place) → current_value current q ≡ None) }
+    {
+        let order = firing_order(alloc, ranks)?;
+        let positions = positions_in(alloc, order.as_slice())?;
+        let inputs = ReadyInputs::new(alloc, number(order.len())?)?;
+        Ok(Current {
+            tag: Tag { time: 0, step: 0 },
+            order,
+            positions,
+            inputs,
+        })
+    }
+
+    /// The place of the first actor with events, at its input 0.
+    #[inline(always)]
+    fn leader(&self) -> Option<Place>
+        ensures { MatchOption result ((q : Place) → current_value self.now q ≡ None) (ComesFirst (current_value self.now)) }
+    {
+        let position = self.inputs.first()?;
+        let standing = self.order[position];
+        Some(Place {
+            tag: self.tag,
+            rank: standing.rank,
+            actor: standing.actor,
+            port: 0,
+        })
+    }
+
+    /// The place of the first actor with events, at its input 0.
+    #[inline(always)]
+    pub fn first(&self) -> Option<Place>
+        ensures first { IfSome result (λ next. (rank : ℕ → ℕ) (actors steps : ℕ) → EventsArePlaced rank actors steps (current_value self.now) → IsFirst rank (waits_in rank (current_value self.now)) next.actor next.tag) }
+        ensures present { IfSome result (λ next. (rank : ℕ → ℕ) (actors steps : ℕ) → EventsArePlaced rank actors steps (current_value self.now) → any_present (waiting (waits_in rank (current_value self.now)) next.actor next.tag) ≡ true) }
+        ensures within { IfSome result (λ next. (rank : ℕ → ℕ) (actors steps : ℕ) → EventsArePlaced rank actors steps (current_value self.now) → IsPlaceIn rank actors steps next) }
+        ensures empty { IfNone result ((rank : ℕ → ℕ) (a p : ℕ) (t : Tag) → waits_in rank (current_value self.now) a p t ≡ None) }
+    {
+        self.leader()
+    }
+
+    /// Adds an event, unless one waits at its place. Returns false, and adds nothing, if it is of another tag or its actor has
+    /// no position.
+    #[inline(always)]
+    pub fn enter(&mut self, place: Place, value: i64) -> bool
+        ensures { MatchBool result (Enters place value (current_value self.old) (current_value self.new)) ((current_value self.old place ≡ None) × (self.new ≡ self.old)) }
+    {
+        let position = position_of(self.positions.as_slice(), place.actor, self.order.len());
+        if place.tag != self.tag || !stands_at(self.order.as_slice(), position, place) {
+            return false;
+        }
+        if self.inputs.get(position, place.port).is_some() {
+            return true;
+        }
+        if place.port >= 8 {
+            return false;
+        }
+        self.inputs.put(position, place.port, value);
+        true
+    }
+    /// Takes an actor's events of a tag, and returns their values.
+    #[inline(always)]
+    pub fn take(&mut self, tag: Tag, actor: u32) -> Ports
+        ensures inputs { (rank : ℕ → ℕ) (actors steps : ℕ) → EventsArePlaced rank actors steps (current_value self.old) → result ≡ waiting (waits_in rank (current_value self.old)) actor tag }
+        ensures waits { (rank : ℕ → ℕ) (actors steps : ℕ) → EventsArePlaced rank actors steps (current_value self.old) → waits_in rank (current_value self.new) ≡ without (waits_in rank (current_value self.old)) actor tag }
+        ensures sound { (rank : ℕ → ℕ) (actors steps : ℕ) → EventsArePlaced rank actors steps (current_value self.old) → EventsArePlaced rank actors steps (current_value self.new) }
+        ensures len { length result ≡ 8 }
+    {
+        let position = position_of(self.positions.as_slice(), actor, self.order.len());
+        if tag != self.tag {
+            return Ports::new();
+        }
+        if !is_of_actor(self.order.as_slice(), position, actor) {
+            return Ports::new();
+        }
+        self.inputs.take(position)
+    }
+
+    /// Lets a tag run, unless there are events of another one.
+    pub fn begin(&mut self, tag: Tag)
+        ensures { (q : Place) → current_value self.new q ≡ current_value self.old q }
+    {
+        if tag == self.tag || self.inputs.first().is_some() {
+            return;
+        }
+        self.tag = tag;
+    }
+}
+
+/// Whether the actor at a position is that of a place.
+#[inline(always)]
+fn stands_at(order: &[Standing], position: usize, place: Place) -> bool
+    ensures { result ≡ (nat_lt position (length order.now) && is_standing_of place (standing_at order.now position)) }
+{
+    position < order.len()
+        && order[position].rank == place.rank
+        && order[position].actor == place.actor
+}
+
+/// Whether the actor at a position is this one.
+#[inline(always)]
+fn is_of_actor(order: &[Standing], position: usize, actor: u32) -> bool
+    ensures { result ≡ (nat_lt position (length order.now) && (standing_at order.now position).actor == actor) }
+{
+    position < order.len() && order[position].actor == actor
+}
