@@ -27,11 +27,11 @@ use Rattle.pt_turn.specs.declared.fault.TurnFault.{TurnFault}
 use Rattle.pt_turn.specs.declared.room.Room.{Room}
 use Rattle.pt_turn.specs.declared.platform.Platform.TheInside.{Inside}
 use Rattle.pt_turn.specs.Making.{IsRecordedTurn}
-use Rattle.pt_turn.specs.Platforms.{IsPlatform, IsRoomy, platform_graph, messages_of, raised_to, view_of}
+use Rattle.pt_turn.specs.Platforms.{IsPlatform, IsRoomy, PlatformView, platform_graph, messages_of, raised_to, view_of}
 use Rattle.pt_turn.specs.Running.{Ran, ShowsLong}
-use Rattle.pt_turn.specs.Turned.{FaultsIfLast, IsTurned, StaysThere, is_late}
+use Rattle.pt_turn.specs.Turned.{FaultsIfLast, IsEnough, IsTurned, StaysThere, is_late}
 use Rattle.pt_turn.proofs.Onward.{ends_as, late_as, ran_on}
-use Rattle.pt_turn.proofs.Readiness.{basis_of, still_runs}
+use Rattle.pt_turn.proofs.Readiness.{basis_of, both_rooms, still_runs}
 use Rattle.pt_turn.proofs.Turns.{messages_more}
 use Rattle.pt_types.specs.Limits.{most_claims}
 
@@ -66,6 +66,16 @@ is_done p plan room r most dones messages new history lists fault handed now sam
       sent = omega (arith, bound, product, sent, roomy.sent);
       fits = fits;
     }
+
+-- the same where memory was reserved, with the fault by another name
+pub is_done_as : (p : Inside) (v : PlatformView) (plan : Parts) (reading r most : ℕ) (dones : List Done) (messages : List OnLink) (new : Fields) (history : History) (lists : Lists) (fault named : Option TurnFault) (handed now : List Task) → view_of p ≡ v → IsPlatform p → MatchOption v.room ⊥ (IsEnough reading (length dones) (length messages) most) → fault ≡ named → plan ≡ arc_value p.plan
+    → IsRecordedTurn plan (record { level = level_of plan.ranks; platform = p.number; taken = messages_of p.history.turns }) r most dones messages p.fields new p.history.turns history.turns handed now fault
+    → IsSound plan.graph new → AreSensors plan.graph new.sensors.items → ((a : ℕ) → rows_at_sensors new.sensors.items a ≡ rows_at_sensors p.fields.sensors.items a) → new.reading ≡ Some r → new.claims ≤ most_claims → AreEmpty lists
+    → length new.outbox.items ≤ length p.fields.outbox.items + length dones * length plan.graph.links + length plan.graph.links → history.room.sent ≡ p.history.room.sent → r < 2 ^ 64 → IsDone p r most dones messages new history lists named handed now
+is_done_as p v plan reading r most dones messages new history lists fault named handed now view is room name same kept sound sensors all_rows read claims empty outbox sent fits =
+    let both : (room : Room) × IsRoomy p room × IsEnough reading (length dones) (length messages) most room = both_rooms p p.room (IsEnough reading (length dones) (length messages) most) is.room (subst (λ (w : PlatformView). MatchOption w.room ⊥ (IsEnough reading (length dones) (length messages) most)) (sym view) room) in
+    subst (λ (f : Option TurnFault). IsDone p r most dones messages new history lists f handed now) name
+    (is_done p plan both.0 r most dones messages new history lists fault handed now same both.1 both.2.done kept sound sensors all_rows read claims empty outbox sent fits)
 
 abbrev pub after : Inside → Fields → History → Lists → Option TurnFault → Option ℕ → Inside
 after p fields history lists fault next = record { plan = p.plan; number = p.number; closing = p.closing; fields = fields; history = history; lists = lists; fault = fault; room = None; next = next }

@@ -53,9 +53,9 @@ pub record HistoryIsWider (old new : History) : Type 0 where
   pub claimed : old.room.claimed ≤ new.room.claimed
   pub sent : old.room.sent ≤ new.room.sent
 
--- 0 for 0, else 2 n + 64, but at most the greatest 64-bit number
+-- 0 for 0, else 2 n + 256, but at most the greatest 64-bit number
 unfoldable pub more_than : ℕ → ℕ
-more_than n = if n == 0 then 0 else min (2 * n + 64) (2 ^ 64 - 1)
+more_than n = if n == 0 then 0 else min (2 * n + 256) (2 ^ 64 - 1)
 
 -- the room reserved when this much is asked for
 abbrev pub ahead_of : HistoryRoom → HistoryRoom

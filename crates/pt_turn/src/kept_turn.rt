@@ -1,12 +1,15 @@
 //! Recording a turn in the history.
 
-ghost use Rattle.std.specs.Prelude.{◌≡◌, ◌<◌, ◌≤◌, length};
+ghost use Rattle.std.specs.Prelude.{◌≡◌, ◌<◌, ◌≤◌, [], length};
+ghost use Rattle.pt_history.specs.Lists.{on_last};
+ghost use Rattle.pt_history.specs.Turns.{claiming, entering, posting, taking};
 ghost use Rattle.pt_semantics.specs.Kept.{kept_with};
 ghost use Rattle.pt_turn.specs.Steps.{AreEmpty, turn_of};
 ghost use Rattle.pt_turn.specs.Platforms.{raised_to};
 
 use crate::Lists;
 use pt_history::History;
+use pt_types::{Done, OnLink, RowAt, Task};
 
 /// The given reading, or the last one if that is greater, in microseconds.
 pub fn raised_to(last: Option<u64>, reading: u64) -> u64
@@ -19,6 +22,7 @@ pub fn raised_to(last: Option<u64>, reading: u64) -> u64
 }
 
 /// Records a turn at a reading, in microseconds, and empties the lists. Allocates nothing.
+#[inline(always)]
 pub fn keep(history: &mut History, reading: u64, lists: &mut Lists)
     requires turns { 0 < history.old.room.turns }
     requires posted { length lists.old.posted.items ≤ history.old.room.posted }
@@ -30,12 +34,78 @@ pub fn keep(history: &mut History, reading: u64, lists: &mut Lists)
     ensures empty { AreEmpty lists.new }
 {
     history.begin(reading);
-    history.post(lists.posted.as_slice());
-    history.enter(lists.rows.as_slice());
-    history.take(lists.taken.as_slice());
-    history.claim(lists.claimed.as_slice());
-    lists.posted.clear();
-    lists.rows.clear();
-    lists.taken.clear();
-    lists.claimed.clear();
+    keep_posted(history, &mut lists.posted);
+    keep_rows(history, &mut lists.rows);
+    keep_taken(history, &mut lists.taken);
+    keep_claimed(history, &mut lists.claimed);
+}
+
+/// Records results posted in the last turn, and empties their list. Mostly a list is empty, so each is looked at first.
+#[inline(always)]
+fn keep_posted(history: &mut History, posted: &mut Vec<Done>)
+    requires room { length posted.old.items ≤ history.old.room.posted }
+    requires begun { 0 < length history.old.turns }
+    ensures turns { history.new.turns ≡ on_last (posting posted.old.items) history.old.turns }
+    ensures rows { history.new.room.rows ≡ history.old.room.rows }
+    ensures taken { history.new.room.taken ≡ history.old.room.taken }
+    ensures claimed { history.new.room.claimed ≡ history.old.room.claimed }
+    ensures sent { history.new.room.sent ≡ history.old.room.sent }
+    ensures empty { posted.new.items ≡ [] }
+{
+    if posted.as_slice().is_empty() {
+        return;
+    }
+    history.post(posted.as_slice());
+    posted.clear();
+}
+
+/// Records rows entered in the last turn, and empties their list.
+#[inline(always)]
+fn keep_rows(history: &mut History, rows: &mut Vec<RowAt>)
+    requires room { length rows.old.items ≤ history.old.room.rows }
+    requires begun { 0 < length history.old.turns }
+    ensures turns { history.new.turns ≡ on_last (entering rows.old.items) history.old.turns }
+    ensures taken { history.new.room.taken ≡ history.old.room.taken }
+    ensures claimed { history.new.room.claimed ≡ history.old.room.claimed }
+    ensures sent { history.new.room.sent ≡ history.old.room.sent }
+    ensures empty { rows.new.items ≡ [] }
+{
+    if rows.as_slice().is_empty() {
+        return;
+    }
+    history.enter(rows.as_slice());
+    rows.clear();
+}
+
+/// Records messages taken in the last turn, and empties their list.
+#[inline(always)]
+fn keep_taken(history: &mut History, messages: &mut Vec<OnLink>)
+    requires room { length messages.old.items ≤ history.old.room.taken }
+    requires begun { 0 < length history.old.turns }
+    ensures turns { history.new.turns ≡ on_last (taking messages.old.items) history.old.turns }
+    ensures claimed { history.new.room.claimed ≡ history.old.room.claimed }
+    ensures sent { history.new.room.sent ≡ history.old.room.sent }
+    ensures empty { messages.new.items ≡ [] }
+{
+    if messages.as_slice().is_empty() {
+        return;
+    }
+    history.take(messages.as_slice());
+    messages.clear();
+}
+
+/// Records tasks claimed in the last turn, and empties their list.
+#[inline(always)]
+fn keep_claimed(history: &mut History, tasks: &mut Vec<Task>)
+    requires room { length tasks.old.items ≤ history.old.room.claimed }
+    requires begun { 0 < length history.old.turns }
+    ensures turns { history.new.turns ≡ on_last (claiming tasks.old.items) history.old.turns }
+    ensures sent { history.new.room.sent ≡ history.old.room.sent }
+    ensures empty { tasks.new.items ≡ [] }
+{
+    if tasks.as_slice().is_empty() {
+        return;
+    }
+    history.claim(tasks.as_slice());
+    tasks.clear();
 }

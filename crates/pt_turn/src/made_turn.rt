@@ -1,17 +1,20 @@
 //! A turn, run and recorded.
 
-ghost use Rattle.std.specs.Prelude.{◌≡◌, ◌+◌, ◌*◌, ◌≤◌, ◌++◌, ℕ, Some, length};
+ghost use Rattle.std.specs.Prelude.{◌≡◌, ◌+◌, ◌*◌, ◌<◌, ◌≤◌, ◌++◌, ℕ, Some, length};
+ghost use Rattle.pt_semantics.specs.Kept.{kept_with};
 ghost use Rattle.pt_state.specs.State.{rows_at_sensors, IsSound};
 ghost use Rattle.pt_state.specs.Sensors.{AreSensors};
 ghost use Rattle.pt_take.specs.Taken.{Basis};
-ghost use Rattle.pt_turn.specs.Steps.{AreEmpty};
+ghost use Rattle.pt_turn.specs.declared.claim_step.Ending.TheVariants.{Late};
+ghost use Rattle.pt_turn.specs.Faults.{IsFaultOf, SomeIsLate};
+ghost use Rattle.pt_turn.specs.Steps.{AreEmpty, turn_of};
 ghost use Rattle.pt_turn.specs.Making.{CanKeep, IsRecordedTurn, IsReady};
 ghost use Rattle.pt_types.specs.Limits.{most_claims};
 
 use crate::fault::TurnFault;
 use crate::kept_turn::keep;
 use crate::turn_fault::fault_of;
-use crate::{Lists, turn};
+use crate::{Ending, Lists, turn};
 use pt_actors::{Done, Tasks};
 use pt_history::History;
 use pt_offsets::Plan;
@@ -62,8 +65,39 @@ pub fn make(
     let ending = turn(
         fields, plan, number, closing, reading, dones, messages, most, lists,
     );
-    let fault = fault_of(plan, ending, last, lists.taken.as_slice());
     hand_on(tasks, lists.claimed.as_slice());
+    match ending {
+        Ending::On => {
+            keep(history, reading, lists);
+            None
+        }
+        _ => keep_last(plan, ending, last, history, reading, lists),
+    }
+}
+
+/// Records the last turn of a platform, as `keep`, and returns its fault: its ending is not `On`. Not inlined, since it is
+/// called once at most.
+#[inline(never)]
+fn keep_last(
+    plan: &Plan,
+    ending: Ending,
+    last: Option<u64>,
+    history: &mut History,
+    reading: u64,
+    lists: &mut Lists,
+) -> Option<TurnFault>
+    requires late { ending ≡ Late → SomeIsLate plan.now.graph last lists.old.taken.items }
+    requires turns { 0 < history.old.room.turns }
+    requires posted { length lists.old.posted.items ≤ history.old.room.posted }
+    requires rows { length lists.old.rows.items ≤ history.old.room.rows }
+    requires taken { length lists.old.taken.items ≤ history.old.room.taken }
+    requires claimed { length lists.old.claimed.items ≤ history.old.room.claimed }
+    ensures fault { IsFaultOf plan.now.graph last lists.old.taken.items ending result }
+    ensures turns { history.new.turns ≡ kept_with history.old.turns (turn_of reading lists.old) }
+    ensures sent { history.new.room.sent ≡ history.old.room.sent }
+    ensures empty { AreEmpty lists.new }
+{
+    let fault = fault_of(plan, ending, last, lists.taken.as_slice());
     keep(history, reading, lists);
     fault
 }

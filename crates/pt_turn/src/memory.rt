@@ -89,9 +89,9 @@ fn widen<T>(list: &mut Vec<T>, more: usize) -> Result<(), Memory>
     Ok(())
 }
 
-/// Room reserved beyond twice the request, for turns and for list items. So a request for 1 turn gets room for 66, and one
-/// for 64 claims gets room for 192.
-const AHEAD: usize = 64;
+/// Room reserved beyond twice the request, for turns and for list items. So a request for 1 turn gets room for 258, and one
+/// for 64 claims gets room for 384.
+const AHEAD: usize = 256;
 
 /// 0 for 0, else twice the request and `AHEAD` more.
 #[tactic(auto, unfolding(crate::specs::Growing::more_than))]

@@ -45,6 +45,7 @@ pub fn needs_of(plan: &Plan, fields: &Fields, reading: u64, room: Room) -> Optio
 
 impl Platform {
     /// Reserves the memory of the next turn, and of the messages sent after it. An error leaves all unchanged.
+    #[inline(always)]
     pub fn room(&mut self, room: Room) -> Result<(), Memory>
         ensures room { OnOk result (self.new ≡ record self.old { room = Some room }) }
         ensures refused { OnErr result (self.new ≡ self.old) }

@@ -41,7 +41,7 @@ impl Platform {
             return Err(fault);
         }
         let reading = raised_to(self.fields.reading, reading);
-        self.fault = make(
+        let fault = make(
             &mut self.fields,
             &self.plan,
             self.number,
@@ -56,9 +56,12 @@ impl Platform {
         );
         self.room = None;
         self.next = None;
-        match self.fault {
+        match fault {
             None => Ok(()),
-            Some(fault) => Err(fault),
+            Some(fault) => {
+                self.fault = Some(fault);
+                Err(fault)
+            }
         }
     }
 }

@@ -1,8 +1,8 @@
-use Rattle.std.proofs.Common.{ℕ, subst}
+use Rattle.std.proofs.Common.{subst}
 use Rattle.pt_semantics.specs.Paced.{IsNextReading}
 use Rattle.pt_offsets.specs.Plans.{Parts}
 use Rattle.pt_turn.specs.declared.platform.Platform.TheInside.{Inside}
-use Rattle.pt_turn.specs.Platforms.{PlatformView, platform_graph, messages_of, state_at, view_of}
+use Rattle.pt_turn.specs.Platforms.{PlatformView, messages_of, state_at, view_of}
 use Rattle.pt_turn.proofs.Idling.{knows_next}
 use Rattle.pt_turn.proofs.platform.Platform.find_anew.Goals as goal
 

@@ -1,7 +1,6 @@
-use Rattle.std.proofs.Common.{◌≡◌, length, ◌≤◌, ℕ, [], List, Option, Some, None, sym, ap, subst, ◌∙◌, eqb-true, arith}
+use Rattle.std.proofs.Common.{◌≡◌, length, ◌≤◌, ℕ, [], Option, Some, None, sym, ap, subst, ◌∙◌, eqb-true, arith}
 use Rattle.pt_semantics.specs.Kept.{kept_with}
 use Rattle.pt_semantics.specs.Paced.{IsNextReading}
-use Rattle.pt_semantics.specs.Turn.{Turn}
 use Rattle.pt_history.specs.Turns.{fresh}
 use Rattle.pt_turn.specs.declared.fault.TurnFault.{TurnFault}
 use Rattle.pt_turn.specs.declared.platform.Platform.TheInside.{Inside}

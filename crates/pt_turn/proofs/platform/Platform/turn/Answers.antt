@@ -1,20 +1,21 @@
-use Rattle.std.proofs.Common.{◌≡◌, ◌≤◌, ◌++◌, None, length, sym, subst}
+use Rattle.std.proofs.Common.{◌≡◌, ◌≤◌, ◌++◌, Option, Some, None, length, sym, subst}
 use Rattle.std.specs.Prelude.{MatchOption}
 use Rattle.std.specs.Arc.{arc_value}
 use Rattle.pt_causality.specs.Ranked.{level_of}
 use Rattle.pt_offsets.specs.Plans.{Parts}
 use Rattle.pt_post.specs.Posted.{AreDone}
+use Rattle.pt_turn.specs.declared.fault.TurnFault.{TurnFault}
 use Rattle.pt_turn.specs.declared.room.Room.{Room}
 use Rattle.pt_turn.specs.declared.platform.Platform.TheInside.{Inside}
 use Rattle.pt_turn.specs.Making.{CanKeep, IsReady}
-use Rattle.pt_turn.specs.Platforms.{IsRoomy, PlatformView, platform_graph, level_at, messages_of, state_at, view_of}
+use Rattle.pt_turn.specs.Platforms.{IsPlatform, IsRoomy, PlatformView, platform_graph, level_at, messages_of, state_at, view_of}
 use Rattle.pt_turn.specs.Turned.{IsEnough, IsTurned, MayCome, StaysThere}
-use Rattle.pt_turn.proofs.Again.{IsDone, after, is_again, is_done, is_turned}
+use Rattle.pt_turn.proofs.Again.{IsDone, after, is_again, is_done_as, is_turned}
 use Rattle.pt_turn.proofs.Readiness.{basis_of, both_rooms, can_keep, is_ready}
 use Rattle.pt_turn.proofs.platform.Platform.turn.Goals as goal
 
-pub make-self-inside-requires : goal.make-self-inside-requires
-make-self-inside-requires c =
+pub make-fault-requires : goal.make-fault-requires
+make-fault-requires c =
     let p : Inside = c.self.inside in
     let room : (r : Room) × IsRoomy p r × IsEnough c.args.reading (length c.args.done.now) (length c.args.taken.now) c.args.most r = both_rooms p p.room (IsEnough c.args.reading (length c.args.done.now) (length c.args.taken.now) c.args.most) c.self.invariant.room
     (subst (λ (v : PlatformView). MatchOption v.room ⊥ (IsEnough c.args.reading (length c.args.done.now) (length c.args.taken.now) c.args.most)) (sym c.self.view_is) c.requires.room) in
@@ -27,23 +28,39 @@ make-self-inside-requires c =
 pub invariant_of-self : goal.invariant_of-self
 invariant_of-self c =
     let p : Inside = c.self.inside in
-    let m = c.make-self-inside.ensures in
-    let room : (r : Room) × IsRoomy p r × IsEnough c.args.reading (length c.args.done.now) (length c.args.taken.now) c.args.most r = both_rooms p p.room (IsEnough c.args.reading (length c.args.done.now) (length c.args.taken.now) c.args.most) c.self.invariant.room
-    (subst (λ (v : PlatformView). MatchOption v.room ⊥ (IsEnough c.args.reading (length c.args.done.now) (length c.args.taken.now) c.args.most)) (sym c.self.view_is) c.requires.room) in
-    let done : IsDone p c.raised_to-reading.result c.args.most c.args.done.now c.args.taken.now c.make-self-inside.new.fields c.make-self-inside.new.history c.make-self-inside.new.lists c.make-self-inside.result c.args.tasks.now.tasks c.make-self-inside.new.tasks.tasks =
-    is_done p c.deref.result.now room.0 c.raised_to-reading.result c.args.most c.args.done.now c.args.taken.now c.make-self-inside.new.fields c.make-self-inside.new.history c.make-self-inside.new.lists c.make-self-inside.result c.args.tasks.now.tasks c.make-self-inside.new.tasks.tasks c.deref.ensures room.1 room.2.done
+    let m = c.make-fault.ensures in
+    let done : IsDone p c.raised_to-reading.result c.args.most c.args.done.now c.args.taken.now c.make-fault.new.fields c.make-fault.new.history c.make-fault.new.lists None c.args.tasks.now.tasks c.make-fault.new.tasks.tasks =
+    is_done_as p c.args.self.now c.deref.result.now c.args.reading c.raised_to-reading.result c.args.most c.args.done.now c.args.taken.now c.make-fault.new.fields c.make-fault.new.history c.make-fault.new.lists c.make-fault.result None c.args.tasks.now.tasks c.make-fault.new.tasks.tasks c.self.view_is c.self.invariant c.requires.room c.in-None.is c.deref.ensures
     m.kept m.sound m.sensors m.all_rows m.reading m.claims m.empty m.outbox m.sent c.raised_to-reading.type_inv in
-    is_again p c.raised_to-reading.result c.args.most c.args.done.now c.args.taken.now c.make-self-inside.new.fields c.make-self-inside.new.history c.make-self-inside.new.lists c.make-self-inside.result None c.args.tasks.now.tasks c.make-self-inside.new.tasks.tasks c.self.invariant c.in_default.is done tt
+    subst (λ (fault : Option TurnFault). IsPlatform (after p c.make-fault.new.fields c.make-fault.new.history c.make-fault.new.lists fault None)) (sym c.in_default.is) (is_again p c.raised_to-reading.result c.args.most c.args.done.now c.args.taken.now c.make-fault.new.fields c.make-fault.new.history c.make-fault.new.lists None None c.args.tasks.now.tasks c.make-fault.new.tasks.tasks c.self.invariant c.in_default.is done tt)
 
-pub returns-clause-turned : goal.returns-clause-turned
-returns-clause-turned c =
+pub returns-in-None-clause-turned : goal.returns-in-None-clause-turned
+returns-in-None-clause-turned c =
     let p : Inside = c.self.inside in
-    let m = c.make-self-inside.ensures in
-    let room : (r : Room) × IsRoomy p r × IsEnough c.args.reading (length c.args.done.now) (length c.args.taken.now) c.args.most r = both_rooms p p.room (IsEnough c.args.reading (length c.args.done.now) (length c.args.taken.now) c.args.most) c.self.invariant.room
-    (subst (λ (v : PlatformView). MatchOption v.room ⊥ (IsEnough c.args.reading (length c.args.done.now) (length c.args.taken.now) c.args.most)) (sym c.self.view_is) c.requires.room) in
-    let done : IsDone p c.raised_to-reading.result c.args.most c.args.done.now c.args.taken.now c.make-self-inside.new.fields c.make-self-inside.new.history c.make-self-inside.new.lists c.make-self-inside.result c.args.tasks.now.tasks c.make-self-inside.new.tasks.tasks =
-    is_done p c.deref.result.now room.0 c.raised_to-reading.result c.args.most c.args.done.now c.args.taken.now c.make-self-inside.new.fields c.make-self-inside.new.history c.make-self-inside.new.lists c.make-self-inside.result c.args.tasks.now.tasks c.make-self-inside.new.tasks.tasks c.deref.ensures room.1 room.2.done
+    let m = c.make-fault.ensures in
+    let done : IsDone p c.raised_to-reading.result c.args.most c.args.done.now c.args.taken.now c.make-fault.new.fields c.make-fault.new.history c.make-fault.new.lists None c.args.tasks.now.tasks c.make-fault.new.tasks.tasks =
+    is_done_as p c.args.self.now c.deref.result.now c.args.reading c.raised_to-reading.result c.args.most c.args.done.now c.args.taken.now c.make-fault.new.fields c.make-fault.new.history c.make-fault.new.lists c.make-fault.result None c.args.tasks.now.tasks c.make-fault.new.tasks.tasks c.self.view_is c.self.invariant c.requires.room c.in-None.is c.deref.ensures
     m.kept m.sound m.sensors m.all_rows m.reading m.claims m.empty m.outbox m.sent c.raised_to-reading.type_inv in
-    let new : PlatformView = view_of (after p c.make-self-inside.new.fields c.make-self-inside.new.history c.make-self-inside.new.lists c.make-self-inside.result None) in
-    λ none. subst (λ (v : PlatformView). (made : IsTurned v new c.args.reading c.args.most c.args.done.now c.args.taken.now) × (c.make-self-inside.new.tasks.tasks ≡ c.args.tasks.now.tasks ++ made.turn.claimed) × StaysThere v new) c.self.view_is
-    (is_turned p c.raised_to-reading.result c.args.reading c.args.most c.args.done.now c.args.taken.now c.make-self-inside.new.fields c.make-self-inside.new.history c.make-self-inside.new.lists c.make-self-inside.result c.args.tasks.now.tasks c.make-self-inside.new.tasks.tasks c.raised_to-reading.ensures done)
+    λ none. subst (λ (fault : Option TurnFault). (made : IsTurned c.args.self.now (view_of (after p c.make-fault.new.fields c.make-fault.new.history c.make-fault.new.lists fault None)) c.args.reading c.args.most c.args.done.now c.args.taken.now) × (c.make-fault.new.tasks.tasks ≡ c.args.tasks.now.tasks ++ made.turn.claimed) × StaysThere c.args.self.now (view_of (after p c.make-fault.new.fields c.make-fault.new.history c.make-fault.new.lists fault None))) (sym c.in_default.is)
+    (subst (λ (v : PlatformView). (made : IsTurned v (view_of (after p c.make-fault.new.fields c.make-fault.new.history c.make-fault.new.lists None None)) c.args.reading c.args.most c.args.done.now c.args.taken.now) × (c.make-fault.new.tasks.tasks ≡ c.args.tasks.now.tasks ++ made.turn.claimed) × StaysThere v (view_of (after p c.make-fault.new.fields c.make-fault.new.history c.make-fault.new.lists None None))) c.self.view_is
+    (is_turned p c.raised_to-reading.result c.args.reading c.args.most c.args.done.now c.args.taken.now c.make-fault.new.fields c.make-fault.new.history c.make-fault.new.lists None c.args.tasks.now.tasks c.make-fault.new.tasks.tasks c.raised_to-reading.ensures done))
+
+pub invariant_of-self-in-Some-fault : goal.invariant_of-self-in-Some-fault
+invariant_of-self-in-Some-fault c =
+    let p : Inside = c.self.inside in
+    let m = c.make-fault.ensures in
+    let done : IsDone p c.raised_to-reading.result c.args.most c.args.done.now c.args.taken.now c.make-fault.new.fields c.make-fault.new.history c.make-fault.new.lists (Some c.in-Some-fault.fault) c.args.tasks.now.tasks c.make-fault.new.tasks.tasks =
+    is_done_as p c.args.self.now c.deref.result.now c.args.reading c.raised_to-reading.result c.args.most c.args.done.now c.args.taken.now c.make-fault.new.fields c.make-fault.new.history c.make-fault.new.lists c.make-fault.result (Some c.in-Some-fault.fault) c.args.tasks.now.tasks c.make-fault.new.tasks.tasks c.self.view_is c.self.invariant c.requires.room c.in-Some-fault.is c.deref.ensures
+    m.kept m.sound m.sensors m.all_rows m.reading m.claims m.empty m.outbox m.sent c.raised_to-reading.type_inv in
+    is_again p c.raised_to-reading.result c.args.most c.args.done.now c.args.taken.now c.make-fault.new.fields c.make-fault.new.history c.make-fault.new.lists (Some c.in-Some-fault.fault) None c.args.tasks.now.tasks c.make-fault.new.tasks.tasks c.self.invariant c.in_default.is done tt
+
+pub returns-in-Some-fault-clause-turned : goal.returns-in-Some-fault-clause-turned
+returns-in-Some-fault-clause-turned c =
+    let p : Inside = c.self.inside in
+    let m = c.make-fault.ensures in
+    let done : IsDone p c.raised_to-reading.result c.args.most c.args.done.now c.args.taken.now c.make-fault.new.fields c.make-fault.new.history c.make-fault.new.lists (Some c.in-Some-fault.fault) c.args.tasks.now.tasks c.make-fault.new.tasks.tasks =
+    is_done_as p c.args.self.now c.deref.result.now c.args.reading c.raised_to-reading.result c.args.most c.args.done.now c.args.taken.now c.make-fault.new.fields c.make-fault.new.history c.make-fault.new.lists c.make-fault.result (Some c.in-Some-fault.fault) c.args.tasks.now.tasks c.make-fault.new.tasks.tasks c.self.view_is c.self.invariant c.requires.room c.in-Some-fault.is c.deref.ensures
+    m.kept m.sound m.sensors m.all_rows m.reading m.claims m.empty m.outbox m.sent c.raised_to-reading.type_inv in
+    λ none.
+    (subst (λ (v : PlatformView). (made : IsTurned v (view_of (after p c.make-fault.new.fields c.make-fault.new.history c.make-fault.new.lists (Some c.in-Some-fault.fault) None)) c.args.reading c.args.most c.args.done.now c.args.taken.now) × (c.make-fault.new.tasks.tasks ≡ c.args.tasks.now.tasks ++ made.turn.claimed) × StaysThere v (view_of (after p c.make-fault.new.fields c.make-fault.new.history c.make-fault.new.lists (Some c.in-Some-fault.fault) None))) c.self.view_is
+    (is_turned p c.raised_to-reading.result c.args.reading c.args.most c.args.done.now c.args.taken.now c.make-fault.new.fields c.make-fault.new.history c.make-fault.new.lists (Some c.in-Some-fault.fault) c.args.tasks.now.tasks c.make-fault.new.tasks.tasks c.raised_to-reading.ensures done))
