@@ -1,6 +1,6 @@
 //! Firing the claimed tasks.
 
-ghost use Rattle.std.specs.Prelude.{◌≡◌, OnOk, map};
+ghost use Rattle.std.specs.Prelude.{◌≡◌, [], OnOk, map};
 ghost use Rattle.pt_types.specs.declared.firing.Done.{Done as Finished};
 ghost use Rattle.pt_types.specs.Lawful.{IsLawful};
 ghost use Rattle.pt_types.specs.Lookups.{kind_of};
@@ -40,7 +40,9 @@ fn fire_next(
     }
 }
 
-/// Fires these tasks in order, and replaces `results` by their results.
+/// Fires these tasks in order, and replaces `results` by their results. Many turns claim nothing, so the caller looks for
+/// tasks first.
+#[inline(always)]
 pub fn fire_all(
     blocks: &Blocks,
     graph: &Graph,
@@ -52,6 +54,25 @@ pub fn fire_all(
     ensures done { OnOk result (AreDone graph.now results.new.items) }
 {
     results.clear();
+    if tasks.is_empty() {
+        return Ok(());
+    }
+    fire_each(blocks, graph, tasks, results)
+}
+
+/// Fires these tasks in order, and appends their results to the empty list `results`.
+#[inline(never)]
+fn fire_each(
+    blocks: &Blocks,
+    graph: &Graph,
+    tasks: &[Task],
+    results: &mut Vec<Done>,
+) -> Result<(), Memory>
+    requires lawful { IsLawful graph.now }
+    requires none { results.old.items ≡ [] }
+    ensures tasks { OnOk result (map (λ (d : Finished). d.task) results.new.items ≡ tasks.now) }
+    ensures done { OnOk result (AreDone graph.now results.new.items) }
+{
     for task in tasks {
         fire_next(blocks, graph, task, results)?;
     }

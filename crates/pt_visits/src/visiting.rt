@@ -46,6 +46,7 @@ fn rests(
 ///
 /// No further visit may follow if the platform then has a `fault`, or if memory ran out: messages already taken are lost
 /// then.
+#[inline(always)]
 pub fn visit(
     platform: &mut Platform,
     pipes: &mut [Pipe],
@@ -64,13 +65,13 @@ pub fn visit(
     ensures visited { OnOk result (IsVisited most reading results.old.items results.new.items platform.old platform.new pipes.old pipes.new) }
 {
     desk.taken.clear();
-    desk.tasks.clear();
     let graph = platform.plan().graph();
     take_all(graph, platform.number(), pipes, &mut desk.taken)?;
     let rested = rests(platform, results.as_slice(), desk.taken.as_slice(), reading)?;
     if rested {
         return Ok(());
     }
+    desk.tasks.clear();
     desk.tasks.reserve(most)?;
     platform.room(Room {
         reading,
