@@ -35,9 +35,13 @@ fn missed_at(
     requires { number < length history.now.turns }
     ensures { OnOk result (option_map (λ turn. misses.old.items ++ missed_at graph.now turn) (slice_get history.now.turns number) ≡ Some misses.new.items) }
 {
+    let (posted, sent) = (history.posted(number), history.sent(number));
+    if posted == 0 && sent.is_empty() {
+        return Ok(());
+    }
     let reading = history.last(number);
     missed_results(graph, reading, history, number, misses)?;
-    missed_messages(graph, reading, history.sent(number), misses)
+    missed_messages(graph, reading, sent, misses)
 }
 
 /// Appends the misses among the results that a recorded turn posted at a reading.
