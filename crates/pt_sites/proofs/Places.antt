@@ -1,20 +1,29 @@
 -- Tasks are placed one after another.
-use Rattle.std.proofs.Common.{◌≡◌, ℕ, ◌+◌, List, [], ◌∷◌, ◌++◌, None, Some, refl, sym, ap, subst, ◌∙◌, ⊎_elim, inl, inr, arith, append-nil, append_assoc}
+use Rattle.std.proofs.Common.{◌≡◌, ℕ, zero, suc, ◌+◌, List, [], ◌∷◌, ◌++◌, None, Some, length, take, refl, sym, ap, subst, ◌∙◌, ⊎_elim, inl, inr, arith, append-nil, append_assoc}
 use Rattle.std.specs.Prelude.{slice_get}
 use Rattle.std.proofs.lemmas.Bool.{cases_eq}
+use Rattle.std.proofs.lemmas.List.{length-append}
 use Rattle.pt_types.specs.declared.firing.Task.{Task}
-use Rattle.pt_semantics.specs.Lists.{IsIn}
+use Rattle.pt_semantics.specs.Lists.{Each}
 use Rattle.pt_board.specs.Keepers.{HasPlaced, IsAllOut, KeeperView, out_at}
 use Rattle.pt_pool.proofs.Lanes.{same_some}
 use Rattle.pt_sites.specs.Sites.{HavePlaced, IsOut}
 
-in_front : (task : Task) (xs ys : List Task) → IsIn task xs → IsIn task (xs ++ ys)
-in_front task [] ys h = absurd h
-in_front task (x ∷ xs) ys h = ⊎_elim (λ (e : task ≡ x). inl e) (λ (r : IsIn task xs). inr (in_front task xs ys r)) h
+each_push : {X : Type 0} (P : X → Type 0) (xs : List X) (x : X) → Each P xs → P x → Each P (xs ++ x ∷ [])
+each_push P [] x h p = (p, tt)
+each_push P (y ∷ ys) x h p = (h.0, each_push P ys x h.1 p)
 
-in_last : (task : Task) (xs : List Task) → IsIn task (xs ++ task ∷ [])
-in_last task [] = inl refl
-in_last task (x ∷ xs) = inr (in_last task xs)
+each_map : {X : Type 0} (P Q : X → Type 0) (xs : List X) → ((x : X) → P x → Q x) → Each P xs → Each Q xs
+each_map P Q [] f h = tt
+each_map P Q (x ∷ xs) f h = (f x h.0, each_map P Q xs f h.1)
+
+taken_next : (tasks : List Task) (k : ℕ) (task : Task) → slice_get tasks k ≡ Some task → take (suc k) tasks ≡ take k tasks ++ task ∷ []
+taken_next [] k task at = absurd (never at)
+  where
+    never : slice_get [] k ≡ Some task → ⊥
+    never e = cc
+taken_next (t ∷ ts) zero task at = ap (λ (z : Task). z ∷ []) (same_some t task at)
+taken_next (t ∷ ts) (suc k) task at = ap (λ (z : List Task). t ∷ z) (taken_next ts k task at)
 
 -- what was out is still out
 pub out_stays : (old new : KeeperView) (task : Task) → HasPlaced old new task → (i : ℕ) (x : ℕ × Task) → out_at i old.knows ≡ Some x → out_at i new.knows ≡ Some x
@@ -26,11 +35,13 @@ out_stays old new task h i x at = ⊎_elim
     never : None ≡ Some x → ⊥
     never e = cc
 
-pub placed_none : (tasks : List Task) (v : KeeperView) (handed : List Task) → HavePlaced tasks 0 v v handed handed
-placed_none tasks v handed = record {
+pub placed_none : (v : KeeperView) (handed : List Task) → HavePlaced [] v v handed handed
+placed_none v handed = record {
+  out = [];
   left = [];
+  parted = refl;
+  placed = tt;
   added = sym (append-nil handed);
-  each = λ i task lt at. absurd (omega (arith, lt));
   full = inl refl;
   stays = λ i x at. at;
   next = omega arith;
@@ -38,34 +49,47 @@ placed_none tasks v handed = record {
   table = refl;
 }
 
-module _ (tasks : List Task) (k : ℕ) (old mid : KeeperView) (handed now : List Task) (h : HavePlaced tasks k old mid handed now) (task : Task) (here : slice_get tasks k ≡ Some task) where
-  pub placed_one : (new : KeeperView) → HasPlaced mid new task → HavePlaced tasks (k + 1) old new handed now
+module _ (tasks : List Task) (k : ℕ) (old mid : KeeperView) (handed now : List Task) (h : HavePlaced (take k tasks) old mid handed now) (task : Task) (here : slice_get tasks k ≡ Some task) where
+  one_more : take (k + 1) tasks ≡ (h.out ++ h.left) ++ task ∷ []
+  one_more =
+      let one : k + 1 ≡ suc k = omega arith in
+      ap (λ (n : ℕ). take n tasks) one ∙ taken_next tasks k task here ∙ ap (λ (z : List Task). z ++ task ∷ []) h.parted
+
+  pub placed_one : (new : KeeperView) → HasPlaced mid new task → HavePlaced (take (k + 1) tasks) old new handed now
   placed_one new p =
-      let keeps : (i : ℕ) (x : ℕ × Task) → out_at i mid.knows ≡ Some x → out_at i new.knows ≡ Some x = out_stays mid new task p in record {
+      let keeps : (i : ℕ) (x : ℕ × Task) → out_at i mid.knows ≡ Some x → out_at i new.knows ≡ Some x = out_stays mid new task p in
+      let none : h.left ≡ [] = ⊎_elim (λ (e : h.left ≡ []). e) (λ (all : IsAllOut mid). absurd (all p.slot p.low p.free)) h.full in
+      record {
+        out = h.out ++ task ∷ [];
         left = h.left;
+        parted = one_more
+            ∙ ap (λ (z : List Task). (h.out ++ z) ++ task ∷ []) none
+            ∙ ap (λ (z : List Task). z ++ task ∷ []) (append-nil h.out)
+            ∙ sym (append-nil (h.out ++ task ∷ []))
+            ∙ ap (λ (z : List Task). (h.out ++ task ∷ []) ++ z) (sym none);
+        placed = each_push (IsOut new) h.out task
+            (each_map (IsOut mid) (IsOut new) h.out (λ (t : Task) (o : IsOut mid t). (o.0, o.1, o.2, keeps o.0 (o.1, t) o.3)) h.placed)
+            (p.slot, mid.next, p.low, p.out);
         added = h.added;
-        each = λ i t lt at. ⊎_elim
-            (λ (q : i ≡ k). let same : task ≡ t = same_some task t (sym here ∙ ap (slice_get tasks) (sym q) ∙ at) in inl (p.slot, mid.next, p.low, p.out ∙ ap (λ (z : Task). Some (mid.next, z)) same))
-            (λ (ne : i ≡ k → ⊥). ⊎_elim (λ (o : IsOut mid t). inl (o.0, o.1, o.2, keeps o.0 (o.1, t) o.3)) (λ (l : IsIn t h.left). inr l) (h.each i t (omega (arith, lt, ne)) at))
-            (cases_eq i k);
-        full = ⊎_elim (λ (e : h.left ≡ []). inl e) (λ (all : IsAllOut mid). absurd (all p.slot p.low p.free)) h.full;
+        full = inl none;
         stays = λ i x at. keeps i x (h.stays i x at);
-        next = omega (arith, h.next, p.next);
+        next =
+            let more : length (h.out ++ task ∷ []) ≡ length h.out + 1 = length-append h.out (task ∷ []) in
+            omega (arith, h.next, p.next, more);
         graph = p.graph ∙ h.graph;
         table = p.table ∙ h.table;
       }
 
-  pub placed_left : (new : KeeperView) (after : List Task) → new ≡ mid → IsAllOut mid → after ≡ now ++ task ∷ [] → HavePlaced tasks (k + 1) old new handed after
-  placed_left new after same all is = subst (λ (v : KeeperView). HavePlaced tasks (k + 1) old v handed after) (sym same) (record {
+  pub placed_left : (new : KeeperView) (after : List Task) → new ≡ mid → IsAllOut mid → after ≡ now ++ task ∷ [] → HavePlaced (take (k + 1) tasks) old new handed after
+  placed_left new after same all is = subst (λ (v : KeeperView). HavePlaced (take (k + 1) tasks) old v handed after) (sym same) (record {
+    out = h.out;
     left = h.left ++ task ∷ [];
+    parted = one_more ∙ append_assoc h.out h.left (task ∷ []);
+    placed = h.placed;
     added = is ∙ ap (λ (z : List Task). z ++ task ∷ []) h.added ∙ append_assoc handed h.left (task ∷ []);
-    each = λ i t lt at. ⊎_elim
-        (λ (q : i ≡ k). let same : task ≡ t = same_some task t (sym here ∙ ap (slice_get tasks) (sym q) ∙ at) in inr (subst (λ (z : Task). IsIn z (h.left ++ task ∷ [])) same (in_last task h.left)))
-        (λ (ne : i ≡ k → ⊥). ⊎_elim (λ (o : IsOut mid t). inl o) (λ (l : IsIn t h.left). inr (in_front t h.left (task ∷ []) l)) (h.each i t (omega (arith, lt, ne)) at))
-        (cases_eq i k);
     full = inr all;
     stays = h.stays;
-    next = omega (arith, h.next);
+    next = h.next;
     graph = h.graph;
     table = h.table;
   })

@@ -1,5 +1,6 @@
 -- After a visit a site still belongs to its run.
 use Rattle.std.proofs.Common.{◌≡◌, ℕ, ◌+◌, ◌≤◌, ◌^◌, List, [], ◌++◌, Option, length, refl, sym, ap, subst, ◌∙◌, ⊎_elim, arith}
+use Rattle.std.proofs.lemmas.List.{length-append}
 use Rattle.std.specs.Prelude.{Result, Ok, Err}
 use Rattle.atomic_table.specs.Seated.{TableId}
 use Rattle.pt_types.specs.declared.graph.Graph.{Graph}
@@ -61,7 +62,7 @@ answer_counts (Err Memory) most dones old new cleared claimed ne none a = absurd
 
 -- a visit with an answer, from what was done
 pub site_visited : (result : Result (Unit {0}) VisitFault) (most : ℕ) (g : Graph) (old new : StationView) (was mid now : KeeperView) (kept waits collected dones : List Done) (handed left cleared claimed tasks : List Task)
-    → HaveCollected was mid collected → AreDone g collected → dones ≡ kept ++ collected → cleared ≡ [] → AnswersVisit result most dones old new cleared claimed → tasks ≡ claimed → HavePlaced tasks (length tasks) mid now handed left → waits ≡ [] → SiteVisited result most g old new was now kept waits handed left
+    → HaveCollected was mid collected → AreDone g collected → dones ≡ kept ++ collected → cleared ≡ [] → AnswersVisit result most dones old new cleared claimed → tasks ≡ claimed → HavePlaced tasks mid now handed left → waits ≡ [] → SiteVisited result most g old new was now kept waits handed left
 site_visited result most g old new was mid now kept waits collected dones handed left cleared claimed tasks got done is none answer same placed nothing = record {
   collected = collected;
   mid = mid;
@@ -69,7 +70,7 @@ site_visited result most g old new was mid now kept waits collected dones handed
   done = done;
   claimed = claimed;
   visited = subst (λ (ds : List Done). AnswersVisit result most ds old new [] claimed) is (subst (λ (z : List Task). AnswersVisit result most dones old new z claimed) none answer);
-  placed = subst (λ (z : List Task). HavePlaced z (length z) mid now handed left) same placed;
+  placed = subst (λ (z : List Task). HavePlaced z mid now handed left) same placed;
   none = nothing;
 }
 
@@ -80,14 +81,15 @@ module _ (plan : Option Parts) (table : ℕ → TableId) (board : BoardView) (mo
       let s = have_same was h.mid h.collected h.got in
       let tables : now.table ≡ was.table = h.placed.table ∙ s.table in
       let next : h.mid.next ≡ was.next = s.next in
-      let few : now.next ≤ h.mid.next + length h.claimed = h.placed.next in
+      let out : now.next ≡ h.mid.next + length h.placed.out = h.placed.next in
+      let parts : length h.claimed ≡ length h.placed.out + length h.placed.left = ap length h.placed.parted ∙ length-append h.placed.out h.placed.left in
       let before : was.next ≤ old.platform.claims = site.few in
       let claims : new.platform.claims ≡ length h.claimed + old.platform.claims = c.claims in
       record {
         of_board = tables ∙ site.of_board;
         named = tables ∙ site.named ∙ ap table (sym c.number);
         graph = h.placed.graph ∙ s.graph ∙ site.graph;
-        few = omega (arith, next, few, before, claims);
+        few = omega (arith, next, out, parts, before, claims);
         done = subst (AreDone (plan_graph plan)) (sym h.none) tt;
       }
 

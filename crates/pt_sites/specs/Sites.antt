@@ -1,10 +1,10 @@
 -- What always holds of a site, and what a visit does.
-use Rattle.std.specs.Prelude.{◌≡◌, ◌<◌, ◌≤◌, ◌++◌, ◌⊎◌, [], ◌∷◌, ℕ, ◌+◌, List, Option, Some, Result, Ok, Err, length, slice_get}
+use Rattle.std.specs.Prelude.{◌≡◌, ◌<◌, ◌≤◌, ◌++◌, ◌⊎◌, [], ◌∷◌, ℕ, ◌+◌, List, Option, Some, Result, Ok, Err, length}
 use Rattle.atomic_table.specs.Seated.{TableId}
 use Rattle.pt_types.specs.declared.graph.Graph.{Graph}
 use Rattle.pt_types.specs.declared.firing.Done.{Done}
 use Rattle.pt_types.specs.declared.firing.Task.{Task}
-use Rattle.pt_semantics.specs.Lists.{IsIn}
+use Rattle.pt_semantics.specs.Lists.{Each}
 use Rattle.pt_offsets.specs.Plans.{Parts}
 use Rattle.pt_post.specs.Posted.{AreDone}
 use Rattle.pt_board.specs.Keepers.{BoardView, HasCollected, IsAllOut, KeeperView, SawNoneDone, out_at}
@@ -43,14 +43,16 @@ pub record HaveCollected (old new : KeeperView) (results : List Done) : Type 0 w
 abbrev pub IsOut : KeeperView → Task → Type 0
 IsOut v task = (slot number : ℕ) × (slot < 32) × (out_at slot v.knows ≡ Some (number, task))
 
--- of the first k of these tasks each is out, or was left; tasks were left only where each slot is out
-pub record HavePlaced (tasks : List Task) (k : ℕ) (old new : KeeperView) (handed now : List Task) : Type 0 where
+-- the first of these tasks, in order, are each out in a slot, and the others were left; tasks were left only where each slot is out
+pub record HavePlaced (tasks : List Task) (old new : KeeperView) (handed now : List Task) : Type 0 where
+  pub out : List Task
   pub left : List Task
+  pub parted : tasks ≡ out ++ left
+  pub placed : Each (IsOut new) out
   pub added : now ≡ handed ++ left
-  pub each : (i : ℕ) (task : Task) → i < k → slice_get tasks i ≡ Some task → IsOut new task ⊎ IsIn task left
   pub full : (left ≡ []) ⊎ IsAllOut new
   pub stays : (i : ℕ) (x : ℕ × Task) → out_at i old.knows ≡ Some x → out_at i new.knows ≡ Some x
-  pub next : new.next ≤ old.next + k
+  pub next : new.next ≡ old.next + length out
   pub graph : new.knows.graph ≡ old.knows.graph
   pub table : new.table ≡ old.table
 
@@ -63,7 +65,7 @@ pub record SiteVisited (result : Result (Unit {0}) VisitFault) (most : ℕ) (g :
   pub done : AreDone g collected
   pub claimed : List Task
   pub visited : AnswersVisit result most (kept ++ collected) old new [] claimed
-  pub placed : HavePlaced claimed (length claimed) mid now handed left
+  pub placed : HavePlaced claimed mid now handed left
   pub none : waits ≡ []
 
 -- memory ran out: the station's visit was refused, and what was collected waits

@@ -12,7 +12,7 @@ pub(crate) fn place_all(board: &Board, keeper: &mut Keeper, tasks: &[Task], left
     requires table { keeper.old.table ≡ board.now.table }
     requires numbers { keeper.old.next + length tasks.now ≤ 2 ^ 62 }
     requires room { length tasks.now ≤ left.old.spare }
-    ensures { HavePlaced tasks.now (length tasks.now) keeper.old keeper.new left.old.tasks left.new.tasks }
+    ensures { HavePlaced tasks.now keeper.old keeper.new left.old.tasks left.new.tasks }
 {
     for k in 0..tasks.len() {
         if let Err(task) = board.place(keeper, tasks[k]) {

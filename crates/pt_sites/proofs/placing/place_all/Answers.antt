@@ -1,12 +1,19 @@
-use Rattle.std.proofs.Common.{◌≡◌, ◌+◌, ◌∷◌, ◌++◌, [], Some, sym, ap, subst, ◌∙◌, arith}
+use Rattle.std.proofs.Common.{◌≡◌, ◌+◌, ◌∷◌, ◌++◌, [], List, Some, length, take, sym, ap, subst, ◌∙◌, arith}
 use Rattle.std.specs.Prelude.{slice_get}
+use Rattle.std.proofs.Math.Seq.{take-length}
 use Rattle.std.proofs.lemmas.Option.{slice_get-get_or}
 use Rattle.pt_types.specs.declared.firing.Task.{Task}
 use Rattle.pt_actors.specs.Room.{Roomy}
 use Rattle.pt_sites.specs.Sites.{HavePlaced}
-use Rattle.pt_sites.proofs.Places.{placed_left, placed_one}
+use Rattle.pt_sites.proofs.Places.{placed_left, placed_none, placed_one}
 use Rattle.pt_sites.proofs.placing.place_all.Goals.{in-Err, in_default}
 use Rattle.pt_sites.proofs.placing.place_all.Goals as goal
+
+pub loop-k-init : goal.loop-k-init
+loop-k-init c = record {
+  room = omega arith;
+  placed = placed_none c.args.keeper.now c.args.left.now.tasks;
+}
 
 pub loop-k-preserved : goal.loop-k-preserved
 loop-k-preserved c =
@@ -34,6 +41,14 @@ loop-k-preserved c =
           let spare : c.match-place.left.spare ≡ c.loop-k.left.spare = ap (λ (r : Roomy). r.spare) w.left-is in
           record {
             room = omega (arith, spare, inv.room);
-            placed = subst (HavePlaced tasks (k + 1) old c.place.new.keeper handed) (sym same) (placed_one tasks k old mid handed now inv.placed task here c.place.new.keeper w.in_default.ensures.placed);
+            placed = subst (HavePlaced (take (k + 1) tasks) old c.place.new.keeper handed) (sym same) (placed_one tasks k old mid handed now inv.placed task here c.place.new.keeper w.in_default.ensures.placed);
           }
     ]
+
+pub returns : goal.returns
+returns c =
+    let tasks = c.args.tasks.now in
+    let all : c.loop-k.k ≡ length tasks = omega arith in
+    subst (λ (z : List Task). HavePlaced z c.args.keeper.now c.loop-k.keeper c.args.left.now.tasks c.loop-k.left.tasks)
+    (ap (λ n. take n tasks) all ∙ take-length tasks)
+    c.loop-k.invariant.placed

@@ -63,7 +63,7 @@ returns-in-Ok-visit g c =
       answer = site_visited (Ok tt) c.args.most h c.args.station.now c.visit.new.self c.args.keeper.now c.collect_all.new.keeper c.place_all.new.keeper kept c.clear-in-Ok-visit.new.self.items got.0 c.as_slice.result.now
           c.args.tasks.now.tasks c.place_all.new.left.tasks c.clear.new.self.tasks c.visit.new.tasks.tasks c.as_slice-in-Ok-visit.result.now
           got.1 (have_done h c.args.keeper.now c.collect_all.new.keeper got.0 got.1 c.requires.graph) is c.clear.ensures.tasks c.in-Ok-visit.ensures.answer c.as_slice-in-Ok-visit.ensures
-          (subst (λ (z : List Task). HavePlaced c.as_slice-in-Ok-visit.result.now (length c.as_slice-in-Ok-visit.result.now) c.collect_all.new.keeper c.place_all.new.keeper z c.place_all.new.left.tasks) c.make_room.ensures.tasks c.place_all.ensures)
+          (subst (λ (z : List Task). HavePlaced c.as_slice-in-Ok-visit.result.now c.collect_all.new.keeper c.place_all.new.keeper z c.place_all.new.left.tasks) c.make_room.ensures.tasks c.place_all.ensures)
           c.clear-in-Ok-visit.ensures.items;
     }
 
@@ -77,7 +77,7 @@ returns-in-Err-Turn g c =
       answer = site_visited (Err (Turn c.in-Err-Turn.fault)) c.args.most h c.args.station.now c.visit.new.self c.args.keeper.now c.collect_all.new.keeper c.place_all-in-Err-Turn.new.keeper kept c.clear-in-Err-Turn.new.self.items got.0 c.as_slice.result.now
           c.args.tasks.now.tasks c.place_all-in-Err-Turn.new.left.tasks c.clear.new.self.tasks c.visit.new.tasks.tasks c.as_slice-in-Err-Turn.result.now
           got.1 (have_done h c.args.keeper.now c.collect_all.new.keeper got.0 got.1 c.requires.graph) is c.clear.ensures.tasks (rw c.in-Err-Turn.field-0-is at c.in-Err-Turn.ensures.answer) c.as_slice-in-Err-Turn.ensures
-          (subst (λ (z : List Task). HavePlaced c.as_slice-in-Err-Turn.result.now (length c.as_slice-in-Err-Turn.result.now) c.collect_all.new.keeper c.place_all-in-Err-Turn.new.keeper z c.place_all-in-Err-Turn.new.left.tasks) c.make_room.ensures.tasks c.place_all-in-Err-Turn.ensures)
+          (subst (λ (z : List Task). HavePlaced c.as_slice-in-Err-Turn.result.now c.collect_all.new.keeper c.place_all-in-Err-Turn.new.keeper z c.place_all-in-Err-Turn.new.left.tasks) c.make_room.ensures.tasks c.place_all-in-Err-Turn.ensures)
           c.clear-in-Err-Turn.ensures.items;
     }
 
