@@ -1,15 +1,10 @@
 //! One round.
 
-ghost use Rattle.std.specs.Prelude.{◌≡◌, [], IfOk, ℕ, List, None, OnOk, length};
+ghost use Rattle.std.specs.Prelude.{◌≡◌, IfOk, ℕ, List, OnOk, length};
 ghost use Rattle.pt_types.specs.declared.rows.Row.{Row};
 ghost use Rattle.pt_offsets.specs.Plans.{Parts};
-ghost use Rattle.pt_semantics.specs.Lists.{Each};
-ghost use Rattle.pt_post.specs.Posted.{AreDone};
-ghost use Rattle.pt_turn.specs.Platforms.{level_at, state_at};
-ghost use Rattle.pt_turn.specs.Turned.{MayCome};
-ghost use Rattle.pt_visits.specs.Pipes.{arriving};
+ghost use Rattle.pt_flights.specs.Flights.{MayFly};
 ghost use Rattle.pt_flights.specs.Moments.{ArriveFrom};
-ghost use Rattle.pt_flights.specs.Skies.{come_on, map_from};
 ghost use Rattle.pt_together.specs.Asked.{result_lists};
 ghost use Rattle.pt_aired.specs.Passing.{PipesAreEmpty, HasFlown, HavePassedInAir, IsBeforeFlights};
 
@@ -36,15 +31,7 @@ fn fly_one(
     air: &Air,
     now: u64,
 ) -> Result<bool, Memory>
-    requires no_fault { platform.old.fault ≡ None }
-    requires airways { length airways.old ≡ length platform.old.plan.graph.links }
-    requires arrivals { ArriveFrom platform.old.plan.graph arrivals.old airways.old }
-    requires pipes { length pipes.old ≡ length platform.old.plan.graph.links }
-    requires empty { Each (λ pipe. pipe ≡ []) pipes.old }
-    requires transits { length air.now.transits ≡ length platform.old.plan.graph.links }
-    requires done { AreDone platform.old.plan.graph results.old.items }
-    requires taken { MayCome platform.old.plan.graph (level_at platform.old) platform.old.number (state_at platform.old)
-        (arriving platform.old.plan.graph platform.old.number 0 (map_from (come_on platform.old.plan.graph platform.old.number now) 0 airways.old)) }
+    requires { MayFly air.now now results.old.items platform.old airways.old arrivals.old pipes.old }
     ensures flown { IfOk result (λ still. HasFlown air.now now results.old.items results.new.items platform.old platform.new airways.old airways.new still) }
     ensures arrivals { OnOk result (ArriveFrom platform.old.plan.graph arrivals.new airways.new) }
     ensures pipes { OnOk result (pipes.new ≡ pipes.old) }

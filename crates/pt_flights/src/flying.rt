@@ -1,15 +1,10 @@
 //! A flight.
 
-ghost use Rattle.std.specs.Prelude.{◌≡◌, ◌<◌, [], None, IfOk, OnOk, false, length, true};
-ghost use Rattle.pt_semantics.specs.Lists.{Each};
-ghost use Rattle.pt_post.specs.Posted.{AreDone};
-ghost use Rattle.pt_turn.specs.Platforms.{level_at, state_at};
+ghost use Rattle.std.specs.Prelude.{◌≡◌, ◌<◌, [], None, IfOk, OnOk, false, true};
 ghost use Rattle.pt_turn.specs.Rested.{HasRested};
-ghost use Rattle.pt_turn.specs.Turned.{MayCome};
-ghost use Rattle.pt_visits.specs.Pipes.{arriving};
-ghost use Rattle.pt_flights.specs.Flights.{IsFlight};
+ghost use Rattle.pt_flights.specs.Flights.{IsFlight, MayFly};
 ghost use Rattle.pt_flights.specs.Moments.{ArriveFrom};
-ghost use Rattle.pt_flights.specs.Skies.{come_on, lag_of, left_on, map_from, reading_at};
+ghost use Rattle.pt_flights.specs.Skies.{lag_of, left_on, map_from, reading_at};
 
 use crate::arrivals::{arrival_at, update_arrivals};
 use crate::landing::land;
@@ -59,15 +54,7 @@ fn full_flight(
     now: u64,
     reading: u64,
 ) -> Result<bool, Memory>
-    requires no_fault { platform.old.fault ≡ None }
-    requires airways { length airways.old ≡ length platform.old.plan.graph.links }
-    requires arrivals { ArriveFrom platform.old.plan.graph arrivals.now airways.old }
-    requires pipes { length pipes.old ≡ length platform.old.plan.graph.links }
-    requires empty { Each (λ pipe. pipe ≡ []) pipes.old }
-    requires transits { length air.now.transits ≡ length platform.old.plan.graph.links }
-    requires done { AreDone platform.old.plan.graph results.old.items }
-    requires taken { MayCome platform.old.plan.graph (level_at platform.old) platform.old.number (state_at platform.old)
-        (arriving platform.old.plan.graph platform.old.number 0 (map_from (come_on platform.old.plan.graph platform.old.number now) 0 airways.old)) }
+    requires may_fly { MayFly air.now now results.old.items platform.old airways.old arrivals.now pipes.old }
     requires reading { reading ≡ reading_at air.now platform.old.number now }
     ensures flown { OnOk result (IsFlight air.now now results.old.items results.new.items platform.old platform.new airways.old airways.new) }
     ensures pipes { OnOk result (pipes.new ≡ pipes.old) }
@@ -106,15 +93,7 @@ pub fn fly(
     air: &Air,
     now: u64,
 ) -> Result<(), Memory>
-    requires no_fault { platform.old.fault ≡ None }
-    requires airways { length airways.old ≡ length platform.old.plan.graph.links }
-    requires arrivals { ArriveFrom platform.old.plan.graph arrivals.old airways.old }
-    requires pipes { length pipes.old ≡ length platform.old.plan.graph.links }
-    requires empty { Each (λ pipe. pipe ≡ []) pipes.old }
-    requires transits { length air.now.transits ≡ length platform.old.plan.graph.links }
-    requires done { AreDone platform.old.plan.graph results.old.items }
-    requires taken { MayCome platform.old.plan.graph (level_at platform.old) platform.old.number (state_at platform.old)
-        (arriving platform.old.plan.graph platform.old.number 0 (map_from (come_on platform.old.plan.graph platform.old.number now) 0 airways.old)) }
+    requires { MayFly air.now now results.old.items platform.old airways.old arrivals.old pipes.old }
     ensures flown { OnOk result (IsFlight air.now now results.old.items results.new.items platform.old platform.new airways.old airways.new) }
     ensures arrivals { OnOk result (ArriveFrom platform.old.plan.graph arrivals.new airways.new) }
     ensures pipes { OnOk result (pipes.new ≡ pipes.old) }

@@ -1,15 +1,12 @@
-use Rattle.std.proofs.Common.{◌≡◌, ◌-◌, ◌<◌, ℕ, None, length, refl, sym, ap, subst, ◌∙◌}
+use Rattle.std.proofs.Common.{◌≡◌, ◌-◌, ◌<◌, ℕ, length, refl, sym, ap, subst, ◌∙◌}
 use Rattle.std.specs.Prelude.{slice_index_or}
 use Rattle.pt_types.specs.declared.graph.Graph.{Graph}
 use Rattle.pt_offsets.specs.Plans.{Parts}
-use Rattle.pt_post.specs.Posted.{AreDone}
-use Rattle.pt_turn.specs.Platforms.{PlatformView, level_at, state_at}
+use Rattle.pt_turn.specs.Platforms.{PlatformView}
 use Rattle.pt_turn.specs.Rested.{HasRested}
-use Rattle.pt_turn.specs.Turned.{MayCome}
-use Rattle.pt_visits.specs.Pipes.{arriving}
-use Rattle.pt_flights.specs.Flights.{IsFlight, flown_on}
+use Rattle.pt_flights.specs.Flights.{IsFlight, MayFly, flown_on}
 use Rattle.pt_flights.specs.Moments.{ArriveFrom}
-use Rattle.pt_flights.specs.Skies.{come_on, left_on, map_from, reading_at}
+use Rattle.pt_flights.specs.Skies.{left_on, map_from, reading_at}
 use Rattle.pt_flights.proofs.Replacing.{length-map_from}
 use Rattle.pt_flights.proofs.Resting.{all_left, before_arrivals, rested_flight}
 use Rattle.pt_flights.proofs.flying.fly.Goals as goal
@@ -20,14 +17,7 @@ full_flight-requires g c =
     let reading : c.saturating_sub-reading.result ≡ reading_at c.args.air.now c.args.platform.now.number c.args.now =
     c.saturating_sub-reading.ensures ∙ ap (λ (n : ℕ). c.args.now - n) c.lag_of.ensures ∙ ap (λ (i : ℕ). reading_at c.args.air.now i c.args.now) c.number-number.ensures in
     record {
-      no_fault = subst (λ (v : PlatformView). v.fault ≡ None) same c.requires.no_fault;
-      airways = subst (λ (v : PlatformView). length c.args.airways.now ≡ length v.plan.graph.links) same c.requires.airways;
-      arrivals = subst (λ (v : PlatformView). ArriveFrom v.plan.graph c.args.arrivals.now c.args.airways.now) same c.requires.arrivals;
-      pipes = subst (λ (v : PlatformView). length c.args.pipes.now ≡ length v.plan.graph.links) same c.requires.pipes;
-      empty = c.requires.empty;
-      transits = subst (λ (v : PlatformView). length c.args.air.now.transits ≡ length v.plan.graph.links) same c.requires.transits;
-      done = subst (λ (v : PlatformView). AreDone v.plan.graph c.args.results.now.items) same c.requires.done;
-      taken = subst (λ (v : PlatformView). MayCome v.plan.graph (level_at v) v.number (state_at v) (arriving v.plan.graph v.number 0 (map_from (come_on v.plan.graph v.number c.args.now) 0 c.args.airways.now))) same c.requires.taken;
+      may_fly = subst (λ (v : PlatformView). MayFly c.args.air.now c.args.now c.args.results.now.items v c.args.airways.now c.args.arrivals.now c.args.pipes.now) same c.requires;
       reading = reading ∙ ap (λ (v : PlatformView). reading_at c.args.air.now v.number c.args.now) same;
     }
 

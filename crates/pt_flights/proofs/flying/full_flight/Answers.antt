@@ -23,7 +23,7 @@ if_result (Err x) f h = tt
 pub land-requires-clause-arrivals : goal.land-requires-clause-arrivals
 land-requires-clause-arrivals g c =
     let graph : c.graph.result.now ≡ c.args.platform.now.plan.graph = c.graph.ensures.value ∙ ap (λ (p : Parts). p.graph) (c.deref.ensures ∙ c.plan.ensures) in
-    subst (λ (h : Graph). ArriveFrom h c.args.arrivals.now c.args.airways.now) (sym graph) c.requires.arrivals
+    subst (λ (h : Graph). ArriveFrom h c.args.arrivals.now c.args.airways.now) (sym graph) c.requires.may_fly.arrivals
 
 pub returns-clause-none : goal.returns-clause-none
 returns-clause-none g c =
@@ -57,8 +57,8 @@ returns-clause-pipes g c =
     ∙ ap (λ (ps : List (List Message)). length (emptied c.args.platform.now.plan.graph c.args.platform.now.number 0 ps)) c.land.ensures.pipes
     ∙ length-emptied c.args.platform.now.plan.graph c.args.platform.now.number 0 (map_from (come_on c.graph.result.now c.number-number.result c.args.now) 0 c.args.airways.now)
     ∙ length-map_from (come_on c.graph.result.now c.number-number.result c.args.now) 0 c.args.airways.now
-    ∙ c.requires.airways
-    ∙ sym c.requires.pipes in
+    ∙ c.requires.may_fly.airways
+    ∙ sym c.requires.may_fly.pipes in
     on_result c.launch.result
-    (λ none. none ∙ as_before c.visit.new.pipes c.args.pipes.now c.requires.empty count)
+    (λ none. none ∙ as_before c.visit.new.pipes c.args.pipes.now c.requires.may_fly.empty count)
     c.launch.ensures.pipes
