@@ -8,5 +8,5 @@ mod places;
 mod settling;
 
 pub use laws::numbered_stations_are_in_order;
-pub use places::{collect, empty_places, lay};
+pub use places::{collect, lay};
 pub use settling::{Settled, settle_run};

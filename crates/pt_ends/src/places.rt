@@ -6,19 +6,6 @@ ghost use Rattle.pt_ends.specs.Places.{AreCollected, AreDistinct, AreLaid, Place
 use pt_tags::Memory;
 use std::alloc::Global;
 
-/// An empty place for each number below `count`.
-pub fn empty_places<T: Drop>(alloc: Global, count: usize) -> Result<Vec<Option<T>>, Memory>
-    ensures { IfOk result (λ v. vec_len v ≡ count) }
-{
-    let Ok(mut places) = Vec::with_capacity(alloc, count) else {
-        return Err(Memory);
-    };
-    for _k in 0..count {
-        places.push_reserved(None);
-    }
-    Ok(places)
-}
-
 /// Takes the things of one owner out of their places, with their numbers. `owners` has the owner of each number.
 pub fn collect<T: Drop>(
     alloc: Global,

@@ -7,7 +7,8 @@ ghost use Rattle.pt_turn.specs.All.{histories_of};
 ghost use Rattle.pt_pool.specs.Ends.{leaves, receiving_platform};
 ghost use Rattle.pt_ends.specs.Settled.{AreByNumber, AreOfOneLink, AreReturned, AreSettled, AreStations, IsSentBy, LinkIsSettled, IsTakenBy, platform_of_station, told_of_station};
 
-use crate::places::{empty_places, lay};
+use crate::places::lay;
+use pt_free::empty_places;
 use pt_io::Clock;
 use pt_links::{Inlet, Outlet, settle};
 use pt_offsets::Plan;

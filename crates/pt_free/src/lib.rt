@@ -8,10 +8,12 @@ mod ended;
 mod hand;
 mod helper;
 mod order;
+mod places;
 mod results;
 mod threads;
 mod workers;
 
 pub use ended::{Ended, free};
 pub use hand::Hand;
+pub use places::empty_places;
 pub use threads::{Gate, Open};

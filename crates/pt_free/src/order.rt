@@ -3,26 +3,11 @@ ghost use Rattle.pt_pool.specs.Station.{plan_graph};
 ghost use Rattle.std.specs.Prelude.{◌≡◌, ◌+◌, ◌^◌, length, vec_len, IfOk};
 ghost use Rattle.pt_free.specs.Orders.{numbers, count_up, order_weight};
 
+use crate::places::empty_places;
 use pt_io::Clock;
 use pt_pool::{Run, Station};
 use pt_tags::Memory;
 use std::alloc::Global;
-
-/// A place for each station.
-fn places<J: Run, C: Clock>(
-    alloc: Global,
-    count: usize,
-) -> Result<Vec<Option<Station<J, C>>>, Memory>
-    ensures { IfOk result (λ v. vec_len v ≡ count) }
-{
-    let Ok(mut slots) = Vec::with_capacity(alloc, count) else {
-        return Err(Memory);
-    };
-    for _k in 0..count {
-        slots.push_reserved(None);
-    }
-    Ok(slots)
-}
 
 /// Puts the stations in the order of their numbers. Each is there, since their powers of two add up.
 pub(crate) fn in_order<J: Run, C: Clock>(
@@ -35,7 +20,7 @@ pub(crate) fn in_order<J: Run, C: Clock>(
     ensures order { IfOk result (λ v. numbers v.items ≡ count_up (vec_len stations)) }
 {
     let count = stations.len();
-    let mut slots = places(alloc, count)?;
+    let mut slots = empty_places(alloc, count)?;
     let Ok(mut ordered) = Vec::with_capacity(alloc, count) else {
         return Err(Memory);
     };
