@@ -11,7 +11,6 @@ ghost use Rattle.pt_audit.specs.Told.{BlocksAreLawful};
 use crate::order::Order;
 use crate::telling::are_tellable;
 use crate::turn::{Tools, quiet_count, replay_turn};
-use pt_blocks::Blocks;
 use pt_hints::read_hints;
 use pt_offsets::Plan;
 use pt_tags::{Memory, Message};
@@ -23,8 +22,7 @@ pub(crate) fn replay_block(
     platforms: &mut [Platform],
     order: &mut Order,
     last: &mut [Option<Message>],
-    tools: &mut Tools,
-    blocks: &Blocks,
+    tools: &mut Tools<'_>,
     block: &[u8],
 ) -> Result<bool, Memory>
     requires begun { (rows : ℕ → List Row) × (before : List Block) × HaveReplayed plan.now rows before order.old last.old platforms.old }
@@ -49,7 +47,7 @@ pub(crate) fn replay_block(
         last,
         &mut tools.desk,
         &mut tools.text,
-        blocks,
+        tools.blocks,
         block,
     )? {
         return Ok(false);

@@ -9,7 +9,6 @@ ghost use Rattle.pt_audit.specs.Verdicts.{StopsAt};
 use crate::block::replay_block;
 use crate::order::Order;
 use crate::turn::Tools;
-use pt_blocks::Blocks;
 use pt_hints::Cursor;
 use pt_offsets::Plan;
 use pt_tags::{Memory, Message};
@@ -21,8 +20,7 @@ pub(crate) fn replay_blocks(
     platforms: &mut [Platform],
     order: &mut Order,
     last: &mut [Option<Message>],
-    tools: &mut Tools,
-    blocks: &Blocks,
+    tools: &mut Tools<'_>,
     log: Cursor,
 ) -> Result<Option<u32>, Memory>
     requires begun { (rows : ℕ → List Row) × HaveReplayed plan.now rows [] order.old last.old platforms.old }
@@ -30,7 +28,7 @@ pub(crate) fn replay_blocks(
 {
     let mut rest = log;
     while let Some(block) = rest.next() {
-        if !replay_block(plan, platforms, order, last, tools, blocks, block.text)? {
+        if !replay_block(plan, platforms, order, last, tools, block.text)? {
             return Ok(Some(block.line));
         }
     }

@@ -46,14 +46,13 @@ pub(crate) fn replay_log(
         before: None,
         last: None,
     };
-    let mut tools = Tools::new(alloc);
+    let mut tools = Tools::new(alloc, blocks);
     let stop = replay_blocks(
         plan,
         platforms.as_mut_slice(),
         &mut order,
         last.as_mut_slice(),
         &mut tools,
-        blocks,
         log,
     )?;
     let verdict = verdict_after(alloc, plan.graph(), platforms.as_slice(), stop)?;

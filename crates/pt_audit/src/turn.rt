@@ -19,18 +19,20 @@ use pt_tags::{Memory, Message};
 use pt_turn::Platform;
 use std::alloc::Global;
 
-/// Memory that serves all turns.
+/// What serves all turns: the blocks, and memory that each turn uses again.
 #[derive(Drop)]
-pub(crate) struct Tools {
+pub(crate) struct Tools<'a> {
+    pub blocks: &'a Blocks,
     pub hints: Hints,
     pub desk: Retelling,
     pub text: String,
 }
 
-impl Tools {
-    /// Without content. Allocates nothing.
-    pub fn new(alloc: Global) -> Tools {
+impl<'a> Tools<'a> {
+    /// With these blocks. Allocates nothing.
+    pub fn new(alloc: Global, blocks: &'a Blocks) -> Tools<'a> {
         Tools {
+            blocks,
             hints: Hints::new(alloc),
             desk: Retelling::new(alloc),
             text: String::new(alloc),
