@@ -64,8 +64,11 @@ pub fn ptides<S: Source, K: Sink, E: Sink, C: Clock + Send, R: Threads + Wait + 
 ) -> Outcome<C>
     requires clocks { length clocks.items ≡ 16 }
     ensures status { result.status ≡ status_of result.fault result.misses }
-    // The source is asked for the graph file, then for the files of its sensors, in order, and then for the log of an audit, or the
-    // recording of a replay: for all of them, unless the call is refused before or memory runs out.
+    // Which files the source was asked for, in order, if it reports them. None for `make`, and if the words are not valid; else the graph
+    // file; for a run and `meaning` then the files of its sensors; for an audit and a replay these, and last the log or the recording. A
+    // call asks for all of these, with three exceptions: if its graph is refused, for the graph file alone; if the file or the rows of a
+    // sensor are refused, for the graph file and then some or all of the sensors' files, from the first on; and if memory runs out, for
+    // some or all of these, from the first on, or for none.
     ensures asks { AsksOf result.fault (order_of words.now) (S.tells source.old) blocks.now.listed.items
         (record { asked_before = S.asked source.old; asked_now = S.asked source.new; before = S.faults source.old; now = S.faults source.new }) }
     // The headline: what a run has written, what it leaves, by which readings, and why it stopped.
@@ -84,9 +87,15 @@ pub fn ptides<S: Source, K: Sink, E: Sink, C: Clock + Send, R: Threads + Wait + 
       read = record { asked_before = S.asked source.old; asked_now = S.asked source.new; before = S.faults source.old; now = S.faults source.new };
       wrote = record { before = K.faults out.old; now = K.faults out.new; written_before = K.written out.old; written_now = K.written out.new };
     }) }
-    // Whatever answer is due and depends on known files alone comes, unless memory runs out or a read fails.
+    // If the words and files with known contents decide which answer is due, the call ends with it, unless memory runs out or a read
+    // fails. A cycle or a ring may then be another one, and instead of a text there may be a write fault. They decide each refusal of a
+    // graph, of a sensor's rows, of a meaning that is too long, of a log and of a recording; and the texts of `check`, `meaning`,
+    // `migrate`, `slacks` and `audit`. They do not decide how a run, a replay or `make` ends that is not refused so.
     ensures exact { IsExact result.fault (order_of words.now) (S.tells source.old) blocks.now.listed.items }
-    // A paced run of a program that can run ends as its meaning says: by cases in `StatusIsMeant`.
+    // A paced run, with any number of workers and with the log or without, has the status that the meaning of its program gives, if its
+    // files' contents are known, its graph is admitted, each sensor's file has rows, none of which is late, and no read and no write
+    // fails: 0; or 5 if an actuator acts after its deadline; or 6 if a platform has more firings of units than it may claim, whatever its
+    // actuators do; or else memory ran out, and the status is 9.
     ensures complete { IsComplete result.status (order_of words.now) (S.tells source.old) blocks.now.listed.items
         (record { asked_before = S.asked source.old; asked_now = S.asked source.new; before = S.faults source.old; now = S.faults source.new })
         (record { before = K.faults out.old; now = K.faults out.new; written_before = K.written out.old; written_now = K.written out.new }) }

@@ -5,9 +5,10 @@ use Rattle.std.specs.declared.alloc.Global.{Global}
 use Rattle.pt_sensors.specs.declared.sensor_rows.SensorRows.{SensorRows}
 use Rattle.pt_sensors.specs.Asked.{Reading}
 use Rattle.pt_sensors.specs.Listed.{rows_for}
-use Rattle.pt_run.specs.Due.{AnswersAsDue, IsMeantBy}
+use Rattle.pt_sensors.specs.declared.recorded_fault.LateRows.TheVariants.{Taken}
+use Rattle.pt_run.specs.Due.{AnswersAsDue, IsMeantBy, RefusedWith}
 use Rattle.pt_run.proofs.Asks.{meant_asks, rows_asked}
-use Rattle.pt_run.proofs.Ending.{read_due}
+use Rattle.pt_run.proofs.Ending.{read_due, rows_due}
 use Rattle.pt_run.proofs.meaning.meaning_text.Goals as goal
 
 pub returns-clause-due : goal.returns-clause-due
@@ -26,3 +27,8 @@ pub returns-in-Err-clause-asks : goal.returns-in-Err-clause-asks
 returns-in-Err-clause-asks g c =
     let now = g.S.Source.asked c.recorded.new.source in
     subst (λ e. AsksOver (Some e) [] (all_sensors c.args.graph.now) [] (g.S.Source.asked c.args.source.now) now) (sym c.fault_of_rows.ensures) (rows_asked c.args.graph.now [] (g.S.Source.asked c.args.source.now) now c.in-Err.fault c.recorded.ensures.asks)
+
+pub returns-in-Err-clause-due : goal.returns-in-Err-clause-due
+returns-in-Err-clause-due g c =
+    let r : Reading = record { asked_before = g.S.Source.asked c.args.source.now; asked_now = g.S.Source.asked c.recorded.new.source; before = g.S.Source.faults c.args.source.now; now = g.S.Source.faults c.recorded.new.source } in
+    λ a is out. rows_due (string_bytes {Z = Global}) Taken c.in-Err.fault (g.S.Source.tells c.args.source.now) c.args.graph.now r (λ a rows. IsMeantBy c.args.graph.now rows a) c.in-Err.ensures.fault a is (subst (λ e. RefusedWith e a) c.fault_of_rows.ensures out)
