@@ -1,8 +1,10 @@
 //! What every clock promises, and the clocks in memory.
 
-ghost use Rattle.std.specs.Prelude.{◌≡◌, ℕ, ◌*◌, ◌+◌, ◌-◌, ◌^◌, [], Option, List, Some, min, true};
+ghost use Rattle.std.specs.Prelude.{◌≡◌, ℕ, ◌*◌, ◌+◌, ◌-◌, ◌^◌, [], IfOk, Option, List, Some, false, length, min, true};
 ghost use Rattle.pt_io.specs.Told.{nth_or_last, step_reading};
 
+use pt_tags::Memory;
+use std::alloc::Global;
 use std::time::{Clock as SystemClock, Duration};
 
 /// Gives readings, in microseconds.
@@ -75,7 +77,9 @@ impl Clock for StepClock {
         reading
     }
 
-    fn rises_by_itself(&self) -> bool {
+    fn rises_by_itself(&self) -> bool
+        ensures { result ≡ false }
+    {
         false
     }
 }
@@ -120,7 +124,9 @@ impl Clock for ListClock {
         reading
     }
 
-    fn rises_by_itself(&self) -> bool {
+    fn rises_by_itself(&self) -> bool
+        ensures { result ≡ false }
+    {
         false
     }
 }
@@ -150,7 +156,10 @@ pub struct MachineClock<R: SystemClock + Drop> {
 
 impl<R: SystemClock + Drop> MachineClock<R> {
     /// A clock that begins at 0 now. No memory is taken.
-    pub fn new(clock: R) -> MachineClock<R> {
+    pub fn new(clock: R) -> MachineClock<R>
+        ensures clock { result.clock ≡ clock }
+        ensures last { result.last ≡ 0 }
+    {
         let made = match clock.monotonic() {
             Ok(made) => made,
             Err(_) => Duration::ZERO,
@@ -180,7 +189,24 @@ impl<R: SystemClock + Drop> Clock for MachineClock<R> {
         self.last
     }
 
-    fn rises_by_itself(&self) -> bool {
+    fn rises_by_itself(&self) -> bool
+        ensures { result ≡ true }
+    {
         true
     }
+}
+
+/// As many clocks of the machine. Each begins at 0 now.
+pub fn machine_clocks<R: SystemClock>(
+    alloc: Global,
+    clock: &R,
+    count: usize,
+) -> Result<Vec<MachineClock<&R>>, Memory>
+    ensures { IfOk result (λ clocks. length clocks.items ≡ count) }
+{
+    let mut clocks = Vec::with_capacity(alloc, count)?;
+    while clocks.len() < count {
+        clocks.push(MachineClock::new(clock))?;
+    }
+    Ok(clocks)
 }

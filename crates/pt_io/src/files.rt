@@ -35,7 +35,9 @@ pub struct SystemFiles<R: Files + Drop> {
 
 impl<R: Files + Drop> SystemFiles<R> {
     /// The files that `files` opens. It needs no memory.
-    pub fn new(files: R) -> SystemFiles<R> {
+    pub fn new(files: R) -> SystemFiles<R>
+        ensures files { result.files ≡ files }
+    {
         SystemFiles { files }
     }
 }

@@ -9,6 +9,7 @@
 #![tactic(auto)]
 
 mod clock;
+mod command_line;
 mod files;
 mod outputs;
 mod page;
@@ -19,7 +20,8 @@ mod source;
 /// How often a read or write that a signal interrupts is tried before it counts as failed.
 const TRIES: u32 = u32::MAX;
 
-pub use clock::{Clock, ListClock, MachineClock, StepClock};
+pub use clock::{Clock, ListClock, MachineClock, StepClock, machine_clocks};
+pub use command_line::words;
 pub use files::{FileSource, Opener, SystemFiles};
 pub use outputs::{NotesSink, OutSink};
 pub use page::Page;
