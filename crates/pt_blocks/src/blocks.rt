@@ -1,6 +1,6 @@
 //! The blocks that graphs may use.
 
-ghost use Rattle.std.specs.Prelude.{◌≡◌, ◌≤◌};
+ghost use Rattle.std.specs.Prelude.{◌≡◌, ◌≤◌, map};
 ghost use Rattle.pt_blocks.specs.Blocks.{AreBlocks};
 
 use crate::block::{Block, Function};
@@ -34,6 +34,7 @@ pub struct Blocks {
     listed: Vec<Named>,
     stored: Vec<Function>,
     ghost blocks: { AreBlocks listed.items },
+    ghost laws: { map (λ f. f.law) stored.items ≡ map (λ b. b.law) listed.items },
 }
 
 impl Blocks {
@@ -106,7 +107,9 @@ impl Blocks {
     }
 
     /// The stored function of the block with this number; `None` if there is none. It computes the block's law.
-    pub fn get(&self, number: u32) -> Option<&Function> {
+    pub fn get(&self, number: u32) -> Option<&Function>
+        ensures law { option_map (λ f. f.now.law) result ≡ law_at self.now.listed.items number }
+    {
         self.stored.as_slice().get(number as usize)
     }
 
