@@ -42,3 +42,4 @@ pub use least::Least;
 pub use lists::EdgeLists;
 pub use ranked::ranks_of;
 pub use ranks::Ranks;
+pub use ring::rotate_to_least;

@@ -46,8 +46,8 @@ fn least_place(numbers: &[u32]) -> usize
     best
 }
 
-/// Rotates a ring of numbers so that the least number is the first.
-fn turn(numbers: &mut Vec<u32>)
+/// Rotates a ring of numbers, at least one, so that the least number is the first.
+pub fn rotate_to_least(numbers: &mut Vec<u32>)
     requires { 0 < length numbers.old.items }
     ensures { IsRotated numbers.old.items numbers.new.items }
 {
@@ -62,7 +62,7 @@ pub fn ring_at(alloc: Global, trail: &[Edge], edge: Edge) -> CycleFault
     let Ok(mut actors) = actors_around(alloc, trail, edge) else {
         return CycleFault::Memory;
     };
-    turn(&mut actors);
+    rotate_to_least(&mut actors);
     CycleFault::Cycle {
         actors: List::new(actors),
     }

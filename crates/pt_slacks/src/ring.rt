@@ -14,7 +14,7 @@ ghost use Rattle.pt_slacks.specs.Trails.{IsRaisedByTrail};
 use crate::hop::Hop;
 use crate::needs::by_source;
 use crate::slack::SlackFault;
-use pt_causality::Least;
+use pt_causality::{Least, rotate_to_least};
 use pt_tags::List;
 use pt_types::Graph;
 use std::alloc::{AllocError, Global};
@@ -139,7 +139,7 @@ fn closed(
     let mut sends = senders(alloc, hops, trail, from)?;
     let before = slack_at(rows, round, from);
     let after = slack_at(rows, round + sends.len(), from);
-    turn(&mut sends);
+    rotate_to_least(&mut sends);
     Ok(SlackFault::Ring {
         sends: List::new(sends),
         gain: after - before,
@@ -175,27 +175,4 @@ fn sender(hops: &[Hop], link: u32) -> u32
         Some(hop) => hop.from,
         None => 0,
     }
-}
-
-/// The index of the least number.
-fn least_place(numbers: &[u32]) -> usize
-    requires { 0 < length numbers.now }
-    ensures { IsFirstBest nat_lt numbers.now (length numbers.now) result }
-{
-    let mut best = 0;
-    for place in 1..numbers.len() {
-        if numbers[place] < numbers[best] {
-            best = place;
-        }
-    }
-    best
-}
-
-/// Rotates a ring of numbers so that the least number is the first.
-fn turn(numbers: &mut Vec<u32>)
-    requires { 0 < length numbers.old.items }
-    ensures { IsRotated numbers.old.items numbers.new.items }
-{
-    let place = least_place(numbers.as_slice());
-    numbers.as_mut_slice().rotate_left(place);
 }

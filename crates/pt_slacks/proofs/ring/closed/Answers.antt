@@ -12,7 +12,7 @@ overflow_sub-result c =
     let count : c.len.result ≡ length c.in_ok-sends.sends.items = omega (arith, c.len.ensures, c.in_ok-sends.sends.ok.0) in
     let last : after ≡ slice_index (slack_row_at c.args.rows.now (c.args.round + length c.in_ok-sends.sends.items)) c.args.from =
     c.slack_at-after.ensures ∙ ap (λ n. slice_index (slack_row_at c.args.rows.now (c.args.round + n)) c.args.from) count in
-    let both = closed_ring c.args.graph.now (least_of c.args.least.now) c.args.hops.now c.requires.lawful c.requires.hops c.requires.least c.args.rows.now c.requires.rows c.args.trail.now c.args.round c.args.from c.in_ok-sends.sends.items c.turn.new.numbers.items before after (after - before) c.requires.closing c.in_ok-sends.ensures c.slack_at-before.ensures last refl c.turn.ensures in
+    let both = closed_ring c.args.graph.now (least_of c.args.least.now) c.args.hops.now c.requires.lawful c.requires.hops c.requires.least c.args.rows.now c.requires.rows c.args.trail.now c.args.round c.args.from c.in_ok-sends.sends.items c.rotate_to_least.new.numbers.items before after (after - before) c.requires.closing c.in_ok-sends.ensures c.slack_at-before.ensures last refl c.rotate_to_least.ensures in
     omega (arith, both.1)
 
 pub returns : goal.returns
@@ -22,5 +22,5 @@ returns c =
     let count : c.len.result ≡ length c.in_ok-sends.sends.items = omega (arith, c.len.ensures, c.in_ok-sends.sends.ok.0) in
     let last : after ≡ slice_index (slack_row_at c.args.rows.now (c.args.round + length c.in_ok-sends.sends.items)) c.args.from =
     c.slack_at-after.ensures ∙ ap (λ n. slice_index (slack_row_at c.args.rows.now (c.args.round + n)) c.args.from) count in
-    let both = closed_ring c.args.graph.now (least_of c.args.least.now) c.args.hops.now c.requires.lawful c.requires.hops c.requires.least c.args.rows.now c.requires.rows c.args.trail.now c.args.round c.args.from c.in_ok-sends.sends.items c.turn.new.numbers.items before after (after - before) c.requires.closing c.in_ok-sends.ensures c.slack_at-before.ensures last refl c.turn.ensures in
+    let both = closed_ring c.args.graph.now (least_of c.args.least.now) c.args.hops.now c.requires.lawful c.requires.hops c.requires.least c.args.rows.now c.requires.rows c.args.trail.now c.args.round c.args.from c.in_ok-sends.sends.items c.rotate_to_least.new.numbers.items before after (after - before) c.requires.closing c.in_ok-sends.ensures c.slack_at-before.ensures last refl c.rotate_to_least.ensures in
     subst (λ sends. IsRing c.args.graph.now sends (after - before)) (sym c.new.ensures) both.0
