@@ -14,8 +14,8 @@ use crate::fault::AirFault;
 use crate::record::{is_header, row};
 use crate::row::AirRow;
 use crate::times::{lags_of, transits_of};
-use csv::{ByteRecord, Reader, ReaderBuilder};
-use pt_sensors::advance;
+use csv::{ByteRecord, Reader};
+use pt_sensors::{advance, reader_of};
 use pt_tags::{List, Memory};
 use pt_types::Graph;
 use std::alloc::{AllocError, Global};
@@ -66,10 +66,7 @@ fn rows_of(alloc: Global, bytes: &[u8], graph: &Graph) -> Result<List<AirRow>, A
     if bytes.len() > MOST_BYTES {
         return Err(AirFault::TooLong);
     }
-    let mut reader = ReaderBuilder::new()
-        .has_headers(false)
-        .flexible(true)
-        .from_reader(alloc, bytes);
+    let mut reader = reader_of(alloc, bytes);
     let mut line = ByteRecord::new(alloc);
     match advance(&mut reader, &mut line) {
         Ok(found) => {

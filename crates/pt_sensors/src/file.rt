@@ -8,8 +8,9 @@ ghost use Rattle.pt_sensors.specs.declared.recorded_fault.LateRows.TheVariants.{
 ghost use Rattle.pt_sensors.specs.Asked.{Asks, AsksBy};
 ghost use Rattle.pt_sensors.specs.Files.{CauseOfFile, IsLateFault};
 
+use crate::late::first_late;
 use crate::recorded_fault::{LateRows, RecordedFault, fault_of_rows};
-use crate::{MOST_BYTES, first_late, read_rows};
+use crate::{MOST_BYTES, read_rows};
 use pt_io::{FetchFault, Source};
 use pt_tags::List;
 use pt_types::Row;

@@ -1,6 +1,6 @@
 //! Rows that are seen past their sensor's bound.
 
-ghost use Rattle.std.specs.Prelude.{◌≡◌, ◌+◌, ◌-◌, ◌^◌, ◌<◌, length, is_some, position, min};
+ghost use Rattle.std.specs.Prelude.{◌≡◌, ◌^◌, ◌<◌, length, position};
 ghost use Rattle.pt_sensors.specs.Late.{is_late_row, late_row};
 ghost use Rattle.pt_types.specs.declared.rows.Row.{Row};
 
@@ -9,14 +9,13 @@ use pt_types::Row;
 /// The number, from 1, of the first row with a time up to `until` that is seen more than `bound` microseconds
 /// after its time. A row of time 50 with bound 10 is late if it is seen at 61, and not if it is seen at 60.
 ///
-/// A number that does not fit in 32 bits is given as the greatest that does. That the rows of a sensor are seen within
-/// a stated bound is this project's own rule.
-pub fn first_late(rows: &[Row], bound: u64, until: u64) -> Option<u32>
-    ensures found { is_some result ≡ is_some (late_row bound until rows.now) }
-    ensures number { length rows.now < 2 ^ 32 → result ≡ late_row bound until rows.now }
+/// That the rows of a sensor are seen within a stated bound is this project's own rule.
+pub(crate) fn first_late(rows: &[Row], bound: u64, until: u64) -> Option<u32>
+    requires { length rows.now < 2 ^ 32 }
+    ensures { result ≡ late_row bound until rows.now }
 {
     match late_index(rows, bound, until) {
-        Some(index) => Some(row_number(index)),
+        Some(index) => Some(index as u32 + 1),
         None => None,
     }
 }
@@ -26,13 +25,6 @@ fn late_index(rows: &[Row], bound: u64, until: u64) -> Option<usize>
     ensures { result ≡ position (λ (row : Row). is_late_row bound until row) rows.now }
 {
     rows.iter().position(|row| is_late(row, bound, until))
-}
-
-/// The number of a row, from 1, for its index.
-fn row_number(index: usize) -> u32
-    ensures { result ≡ min (index + 1) (2 ^ 32 - 1) }
-{
-    (index.min(u32::MAX as usize - 1) + 1) as u32
 }
 
 /// Whether a row of the run is seen past its sensor's bound.

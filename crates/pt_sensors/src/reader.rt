@@ -1,8 +1,9 @@
 //! The rows of a text.
 
 ghost use Rattle.std.specs.Prelude.{◌≡◌, Some, None, IfOk, option_map};
-ghost use Rattle.csv.specs.Reading.{reader_state};
+ghost use Rattle.csv.specs.Reading.{reader_state, strip_bom};
 ghost use Rattle.csv.specs.Records.{fields_of};
+ghost use Rattle.csv.specs.declared.parser.State.TheVariants.{StartRecord};
 ghost use Rattle.pt_sensors.specs.Order.{RowsAreInOrder};
 ghost use Rattle.pt_sensors.specs.Rows.{IsPlain, Finds, bytes_left, three, cells, are_titles, is_header, numbers_of, order_fault, row_of};
 ghost use Rattle.pt_sensors.specs.RowsOf.{next, rows_from, rows_of, GivesRows};
@@ -42,10 +43,7 @@ fn read(alloc: Global, bytes: &[u8]) -> Result<List<Row>, RowFault>
     if bytes.len() > MOST_BYTES {
         return Err(RowFault::TooLong);
     }
-    let mut reader = ReaderBuilder::new()
-        .has_headers(false)
-        .flexible(true)
-        .from_reader(alloc, bytes);
+    let mut reader = reader_of(alloc, bytes);
     let Ok(mut line) = ByteRecord::with_capacity(alloc, LINE_BYTES, 4) else {
         return Err(RowFault::Memory);
     };
@@ -59,6 +57,18 @@ fn read(alloc: Global, bytes: &[u8]) -> Result<List<Row>, RowFault>
         }
         Err(Memory) => Err(RowFault::Memory),
     }
+}
+
+/// A csv reader of a text. Its first record counts as any other, and records may differ in their number of fields.
+pub fn reader_of(alloc: Global, bytes: &[u8]) -> Reader<&[u8]>
+    ensures plain { IsPlain (λ r. Some r.now) result }
+    ensures state { reader_state result ≡ StartRecord }
+    ensures left { bytes_left (λ r. Some r.now) result ≡ strip_bom bytes.now }
+{
+    ReaderBuilder::new()
+        .has_headers(false)
+        .flexible(true)
+        .from_reader(alloc, bytes)
 }
 
 /// Reads the next record, if there is one.

@@ -1,4 +1,4 @@
-use Rattle.std.proofs.Common.{◌<◌, ◌^◌, refl, sym, subst, pos, length, arith}
+use Rattle.std.proofs.Common.{refl, sym, subst, pos}
 use Rattle.pt_types.specs.declared.rows.Row.{Row}
 use Rattle.pt_sensors.specs.Recorded.{IsLateRow}
 use Rattle.pt_sensors.proofs.Lateness.{late_found}
@@ -9,11 +9,9 @@ no_row = record { time = 0; seen = 0; value = pos 0 }
 
 pub limit-requires : goal.limit-requires
 limit-requires c =
-    let few : length c.args.rows.now < 2 ^ 32 = omega (arith, c.requires) in
-    (late_found c.args.rows.now c.args.bound c.args.until c.in_ok-number.number no_row (sym (c.in_ok-number.ensures.number few))).past
+    (late_found c.args.rows.now c.args.bound c.args.until c.in_ok-number.number no_row (sym c.in_ok-number.ensures)).past
 
 pub returns-clause-some : goal.returns-clause-some
 returns-clause-some c =
-    let few : length c.args.rows.now < 2 ^ 32 = omega (arith, c.requires) in
-    let found = late_found c.args.rows.now c.args.bound c.args.until c.in_ok-number.number no_row (sym (c.in_ok-number.ensures.number few)) in
+    let found = late_found c.args.rows.now c.args.bound c.args.until c.in_ok-number.number no_row (sym c.in_ok-number.ensures) in
     (refl, subst (IsLateRow c.args.rows.now c.args.until c.args.bound c.in_ok-number.number _) (sym c.limit.ensures) found)
