@@ -1,6 +1,6 @@
 //! Whether messages are on time.
 
-ghost use Rattle.std.specs.Prelude.{◌≡◌, ℕ, MatchBool, Some};
+ghost use Rattle.std.specs.Prelude.{◌≡◌, MatchBool, unwrap_or};
 ghost use Rattle.pt_semantics.specs.Taking.{IsOnTime};
 ghost use Rattle.pt_offsets.specs.Timings.{bound_in};
 
@@ -9,7 +9,7 @@ use pt_tags::Message;
 
 /// The bound of a receiver, in microseconds; 0 if it has none.
 pub fn bound(offsets: &Offsets, receiver: u32) -> u64
-    ensures { (b : ℕ) → bound_in offsets.now receiver ≡ Some b → result ≡ b }
+    ensures { result ≡ unwrap_or (bound_in offsets.now receiver) 0 }
 {
     match offsets.bound(receiver) {
         Some(bound) => bound,

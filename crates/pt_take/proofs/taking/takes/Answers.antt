@@ -1,4 +1,4 @@
-use Rattle.std.proofs.Common.{◌≡◌, ◌<◌, ◌+◌, ◌++◌, ◌∷◌, [], List, true, false, length, get_or, take, drop, pos, refl, sym, ap, subst, ◌∙◌, arith, append_assoc}
+use Rattle.std.proofs.Common.{◌≡◌, ◌<◌, ◌+◌, ◌++◌, ◌∷◌, [], ℕ, List, Option, unwrap_or, true, false, length, get_or, take, drop, pos, refl, sym, ap, subst, ◌∙◌, arith, append_assoc}
 use Rattle.std.proofs.lemmas.Bool.{false≢true}
 use Rattle.std.proofs.lemmas.List.{take_more, take-append-drop}
 use Rattle.std.proofs.lemmas.Option.{get_or_from_slice_get}
@@ -46,7 +46,7 @@ deliver-requires-clause-absent g c =
     let m : OnLink = get_or c.args.messages.now c.loop-message.message-index no_message in
     let come = comes_at graph g.basis c.args.messages.now c.loop-message.message-index no_message c.requires.1.1.1.0 c.loop-message-test.true in
     let link : get_or c.as_slice-links.result.now m.link no_link ≡ come.link = ap (λ (ls : List Link). get_or ls m.link no_link) c.as_slice-links.ensures ∙ get_or_from_slice_get graph.links m.link come.link no_link come.at in
-    let bound : c.bound.result ≡ link_bound graph come.link = c.bound.ensures (link_bound graph come.link) (ap (λ (z : Link). bound_in c.args.offsets.now z.to) link ∙ bound_is graph c.args.offsets.now m.link come.link c.requires.1.0 c.requires.1.1.0 come.at) in
+    let bound : c.bound.result ≡ link_bound graph come.link = c.bound.ensures ∙ ap (λ (o : Option ℕ). unwrap_or o 0) (ap (λ (z : Link). bound_in c.args.offsets.now z.to) link ∙ bound_is graph c.args.offsets.now m.link come.link c.requires.1.0 c.requires.1.1.0 come.at) in
     let on : IsOnTime c.loop-message.fields.reading (link_bound graph come.link) m.message = subst (λ b. IsOnTime c.loop-message.fields.reading b m.message) bound (on_at c.is_on_time.result (IsOnTime c.loop-message.fields.reading c.bound.result m.message) c.is_on_time.ensures c.if-not-is_on_time.false) in
     let so_far : List OnLink = take c.loop-message.message-index c.args.messages.now in
     let front : take (c.loop-message.message-index + 1) c.args.messages.now ≡ so_far ++ m ∷ [] = take_more c.args.messages.now c.loop-message.message-index no_message c.loop-message-test.true in
@@ -60,7 +60,7 @@ loop-message-preserved g c =
     let m : OnLink = get_or c.args.messages.now c.loop-message.message-index no_message in
     let come = comes_at graph g.basis c.args.messages.now c.loop-message.message-index no_message c.requires.1.1.1.0 c.loop-message-test.true in
     let link : get_or c.as_slice-links.result.now m.link no_link ≡ come.link = ap (λ (ls : List Link). get_or ls m.link no_link) c.as_slice-links.ensures ∙ get_or_from_slice_get graph.links m.link come.link no_link come.at in
-    let bound : c.bound.result ≡ link_bound graph come.link = c.bound.ensures (link_bound graph come.link) (ap (λ (z : Link). bound_in c.args.offsets.now z.to) link ∙ bound_is graph c.args.offsets.now m.link come.link c.requires.1.0 c.requires.1.1.0 come.at) in
+    let bound : c.bound.result ≡ link_bound graph come.link = c.bound.ensures ∙ ap (λ (o : Option ℕ). unwrap_or o 0) (ap (λ (z : Link). bound_in c.args.offsets.now z.to) link ∙ bound_is graph c.args.offsets.now m.link come.link c.requires.1.0 c.requires.1.1.0 come.at) in
     let on : IsOnTime c.loop-message.fields.reading (link_bound graph come.link) m.message = subst (λ b. IsOnTime c.loop-message.fields.reading b m.message) bound (on_at c.is_on_time.result (IsOnTime c.loop-message.fields.reading c.bound.result m.message) c.is_on_time.ensures c.if-not-is_on_time.false) in
     let so_far : List OnLink = take c.loop-message.message-index c.args.messages.now in
     let front : take (c.loop-message.message-index + 1) c.args.messages.now ≡ so_far ++ m ∷ [] = take_more c.args.messages.now c.loop-message.message-index no_message c.loop-message-test.true in
@@ -87,7 +87,7 @@ returns-then-not-is_on_time-clause-took g c =
     let m : OnLink = get_or c.args.messages.now c.loop-message.message-index no_message in
     let come = comes_at graph g.basis c.args.messages.now c.loop-message.message-index no_message c.requires.1.1.1.0 c.loop-message-test.true in
     let link : get_or c.as_slice-links.result.now m.link no_link ≡ come.link = ap (λ (ls : List Link). get_or ls m.link no_link) c.as_slice-links.ensures ∙ get_or_from_slice_get graph.links m.link come.link no_link come.at in
-    let bound : c.bound.result ≡ link_bound graph come.link = c.bound.ensures (link_bound graph come.link) (ap (λ (z : Link). bound_in c.args.offsets.now z.to) link ∙ bound_is graph c.args.offsets.now m.link come.link c.requires.1.0 c.requires.1.1.0 come.at) in
+    let bound : c.bound.result ≡ link_bound graph come.link = c.bound.ensures ∙ ap (λ (o : Option ℕ). unwrap_or o 0) (ap (λ (z : Link). bound_in c.args.offsets.now z.to) link ∙ bound_is graph c.args.offsets.now m.link come.link c.requires.1.0 c.requires.1.1.0 come.at) in
     let so_far : List OnLink = take c.loop-message.message-index c.args.messages.now in
     let front : take (c.loop-message.message-index + 1) c.args.messages.now ≡ so_far ++ m ∷ [] = take_more c.args.messages.now c.loop-message.message-index no_message c.loop-message-test.true in
     let old : State = state_of c.args.fields.now g.basis.taken in
