@@ -40,22 +40,24 @@ fn missed_at(
         return Ok(());
     }
     let reading = history.last(number);
-    missed_results(graph, reading, history, number, misses)?;
+    missed_results(graph, reading, history, number, posted, misses)?;
     missed_messages(graph, reading, sent, misses)
 }
 
-/// Appends the misses among the results that a recorded turn posted at a reading.
+/// Appends the misses among the results, `posted` in number, that a recorded turn posted at a reading.
 fn missed_results(
     graph: &Graph,
     reading: u64,
     history: &History,
     turn: usize,
+    posted: usize,
     misses: &mut Vec<Miss>,
 ) -> Result<(), Memory>
-    requires { turn < length history.now.turns }
+    requires turn { turn < length history.now.turns }
+    requires posted { posted ≡ length (posted_in history.now.turns turn) }
     ensures { OnOk result (misses.new.items ≡ misses.old.items ++ filter_map (miss_of_result graph.now reading) (posted_in history.now.turns turn)) }
 {
-    for number in 0..history.posted(turn) {
+    for number in 0..posted {
         let mark = history.done_mark(turn, number);
         push(misses, miss_of_result(graph, reading, mark))?;
     }

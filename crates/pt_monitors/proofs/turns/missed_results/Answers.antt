@@ -8,7 +8,7 @@ use Rattle.pt_monitors.proofs.Members.{filter_map_next, mapped}
 use Rattle.pt_monitors.proofs.turns.missed_results.Goals as goal
 
 pub done_mark-mark-requires : goal.done_mark-mark-requires
-done_mark-mark-requires c = omega (arith, c.loop-number-test.true, c.posted-number-end.ensures)
+done_mark-mark-requires c = omega (arith, c.loop-number-test.true, c.requires.posted)
 
 pub loop-number-preserved : goal.loop-number-preserved
 loop-number-preserved c =
@@ -20,5 +20,5 @@ loop-number-preserved c =
 pub returns : goal.returns
 returns c =
     let dones = posted_in c.args.history.now.turns c.args.turn in
-    let past : length dones ≤ c.loop-number.number = omega (arith, c.loop-number-test.false, c.posted-number-end.ensures) in
+    let past : length dones ≤ c.loop-number.number = omega (arith, c.loop-number-test.false, c.requires.posted) in
     c.loop-number.invariant ∙ ap (λ ds. c.args.misses.now.items ++ filter_map (miss_of_result c.args.graph.now c.args.reading) ds) (take_all c.loop-number.number dones past)
