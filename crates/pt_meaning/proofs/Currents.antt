@@ -14,7 +14,7 @@ use Rattle.pt_meaning.specs.declared.place.Place.{Place}
 use Rattle.pt_meaning.specs.declared.order.Standing.{Standing}
 use Rattle.pt_meaning.specs.Both.{IsUpTo}
 use Rattle.pt_meaning.specs.Ready.{ports_at, IsFirstReady}
-use Rattle.pt_meaning.specs.Current.{standing_at, position_at, is_standing_of, slate_value, IsCurrent, StandsUpTo}
+use Rattle.pt_meaning.specs.Current.{current_value, standing_at, position_at, is_standing_of, slate_value, IsCurrent, IsPositionOf, Slate, StandsUpTo}
 use Rattle.pt_meaning.specs.ComesFirst.{with_port, ComesFirst}
 use Rattle.pt_meaning.specs.Front.{Enters, is_place_of}
 use Rattle.pt_meaning.specs.Waiting.{place_cmp, place_of, waits_in, IsPlaceIn, EventsArePlaced}
@@ -301,6 +301,31 @@ module _ (tag : Tag) (order : List Standing) (positions : List ℕ) (inputs : Li
           (λ (ne : n ≢ k). current.placed n (sym (ap any_present (get_or-set_other inputs k n (eight nothing) [] ne)) ∙ some))
           (either n k);
     }
+
+-- an actor's events were taken from its position: `s` are the events from inside, and `now` as contracts see them
+module _ (s now : Slate) (same : s ≡ now) (t : Tag) (a k : ℕ) (is : IsPositionOf now t a k) (rank : ℕ → ℕ) (actors steps : ℕ) (sound : EventsArePlaced rank actors steps (current_value now)) where
+  here : IsPositionOf s t a k
+  here = subst (λ (x : Slate). IsPositionOf x t a k) (sym same) is
+
+  placed : EventsArePlaced rank actors steps (current_value s)
+  placed = subst (λ (x : Slate). EventsArePlaced rank actors steps (current_value x)) (sym same) sound
+
+  pub taken_values : length (ports_at s.inputs k) ≡ 8 → ports_at s.inputs k ≡ waiting (waits_in rank (current_value now)) a t
+  taken_values len =
+      subst (λ (x : Slate). ports_at s.inputs k ≡ waiting (waits_in rank (current_value x)) a t) same
+      (subst (λ u. ports_at s.inputs k ≡ waiting (waits_in rank (current_value s)) a u) here.tag_is
+      (value_here s.tag s.order s.positions s.inputs k a here.at here.actor_is here.there rank actors steps placed len))
+
+  pub taken_waits : (new : List (List (Option ℤ))) → new ≡ slice_set s.inputs k (eight nothing) → waits_in rank (slate_value s.tag s.order s.positions new) ≡ without (waits_in rank (current_value now)) a t
+  taken_waits new cleared =
+      ap (λ xs. waits_in rank (slate_value s.tag s.order s.positions xs)) cleared
+      ∙ subst (λ (x : Slate). waits_in rank (slate_value s.tag s.order s.positions (slice_set s.inputs k (eight nothing))) ≡ without (waits_in rank (current_value x)) a t) same
+      (subst (λ u. waits_in rank (slate_value s.tag s.order s.positions (slice_set s.inputs k (eight nothing))) ≡ without (waits_in rank (current_value s)) a u) here.tag_is
+      (waits_no_more s.tag s.order s.positions s.inputs k a here.at here.actor_is here.there rank))
+
+  pub taken_sound : (new : List (List (Option ℤ))) → new ≡ slice_set s.inputs k (eight nothing) → EventsArePlaced rank actors steps (slate_value s.tag s.order s.positions new)
+  taken_sound new cleared = subst (λ xs. EventsArePlaced rank actors steps (slate_value s.tag s.order s.positions xs)) (sym cleared)
+      (sound_still s.tag s.order s.positions s.inputs k a here.at here.actor_is here.there rank actors steps placed)
 
 -- the actor that leads
 module _ (held : Place → Option ℤ) where

@@ -12,8 +12,9 @@ use Rattle.pt_types.specs.Groups.{no_actor}
 use Rattle.pt_types.specs.Lookups.{kind_of}
 use Rattle.pt_semantics.specs.Firing.{any_present}
 use Rattle.pt_semantics.specs.Meaning.{Values, World, ActorFiring, IsFirst, Fires, Steps, Runs, added, going, without, waiting, put_state, leaves_actor, after_firing}
-use Rattle.pt_meaning.specs.Emission.{IsUsable, AddsOneStep}
+use Rattle.pt_meaning.specs.Emission.{IsUsable, AddsOneStep, LeavesActor}
 use Rattle.pt_meaning.specs.Running.{states_from, state_at_start, actor_firing}
+use Rattle.pt_meaning.proofs.Currents.{equal_then}
 
 pub fires_by : (g : Graph) (rank : ℕ → ℕ) (w : World) (a : ℕ) (t : Tag) → IsFirst rank w.waits a t → any_present (waiting w.waits a t) ≡ true
     → Fires g rank w (actor_firing g w.states a t (waiting w.waits a t))
@@ -73,6 +74,14 @@ each_filter P test (x ∷ xs) each = kept_by P (test x) x (filter test xs) each.
 pub each_adds : (n : ℕ) (es : List Edge) → Each (IsUsable n) es → Each AddsOneStep es
 each_adds n [] each = tt
 each_adds n (e ∷ es) each = (each.0.step, each_adds n es each.1)
+
+leaves_by : (actor : ℕ) (b : Bool) (e : Edge) (es : List Edge) → (e.from == actor) ≡ b → Each (LeavesActor actor) es → Each (LeavesActor actor) (cond b (e ∷ es) es)
+leaves_by actor true e es is rest = (equal_then e.from actor is, rest)
+leaves_by actor false e es is rest = rest
+
+pub filter_leaves : (actor : ℕ) (es : List Edge) → Each (LeavesActor actor) (filter (leaves_actor actor) es)
+filter_leaves actor [] = tt
+filter_leaves actor (e ∷ es) = leaves_by actor (e.from == actor) e (filter (leaves_actor actor) es) refl (filter_leaves actor es)
 
 -- the states at the start
 starts_at : (actors : List Actor) (a : ℕ) → slice_index_or (map state_at_start actors) a (pos 0) ≡ first_state (slice_index_or actors a no_actor).kind

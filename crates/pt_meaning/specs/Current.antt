@@ -58,3 +58,10 @@ pub record IsCurrent (order : List Standing) (positions : List ℕ) (inputs : Li
   pub rising : StandingsRise order
   pub same : length inputs ≡ length order
   pub placed : (n : ℕ) → any_present (ports_at inputs n) ≡ true → position_at order positions (standing_at order n).actor ≡ n
+
+-- position k is that of an actor, and its events of this tag are there
+pub record IsPositionOf (s : Slate) (t : Tag) (actor k : ℕ) : Type 0 where
+  pub tag_is : s.tag ≡ t
+  pub at : position_at s.order s.positions actor ≡ k
+  pub actor_is : (standing_at s.order k).actor ≡ actor
+  pub there : k < length s.inputs

@@ -5,10 +5,10 @@ ghost use Rattle.pt_tags.specs.declared.tag.Tag.{Tag};
 ghost use Rattle.pt_semantics.specs.Firing.{any_present};
 ghost use Rattle.pt_semantics.specs.Meaning.{IsFirst, waiting, without};
 ghost use Rattle.pt_meaning.specs.declared.place.Place.{Place};
-ghost use Rattle.pt_meaning.specs.Current.{current_value, is_standing_of, standing_at};
+ghost use Rattle.pt_meaning.specs.Current.{current_value, is_standing_of, standing_at, IsPositionOf};
 ghost use Rattle.pt_meaning.specs.ComesFirst.{ComesFirst};
 ghost use Rattle.pt_meaning.specs.Front.{Enters};
-ghost use Rattle.pt_meaning.specs.Waiting.{waits_in, IsPlaceIn, EventsArePlaced};
+ghost use Rattle.pt_meaning.specs.Waiting.{place_of, waits_in, IsPlaceIn, EventsArePlaced};
 
 use crate::moments::number;
 use crate::order::{Standing, firing_order, position_of, positions_in};
@@ -102,22 +102,33 @@ impl Current {
         self.inputs.put(position, place.port, value);
         true
     }
-    /// Takes an actor's events of a tag, and returns their values.
+
+    /// The position of an actor whose events may be here; `None` if this tag doesn't run or the actor has no position.
     #[inline(always)]
-    pub fn take(&mut self, tag: Tag, actor: u32) -> Ports
-        ensures inputs { (rank : ℕ → ℕ) (actors steps : ℕ) → EventsArePlaced rank actors steps (current_value self.old) → result ≡ waiting (waits_in rank (current_value self.old)) actor tag }
-        ensures waits { (rank : ℕ → ℕ) (actors steps : ℕ) → EventsArePlaced rank actors steps (current_value self.old) → waits_in rank (current_value self.new) ≡ without (waits_in rank (current_value self.old)) actor tag }
-        ensures sound { (rank : ℕ → ℕ) (actors steps : ℕ) → EventsArePlaced rank actors steps (current_value self.old) → EventsArePlaced rank actors steps (current_value self.new) }
-        ensures len { length result ≡ 8 }
+    fn position(&self, tag: Tag, actor: u32) -> Option<usize>
+        ensures { MatchOption result ((rank : ℕ → ℕ) (p : ℕ) → current_value self.now (place_of rank actor p tag) ≡ None) (IsPositionOf self.now tag actor) }
     {
         let position = position_of(self.positions.as_slice(), actor, self.order.len());
-        if tag != self.tag {
-            return Ports::new();
+        if tag == self.tag && is_of_actor(self.order.as_slice(), position, actor) {
+            Some(position)
+        } else {
+            None
         }
-        if !is_of_actor(self.order.as_slice(), position, actor) {
-            return Ports::new();
-        }
-        self.inputs.take(position)
+    }
+
+    /// Takes an actor's events of a tag, and writes their values over `inputs`.
+    #[inline(always)]
+    pub fn take(&mut self, tag: Tag, actor: u32, inputs: &mut Ports)
+        ensures inputs { (rank : ℕ → ℕ) (actors steps : ℕ) → EventsArePlaced rank actors steps (current_value self.old) → inputs.new ≡ waiting (waits_in rank (current_value self.old)) actor tag }
+        ensures waits { (rank : ℕ → ℕ) (actors steps : ℕ) → EventsArePlaced rank actors steps (current_value self.old) → waits_in rank (current_value self.new) ≡ without (waits_in rank (current_value self.old)) actor tag }
+        ensures sound { (rank : ℕ → ℕ) (actors steps : ℕ) → EventsArePlaced rank actors steps (current_value self.old) → EventsArePlaced rank actors steps (current_value self.new) }
+        ensures len { length inputs.new ≡ 8 }
+    {
+        let Some(position) = self.position(tag, actor) else {
+            *inputs = Ports::new();
+            return;
+        };
+        self.inputs.take(position, inputs);
     }
 
     /// Lets a tag run, unless there are events of another one.

@@ -1,13 +1,12 @@
 //! Sending the outputs of a firing along the edges that leave its actor.
 
-ghost use Rattle.std.specs.Prelude.{◌≡◌, ◌<◌, ◌≤◌, ◌+◌, ◌^◌, ℕ, IfSome, IfNone, OnOk, [], ◌∷◌};
-ghost use Rattle.pt_tags.specs.Tags.{plus};
+ghost use Rattle.std.specs.Prelude.{◌≡◌, ◌<◌, ◌≤◌, ◌+◌, ◌^◌, ℕ, MatchBool, OnOk, [], ◌∷◌};
 ghost use Rattle.pt_types.specs.declared.graph.Graph.{Graph};
 ghost use Rattle.pt_semantics.specs.Lists.{Each};
 ghost use Rattle.pt_semantics.specs.Meaning.{added, going, leaves_actor};
 ghost use Rattle.pt_meaning.specs.Waiting.{waits_in, rank_in, EventsArePlaced};
 ghost use Rattle.pt_meaning.specs.Held.{late_value};
-ghost use Rattle.pt_meaning.specs.Emission.{IsUsable, AddsOneStep};
+ghost use Rattle.pt_meaning.specs.Emission.{IsUsable, AddsOneStep, LeavesActor};
 
 use crate::late::Late;
 use crate::place::Place;
@@ -21,47 +20,44 @@ pub fn rank_at(ranks: &[u32], actor: u32) -> u32
     ranks.get(actor as usize).copied().unwrap_or(0)
 }
 
-/// The tag plus a weight, if that isn't past the horizon.
-fn within(tag: Tag, weight: Delay, until: u64) -> Option<Tag>
-    requires { tag.step + weight.step < 2 ^ 64 }
-    ensures some { IfSome result (λ later. (later ≡ plus tag weight) × (later.time ≤ until)) }
-    ensures none { IfNone result (until < tag.time + weight.time) }
+/// Whether the time of a tag plus a weight is past the horizon.
+#[inline(always)]
+fn is_past(tag: Tag, weight: Delay, until: u64) -> bool
+    ensures { MatchBool result (until < tag.time + weight.time) (tag.time + weight.time ≤ until) }
 {
-    let later = tag.plus(weight)?;
-    if later.time <= until {
-        Some(later)
-    } else {
-        None
+    match tag.time.checked_add(weight.time) {
+        Some(time) => time > until,
+        None => true,
     }
 }
 
-/// Sends the output along one edge, if the edge leaves the actor, the output has a value, and the tag isn't past the horizon.
+/// Sends the output along one edge of the actor that fired, if the output has a value and the tag isn't past the horizon.
 fn emit_along(
     late: &mut Late,
     ranks: &[u32],
     until: u64,
-    actor: u32,
     edge: Edge,
     tag: Tag,
     outputs: &Ports,
 ) -> Result<(), Memory>
     requires step { tag.step + edge.weight.step < 2 ^ 64 }
     ensures waits { OnOk result ((g : Graph) → g.until ≡ until → waits_in (rank_in ranks.now) (late_value late.new)
-        ≡ added (waits_in (rank_in ranks.now) (late_value late.old)) (going g (edge ∷ []) (leaves_actor actor) tag outputs.now)) }
+        ≡ added (waits_in (rank_in ranks.now) (late_value late.old)) (going g (edge ∷ []) (leaves_actor edge.from) tag outputs.now)) }
     ensures sound { OnOk result ((actors steps : ℕ) → IsUsable actors edge → tag.step + 1 ≤ steps
         → EventsArePlaced (rank_in ranks.now) actors steps (late_value late.old) → EventsArePlaced (rank_in ranks.now) actors steps (late_value late.new)) }
 {
-    if edge.from != actor {
-        return Ok(());
-    }
     let Some(value) = outputs.get(edge.output) else {
         return Ok(());
     };
-    let Some(tag) = within(tag, edge.weight, until) else {
+    if is_past(tag, edge.weight, until) {
         return Ok(());
+    }
+    let later = Tag {
+        time: tag.time + edge.weight.time,
+        step: tag.step + edge.weight.step,
     };
     let place = Place {
-        tag,
+        tag: later,
         rank: rank_at(ranks, edge.to),
         actor: edge.to,
         port: edge.input,
@@ -69,25 +65,24 @@ fn emit_along(
     late.add(place, value)
 }
 
-/// Sends the outputs of an actor that fired at a tag along those of these edges that leave it.
+/// Sends the outputs of an actor that fired at a tag along these edges, all of which leave it.
 pub fn emit(
     late: &mut Late,
     ranks: &[u32],
     until: u64,
-    actor: u32,
     edges: &[Edge],
     tag: Tag,
     outputs: &Ports,
 ) -> Result<(), Memory>
     requires step { tag.step + 1 < 2 ^ 64 }
     requires edges { Each AddsOneStep edges.now }
-    ensures waits { OnOk result ((g : Graph) → g.until ≡ until → waits_in (rank_in ranks.now) (late_value late.new)
+    ensures waits { OnOk result ((g : Graph) (actor : ℕ) → g.until ≡ until → Each (LeavesActor actor) edges.now → waits_in (rank_in ranks.now) (late_value late.new)
         ≡ added (waits_in (rank_in ranks.now) (late_value late.old)) (going g edges.now (leaves_actor actor) tag outputs.now)) }
     ensures sound { OnOk result ((actors steps : ℕ) → Each (IsUsable actors) edges.now → tag.step + 1 ≤ steps
         → EventsArePlaced (rank_in ranks.now) actors steps (late_value late.old) → EventsArePlaced (rank_in ranks.now) actors steps (late_value late.new)) }
 {
     for edge in edges {
-        emit_along(late, ranks, until, actor, *edge, tag, outputs)?;
+        emit_along(late, ranks, until, *edge, tag, outputs)?;
     }
     Ok(())
 }

@@ -141,7 +141,6 @@ pub fn fire_next(
         &mut list.waiting.late,
         ranks,
         graph.until,
-        actor,
         leaving,
         tag,
         &firing.outputs,

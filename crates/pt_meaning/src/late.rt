@@ -75,7 +75,7 @@ impl Late {
         ensures waits { (rank : ℕ → ℕ) (actors steps : ℕ) → EventsArePlaced rank actors steps (late_value self.old) → IsFirst rank (waits_in rank (late_value self.old)) actor tag → waits_in rank (late_value self.new) ≡ without (waits_in rank (late_value self.old)) actor tag }
         ensures sound { (rank : ℕ → ℕ) (actors steps : ℕ) → EventsArePlaced rank actors steps (late_value self.old) → EventsArePlaced rank actors steps (late_value self.new) }
     {
-        *inputs = self.current.take(tag, actor);
+        self.current.take(tag, actor, inputs);
         self.pending.take(tag, actor, inputs);
         self.current.begin(tag);
     }

@@ -80,17 +80,16 @@ impl ReadyInputs {
         set_bit(&mut self.ready, position);
     }
 
-    /// Takes the values at the inputs of a position.
+    /// Takes the values at the inputs of a position, and writes them over `inputs`.
     #[inline(always)]
-    pub fn take(&mut self, position: usize) -> Ports
+    pub fn take(&mut self, position: usize, inputs: &mut Ports)
         requires { position < length self.old }
-        ensures values { result ≡ ports_at self.old position }
+        ensures values { inputs.new ≡ ports_at self.old position }
         ensures rest { self.new ≡ slice_set self.old position (eight nothing) }
-        ensures len { length result ≡ 8 }
+        ensures len { length inputs.new ≡ 8 }
     {
-        let values = self.inputs[position];
+        *inputs = self.inputs[position];
         self.inputs[position] = Ports::new();
         clear_bit(&mut self.ready, position);
-        values
     }
 }

@@ -6,11 +6,11 @@ use Rattle.pt_semantics.specs.Meaning.{Fires, added, going, put_state, waiting, 
 use Rattle.pt_meaning.specs.Early.{early_waits, left}
 use Rattle.pt_meaning.specs.Waiting.{waits_in, rank_in}
 use Rattle.pt_meaning.specs.Running.{world_in, states_from, actor_firing}
-use Rattle.pt_meaning.specs.Emission.{IsUsable, AddsOneStep}
+use Rattle.pt_meaning.specs.Emission.{IsUsable, AddsOneStep, LeavesActor}
 use Rattle.pt_meaning.specs.Both.{all_waits}
 use Rattle.pt_meaning.specs.Held.{late_value}
 use Rattle.pt_meaning.proofs.Both.{added_late}
-use Rattle.pt_meaning.proofs.FiredOn.{fires_by, after_by, each_filter, each_adds}
+use Rattle.pt_meaning.proofs.FiredOn.{fires_by, after_by, each_filter, each_adds, filter_leaves}
 use Rattle.pt_meaning.proofs.engine.fire_next.Goals as goal
 
 pub emit-requires-clause-edges : goal.emit-requires-clause-edges
@@ -32,7 +32,7 @@ returns-clause-after c =
     let w = world_in c.args.ranks.now c.args.list.now.waiting c.args.list.now.states.items in
     let kept : states_from c.set_state.new.states.items ≡ put_state (states_from c.args.list.now.states.items) c.args.actor c.fire.new.firing.after = search rules in
     let rank = rank_in c.args.ranks.now in
-    let sent = ap (added (early_waits (left c.take.new.self.early))) (c.in_ok-emit.ensures.waits g refl)
+    let sent = ap (added (early_waits (left c.take.new.self.early))) (c.in_ok-emit.ensures.waits g c.args.actor refl (subst (Each (LeavesActor c.args.actor)) (sym c.requires.leaving) (filter_leaves c.args.actor (edges g))))
     ∙ added_late (early_waits (left c.take.new.self.early)) (waits_in rank (late_value c.take.new.self.late)) (going g c.args.leaving.now (leaves_actor c.args.actor) c.args.tag c.fire.new.firing.outputs) in
     after_by g w c.fire.new.firing c.args.actor c.args.tag (all_waits rank c.take.new.self) (added (early_waits (left c.take.new.self.early)) (waits_in rank (late_value c.emit.new.late)))
     (states_from c.set_state.new.states.items) c.args.leaving.now (ap (λ (x : ActorFiring). x.actor) c.fire.ensures) (ap (λ (x : ActorFiring). x.tag) c.fire.ensures)
