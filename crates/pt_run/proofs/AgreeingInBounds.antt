@@ -13,10 +13,10 @@ use Rattle.pt_sensors.specs.Asked.{Contents, Reading}
 use Rattle.pt_words.specs.declared.orders.ClockChoice.TheVariants.{Paced}
 use Rattle.pt_run.specs.Causes.{Writing}
 use Rattle.pt_run.specs.Complete.{CanRun}
-use Rattle.pt_run.specs.declared.words.Command.TheVariants.{Run}
+use Rattle.pt_words.specs.declared.orders.Command.TheVariants.{Run}
 use Rattle.pt_run.specs.InBounds.{ReplaysInBoundsAgreeWithRuns}
 use Rattle.pt_run.specs.Runs.{log_if}
-use Rattle.pt_run.specs.Words.{over, replay}
+use Rattle.pt_words.specs.Grammar.{over, replay}
 use Rattle.pt_run.specs.Written.{Leaves, clocking}
 use Rattle.pt_run.proofs.ByFault.{Ends}
 use Rattle.pt_run.proofs.Complete.{firings_meant, missed_meant, this_graph}

@@ -13,7 +13,8 @@ use Rattle.pt_run.specs.Causes.{Writing}
 use Rattle.pt_run.proofs.ByCause.{CanReadAir, WantsAir}
 use Rattle.pt_run.specs.Leaving.{RunWith}
 use Rattle.pt_run.specs.Replaying.{LeavesReplay, OnAir}
-use Rattle.pt_run.specs.Words.{Order, paced_run}
+use Rattle.pt_words.specs.Grammar.{Order}
+use Rattle.pt_run.specs.Telling.{paced_run}
 use Rattle.pt_run.specs.Written.{Leaves}
 use Rattle.pt_run.proofs.ByFault.{EndsReplay, IsCause, is_before_last}
 use Rattle.pt_run.proofs.Stages.{not_true}

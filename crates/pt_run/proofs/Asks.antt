@@ -24,7 +24,7 @@ use Rattle.pt_run.specs.declared.fault.Fault.{Fault}
 use Rattle.pt_run.specs.declared.fault.Fault.TheVariants as fault
 use Rattle.pt_run.specs.declared.outcome.Ending.{Ending}
 use Rattle.pt_run.specs.declared.replay.Stopped.{Stopped}
-use Rattle.pt_run.specs.declared.words.Command.{Command}
+use Rattle.pt_words.specs.declared.orders.Command.{Command}
 use Rattle.pt_run.specs.Asks.{AreAsked, AsksAlone, AsksFrom, AsksOf, AsksOver, AsksStopped, Begins, all_sensors, files_for}
 use Rattle.pt_run.specs.Causes.{Writing}
 use Rattle.pt_run.specs.Due.{AfterCycles, AfterOffsets, Answer, AnswersAsDue, EndsRefused, IsMeantBy, UnlessMemory}
@@ -32,7 +32,7 @@ use Rattle.pt_run.specs.Faults.{fault_of_air, fault_of_cycle, fault_of_graph, fa
 use Rattle.pt_run.specs.Flown.{EndsAsReplayed, IsOfReplay, stop_in}
 use Rattle.pt_run.specs.Runs.{IsStop}
 use Rattle.pt_run.specs.Texts.{HasEnded, OrMemory, PutBy, PutsOrTells, fault_in}
-use Rattle.pt_run.specs.Words.{Order, audit, make, migrate, over, replay}
+use Rattle.pt_words.specs.Grammar.{Order, audit, make, migrate, over, replay}
 use Rattle.pt_run.specs.Written.{leaves_nothing}
 use Rattle.pt_run.proofs.Planned.{by_refusal}
 

@@ -21,7 +21,7 @@ use Rattle.pt_run.specs.Causes.{Writing}
 use Rattle.pt_run.specs.Complete.{CanBegin}
 use Rattle.pt_run.proofs.ByCause.{CanAudit, WantsLog}
 use Rattle.pt_run.specs.Leaving.{RunWith}
-use Rattle.pt_run.specs.Words.{Order}
+use Rattle.pt_words.specs.Grammar.{Order}
 use Rattle.pt_run.specs.Written.{Leaves}
 use Rattle.pt_run.proofs.ByFault.{EndsAudit}
 use Rattle.pt_run.proofs.Stages.{not_true}

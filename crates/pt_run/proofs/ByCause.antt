@@ -23,15 +23,16 @@ use Rattle.pt_run.specs.RunsAgreeing.{TellsSensors}
 use Rattle.pt_words.specs.declared.orders.ClockChoice.{ClockChoice}
 use Rattle.pt_run.specs.declared.fault.Fault.{Fault}
 use Rattle.pt_run.specs.declared.fault.Fault.TheVariants as fault
-use Rattle.pt_run.specs.declared.words.Command.{Command}
-use Rattle.pt_run.specs.declared.words.Command.TheVariants.{Run, Meaning, Slacks}
+use Rattle.pt_words.specs.declared.orders.Command.{Command}
+use Rattle.pt_words.specs.declared.orders.Command.TheVariants.{Run, Meaning, Slacks}
 use Rattle.pt_run.specs.Causes.{IsTooLongForAll}
 use Rattle.pt_run.proofs.CauseFields.{AsksFeasible, OfRows}
 use Rattle.pt_air.specs.declared.fault.AirFault.{AirFault}
 use Rattle.pt_air.specs.AirOf.{air_of}
 use Rattle.pt_run.specs.Auditing.{Refuses}
+use Rattle.pt_run.specs.Telling.{paced_run}
 use Rattle.pt_run.specs.Complete.{CanBegin}
-use Rattle.pt_run.specs.Words.{Order, over, migrate, audit, replay, refused_as}
+use Rattle.pt_words.specs.Grammar.{Order, over, migrate, audit, replay}
 
 -- memory ran out
 abbrev pub WantsMemory : Option Fault → Type 0
@@ -52,6 +53,12 @@ WantsLog outcome = WantsRows outcome ⊎ (outcome ≡ Some fault.ReadLog)
 -- the same, or the recording could not be read
 abbrev pub WantsAir : Option Fault → Type 0
 WantsAir outcome = WantsRows outcome ⊎ (outcome ≡ Some fault.ReadAir)
+
+-- the order by which a graph and the files of its sensors are refused
+abbrev pub refused_as : Option Order → Option Order
+refused_as (Some (audit graph log)) = Some (over paced_run graph)
+refused_as (Some (replay graph air workers log)) = Some (over paced_run graph)
+refused_as order = order
 
 -- the words give this order for a graph file whose content is known, and it defines this graph or has this fault
 pub record Defines (order : Option Order) (tells : Contents) (blocks : List Named) (order_for : List ℕ → Order) (defined : Result Graph GraphFault) : Type 0 where

@@ -22,8 +22,8 @@ use Rattle.pt_words.specs.declared.orders.ClockChoice.{ClockChoice}
 use Rattle.pt_air.specs.AirOf.{air_of}
 use Rattle.pt_run.specs.declared.fault.Fault.{Fault}
 use Rattle.pt_run.specs.declared.fault.Fault.TheVariants as fault
-use Rattle.pt_run.specs.declared.words.Command.{Command}
-use Rattle.pt_run.specs.declared.words.Command.TheVariants.{Run, Check, Meaning, Slacks}
+use Rattle.pt_words.specs.declared.orders.Command.{Command}
+use Rattle.pt_words.specs.declared.orders.Command.TheVariants.{Run, Check, Meaning, Slacks}
 use Rattle.pt_run.specs.Auditing.{Accepts, IsUnlawful, LastFails, OnLog, lawful_line}
 use Rattle.pt_run.specs.Causes.{IsTooLongForAll, Writing}
 use Rattle.pt_run.specs.Leaving.{RunWith}
@@ -31,7 +31,8 @@ use Rattle.pt_run.specs.Making.{IsMadeRun}
 use Rattle.pt_run.specs.Migrating.{IsMigrated}
 use Rattle.pt_run.specs.Replaying.{LeavesReplay, OnAir}
 use Rattle.pt_run.specs.Runs.{HasRun}
-use Rattle.pt_run.specs.Words.{Order, over, make, migrate, audit, replay, paced_run}
+use Rattle.pt_words.specs.Grammar.{Order, over, make, migrate, audit, replay}
+use Rattle.pt_run.specs.Telling.{paced_run}
 use Rattle.pt_run.specs.Written.{FitOnAll, GraphWith, HasNothing, IsChecked, IsRun, IsTables, Leaves, clocking}
 
 -- the meaning of the graph and its sensors' rows is too long

@@ -25,11 +25,11 @@ use Rattle.pt_run.proofs.ByCause.{ComesByCause, Defines, ReadsRows, WantsGraph, 
 use Rattle.pt_run.specs.RunsAgreeing.{TellsSensors}
 use Rattle.pt_run.specs.Runs.{HasRun, IsFinishedRun}
 use Rattle.pt_run.specs.Statuses.{status_of, status_of_fault}
-use Rattle.pt_run.specs.Words.{over}
+use Rattle.pt_words.specs.Grammar.{over}
 use Rattle.pt_run.specs.Written.{HasNothing, Leaves, clocking, has_run, stop_of}
 use Rattle.pt_run.specs.declared.fault.Fault.{Fault}
 use Rattle.pt_run.specs.declared.fault.Fault.TheVariants as fault
-use Rattle.pt_run.specs.declared.words.Command.TheVariants.{Run}
+use Rattle.pt_words.specs.declared.orders.Command.TheVariants.{Run}
 use Rattle.pt_run.proofs.ByFault.{EndsBy}
 use Rattle.pt_run.proofs.DueEnds.{due_ends}
 use Rattle.pt_run.proofs.Exact.{exact}

@@ -24,15 +24,16 @@ use Rattle.pt_turn.specs.Running.{ShowsLate, ShowsLong}
 use Rattle.pt_words.specs.declared.orders.ClockChoice.TheVariants.{Paced}
 use Rattle.pt_run.specs.declared.fault.Fault.{Fault}
 use Rattle.pt_run.specs.declared.fault.Fault.TheVariants as fault
-use Rattle.pt_run.specs.declared.words.Command.{Command}
-use Rattle.pt_run.specs.declared.words.Command.TheVariants.{Run, Check, Meaning, Slacks}
+use Rattle.pt_words.specs.declared.orders.Command.{Command}
+use Rattle.pt_words.specs.declared.orders.Command.TheVariants.{Run, Check, Meaning, Slacks}
 use Rattle.pt_run.specs.Causes.{Writing}
 use Rattle.pt_run.specs.Auditing.{Accepts, IsUnlawful, LastFails, OnLog}
 use Rattle.pt_air.specs.declared.fault.AirFault.{AirFault}
 use Rattle.pt_air.specs.AirOf.{air_of}
 use Rattle.pt_run.specs.Leaving.{RunWith}
 use Rattle.pt_run.specs.Replaying.{OnAir}
-use Rattle.pt_run.specs.Words.{Order, over, make, migrate, audit, replay, paced_run}
+use Rattle.pt_words.specs.Grammar.{Order, over, make, migrate, audit, replay}
+use Rattle.pt_run.specs.Telling.{paced_run}
 use Rattle.pt_run.specs.Complete.{OnPlatform}
 use Rattle.pt_run.specs.Written.{GraphWith, Leaves}
 use Rattle.pt_run.proofs.ByFault.{MeansLong}

@@ -40,7 +40,7 @@ use Rattle.pt_run.proofs.RunsAgreeing.{rows_are_one}
 use Rattle.pt_run.specs.Runs.{IsFinishedRun}
 use Rattle.pt_run.specs.declared.fault.Fault.{Fault}
 use Rattle.pt_run.specs.declared.fault.Fault.TheVariants as fault
-use Rattle.pt_run.specs.declared.words.Command.TheVariants.{Run}
+use Rattle.pt_words.specs.declared.orders.Command.TheVariants.{Run}
 use Rattle.pt_run.specs.Causes.{Writing}
 use Rattle.pt_run.specs.Complete.{CanBegin, EndsAsShown, FitsClaims, IsComplete, IsCompleteByAnyClock, StatusIsMeant}
 use Rattle.pt_run.specs.Written.{GraphWith, Leaves, Means, clocking}
@@ -52,7 +52,7 @@ use Rattle.pt_words.specs.declared.orders.ClockChoice.{ClockChoice}
 use Rattle.pt_words.specs.declared.orders.ClockChoice.TheVariants.{Paced}
 use Rattle.pt_run.specs.Readings.{Clocking}
 use Rattle.pt_run.specs.Statuses.{status_of}
-use Rattle.pt_run.specs.Words.{Order}
+use Rattle.pt_words.specs.Grammar.{Order}
 use Rattle.pt_types.specs.Limits.{most_claims}
 
 -- what a file defines that is told is one

@@ -30,7 +30,8 @@ use Rattle.pt_run.specs.InBounds.{CanReplay, DoAsPaced, IsCompleteInBounds}
 use Rattle.pt_run.specs.Replaying.{LeavesReplay, OnAir, stop_of_replay}
 use Rattle.pt_run.specs.Runs.{log_if}
 use Rattle.pt_run.specs.Statuses.{status_of}
-use Rattle.pt_run.specs.Words.{Order, paced_run}
+use Rattle.pt_words.specs.Grammar.{Order}
+use Rattle.pt_run.specs.Telling.{paced_run}
 use Rattle.pt_run.specs.Written.{Leaves}
 use Rattle.pt_run.proofs.ByFault.{Ends, EndsReplay, IsCause, is_before_last}
 use Rattle.pt_run.proofs.Stages.{not_true}

@@ -25,8 +25,8 @@ use Rattle.pt_words.specs.declared.orders.ClockChoice.{ClockChoice}
 use Rattle.pt_words.specs.declared.orders.ClockChoice.TheVariants.{Paced}
 use Rattle.pt_run.specs.declared.fault.Fault.{Fault}
 use Rattle.pt_run.specs.declared.fault.Fault.TheVariants as fault
-use Rattle.pt_run.specs.declared.words.Command.{Command}
-use Rattle.pt_run.specs.declared.words.Command.TheVariants.{Run, Check, Meaning, Slacks}
+use Rattle.pt_words.specs.declared.orders.Command.{Command}
+use Rattle.pt_words.specs.declared.orders.Command.TheVariants.{Run, Check, Meaning, Slacks}
 use Rattle.pt_run.specs.Auditing.{Accepts, IsUnlawful, LastFails, OnLog, lawful_line}
 use Rattle.pt_run.specs.Causes.{Writing}
 use Rattle.pt_run.specs.Due.{AfterAdmission, AfterOffsets, AfterRows, Answer, HasRunBy, IsDue, IsDueFor, IsDueTo, IsJudgedBy, IsMeantBy, IsReplayedBy, IsSlackedBy, OnlyPuts, PutsText, RefusedWith}
@@ -35,7 +35,8 @@ use Rattle.pt_run.specs.Making.{IsMadeRun}
 use Rattle.pt_run.specs.Migrating.{IsMigrated}
 use Rattle.pt_run.specs.Replaying.{LeavesReplay, OnAir, has_replayed}
 use Rattle.pt_run.specs.Runs.{HasRun, RunsPaced, WentBy, log_if}
-use Rattle.pt_run.specs.Words.{Order, over, make, migrate, audit, replay, paced_run}
+use Rattle.pt_words.specs.Grammar.{Order, over, make, migrate, audit, replay}
+use Rattle.pt_run.specs.Telling.{paced_run}
 use Rattle.pt_run.specs.Written.{FitOnAll, HasNothing, IsChecked, IsRun, IsTables, Leaves, clocking, stop_of}
 use Rattle.pt_run.proofs.ByFault.{Ends, EndsAudit, EndsBy, EndsMade, EndsMigrated, EndsReplay, Writes}
 use Rattle.pt_run.proofs.Finished.{missed_as_meant}

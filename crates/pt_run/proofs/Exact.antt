@@ -31,12 +31,13 @@ use Rattle.pt_run.specs.Readings.{Clocking}
 use Rattle.pt_run.specs.Runs.{HasRun}
 use Rattle.pt_run.specs.declared.fault.Fault.{Fault}
 use Rattle.pt_run.specs.declared.fault.Fault.TheVariants as fault
-use Rattle.pt_run.specs.declared.words.Command.{Command}
-use Rattle.pt_run.specs.declared.words.Command.TheVariants.{Run, Check, Meaning, Slacks}
+use Rattle.pt_words.specs.declared.orders.Command.{Command}
+use Rattle.pt_words.specs.declared.orders.Command.TheVariants.{Run, Check, Meaning, Slacks}
 use Rattle.pt_run.specs.Causes.{IsTooLongForAll, Writing}
 use Rattle.pt_run.proofs.CauseFields.{AsksFeasible, OfRows}
-use Rattle.pt_run.proofs.ByCause.{CanAudit, ComesByCause, Defines, WantsGraph, WantsMemory, WantsRows}
-use Rattle.pt_run.specs.Words.{Order, audit, make, migrate, over, paced_run, refused_as, replay}
+use Rattle.pt_run.proofs.ByCause.{CanAudit, ComesByCause, Defines, WantsGraph, WantsMemory, WantsRows, refused_as}
+use Rattle.pt_words.specs.Grammar.{Order, audit, make, migrate, over, replay}
+use Rattle.pt_run.specs.Telling.{paced_run}
 use Rattle.pt_run.specs.Written.{GraphWith, Leaves, clocking}
 use Rattle.pt_run.proofs.ByFault.{CauseOf, CauseOfCheck, CauseOfMeaning, CauseOfNoSlacks, CauseOfRun, CauseOfText, Ends, EndsBy, EndsMigrated, IsMeant, Writes}
 use Rattle.pt_run.proofs.Audited.{Audited, audited, finds_lawful, finds_unlawful, finds_verdict}

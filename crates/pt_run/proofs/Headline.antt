@@ -34,13 +34,13 @@ use Rattle.pt_words.specs.declared.orders.ClockChoice.{ClockChoice}
 use Rattle.pt_words.specs.declared.orders.ClockChoice.TheVariants.{Paced}
 use Rattle.pt_run.specs.declared.fault.Fault.{Fault}
 use Rattle.pt_run.specs.declared.fault.Fault.TheVariants as fault
-use Rattle.pt_run.specs.declared.words.Command.TheVariants.{Run}
+use Rattle.pt_words.specs.declared.orders.Command.TheVariants.{Run}
 use Rattle.pt_run.specs.Due.{AfterAdmission, Answer, HasRunBy, IsDue, IsDueTo, RefusedWith, UnlessMemory}
 use Rattle.pt_run.specs.Leaving.{PutsMeaning}
 use Rattle.pt_run.specs.OverFiles.{HasHeadline, WentByReadings, at_end, inputs_of}
 use Rattle.pt_run.specs.Headline.{AtEnd, ByReadings, EndAs, Headline, LeavesTurns, PutsTables, turns_at}
 use Rattle.pt_run.specs.Runs.{IsKept, RunsPaced}
-use Rattle.pt_run.specs.Words.{Order, over}
+use Rattle.pt_words.specs.Grammar.{Order, over}
 use Rattle.pt_run.specs.Written.{clocking, has_run, stop_of}
 use Rattle.pt_run.proofs.Stages.{by_admission, by_file, with_fault}
 

@@ -21,14 +21,14 @@ use Rattle.pt_audit.proofs.Printing.{printed_is_lawful}
 use Rattle.pt_words.specs.declared.orders.ClockChoice.{ClockChoice}
 use Rattle.pt_run.specs.declared.fault.Fault.{Fault}
 use Rattle.pt_run.specs.declared.fault.Fault.TheVariants as fault
-use Rattle.pt_run.specs.declared.words.Command.TheVariants.{Run}
+use Rattle.pt_words.specs.declared.orders.Command.TheVariants.{Run}
 use Rattle.pt_run.specs.Causes.{Writing}
 use Rattle.pt_run.specs.Due.{AfterAdmission, Answer, HasRunBy, IsDueTo, UnlessMemory}
 use Rattle.pt_run.specs.Leaving.{PutsMeaning, RunWith}
 use Rattle.pt_run.specs.LawfulRuns.{FinishedRunsAreLawful, ReplaysWriteLawfulLogs, RunsWriteLawfulLogs, WritesLawfulLog}
 use Rattle.pt_run.specs.Replaying.{LeavesReplay}
 use Rattle.pt_run.specs.Runs.{IsKept}
-use Rattle.pt_run.specs.Words.{over}
+use Rattle.pt_words.specs.Grammar.{over}
 use Rattle.pt_run.specs.Written.{Leaves, stop_of}
 use Rattle.pt_run.proofs.Finished.{kept_finished}
 use Rattle.pt_run.proofs.Stages.{by_admission, by_file, with_fault}

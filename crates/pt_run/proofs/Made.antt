@@ -1,5 +1,5 @@
 -- Runs over made inputs.
-use Rattle.std.proofs.Common.{◌≡◌, ◌≢◌, ℕ, suc, ◌+◌, ◌<◌, ◌≤◌, List, [], ◌∷◌, get_or, Option, None, Some, ℤ, pos, ◌-ℤ◌, ◌+ℤ◌, ◌<ℤ◌, length, option_map, slice_get, arith, append-nil, Bool, refl, sym, ap, subst, ◌∙◌, inl, ⊎_elim, inr}
+use Rattle.std.proofs.Common.{◌≡◌, ◌≢◌, ℕ, suc, ◌+◌, ◌<◌, ◌≤◌, List, [], ◌∷◌, get_or, Option, None, Some, ℤ, pos, ◌-ℤ◌, ◌+ℤ◌, ◌<ℤ◌, length, option_map, slice_get, arith, append-nil, refl, sym, ap, subst, ◌∙◌, inl, ⊎_elim, inr}
 use Rattle.std.specs.Prelude.{MatchOption, String, flat_map}
 use Rattle.std.specs.declared.alloc.Global.{Global}
 use Rattle.std.proofs.lemmas.Int.{ints}
@@ -16,7 +16,7 @@ use Rattle.pt_semantics.specs.Platform.{State}
 use Rattle.pt_semantics.specs.Ranks.{AreLevels, sum_along}
 use Rattle.pt_semantics.specs.Rounds.{IsWholeRun}
 use Rattle.pt_semantics.specs.Rows.{FitRows}
-use Rattle.pt_semantics.proofs.Lookups.{none_some, same_some}
+use Rattle.pt_semantics.proofs.Lookups.{same_some}
 use Rattle.pt_semantics.specs.Visits.{Together}
 use Rattle.pt_causality.specs.Ranked.{level_of, rank_of}
 use Rattle.pt_offsets.specs.Plans.{IsAdmitted, Parts}
@@ -41,19 +41,16 @@ use Rattle.pt_made.proofs.Timely.{never_missed}
 use Rattle.pt_run.specs.declared.fault.Fault.{Fault}
 use Rattle.pt_turn.specs.All.{AreReady}
 use Rattle.pt_io.specs.Causes.{Appends, AppendsPart, Rose}
-use Rattle.pt_words.specs.declared.orders.ClockChoice.{ClockChoice}
-use Rattle.pt_words.specs.Grammar as grammar
+use Rattle.pt_words.specs.declared.orders.Order as declared
+use Rattle.pt_words.specs.declared.orders.Order.TheVariants.{Make}
 use Rattle.pt_words.proofs.Numbers.{made_number}
-use Rattle.pt_run.specs.declared.words.Asked.{Asked}
-use Rattle.pt_run.specs.declared.words.Asked.TheVariants.{Make}
-use Rattle.pt_run.specs.declared.words.Command.TheVariants.{Run, Check, Meaning, Slacks}
 use Rattle.pt_run.specs.declared.outcome.Ending.{Ending}
 use Rattle.pt_run.specs.Texts.{left_by, left_by_run}
 use Rattle.pt_run.specs.Due.{IsDue}
 use Rattle.pt_run.specs.Written.{Leaves}
 use Rattle.pt_run.specs.Causes.{Writing}
 use Rattle.pt_run.specs.declared.fault.Fault.TheVariants as fault
-use Rattle.pt_run.specs.Asking.{in_words}
+use Rattle.pt_words.specs.Views.{in_words}
 use Rattle.pt_blocks.specs.declared.blocks.Named.{Named}
 use Rattle.pt_sensors.specs.Asked.{Contents, Reading}
 use Rattle.pt_sensors.proofs.Asking.{asks_none}
@@ -63,7 +60,7 @@ use Rattle.pt_run.specs.Telling.{Tells}
 use Rattle.pt_offsets.specs.Faults.{CauseOfPlan}
 use Rattle.pt_offsets.specs.declared.fault.PlanFault.{PlanFault}
 use Rattle.pt_offsets.specs.declared.fault.PlanFault.TheVariants as unplanned
-use Rattle.pt_run.specs.Words.{audit, make, migrate, order_by, order_of, over, replay}
+use Rattle.pt_words.specs.Grammar.{make, order_of}
 use Rattle.pt_types.specs.Limits.{most_claims}
 
 -- a made graph has a plan, unless memory runs out
@@ -170,49 +167,14 @@ tells_nothing outcome misses n written is none =
     nothing_put (Some bytes) = ap Some (sym (append-nil bytes))
 
 -- the number of a `make`
-pub made_number_in : (words : List (String Global)) (order : Option Asked) (n k : ℕ) → option_map in_words order ≡ order_of words → order ≡ Some (Make n k) → n ≤ 100
-made_number_in words order n k says is = by_request (grammar.request_of_words words) refl (sym says ∙ ap (option_map in_words) is)
-  where
-    by_request : (o : Option grammar.Request) → grammar.request_of_words words ≡ o → option_map order_by o ≡ Some (make n k) → n ≤ 100
-    by_request None e h = absurd (none_some (make n k) h)
-    by_request (Some (grammar.run graph workers clock log)) e h = absurd (other graph workers clock log h)
-      where
-        other : (graph : List ℕ) (workers : ℕ) (clock : ClockChoice) (log : Bool) → Some (over (Run workers clock log) graph) ≡ Some (make n k) → ⊥
-        other graph workers clock log h = cc
-    by_request (Some (grammar.check graph)) e h = absurd (other graph h)
-      where
-        other : (graph : List ℕ) → Some (over Check graph) ≡ Some (make n k) → ⊥
-        other graph h = cc
-    by_request (Some (grammar.meaning graph)) e h = absurd (other graph h)
-      where
-        other : (graph : List ℕ) → Some (over Meaning graph) ≡ Some (make n k) → ⊥
-        other graph h = cc
-    by_request (Some (grammar.migrate graph)) e h = absurd (other graph h)
-      where
-        other : (graph : List ℕ) → Some (migrate graph) ≡ Some (make n k) → ⊥
-        other graph h = cc
-    by_request (Some (grammar.slacks graph)) e h = absurd (other graph h)
-      where
-        other : (graph : List ℕ) → Some (over Slacks graph) ≡ Some (make n k) → ⊥
-        other graph h = cc
-    by_request (Some (grammar.audit graph log)) e h = absurd (other graph log h)
-      where
-        other : (graph log : List ℕ) → Some (audit graph log) ≡ Some (make n k) → ⊥
-        other graph log e = cc
-    by_request (Some (grammar.replay graph air workers log)) e h = absurd (other graph air workers log h)
-      where
-        other : (graph air : List ℕ) (workers : ℕ) (log : Bool) → Some (replay graph air workers log) ≡ Some (make n k) → ⊥
-        other graph air workers log e = cc
-    by_request (Some (grammar.make number workers)) e h = made_number words n k (e ∙ ap Some (same number workers h))
-      where
-        same : (a b : ℕ) → Some (make a b) ≡ Some (make n k) → grammar.make a b ≡ grammar.make n k
-        same a b h = cc
+pub made_number_in : (words : List (String Global)) (order : Option declared.Order) (n k : ℕ) → option_map in_words order ≡ order_of words → order ≡ Some (Make n k) → n ≤ 100
+made_number_in words order n k says is = made_number words n k (sym says ∙ ap (option_map in_words) is)
 
-pub order_is : (words : List (String Global)) (order : Option Asked) (n k : ℕ) → option_map in_words order ≡ order_of words → order ≡ Some (Make n k) → Some (make n k) ≡ order_of words
+pub order_is : (words : List (String Global)) (order : Option declared.Order) (n k : ℕ) → option_map in_words order ≡ order_of words → order ≡ Some (Make n k) → Some (make n k) ≡ order_of words
 order_is words order n k says is = sym (ap (option_map in_words) is) ∙ says
 
 -- it asks for no file
-pub asks_for_none : (words : List (String Global)) (order : Option Asked) (n k : ℕ) (outcome : Option Fault) (tells : Contents) (blocks : List Named) (asked : Option (List (List ℕ))) (faults : ℕ) → option_map in_words order ≡ order_of words → order ≡ Some (Make n k)
+pub asks_for_none : (words : List (String Global)) (order : Option declared.Order) (n k : ℕ) (outcome : Option Fault) (tells : Contents) (blocks : List Named) (asked : Option (List (List ℕ))) (faults : ℕ) → option_map in_words order ≡ order_of words → order ≡ Some (Make n k)
     → AsksOf outcome (order_of words) tells blocks (record { asked_before = asked; asked_now = asked; before = faults; now = faults })
 asks_for_none words order n k outcome tells blocks asked faults says is =
     subst (λ o. AsksOf outcome o tells blocks (record { asked_before = asked; asked_now = asked; before = faults; now = faults })) (order_is words order n k says is) (asks_none asked asked refl)

@@ -11,7 +11,7 @@ use Rattle.pt_run.specs.InBounds.{IsCompleteInBounds}
 use Rattle.pt_run.specs.OverFiles.{HasHeadline}
 use Rattle.pt_run.specs.Replaying.{IsReplayHeadline}
 use Rattle.pt_run.specs.Statuses.{status_of}
-use Rattle.pt_run.specs.Words.{Order}
+use Rattle.pt_words.specs.Grammar.{Order}
 use Rattle.pt_run.proofs.ByFault.{Ends}
 use Rattle.pt_run.proofs.CauseTable.{caused}
 use Rattle.pt_run.proofs.Complete as completes

@@ -25,8 +25,8 @@ use Rattle.pt_words.specs.declared.orders.ClockChoice.{ClockChoice}
 use Rattle.pt_words.specs.declared.orders.ClockChoice.TheVariants.{Paced}
 use Rattle.pt_run.specs.declared.fault.Fault.{Fault}
 use Rattle.pt_run.specs.declared.fault.Fault.TheVariants as fault
-use Rattle.pt_run.specs.declared.words.Command.{Command}
-use Rattle.pt_run.specs.declared.words.Command.TheVariants.{Run, Check, Meaning, Slacks}
+use Rattle.pt_words.specs.declared.orders.Command.{Command}
+use Rattle.pt_words.specs.declared.orders.Command.TheVariants.{Run, Check, Meaning, Slacks}
 use Rattle.pt_run.specs.Agreeing.{TellsAll}
 use Rattle.pt_run.specs.Auditing.{Accepts, IsUnlawful, lawful_line}
 use Rattle.pt_run.proofs.CauseFields.{AsksFeasible, OfRows}
@@ -36,9 +36,9 @@ use Rattle.pt_run.specs.Making.{IsMadeRun}
 use Rattle.pt_run.specs.Migrating.{IsMigrated}
 use Rattle.pt_run.specs.Replaying.{has_replayed}
 use Rattle.pt_run.specs.RunsAgreeing.{TellsSensors}
-use Rattle.pt_run.specs.Words.{Order, over, make, migrate, audit, replay, refused_as}
+use Rattle.pt_words.specs.Grammar.{Order, over, make, migrate, audit, replay}
 use Rattle.pt_run.specs.Written.{FitOnAll, IsChecked, IsTables, has_run}
-use Rattle.pt_run.proofs.ByCause.{CanAudit, ComesByCause, Defines, ReadsRows, WantsAir, WantsGraph, WantsLog, WantsRows}
+use Rattle.pt_run.proofs.ByCause.{CanAudit, ComesByCause, Defines, ReadsRows, WantsAir, WantsGraph, WantsLog, WantsRows, refused_as}
 use Rattle.pt_run.proofs.CallsAgreeing.{of_bytes}
 use Rattle.pt_run.proofs.Complete.{ok_err, same_ok, too_late}
 use Rattle.pt_run.proofs.OneCause.{fails_rows, meant_long}

@@ -8,7 +8,7 @@ use Rattle.pt_run.specs.declared.fault.Fault.{Fault}
 use Rattle.pt_run.specs.declared.fault.Fault.TheVariants as fault
 use Rattle.pt_run.specs.Causes.{Writing}
 use Rattle.pt_run.specs.Leaving.{RunWith}
-use Rattle.pt_run.specs.Words.{paced_run}
+use Rattle.pt_run.specs.Telling.{paced_run}
 use Rattle.pt_run.specs.Written.{Leaves}
 use Rattle.pt_run.proofs.ByFault.{EndsAudit, EndsBy, EndsReplay}
 use Rattle.pt_run.proofs.Stages.{not_true}

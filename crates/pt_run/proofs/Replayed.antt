@@ -23,7 +23,7 @@ use Rattle.pt_run.specs.Causes.{Writing}
 use Rattle.pt_run.specs.Complete.{OnPlatform}
 use Rattle.pt_run.specs.Due.{AfterAdmission, Answer, IsDue, IsDueTo, IsReplayedBy, RefusedWith, UnlessMemory}
 use Rattle.pt_run.specs.Replaying.{IsReplayHeadline, ReplayHeadline, has_replayed}
-use Rattle.pt_run.specs.Words.{Order, replay}
+use Rattle.pt_words.specs.Grammar.{Order, replay}
 use Rattle.pt_run.specs.Written.{Leaves}
 use Rattle.pt_run.proofs.ByFault.{EndsReplay}
 use Rattle.pt_run.proofs.Stages.{not_true}

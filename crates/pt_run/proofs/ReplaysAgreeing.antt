@@ -43,7 +43,7 @@ use Rattle.pt_run.specs.Leaving.{PutsMeaning, RunWith}
 use Rattle.pt_run.specs.Replaying.{LeavesReplay, OnAir, stop_of_replay}
 use Rattle.pt_run.specs.ReplaysAgreeing.{AreStoppedAlike, LeaveAlike, ReplayCallsAgree, ReplaysAgree, WritesTables}
 use Rattle.pt_run.specs.Runs.{IsKept, log_if}
-use Rattle.pt_run.specs.Words.{replay}
+use Rattle.pt_words.specs.Grammar.{replay}
 use Rattle.pt_run.specs.Written.{Leaves}
 use Rattle.pt_run.proofs.CallsAgreeing.{of_bytes}
 use Rattle.pt_run.proofs.Complete.{same_ok}

@@ -21,15 +21,15 @@ use Rattle.pt_slacks.specs.Text.{IsSlacked}
 use Rattle.pt_sensors.proofs.Asking.{read_after}
 use Rattle.pt_run.specs.declared.fault.Fault.{Fault}
 use Rattle.pt_run.specs.declared.fault.Fault.TheVariants as fault
-use Rattle.pt_run.specs.declared.words.Command.{Command}
-use Rattle.pt_run.specs.declared.words.Command.TheVariants.{Run, Check, Meaning, Slacks}
+use Rattle.pt_words.specs.declared.orders.Command.{Command}
+use Rattle.pt_words.specs.declared.orders.Command.TheVariants.{Run, Check, Meaning, Slacks}
 use Rattle.pt_run.specs.Asks.{all_sensors}
 use Rattle.pt_run.specs.Auditing.{LastFails, lawful_line}
 use Rattle.pt_run.specs.Causes.{Writing}
 use Rattle.pt_run.specs.Due.{AfterAdmission, AfterAir, AfterCycles, AfterFile, AfterOffsets, AfterRows, Answer, HasRunBy, IsAudited, IsDueFor, IsDueTo, IsJudgedBy, IsMeantBy, IsReplayed, IsReplayedBy, IsSlackedBy, OnlyPuts, PutsText, RefusedWith, RefusesAsDue, UnlessMemory, WithPlan}
 use Rattle.pt_run.specs.Replaying.{has_replayed}
 use Rattle.pt_run.specs.Telling.{AreOfGraph}
-use Rattle.pt_run.specs.Words.{over, audit, replay}
+use Rattle.pt_words.specs.Grammar.{over, audit, replay}
 use Rattle.pt_run.specs.Written.{FitOnAll, HasNothing, IsChecked, IsTables, Leaves, has_run}
 use Rattle.pt_run.proofs.Ending.{past_file, told_due}
 use Rattle.pt_run.proofs.Told.{of_none}

@@ -10,7 +10,7 @@ use Rattle.pt_sensors.specs.Asked.{Contents}
 use Rattle.pt_turn.specs.Platforms.{PlatformView}
 use Rattle.pt_run.specs.declared.fault.Fault.{Fault}
 use Rattle.pt_run.specs.declared.fault.Fault.TheVariants as fault
-use Rattle.pt_run.specs.declared.words.Command.{Command}
+use Rattle.pt_words.specs.declared.orders.Command.{Command}
 use Rattle.pt_run.specs.Causes.{Writing}
 use Rattle.pt_run.specs.Telling.{AreOfGraph, Tells, TellsBy}
 use Rattle.pt_run.specs.Written.{HasNothing, Leaves}

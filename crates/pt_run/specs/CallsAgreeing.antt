@@ -11,10 +11,10 @@ use Rattle.pt_run.specs.Agreeing.{TellsAll}
 use Rattle.pt_run.specs.Due.{Answer, IsDue}
 use Rattle.pt_run.specs.RunsAgreeing.{AreFewReadings}
 use Rattle.pt_run.specs.Statuses.{status_of}
-use Rattle.pt_run.specs.Words.{over}
+use Rattle.pt_words.specs.Grammar.{over}
 use Rattle.pt_run.specs.declared.fault.Fault.{Fault}
 use Rattle.pt_run.specs.declared.fault.Fault.TheVariants as fault
-use Rattle.pt_run.specs.declared.words.Command.TheVariants.{Run}
+use Rattle.pt_words.specs.declared.orders.Command.TheVariants.{Run}
 use Rattle.pt_run.specs.Written.{stop_of}
 
 -- memory did not run out, and no read and no write failed

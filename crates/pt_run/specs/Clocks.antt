@@ -6,12 +6,12 @@ use Rattle.pt_words.specs.declared.orders.ClockChoice.TheVariants.{Machine}
 use Rattle.pt_run.specs.Readings.{read_by}
 use Rattle.pt_run.specs.Written.{has_run}
 use Rattle.pt_run.specs.declared.fault.Fault.{Fault}
-use Rattle.pt_run.specs.declared.words.Command.{Command}
-use Rattle.pt_run.specs.declared.words.Command.TheVariants.{Run}
+use Rattle.pt_words.specs.declared.orders.Command.{Command}
+use Rattle.pt_words.specs.declared.orders.Command.TheVariants.{Run}
 use Rattle.pt_run.specs.declared.plan_run.RunFault.{RunFault}
 use Rattle.pt_run.specs.declared.plan_run.RunFault.TheVariants.{Memory, Rows}
 use Rattle.pt_run.specs.declared.finished_run.Ran.{Ran}
-use Rattle.pt_run.specs.Words.{Order, over}
+use Rattle.pt_words.specs.Grammar.{Order, over}
 
 -- those of the clocks handed in that a command reads
 abbrev pub read_for : Command → List ClockView → List ClockView

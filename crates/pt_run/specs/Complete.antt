@@ -23,10 +23,10 @@ use Rattle.pt_words.specs.declared.orders.ClockChoice.{ClockChoice}
 use Rattle.pt_words.specs.declared.orders.ClockChoice.TheVariants.{Paced}
 use Rattle.pt_run.specs.declared.fault.Fault.{Fault}
 use Rattle.pt_run.specs.declared.fault.Fault.TheVariants.{LateMessage, Long, Memory}
-use Rattle.pt_run.specs.declared.words.Command.TheVariants.{Run}
+use Rattle.pt_words.specs.declared.orders.Command.TheVariants.{Run}
 use Rattle.pt_run.specs.Causes.{Writing}
 use Rattle.pt_run.specs.Written.{Leaves, Means}
-use Rattle.pt_run.specs.Words.{Order, over}
+use Rattle.pt_words.specs.Grammar.{Order, over}
 use Rattle.pt_types.specs.Limits.{most_claims}
 
 -- the files are known and a run can begin: the graph file defines this graph, which is admitted, and each sensor's file has

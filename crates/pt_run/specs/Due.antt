@@ -32,8 +32,8 @@ use Rattle.pt_words.specs.declared.orders.ClockChoice.TheVariants.{Paced}
 use Rattle.pt_run.specs.declared.fault.Fault.{Fault}
 use Rattle.pt_run.specs.declared.fault.Fault.TheVariants as fault
 use Rattle.pt_run.specs.declared.outcome.Ending.{Ending}
-use Rattle.pt_run.specs.declared.words.Command.{Command}
-use Rattle.pt_run.specs.declared.words.Command.TheVariants.{Run, Check, Meaning, Slacks}
+use Rattle.pt_words.specs.declared.orders.Command.{Command}
+use Rattle.pt_words.specs.declared.orders.Command.TheVariants.{Run, Check, Meaning, Slacks}
 use Rattle.pt_run.specs.Auditing.{Accepts, IsUnlawful, LastFails, lawful_line}
 use Rattle.pt_run.specs.Causes.{IsTooLongForAll, Writing}
 use Rattle.pt_run.specs.Leaving.{LeavesRun}
@@ -42,7 +42,7 @@ use Rattle.pt_run.specs.Migrating.{IsMigrated}
 use Rattle.pt_run.specs.Replaying.{LeavesReplay, OnAir, has_replayed}
 use Rattle.pt_run.specs.Runs.{RunsPaced}
 use Rattle.pt_run.specs.Texts.{left_by}
-use Rattle.pt_run.specs.Words.{Order, over, make, migrate, audit, replay}
+use Rattle.pt_words.specs.Grammar.{Order, over, make, migrate, audit, replay}
 use Rattle.pt_run.specs.Written.{FitOnAll, GraphWith, HasNothing, IsChecked, IsTables, Leaves, clocking, has_run, leaves_nothing, stop_of}
 
 -- the answer of a call: its fault, what it leaves, and the source and the sink before it and after it

@@ -6,10 +6,10 @@ use Rattle.pt_blocks.specs.declared.blocks.Named.{Named}
 use Rattle.pt_sensors.specs.Asked.{Contents}
 use Rattle.pt_run.specs.Agreeing.{TellsAll}
 use Rattle.pt_run.specs.Due.{Answer, IsDue}
-use Rattle.pt_run.specs.Words.{Order, over, make, migrate, audit, replay}
+use Rattle.pt_words.specs.Grammar.{Order, over, make, migrate, audit, replay}
 use Rattle.pt_run.specs.declared.fault.Fault.{Fault}
 use Rattle.pt_run.specs.declared.fault.Fault.TheVariants as fault
-use Rattle.pt_run.specs.declared.words.Command.TheVariants.{Check, Meaning, Slacks}
+use Rattle.pt_words.specs.declared.orders.Command.TheVariants.{Check, Meaning, Slacks}
 
 -- memory ran out, or a file could not be read, though its content is known
 abbrev pub IsCutShort : Option Fault → Type 0

@@ -31,9 +31,9 @@ use Rattle.pt_words.specs.declared.orders.ClockChoice.{ClockChoice}
 use Rattle.pt_words.specs.declared.orders.ClockChoice.TheVariants.{Paced}
 use Rattle.pt_run.specs.declared.fault.Fault.{Fault}
 use Rattle.pt_run.specs.declared.fault.Fault.TheVariants as fault
-use Rattle.pt_run.specs.declared.words.Command.TheVariants.{Run}
+use Rattle.pt_words.specs.declared.orders.Command.TheVariants.{Run}
 use Rattle.pt_run.specs.Causes.{Writing}
-use Rattle.pt_run.specs.Words.{Order, over}
+use Rattle.pt_words.specs.Grammar.{Order, over}
 use Rattle.pt_run.specs.Written.{has_run, stop_of}
 
 -- what the files of a call say: which graph the graph file with a name defines; which rows the sensors of a graph have up to its

@@ -22,14 +22,14 @@ use Rattle.pt_words.specs.declared.orders.ClockChoice.TheVariants.{Paced}
 use Rattle.pt_air.specs.declared.air.Air.{Air}
 use Rattle.pt_air.specs.AirOf.{air_of}
 use Rattle.pt_run.specs.declared.fault.Fault.{Fault}
-use Rattle.pt_run.specs.declared.words.Command.TheVariants.{Run}
+use Rattle.pt_words.specs.declared.orders.Command.TheVariants.{Run}
 use Rattle.pt_run.specs.Causes.{Writing}
 use Rattle.pt_run.specs.Complete.{CanRun, StatusIsMeant}
 use Rattle.pt_run.specs.Due.{Answer, IsDue}
 use Rattle.pt_run.specs.Readings.{EachOf}
 use Rattle.pt_run.specs.Replaying.{LeavesReplay, OnAir, stop_of_replay}
 use Rattle.pt_run.specs.Runs.{log_if}
-use Rattle.pt_run.specs.Words.{Order, over, replay}
+use Rattle.pt_words.specs.Grammar.{Order, over, replay}
 use Rattle.pt_run.specs.Written.{Leaves}
 
 -- the histories of these platforms keep the paced schedule and do what the meaning does, until they are finished or this platform

@@ -10,14 +10,14 @@ use Rattle.pt_sensors.specs.Asked.{Contents}
 use Rattle.pt_sensors.specs.Places.{of_run}
 use Rattle.pt_audit.specs.LawfulLogs.{IsLawfulLog, most_bytes}
 use Rattle.pt_words.specs.declared.orders.ClockChoice.{ClockChoice}
-use Rattle.pt_run.specs.declared.words.Command.TheVariants.{Run}
+use Rattle.pt_words.specs.declared.orders.Command.TheVariants.{Run}
 use Rattle.pt_run.specs.Causes.{Writing}
 use Rattle.pt_run.specs.Due.{Answer, IsDue}
 use Rattle.pt_run.specs.Leaving.{RunWith}
 use Rattle.pt_run.specs.Readings.{Clocking}
 use Rattle.pt_run.specs.Replaying.{ReplayHeadline}
 use Rattle.pt_run.specs.Runs.{IsFinishedRun}
-use Rattle.pt_run.specs.Words.{over}
+use Rattle.pt_words.specs.Grammar.{over}
 use Rattle.pt_run.specs.Written.{Leaves}
 
 -- the text of a finished run with its log is a lawful log of the run's plan over its rows, unless it is too long

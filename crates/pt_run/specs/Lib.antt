@@ -1,5 +1,4 @@
 pub mod Statuses
-pub mod Words
 pub mod Faults
 pub mod Written
 pub mod Agreeing
@@ -17,7 +16,6 @@ pub mod Flown
 pub mod InBounds
 pub mod SlackRuns
 pub mod LawfulRuns
-pub mod Asking
 pub mod Leaving
 pub mod Headline
 pub mod OverFiles

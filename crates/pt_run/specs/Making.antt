@@ -14,8 +14,8 @@ use Rattle.pt_made.specs.Input.{made_graph, made_rows}
 use Rattle.pt_made.specs.Summary.{summary}
 use Rattle.pt_run.specs.declared.fault.Fault.{Fault}
 use Rattle.pt_run.specs.Causes.{Writing}
-use Rattle.pt_run.specs.Telling.{Tells, TellsBy}
-use Rattle.pt_run.specs.Words.{Order, over, make, migrate, audit, replay, paced_run}
+use Rattle.pt_run.specs.Telling.{Tells, TellsBy, paced_run}
+use Rattle.pt_words.specs.Grammar.{Order, over, make, migrate, audit, replay}
 
 -- what a run of the input made from n must write and leave: its platforms ran in paced rounds until all were finished and
 -- missed nothing, and the text is the summary of the meaning

@@ -16,7 +16,7 @@ use Rattle.pt_run.specs.declared.fault.Fault.{Fault}
 use Rattle.pt_run.specs.Causes.{Writing}
 use Rattle.pt_run.specs.Headline.{AtEnd, Inputs, IsHeadline}
 use Rattle.pt_run.specs.Readings.{Clocking, ReadBy}
-use Rattle.pt_run.specs.Words.{Order}
+use Rattle.pt_words.specs.Grammar.{Order}
 use Rattle.pt_run.specs.Written.{Leaves, clocking}
 
 -- the graph that the bytes of a file define, and the rows that the sensors' files have; where a source doesn't report a file's bytes, any

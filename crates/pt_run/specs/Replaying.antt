@@ -17,7 +17,7 @@ use Rattle.pt_run.specs.declared.fault.Fault.{Fault}
 use Rattle.pt_run.specs.declared.fault.Fault.TheVariants as fault
 use Rattle.pt_run.specs.Causes.{Writing}
 use Rattle.pt_run.specs.Leaving.{PutsMeaning, RunWith}
-use Rattle.pt_run.specs.Words.{Order, replay}
+use Rattle.pt_words.specs.Grammar.{Order, replay}
 use Rattle.pt_run.specs.Written.{HasNothing, Leaves}
 
 -- the file `air`, if its content is known, says these lags and transits of the plan's graph, and a fact holds of the plan, of the

@@ -20,7 +20,7 @@ use Rattle.pt_run.specs.Causes.{Writing}
 use Rattle.pt_run.specs.Due.{Answer, IsDue}
 use Rattle.pt_run.specs.Replaying.{has_replayed, stop_of_replay}
 use Rattle.pt_run.specs.Runs.{log_if}
-use Rattle.pt_run.specs.Words.{replay}
+use Rattle.pt_words.specs.Grammar.{replay}
 
 -- no platform stopped two replays, or the same one did: with the same fault, if both faults are a late message or neither is
 abbrev pub AreStoppedAlike : Option (ℕ × TurnFault) → Option (ℕ × TurnFault) → Type 0

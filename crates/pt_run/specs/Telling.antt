@@ -1,5 +1,5 @@
 -- What is put on notes.
-use Rattle.std.specs.Prelude.{◌≡◌, ◌⊎◌, [], ℕ, List, Option, None, Some, flat_map, slice_get}
+use Rattle.std.specs.Prelude.{◌≡◌, ◌⊎◌, [], ℕ, List, Option, None, Some, false, flat_map, slice_get}
 use Rattle.pt_io.specs.Causes.{Appends, AppendsPart, Rose}
 use Rattle.pt_types.specs.declared.graph.Graph.{Graph}
 use Rattle.pt_blocks.specs.declared.blocks.Named.{Named}
@@ -9,7 +9,9 @@ use Rattle.pt_turn.specs.Platforms.{PlatformView}
 use Rattle.pt_sensors.specs.Asked.{Contents}
 use Rattle.pt_run.specs.declared.fault.Fault.{Fault}
 use Rattle.pt_run.specs.declared.fault.Fault.TheVariants as fault
-use Rattle.pt_run.specs.declared.words.Command.{Command}
+use Rattle.pt_words.specs.declared.orders.ClockChoice.TheVariants.{Paced}
+use Rattle.pt_words.specs.declared.orders.Command.{Command}
+use Rattle.pt_words.specs.declared.orders.Command.TheVariants.{Run}
 use Rattle.pt_run.specs.Causes.{Writing}
 use Rattle.pt_run.specs.Written.{GraphWith}
 use Rattle.pt_run.specs.Notes.{note_line}
@@ -32,6 +34,10 @@ Tells outcome misses g w = IsPut (notes_of outcome misses g) w
 -- these platforms are of this graph
 abbrev pub AreOfGraph : List PlatformView → Graph → Type 0
 AreOfGraph platforms g = (i : ℕ) (v : PlatformView) → slice_get platforms i ≡ Some v → v.plan.graph ≡ g
+
+-- a paced run. An audit and a replay refuse their graph and the files of its sensors exactly as such a run does
+abbrev pub paced_run : Command
+paced_run = Run 1 Paced false
 
 -- the notes of a call for some words that left these platforms: names in them are those of the graph in the file that the words
 -- name, of which the platforms are

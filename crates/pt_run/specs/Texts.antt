@@ -12,9 +12,9 @@ use Rattle.pt_run.specs.declared.fault.Fault.TheVariants as fault
 use Rattle.pt_run.specs.declared.outcome.Ending.{Ending}
 use Rattle.pt_run.specs.declared.outcome.Outcome.{Outcome}
 use Rattle.pt_run.specs.Clocks.{read_for, read_in}
-use Rattle.pt_run.specs.Words.{Order}
+use Rattle.pt_words.specs.Grammar.{Order}
 use Rattle.pt_run.specs.Faults.{fault_of_rows}
-use Rattle.pt_run.specs.declared.words.Command.{Command}
+use Rattle.pt_words.specs.declared.orders.Command.{Command}
 use Rattle.pt_run.specs.Written.{Leaves, leaves_nothing}
 use Rattle.pt_run.specs.Causes.{Writing}
 

@@ -13,9 +13,9 @@ ghost use Rattle.pt_run.specs.Asks.{AsksFrom, AsksOver, all_sensors};
 ghost use Rattle.pt_run.specs.Auditing.{IsJudged, lawful_line};
 ghost use Rattle.pt_run.specs.Due.{AnswersAsDue, IsAudited, IsDue, UnlessMemory};
 ghost use Rattle.pt_run.specs.Statuses.{status_of};
-ghost use Rattle.pt_run.specs.Telling.{Tells, TellsBy};
+ghost use Rattle.pt_run.specs.Telling.{Tells, TellsBy, paced_run};
 ghost use Rattle.pt_run.specs.Texts.{PutsOrTells, fault_in, left_by};
-ghost use Rattle.pt_run.specs.Words.{audit as to_audit, paced_run};
+ghost use Rattle.pt_words.specs.Grammar.{audit as to_audit};
 
 use crate::admission::graph_at;
 use crate::fault::{Fault, fault_of_rows};

@@ -35,7 +35,6 @@ mod run;
 mod slacks;
 mod top;
 mod went;
-mod words;
 
 pub use fault::Fault;
 pub use finished_run::Ran;
@@ -47,4 +46,3 @@ pub use outcome::Outcome;
 pub use plan_laws::{finished_runs_agree, plan_runs_agree, step_runs_agree};
 pub use plan_run::{RunFault, run_of};
 pub use top::ptides;
-pub use words::{Asked, Command};

@@ -13,7 +13,7 @@ ghost use Rattle.pt_run.specs.Due.{IsDue};
 ghost use Rattle.pt_run.specs.Making.{IsMadeRun};
 ghost use Rattle.pt_run.specs.Telling.{Tells};
 ghost use Rattle.pt_run.specs.Texts.{left_by};
-ghost use Rattle.pt_run.specs.Words.{make as to_make};
+ghost use Rattle.pt_words.specs.Grammar.{make as to_make};
 
 use crate::fault::Fault;
 use crate::notes::{tell, tell_write};

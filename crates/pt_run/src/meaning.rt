@@ -8,7 +8,7 @@ ghost use Rattle.pt_sensors.specs.Listed.{rows_for, IsOfActors};
 ghost use Rattle.pt_causality.specs.Ranked.{rank_of};
 ghost use Rattle.pt_sensors.specs.Asked.{Reading};
 ghost use Rattle.pt_sensors.specs.declared.recorded_fault.LateRows.TheVariants.{Taken};
-ghost use Rattle.pt_run.specs.declared.words.Command.TheVariants.{Meaning};
+ghost use Rattle.pt_words.specs.declared.orders.Command.TheVariants.{Meaning};
 ghost use Rattle.pt_run.specs.Asks.{AsksOver, all_sensors};
 ghost use Rattle.pt_run.specs.Due.{AfterRows, AnswersAsDue, IsDueFor, IsMeantBy};
 ghost use Rattle.pt_run.specs.Texts.{fault_in};

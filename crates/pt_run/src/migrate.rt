@@ -7,7 +7,7 @@ ghost use Rattle.pt_run.specs.Migrating.{IsDefined, IsMigrated};
 ghost use Rattle.pt_run.specs.Statuses.{status_of};
 ghost use Rattle.pt_run.specs.Telling.{Tells};
 ghost use Rattle.pt_run.specs.Texts.{fault_in, left_by};
-ghost use Rattle.pt_run.specs.Words.{migrate as to_migrate};
+ghost use Rattle.pt_words.specs.Grammar.{migrate as to_migrate};
 
 use crate::admission::graph_at;
 use crate::fault::Fault;

@@ -11,7 +11,7 @@ ghost use Rattle.pt_turn.specs.All.{AreReady, IsReady};
 ghost use Rattle.pt_run.specs.Asks.{AsksOver, AsksStopped, all_sensors};
 ghost use Rattle.pt_run.specs.Clocks.{AreAsMany, AreBackBy, AreBackAfterRun};
 ghost use Rattle.pt_run.specs.declared.fault.Fault.TheVariants.{Memory as NoMemory};
-ghost use Rattle.pt_run.specs.declared.words.Command.TheVariants.{Run};
+ghost use Rattle.pt_words.specs.declared.orders.Command.TheVariants.{Run};
 ghost use Rattle.pt_run.specs.Due.{IsDueFor, UnlessMemory};
 ghost use Rattle.pt_run.specs.Readings.{read_by};
 ghost use Rattle.pt_run.specs.Runs.{CauseOfStop, HasOutputs, WentBy, read_with};

@@ -12,9 +12,9 @@ ghost use Rattle.pt_run.specs.Asks.{AsksFrom, AsksOver, all_sensors};
 ghost use Rattle.pt_run.specs.Flown.{EndsAsReplayed, FinishedReplay, HasReplayed, IsOfReplay, IsRecorded, NamesRow, StopsInAir, stop_in};
 ghost use Rattle.pt_run.specs.Due.{AfterAdmission, AfterAir, IsDue, IsReplayed, RefusesAsDue, StopsAsDue, UnlessMemory};
 ghost use Rattle.pt_run.specs.Statuses.{status_of};
-ghost use Rattle.pt_run.specs.Telling.{Tells, TellsBy};
+ghost use Rattle.pt_run.specs.Telling.{Tells, TellsBy, paced_run};
 ghost use Rattle.pt_run.specs.Texts.{fault_in, left_by};
-ghost use Rattle.pt_run.specs.Words.{paced_run, replay as to_replay};
+ghost use Rattle.pt_words.specs.Grammar.{replay as to_replay};
 
 use crate::admission::graph_at;
 use crate::fault::{Fault, fault_of_air, fault_of_rows};

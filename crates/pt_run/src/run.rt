@@ -5,7 +5,7 @@ ghost use Rattle.std.specs.Arc.{arc_value};
 ghost use Rattle.pt_types.specs.Lawful.{IsLawful};
 ghost use Rattle.pt_offsets.specs.Plans.{IsAdmitted};
 ghost use Rattle.pt_words.specs.declared.orders.ClockChoice.TheVariants.{Paced};
-ghost use Rattle.pt_run.specs.declared.words.Command.TheVariants.{Run};
+ghost use Rattle.pt_words.specs.declared.orders.Command.TheVariants.{Run};
 ghost use Rattle.pt_run.specs.Asks.{AsksOver, all_sensors};
 ghost use Rattle.pt_run.specs.Due.{AfterCycles, AfterOffsets, EndsRefused, IsDueFor, UnlessMemory};
 ghost use Rattle.pt_run.specs.Statuses.{status_of};

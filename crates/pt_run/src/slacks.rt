@@ -3,7 +3,7 @@
 ghost use Rattle.std.specs.Prelude.{[], string_bytes};
 ghost use Rattle.pt_types.specs.Lawful.{IsLawful};
 ghost use Rattle.pt_sensors.specs.Asked.{Contents, Reading};
-ghost use Rattle.pt_run.specs.declared.words.Command.TheVariants.{Slacks};
+ghost use Rattle.pt_words.specs.declared.orders.Command.TheVariants.{Slacks};
 ghost use Rattle.pt_run.specs.Due.{AnswersAsDue, IsDueFor, IsSlackedBy};
 
 use crate::fault::{Fault, fault_of_cycle, fault_of_slacks};

@@ -13,7 +13,7 @@ ghost use Rattle.pt_run.specs.Exact.{IsExact};
 ghost use Rattle.pt_run.specs.InBounds.{IsCompleteInBounds};
 ghost use Rattle.pt_run.specs.OverFiles.{HasHeadline};
 ghost use Rattle.pt_run.specs.Statuses.{status_of};
-ghost use Rattle.pt_run.specs.Words.{order_of, over};
+ghost use Rattle.pt_words.specs.Grammar.{order_of, over};
 ghost use Rattle.pt_run.specs.Making.{TellsOf};
 ghost use Rattle.pt_run.specs.Replaying.{IsReplayHeadline};
 ghost use Rattle.pt_run.specs.Telling.{Tells, TellsBy};
@@ -33,11 +33,10 @@ use crate::own_clocks::run_own;
 use crate::replay::replay;
 use crate::run::run_graph;
 use crate::slacks::slacks_answer;
-use crate::words::{Asked, Command, order_of};
 use pt_blocks::Blocks;
 use pt_io::{Clock, Sink, Source};
 use pt_types::Graph;
-use pt_words::ClockChoice;
+use pt_words::{ClockChoice, Command, Order, order_of};
 use std::alloc::Global;
 use std::sync::Wait;
 use std::thread::Threads;
@@ -153,23 +152,23 @@ fn run_words<S: Source, K: Sink, E: Sink, C: Clock + Send, R: Threads + Wait + S
         (record { before = E.faults notes.old; now = E.faults notes.new; written_before = E.written notes.old; written_now = E.written notes.new }) }
 {
     let fault = match order_of(alloc, words) {
-        Ok(Some(Asked::Over { command, graph })) => {
+        Ok(Some(Order::Over { command, graph })) => {
             return run_file(
                 rt, alloc, command, graph, source, out, notes, clocks, blocks,
             );
         }
-        Ok(Some(Asked::Make { number, workers })) => {
+        Ok(Some(Order::Make { number, workers })) => {
             return make(alloc, number, workers, out, notes, blocks);
         }
-        Ok(Some(Asked::Migrate { graph })) => {
+        Ok(Some(Order::Migrate { graph })) => {
             return migrate(alloc, graph, source, out, notes, blocks);
         }
-        Ok(Some(Asked::Audit { graph, log })) => {
+        Ok(Some(Order::Audit { graph, log })) => {
             return audit(alloc, graph, log, source, out, notes, blocks);
         }
         Ok(
             Some(
-                Asked::Replay {
+                Order::Replay {
                     graph,
                     air,
                     workers,

@@ -1,6 +1,6 @@
 //! Lines of words with the orders that they give, worked out by hand.
 
-use pt_words::{ClockChoice, Order, order_of};
+use pt_words::{ClockChoice, Command, Order, order_of};
 use std::alloc::{AllocError, Global};
 use std::test::Fail;
 
@@ -144,23 +144,29 @@ fn gives(alloc: Global, line: &str, expected: Option<Order>) -> Result<bool, All
     Ok(order_of(alloc, words.as_slice())? == expected)
 }
 
+/// A command on a graph file.
+fn over(command: Command, graph: &str) -> Option<Order<'_>> {
+    Some(Order::Over { command, graph })
+}
+
+/// A paced run without the log.
 fn run(graph: &str, workers: u32) -> Option<Order<'_>> {
-    Some(Order::Run {
-        graph,
+    let command = Command::Run {
         workers,
         clock: ClockChoice::Paced,
         log: false,
-    })
+    };
+    over(command, graph)
 }
 
 /// The run of `g.json` that writes the log too.
 fn logged(workers: u32) -> Option<Order<'static>> {
-    Some(Order::Run {
-        graph: "g.json",
+    let command = Command::Run {
         workers,
         clock: ClockChoice::Paced,
         log: true,
-    })
+    };
+    over(command, "g.json")
 }
 
 #[test]
@@ -186,15 +192,9 @@ fn values_and_names_are_read(rt: HostRuntime) -> Result<(), Fail> {
     );
     assert!(rt; gives(alloc, "run -- --log", run("--log", 4))?);
     assert!(rt; gives(alloc, "run -- -- --clock", None)?);
-    assert!(rt; gives(alloc, "check -- --", Some(Order::Check { graph: "--" }))?);
-    assert!(rt; gives(alloc, "check a=b", Some(Order::Check { graph: "a=b" }))?);
-    assert!(rt;
-        gives(
-            alloc,
-            "meaning g.json",
-            Some(Order::Meaning { graph: "g.json" })
-        )?
-    );
+    assert!(rt; gives(alloc, "check -- --", over(Command::Check, "--"))?);
+    assert!(rt; gives(alloc, "check a=b", over(Command::Check, "a=b"))?);
+    assert!(rt; gives(alloc, "meaning g.json", over(Command::Meaning, "g.json"))?);
     Ok(())
 }
 
@@ -272,16 +272,16 @@ fn a_clock_is_chosen_by_its_name(rt: HostRuntime) -> Result<(), Fail> {
         ("step:1000000000000000:1", step(most, 1)),
         ("step:0:1000000000000000", step(0, most)),
     ] {
-        let expected = Order::Run {
-            graph: "g.json",
+        let command = Command::Run {
             workers: 2,
             clock,
             log: true,
         };
+        let expected = over(command, "g.json");
         let apart = format!(in alloc; "run --clock {value} --log g.json --workers 2")?;
         let joined = format!(in alloc; "run g.json --workers=2 --log --clock={value}")?;
-        assert!(rt; gives(alloc, apart.as_str(), Some(expected))?, "{apart}");
-        assert!(rt; gives(alloc, joined.as_str(), Some(expected))?, "{joined}");
+        assert!(rt; gives(alloc, apart.as_str(), expected)?, "{apart}");
+        assert!(rt; gives(alloc, joined.as_str(), expected)?, "{joined}");
     }
     Ok(())
 }

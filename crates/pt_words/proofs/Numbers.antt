@@ -6,9 +6,10 @@ use Rattle.std.specs.declared.alloc.Global.{Global}
 use Rattle.std.proofs.lemmas.Bool.{and_parts}
 use Rattle.std.proofs.lemmas.Bool.Decides.{nat_tests}
 use Rattle.pt_words.specs.declared.orders.ClockChoice.{ClockChoice}
-use Rattle.pt_words.specs.declared.orders.Command.{Command}
-use Rattle.pt_words.specs.declared.orders.Command.TheVariants.{Run, Check, Meaning, Make, Migrate, Slacks, Audit, Replay}
-use Rattle.pt_words.specs.Grammar.{run, check, meaning, make, migrate, slacks, audit, audit_of, replay, replay_of, clock_in, command_of, only_word, is_bare, is_numeral, log_in, made_number_of, make_of, number_within, request_of_words, pair_in, order_with, request_of, request_over, run_of, workers_in}
+use Rattle.pt_words.specs.declared.orders.Command.TheVariants as command
+use Rattle.pt_words.specs.declared.words.Verb.{Verb}
+use Rattle.pt_words.specs.declared.words.Verb.TheVariants.{Run, Check, Meaning, Make, Migrate, Slacks, Audit, Replay}
+use Rattle.pt_words.specs.Grammar.{audit, audit_of, clock_in, is_bare, is_numeral, log_in, made_number_of, make, make_of, migrate, number_within, only_word, order_by, order_of, order_over, order_with, over, pair_in, replay, replay_of, run_of, verb_of, workers_in}
 use Rattle.pt_words.specs.Said.{Said, among, said}
 
 -- what comes of an option comes of a value that is there
@@ -57,32 +58,32 @@ made_by words word n k h =
 
 ran_by : (words : Said) (graph : List ℕ) (n k : ℕ) → run_of words graph ≡ Some (make n k) → ⊥
 ran_by words graph n k h =
-    let workers = and_then_found (λ workers. option_and_then (λ clock. option_map (λ log. run graph workers clock log) (log_in words.logs)) (clock_in words.clocks)) (workers_in words.workers) (make n k) h in
-    let clock = and_then_found (λ clock. option_map (λ log. run graph workers.0 clock log) (log_in words.logs)) (clock_in words.clocks) (make n k) workers.1 in
-    let log = map_found (λ log. run graph workers.0 clock.0 log) (log_in words.logs) (make n k) clock.1 in
+    let workers = and_then_found (λ workers. option_and_then (λ clock. option_map (λ log. over (command.Run workers clock log) graph) (log_in words.logs)) (clock_in words.clocks)) (workers_in words.workers) (make n k) h in
+    let clock = and_then_found (λ clock. option_map (λ log. over (command.Run workers.0 clock log) graph) (log_in words.logs)) (clock_in words.clocks) (make n k) workers.1 in
+    let log = map_found (λ log. over (command.Run workers.0 clock.0 log) graph) (log_in words.logs) (make n k) clock.1 in
     other workers.0 clock.0 log.0 log.1
   where
-    other : (w : ℕ) (c : ClockChoice) (l : Bool) → run graph w c l ≡ make n k → ⊥
+    other : (w : ℕ) (c : ClockChoice) (l : Bool) → over (command.Run w c l) graph ≡ make n k → ⊥
     other w c l e = cc
 
-over_by : (command : Command) (words : Said) (word : List ℕ) (n k : ℕ) → request_over command words word ≡ Some (make n k) → n ≤ 100
+over_by : (verb : Verb) (words : Said) (word : List ℕ) (n k : ℕ) → order_over verb words word ≡ Some (make n k) → n ≤ 100
 over_by Run words word n k h = absurd (ran_by words word n k h)
-over_by Check words word n k h = absurd (other (if_found (is_bare words) (Some (check word)) (make n k) h).1)
+over_by Check words word n k h = absurd (other (if_found (is_bare words) (Some (over command.Check word)) (make n k) h).1)
   where
-    other : Some (check word) ≡ Some (make n k) → ⊥
+    other : Some (over command.Check word) ≡ Some (make n k) → ⊥
     other e = cc
-over_by Meaning words word n k h = absurd (other (if_found (is_bare words) (Some (meaning word)) (make n k) h).1)
+over_by Meaning words word n k h = absurd (other (if_found (is_bare words) (Some (over command.Meaning word)) (make n k) h).1)
   where
-    other : Some (meaning word) ≡ Some (make n k) → ⊥
+    other : Some (over command.Meaning word) ≡ Some (make n k) → ⊥
     other e = cc
 over_by Make words word n k h = made_by words word n k h
 over_by Migrate words word n k h = absurd (other (if_found (is_bare words) (Some (migrate word)) (make n k) h).1)
   where
     other : Some (migrate word) ≡ Some (make n k) → ⊥
     other e = cc
-over_by Slacks words word n k h = absurd (other (if_found (is_bare words) (Some (slacks word)) (make n k) h).1)
+over_by Slacks words word n k h = absurd (other (if_found (is_bare words) (Some (over command.Slacks word)) (make n k) h).1)
   where
-    other : Some (slacks word) ≡ Some (make n k) → ⊥
+    other : Some (over command.Slacks word) ≡ Some (make n k) → ⊥
     other e = cc
 over_by Audit words word n k h = absurd cc
 over_by Replay words word n k h = absurd cc
@@ -97,34 +98,34 @@ audited_by words n k h =
 
 replayed_by : (words : Said) (n k : ℕ) → replay_of words ≡ Some (make n k) → ⊥
 replayed_by words n k h =
-    let request = λ (pair : List ℕ × List ℕ) (workers : ℕ) (log : Bool). replay pair.0 pair.1 workers log in
-    let whole = option_and_then (λ pair. option_and_then (λ workers. option_map (request pair workers) (log_in words.logs)) (workers_in words.workers)) (pair_in words.graphs) in
-    let pair = and_then_found (λ pair. option_and_then (λ workers. option_map (request pair workers) (log_in words.logs)) (workers_in words.workers)) (pair_in words.graphs) (make n k) (if_found (length words.clocks == 0) whole (make n k) h).1 in
-    let workers = and_then_found (λ workers. option_map (request pair.0 workers) (log_in words.logs)) (workers_in words.workers) (make n k) pair.1 in
-    let log = map_found (request pair.0 workers.0) (log_in words.logs) (make n k) workers.1 in
+    let order = λ (pair : List ℕ × List ℕ) (workers : ℕ) (log : Bool). replay pair.0 pair.1 workers log in
+    let whole = option_and_then (λ pair. option_and_then (λ workers. option_map (order pair workers) (log_in words.logs)) (workers_in words.workers)) (pair_in words.graphs) in
+    let pair = and_then_found (λ pair. option_and_then (λ workers. option_map (order pair workers) (log_in words.logs)) (workers_in words.workers)) (pair_in words.graphs) (make n k) (if_found (length words.clocks == 0) whole (make n k) h).1 in
+    let workers = and_then_found (λ workers. option_map (order pair.0 workers) (log_in words.logs)) (workers_in words.workers) (make n k) pair.1 in
+    let log = map_found (order pair.0 workers.0) (log_in words.logs) (make n k) workers.1 in
     other pair.0.0 pair.0.1 workers.0 log.0 log.1
   where
     other : (graph air : List ℕ) (w : ℕ) (l : Bool) → replay graph air w l ≡ make n k → ⊥
     other graph air w l e = cc
 
-one_word : (command : Command) (words : Said) (n k : ℕ) → option_and_then (request_over command words) (only_word words.graphs) ≡ Some (make n k) → n ≤ 100
-one_word command words n k h =
-    let word = and_then_found (request_over command words) (only_word words.graphs) (make n k) h in
-    over_by command words word.0 n k word.1
+one_word : (verb : Verb) (words : Said) (n k : ℕ) → option_and_then (order_over verb words) (only_word words.graphs) ≡ Some (make n k) → n ≤ 100
+one_word verb words n k h =
+    let word = and_then_found (order_over verb words) (only_word words.graphs) (make n k) h in
+    over_by verb words word.0 n k word.1
 
-requested_by : (command : Command) (words : Said) (n k : ℕ) → request_of command words ≡ Some (make n k) → n ≤ 100
-requested_by Run words n k h = one_word Run words n k h
-requested_by Check words n k h = one_word Check words n k h
-requested_by Meaning words n k h = one_word Meaning words n k h
-requested_by Make words n k h = one_word Make words n k h
-requested_by Migrate words n k h = one_word Migrate words n k h
-requested_by Slacks words n k h = one_word Slacks words n k h
-requested_by Audit words n k h = absurd (audited_by words n k h)
-requested_by Replay words n k h = absurd (replayed_by words n k h)
+ordered_by : (verb : Verb) (words : Said) (n k : ℕ) → order_by verb words ≡ Some (make n k) → n ≤ 100
+ordered_by Run words n k h = one_word Run words n k h
+ordered_by Check words n k h = one_word Check words n k h
+ordered_by Meaning words n k h = one_word Meaning words n k h
+ordered_by Make words n k h = one_word Make words n k h
+ordered_by Migrate words n k h = one_word Migrate words n k h
+ordered_by Slacks words n k h = one_word Slacks words n k h
+ordered_by Audit words n k h = absurd (audited_by words n k h)
+ordered_by Replay words n k h = absurd (replayed_by words n k h)
 
-pub made_number : (words : List (String Global)) (n k : ℕ) → request_of_words words ≡ Some (make n k) → n ≤ 100
+pub made_number : (words : List (String Global)) (n k : ℕ) → order_of words ≡ Some (make n k) → n ≤ 100
 made_number [] n k h = absurd cc
 made_number (word ∷ words) n k h =
-    let command = and_then_found (λ command. order_with command (map string_bytes words)) (command_of (string_bytes word)) (make n k) h in
-    let words_said = and_then_found (request_of command.0) (said among (map string_bytes words)) (make n k) command.1 in
-    requested_by command.0 words_said.0 n k words_said.1
+    let verb = and_then_found (λ verb. order_with verb (map string_bytes words)) (verb_of (string_bytes word)) (make n k) h in
+    let words_said = and_then_found (order_by verb.0) (said among (map string_bytes words)) (make n k) verb.1 in
+    ordered_by verb.0 words_said.0 n k words_said.1

@@ -7,25 +7,24 @@ use Rattle.std.specs.declared.alloc.Global.{Global}
 use Rattle.pt_words.specs.declared.orders.ClockChoice.{ClockChoice}
 use Rattle.pt_words.specs.declared.orders.ClockChoice.TheVariants.{Machine, Paced, Step}
 use Rattle.pt_words.specs.declared.orders.Command.{Command}
-use Rattle.pt_words.specs.declared.orders.Command.TheVariants.{Run, Check, Meaning, Make, Migrate, Slacks, Audit, Replay}
+use Rattle.pt_words.specs.declared.orders.Command.TheVariants as command
+use Rattle.pt_words.specs.declared.words.Verb.{Verb}
+use Rattle.pt_words.specs.declared.words.Verb.TheVariants.{Run, Check, Meaning, Make, Migrate, Slacks, Audit, Replay}
 use Rattle.pt_words.specs.Said.{Said, among, said}
 
--- what a command line asks for: a command on a graph file, where a run has its number of workers, its clock, and whether the
--- log is written too; an audit of a log of it; a replay of it with a recording; or a run of an input made from a number, with its
--- number of workers
-pub data Request : Type 0 where
-  run : (graph : List ℕ) (workers : ℕ) (clock : ClockChoice) (log : Bool) → Request
-  check : (graph : List ℕ) → Request
-  meaning : (graph : List ℕ) → Request
-  make : (number : ℕ) (workers : ℕ) → Request
-  migrate : (graph : List ℕ) → Request
-  slacks : (graph : List ℕ) → Request
-  audit : (graph log : List ℕ) → Request
-  replay : (graph air : List ℕ) (workers : ℕ) (log : Bool) → Request
+-- what a command line asks for: a command on the graph file with this name, a run of an input made from a number, the graph file
+-- with this name as a file of version 2, an audit of a log of that graph, or a replay of that graph with the lags and transits that
+-- the file `air` says
+pub data Order : Type 0 where
+  over : (command : Command) (graph : List ℕ) → Order
+  make : (number workers : ℕ) → Order
+  migrate : (graph : List ℕ) → Order
+  audit : (graph log : List ℕ) → Order
+  replay : (graph air : List ℕ) (workers : ℕ) (log : Bool) → Order
 
--- the command with this name
-abbrev pub command_of : List ℕ → Option Command
-command_of word =
+-- the command that a word names
+abbrev pub verb_of : List ℕ → Option Verb
+verb_of word =
     if bytes_eq word (codes "run") then Some Run else (
     if bytes_eq word (codes "check") then Some Check else (
     if bytes_eq word (codes "meaning") then Some Meaning else (
@@ -101,50 +100,50 @@ log_in (word ∷ []) = Some true
 log_in (word ∷ next ∷ more) = None
 
 -- a run of a graph file
-abbrev pub run_of : Said → List ℕ → Option Request
+abbrev pub run_of : Said → List ℕ → Option Order
 run_of words graph =
-    option_and_then (λ workers. option_and_then (λ clock. option_map (λ log. run graph workers clock log) (log_in words.logs)) (clock_in words.clocks)) (workers_in words.workers)
+    option_and_then (λ workers. option_and_then (λ clock. option_map (λ log. over (command.Run workers clock log) graph) (log_in words.logs)) (clock_in words.clocks)) (workers_in words.workers)
 
 -- no option is given
 abbrev pub is_bare : Said → Bool
 is_bare words = length words.workers == 0 && (length words.clocks == 0 && length words.logs == 0)
 
 -- a run of an input made from a number: the number of workers is its only option
-abbrev pub make_of : Said → List ℕ → Option Request
+abbrev pub make_of : Said → List ℕ → Option Order
 make_of words word =
     if length words.clocks == 0 && length words.logs == 0 then option_and_then (λ number. option_map (λ workers. make number workers) (workers_in words.workers)) (made_number_of word) else None
 
 -- an audit of a log, which has no options
-abbrev pub audit_of : Said → Option Request
+abbrev pub audit_of : Said → Option Order
 audit_of words = if is_bare words then option_map (λ pair. audit pair.0 pair.1) (pair_in words.graphs) else None
 
 -- a replay with a recording: the number of workers and the log are its options
-abbrev pub replay_of : Said → Option Request
+abbrev pub replay_of : Said → Option Order
 replay_of words =
     if length words.clocks == 0 then option_and_then (λ pair. option_and_then (λ workers. option_map (λ log. replay pair.0 pair.1 workers log) (log_in words.logs)) (workers_in words.workers)) (pair_in words.graphs) else None
 
--- the request of a command with its one positional word: of these only `run` and `make` have options
-abbrev pub request_over : Command → Said → List ℕ → Option Request
-request_over Run words graph = run_of words graph
-request_over Check words graph = if is_bare words then Some (check graph) else None
-request_over Meaning words graph = if is_bare words then Some (meaning graph) else None
-request_over Make words number = make_of words number
-request_over Migrate words graph = if is_bare words then Some (migrate graph) else None
-request_over Slacks words graph = if is_bare words then Some (slacks graph) else None
-request_over Audit words graph = None
-request_over Replay words graph = None
+-- the order of a command with its one positional word: of these only `run` and `make` have options
+abbrev pub order_over : Verb → Said → List ℕ → Option Order
+order_over Run words graph = run_of words graph
+order_over Check words graph = if is_bare words then Some (over command.Check graph) else None
+order_over Meaning words graph = if is_bare words then Some (over command.Meaning graph) else None
+order_over Make words number = make_of words number
+order_over Migrate words graph = if is_bare words then Some (migrate graph) else None
+order_over Slacks words graph = if is_bare words then Some (over command.Slacks graph) else None
+order_over Audit words graph = None
+order_over Replay words graph = None
 
--- the request of a command with the values of the words after it
-abbrev pub request_of : Command → Said → Option Request
-request_of Audit words = audit_of words
-request_of Replay words = replay_of words
-request_of command words = option_and_then (request_over command words) (only_word words.graphs)
+-- the order of a command with the values of the words after it
+abbrev pub order_by : Verb → Said → Option Order
+order_by Audit words = audit_of words
+order_by Replay words = replay_of words
+order_by verb words = option_and_then (order_over verb words) (only_word words.graphs)
 
--- the request of a command and the words after it
-abbrev pub order_with : Command → List (List ℕ) → Option Request
-order_with command words = option_and_then (request_of command) (said among words)
+-- the order of a command and the words after it
+abbrev pub order_with : Verb → List (List ℕ) → Option Order
+order_with verb words = option_and_then (order_by verb) (said among words)
 
--- the request of all words: the first is the command
-abbrev pub request_of_words : List (String Global) → Option Request
-request_of_words [] = None
-request_of_words (word ∷ words) = option_and_then (λ command. order_with command (map string_bytes words)) (command_of (string_bytes word))
+-- the order of all words: the first is the command
+abbrev pub order_of : List (String Global) → Option Order
+order_of [] = None
+order_of (word ∷ words) = option_and_then (λ verb. order_with verb (map string_bytes words)) (verb_of (string_bytes word))

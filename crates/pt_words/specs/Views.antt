@@ -3,10 +3,10 @@ use Rattle.std.specs.Prelude.{ℕ, List, [], Option, map, option_map, unwrap_or}
 use Rattle.std.specs.Borrow.{Bor}
 use Rattle.clap.specs.Matches.{found_of, matched_of, raw_values}
 use Rattle.clap.specs.declared.parser.matches.ArgMatches.{ArgMatches}
-use Rattle.pt_words.specs.declared.orders.Order.{Order}
-use Rattle.pt_words.specs.declared.orders.Order.TheVariants.{Run, Check, Meaning, Make, Migrate, Slacks, Audit, Replay}
+use Rattle.pt_words.specs.declared.orders.Order as declared
+use Rattle.pt_words.specs.declared.orders.Order.TheVariants.{Over, Make, Migrate, Audit, Replay}
 use Rattle.pt_words.specs.declared.words.Values.{Values}
-use Rattle.pt_words.specs.Grammar.{Request, run, check, meaning, make, migrate, slacks, audit, replay}
+use Rattle.pt_words.specs.Grammar.{Order, over, make, migrate, audit, replay}
 use Rattle.pt_words.specs.Said.{Said}
 
 -- the values of an argument; none if it is absent
@@ -21,13 +21,10 @@ told values = record { graphs = texts_in values.graphs; workers = texts_in value
 abbrev pub values_of : ArgMatches → List ℕ → List (List ℕ)
 values_of matches id = unwrap_or (option_map raw_values (matched_of (found_of matches) id)) []
 
--- an order, with the names of its files as bytes
-abbrev pub asked : Order → Request
-asked (Run graph workers clock log) = run graph.now workers clock log
-asked (Check graph) = check graph.now
-asked (Meaning graph) = meaning graph.now
-asked (Make number workers) = make number workers
-asked (Migrate graph) = migrate graph.now
-asked (Slacks graph) = slacks graph.now
-asked (Audit graph log) = audit graph.now log.now
-asked (Replay graph air workers log) = replay graph.now air.now workers log
+-- an order of the program, with the names of its files as bytes
+abbrev pub in_words : declared.Order → Order
+in_words (Over command graph) = over command graph.now
+in_words (Make number workers) = make number workers
+in_words (Migrate graph) = migrate graph.now
+in_words (Audit graph log) = audit graph.now log.now
+in_words (Replay graph air workers log) = replay graph.now air.now workers log

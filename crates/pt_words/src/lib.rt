@@ -12,5 +12,5 @@ mod short;
 mod values;
 mod words;
 
-pub use orders::{ClockChoice, Order};
+pub use orders::{ClockChoice, Command, Order};
 pub use words::order_of;

@@ -1,18 +1,5 @@
 //! What a command line may ask for.
 
-/// A command.
-#[derive(Clone, Copy, Debug, PartialEq, Eq)]
-pub(crate) enum Command {
-    Run,
-    Check,
-    Meaning,
-    Make,
-    Migrate,
-    Slacks,
-    Audit,
-    Replay,
-}
-
 /// The clock that the platforms of a run read.
 #[derive(Clone, Copy, Debug, PartialEq, Eq)]
 pub enum ClockChoice {
@@ -24,44 +11,48 @@ pub enum ClockChoice {
     Machine,
 }
 
-/// A command on the graph file `graph`, or on an input made from a number.
+/// A command on a graph.
 #[derive(Clone, Copy, Debug, PartialEq, Eq)]
-pub enum Order<'a> {
-    /// Run it with `workers` workers (1 to 64) and this clock, and write the log too if `log` is true.
+pub enum Command {
+    /// Run it over the rows of its sensors with `workers` workers (1 to 64) and this clock, and write its tables and, if
+    /// `log` is true, what each platform did.
     Run {
-        graph: &'a str,
         workers: u32,
         clock: ClockChoice,
         log: bool,
     },
-    /// Check whether it is admitted.
-    Check {
+    /// Check whether it is admitted, and write the offset and the margin of each actor.
+    Check,
+    /// Write the tables of its meaning, whatever its bounds and slacks.
+    Meaning,
+    /// Write the least slacks with which it can run.
+    Slacks,
+}
+
+/// What a command line asks for.
+#[derive(Clone, Copy, Debug, PartialEq, Eq)]
+pub enum Order<'a> {
+    /// A command on the graph file with this name.
+    Over {
+        command: Command,
         graph: &'a str,
     },
-    /// Write its meaning, whatever its bounds and slacks.
-    Meaning {
-        graph: &'a str,
-    },
-    /// Run the input made from `number` (1 to 100) with `workers` workers (1 to 64), and write its summary.
+    /// A run of the input made from `number` (1 to 100), with `workers` workers (1 to 64).
     Make {
         number: u32,
         workers: u32,
     },
-    /// Write it as a file of version 2.
+    /// The graph file with this name as a file of version 2.
     Migrate {
         graph: &'a str,
     },
-    /// Write the least slacks with which it can run.
-    Slacks {
-        graph: &'a str,
-    },
-    /// Judge whether the file `log` is what a run of it writes, with the log.
+    /// An audit: whether the file `log` is what a run of the graph file with this name writes, with the log.
     Audit {
         graph: &'a str,
         log: &'a str,
     },
-    /// Run it with the lags and transits that the file `air` says, with `workers` workers (1 to 64), and write the log too if `log`
-    /// is true.
+    /// A replay: a run of the graph file with this name, with the lags and transits that the file `air` says, with `workers` workers
+    /// (1 to 64), and with the log if `log` is true.
     Replay {
         graph: &'a str,
         air: &'a str,

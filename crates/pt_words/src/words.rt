@@ -1,8 +1,8 @@
 //! The order that the words ask for.
 
 ghost use Rattle.std.specs.Prelude.{◌≡◌, ◌==◌, IfOk, codes, length, map, option_map, string_bytes};
-ghost use Rattle.pt_words.specs.Grammar.{clock_in, command_of, audit_of, only_word, is_bare, log_in, make_of, request_of_words, order_with, pair_in, replay_of, request_of, request_over, run_of, workers_in};
-ghost use Rattle.pt_words.specs.Views.{asked, texts_in, told, values_of};
+ghost use Rattle.pt_words.specs.Grammar.{audit_of, clock_in, is_bare, log_in, make_of, only_word, order_by, order_of, order_over, order_with, pair_in, replay_of, run_of, verb_of, workers_in};
+ghost use Rattle.pt_words.specs.Views.{in_words, texts_in, told, values_of};
 
 use crate::orders::{ClockChoice, Command, Order};
 use crate::reading::words_command;
@@ -11,6 +11,19 @@ use crate::values::{clock_of, made_number_of, workers_of};
 use clap::ArgMatches;
 use clap::error::ErrorKind;
 use std::alloc::{AllocError, Global};
+
+/// The word of a command.
+#[derive(Clone, Copy)]
+enum Verb {
+    Run,
+    Check,
+    Meaning,
+    Make,
+    Migrate,
+    Slacks,
+    Audit,
+    Replay,
+}
 
 /// The values that clap read from the words after the command.
 #[derive(Clone, Copy)]
@@ -28,30 +41,30 @@ struct Values<'m, 'a> {
 /// value is the next word, or follows `=` in the same word; `--log` takes none. A word `--` ends the options. Any other word that
 /// begins with `-` and is longer is refused, also as a value.
 pub fn order_of<'a>(alloc: Global, words: &'a [String]) -> Result<Option<Order<'a>>, AllocError>
-    ensures { IfOk result (λ order. option_map asked order ≡ request_of_words words.entry.now) }
+    ensures { IfOk result (λ order. option_map in_words order ≡ order_of words.entry.now) }
 {
     let [first, rest @ ..] = words else {
         return Ok(None);
     };
-    match command_of(first.as_str()) {
+    match verb_of(first.as_str()) {
         None => Ok(None),
-        Some(command) => order_with(alloc, command, rest),
+        Some(verb) => order_with(alloc, verb, rest),
     }
 }
 
-/// The command with this name.
-fn command_of(word: &str) -> Option<Command>
-    ensures { result ≡ command_of word.now }
+/// The command that a word names.
+fn verb_of(word: &str) -> Option<Verb>
+    ensures { result ≡ verb_of word.now }
 {
     match word {
-        "run" => Some(Command::Run),
-        "check" => Some(Command::Check),
-        "meaning" => Some(Command::Meaning),
-        "make" => Some(Command::Make),
-        "migrate" => Some(Command::Migrate),
-        "slacks" => Some(Command::Slacks),
-        "audit" => Some(Command::Audit),
-        "replay" => Some(Command::Replay),
+        "run" => Some(Verb::Run),
+        "check" => Some(Verb::Check),
+        "meaning" => Some(Verb::Meaning),
+        "make" => Some(Verb::Make),
+        "migrate" => Some(Verb::Migrate),
+        "slacks" => Some(Verb::Slacks),
+        "audit" => Some(Verb::Audit),
+        "replay" => Some(Verb::Replay),
         _ => None,
     }
 }
@@ -59,17 +72,17 @@ fn command_of(word: &str) -> Option<Command>
 /// The order that a command asks for with these words.
 fn order_with<'a>(
     alloc: Global,
-    command: Command,
+    verb: Verb,
     words: &'a [String],
 ) -> Result<Option<Order<'a>>, AllocError>
-    ensures { IfOk result (λ order. option_map asked order ≡ order_with command (map string_bytes words.entry.now)) }
+    ensures { IfOk result (λ order. option_map in_words order ≡ order_with verb (map string_bytes words.entry.now)) }
 {
     if has_short(words) {
         return Ok(None);
     }
     let reader = words_command(alloc)?;
     match reader.try_get_matches_from(words) {
-        Ok(matches) => Ok(request_of(command, values_in(&matches))),
+        Ok(matches) => Ok(order_by(verb, values_in(&matches))),
         Err(error) => match error.kind() {
             ErrorKind::OutOfMemory => Err(AllocError),
             _ => Ok(None),
@@ -93,53 +106,58 @@ fn values_in<'m, 'a>(matches: &'m ArgMatches<'a>) -> Values<'m, 'a>
 }
 
 /// The order that a command asks for with these values.
-fn request_of<'m, 'a>(command: Command, values: Values<'m, 'a>) -> Option<Order<'a>>
-    ensures { option_map asked result ≡ request_of command (told values.entry) }
+fn order_by<'m, 'a>(verb: Verb, values: Values<'m, 'a>) -> Option<Order<'a>>
+    ensures { option_map in_words result ≡ order_by verb (told values.entry) }
 {
-    match command {
-        Command::Audit => audit_of(values),
-        Command::Replay => replay_of(values),
-        _ => request_over(command, values, graph_in(values.graphs)?),
+    match verb {
+        Verb::Audit => audit_of(values),
+        Verb::Replay => replay_of(values),
+        _ => order_over(verb, values, graph_in(values.graphs)?),
     }
 }
 
 /// The order that a command with one positional word asks for with that word.
-fn request_over<'m, 'a>(
-    command: Command,
-    values: Values<'m, 'a>,
-    graph: &'a str,
-) -> Option<Order<'a>>
-    ensures { option_map asked result ≡ request_over command (told values.entry) graph.entry.now }
+fn order_over<'m, 'a>(verb: Verb, values: Values<'m, 'a>, graph: &'a str) -> Option<Order<'a>>
+    ensures { option_map in_words result ≡ order_over verb (told values.entry) graph.entry.now }
 {
-    match command {
-        Command::Run => run_of(values, graph),
-        Command::Check if is_bare(values) => Some(Order::Check { graph }),
-        Command::Meaning if is_bare(values) => Some(Order::Meaning { graph }),
-        Command::Make => make_of(values, graph),
-        Command::Migrate if is_bare(values) => Some(Order::Migrate { graph }),
-        Command::Slacks if is_bare(values) => Some(Order::Slacks { graph }),
+    match verb {
+        Verb::Run => run_of(values, graph),
+        Verb::Check if is_bare(values) => Some(Order::Over {
+            command: Command::Check,
+            graph,
+        }),
+        Verb::Meaning if is_bare(values) => Some(Order::Over {
+            command: Command::Meaning,
+            graph,
+        }),
+        Verb::Make => make_of(values, graph),
+        Verb::Migrate if is_bare(values) => Some(Order::Migrate { graph }),
+        Verb::Slacks if is_bare(values) => Some(Order::Over {
+            command: Command::Slacks,
+            graph,
+        }),
         _ => None,
     }
 }
 
 /// A run of a graph file.
 fn run_of<'m, 'a>(values: Values<'m, 'a>, graph: &'a str) -> Option<Order<'a>>
-    ensures { option_map asked result ≡ run_of (told values.entry) graph.entry.now }
+    ensures { option_map in_words result ≡ run_of (told values.entry) graph.entry.now }
 {
     let workers = workers_in(values.workers)?;
     let clock = clock_in(values.clocks)?;
     let log = log_in(values.logs)?;
-    Some(Order::Run {
-        graph,
+    let command = Command::Run {
         workers,
         clock,
         log,
-    })
+    };
+    Some(Order::Over { command, graph })
 }
 
 /// A run of an input made from a number.
 fn make_of<'m, 'a>(values: Values<'m, 'a>, word: &'a str) -> Option<Order<'a>>
-    ensures { option_map asked result ≡ make_of (told values.entry) word.entry.now }
+    ensures { option_map in_words result ≡ make_of (told values.entry) word.entry.now }
 {
     if !is_absent(values.clocks) || !is_absent(values.logs) {
         return None;
@@ -151,7 +169,7 @@ fn make_of<'m, 'a>(values: Values<'m, 'a>, word: &'a str) -> Option<Order<'a>>
 
 /// An audit of a log, with the graph file and the log.
 fn audit_of<'m, 'a>(values: Values<'m, 'a>) -> Option<Order<'a>>
-    ensures { option_map asked result ≡ audit_of (told values.entry) }
+    ensures { option_map in_words result ≡ audit_of (told values.entry) }
 {
     if !is_bare(values) {
         return None;
@@ -162,7 +180,7 @@ fn audit_of<'m, 'a>(values: Values<'m, 'a>) -> Option<Order<'a>>
 
 /// A replay with a recording, with the graph file and the recording.
 fn replay_of<'m, 'a>(values: Values<'m, 'a>) -> Option<Order<'a>>
-    ensures { option_map asked result ≡ replay_of (told values.entry) }
+    ensures { option_map in_words result ≡ replay_of (told values.entry) }
 {
     if !is_absent(values.clocks) {
         return None;

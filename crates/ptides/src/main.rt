@@ -4,7 +4,7 @@
 //! written. The program ends with the status of the outcome.
 #![tactic(auto)]
 
-ghost use Rattle.std.specs.Prelude.{◌≡◌, IfOk, Option, length, pos};
+ghost use Rattle.std.specs.Prelude.{◌≡◌, Option, length, pos};
 ghost use Rattle.pt_semantics.specs.Laws.{law_value};
 ghost use Rattle.pt_types.specs.declared.kind.Law.TheVariants.{Weighted};
 ghost use Rattle.pt_run.specs.declared.fault.Fault.{Fault};
@@ -12,20 +12,20 @@ ghost use Rattle.pt_run.specs.Complete.{IsComplete};
 ghost use Rattle.pt_run.specs.Due.{IsDue};
 ghost use Rattle.pt_run.specs.InBounds.{IsCompleteInBounds};
 ghost use Rattle.pt_run.specs.Statuses.{status_of};
-ghost use Rattle.pt_run.specs.Words.{order_of};
+ghost use Rattle.pt_words.specs.Grammar.{order_of};
 ghost use Rattle.pt_run.specs.Written.{Leaves};
 
 use pt_blocks::{Blocks, Function, clip100, dead5, greatest, least, shipped_blocks};
-use pt_io::{Clock, FileSource, MachineClock, NotesSink, OutSink, Sink, Source, SystemFiles};
+use pt_io::{
+    Clock, FileSource, NotesSink, OutSink, Sink, Source, SystemFiles, machine_clocks, words,
+};
 use pt_run::ptides;
-use pt_tags::Memory;
 use pt_types::Law;
 use std::alloc::Global;
-use std::io::ErrorKind;
+use std::io;
 use std::process::ExitCode;
 use std::sync::Wait;
 use std::thread::Threads;
-use std::{env, io};
 
 /// The status if there is not enough memory to begin.
 const NO_MEMORY: u8 = 9;
@@ -38,30 +38,6 @@ fn mean(a: i64, b: i64) -> i64
     ensures { result ≡ law_value (Weighted (pos 1) (pos 2)) a b }
 {
     pt_actors::law_value(Law::Weighted { num: 1, den: 2 }, a, b)
-}
-
-/// The words of the command line after the program's name. If one is not text, there are none, which is not a valid command.
-fn words(rt: &HostRuntime) -> Result<Vec<String>, Memory> {
-    let alloc = rt.alloc();
-    let arguments = match env::args(rt) {
-        Ok(arguments) => arguments,
-        Err(error) => match error.kind() {
-            ErrorKind::OutOfMemory => return Err(Memory),
-            _ => return Ok(Vec::new(alloc)),
-        },
-    };
-    Ok(arguments.skip(1).collect::<Vec<String>>(alloc)?)
-}
-
-/// A clock of the machine for each platform that a graph may have. Each begins now.
-fn machine_clocks<'r>(rt: &'r HostRuntime) -> Result<Vec<MachineClock<&'r HostRuntime>>, Memory>
-    ensures { IfOk result (λ clocks. length clocks.items ≡ 16) }
-{
-    let mut clocks = Vec::with_capacity(rt.alloc(), MOST_PLATFORMS)?;
-    while clocks.len() < MOST_PLATFORMS {
-        clocks.push(MachineClock::new(rt))?;
-    }
-    Ok(clocks)
 }
 
 /// The status of the command of these words, which is that of the call. The clocks are let go, and so is all that a run leaves.
@@ -120,7 +96,7 @@ fn main(rt: HostRuntime) -> ExitCode {
     };
     let mut notes = NotesSink::new(io::writer(&stderr));
     let mut source = FileSource::new(SystemFiles::new(&rt));
-    let Ok(clocks) = machine_clocks(&rt) else {
+    let Ok(clocks) = machine_clocks(alloc, &rt, MOST_PLATFORMS) else {
         return ExitCode::from(NO_MEMORY);
     };
     let status = status(

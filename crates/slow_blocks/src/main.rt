@@ -6,44 +6,26 @@
 
 mod slow;
 
-ghost use Rattle.std.specs.Prelude.{◌≡◌, IfOk, length};
+ghost use Rattle.std.specs.Prelude.{◌≡◌, length};
 
 use crate::slow::slow;
 use pt_blocks::{Block, Blocks, least};
-use pt_io::{Clock, FileSource, MachineClock, NotesSink, OutSink, Sink, Source, SystemFiles};
+use pt_io::{
+    Clock, FileSource, NotesSink, OutSink, Sink, Source, SystemFiles, machine_clocks, words,
+};
 use pt_run::ptides;
-use pt_tags::Memory;
 use pt_types::Law;
 use std::alloc::Global;
+use std::io;
 use std::process::ExitCode;
 use std::sync::Wait;
 use std::thread::Threads;
-use std::{env, io};
 
 /// The status if there is not enough memory to begin.
 const NO_MEMORY: u8 = 9;
 
 /// The most platforms of a graph.
 const MOST_PLATFORMS: usize = 16;
-
-/// The words of the command line after the program's name.
-fn words(rt: &HostRuntime) -> Result<Vec<String>, Memory> {
-    let Ok(arguments) = env::args(rt) else {
-        return Err(Memory);
-    };
-    Ok(arguments.skip(1).collect::<Vec<String>>(rt.alloc())?)
-}
-
-/// A clock of the machine for each platform that a graph may have. Each begins now.
-fn machine_clocks<'r>(rt: &'r HostRuntime) -> Result<Vec<MachineClock<&'r HostRuntime>>, Memory>
-    ensures { IfOk result (λ clocks. length clocks.items ≡ 16) }
-{
-    let mut clocks = Vec::with_capacity(rt.alloc(), MOST_PLATFORMS)?;
-    while clocks.len() < MOST_PLATFORMS {
-        clocks.push(MachineClock::new(rt))?;
-    }
-    Ok(clocks)
-}
 
 /// The status of the command of these words.
 fn status<S: Source, K: Sink, E: Sink, C: Clock + Send, R: Threads + Wait + Sync>(
@@ -83,7 +65,7 @@ fn main(rt: HostRuntime) -> ExitCode {
     };
     let mut notes = NotesSink::new(io::writer(&stderr));
     let mut source = FileSource::new(SystemFiles::new(&rt));
-    let Ok(clocks) = machine_clocks(&rt) else {
+    let Ok(clocks) = machine_clocks(alloc, &rt, MOST_PLATFORMS) else {
         return ExitCode::from(NO_MEMORY);
     };
     let status = status(

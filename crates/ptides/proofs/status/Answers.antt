@@ -1,6 +1,6 @@
 use Rattle.pt_io.specs.Told.{tell}
 use Rattle.pt_run.specs.Texts.{left_of}
-use Rattle.pt_run.specs.Words.{order_of}
+use Rattle.pt_words.specs.Grammar.{order_of}
 use Rattle.ptides.proofs.status.Goals as goal
 
 pub returns-clause-ended : goal.returns-clause-ended

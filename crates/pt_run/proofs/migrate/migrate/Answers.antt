@@ -5,7 +5,7 @@ use Rattle.pt_sensors.specs.Asked.{Reading}
 use Rattle.pt_run.specs.Causes.{Writing}
 use Rattle.pt_run.specs.Due.{Answer, IsDueTo}
 use Rattle.pt_run.specs.Texts.{left_by}
-use Rattle.pt_run.specs.Words.{migrate}
+use Rattle.pt_words.specs.Grammar.{migrate}
 use Rattle.pt_run.specs.Written.{leaves_nothing}
 use Rattle.pt_run.proofs.Ending.{has_nothing, told_due}
 use Rattle.pt_run.proofs.migrate.migrate.Goals as goal

@@ -3,7 +3,7 @@ use Rattle.pt_sensors.specs.Asked.{Contents, Reading}
 use Rattle.pt_run.specs.Causes.{Writing}
 use Rattle.pt_run.specs.Due.{Answer, IsReplayed, UnlessMemory}
 use Rattle.pt_run.specs.Texts.{left_by}
-use Rattle.pt_run.specs.Words.{paced_run}
+use Rattle.pt_run.specs.Telling.{paced_run}
 use Rattle.pt_run.specs.Written.{Leaves}
 use Rattle.pt_run.specs.Asks.{all_sensors}
 use Rattle.pt_run.proofs.Asks.{asks_on, from_graph}

@@ -1,7 +1,7 @@
 use Rattle.pt_io.specs.Told.{tell}
 use Rattle.pt_run.specs.Due.{Answer}
 use Rattle.pt_run.specs.Texts.{left_at}
-use Rattle.pt_run.specs.Words.{order_of}
+use Rattle.pt_words.specs.Grammar.{order_of}
 use Rattle.pt_run.proofs.OfDue as of_due
 use Rattle.pt_run.proofs.top.ptides.Goals as goal
 

@@ -1,7 +1,7 @@
 use Rattle.std.specs.Prelude.{string_bytes}
 use Rattle.pt_sensors.specs.Asked.{Reading}
-use Rattle.pt_run.specs.declared.words.Command.{Command}
-use Rattle.pt_run.specs.declared.words.Command.TheVariants.{Check, Meaning, Run, Slacks}
+use Rattle.pt_words.specs.declared.orders.Command.{Command}
+use Rattle.pt_words.specs.declared.orders.Command.TheVariants.{Check, Meaning, Run, Slacks}
 use Rattle.pt_run.specs.Causes.{Writing}
 use Rattle.pt_run.specs.Due.{IsDueFor, UnlessMemory}
 use Rattle.std.proofs.Common.{[], ◌≡◌, ◌∙◌, List, ap, refl, subst, sym}

@@ -3,12 +3,12 @@ use Rattle.std.proofs.Common.{rules, ◌≡◌, ◌∙◌, List, None, Option, S
 use Rattle.pt_sensors.proofs.Asking.{asks_none}
 use Rattle.pt_sensors.specs.Asked.{Reading}
 use Rattle.pt_io.specs.Told.{ClockView, tell}
-use Rattle.pt_run.specs.Asking.{in_words}
+use Rattle.pt_words.specs.Views.{in_words}
 use Rattle.pt_run.specs.Causes.{Writing}
 use Rattle.pt_run.specs.Due.{IsDue}
 use Rattle.pt_run.specs.Asks.{AsksOf}
 use Rattle.pt_run.specs.Texts.{left_at}
-use Rattle.pt_run.specs.Words.{Order, order_of, replay, over, audit}
+use Rattle.pt_words.specs.Grammar.{Order, order_of, replay, over, audit}
 use Rattle.pt_run.specs.declared.fault.Fault.TheVariants.{Memory}
 use Rattle.pt_run.proofs.Asks.{asked_nothing}
 use Rattle.pt_run.proofs.Made.{asks_for_none, made_number_in, order_is}

@@ -2,7 +2,7 @@ use Rattle.std.proofs.Common.{◌≡◌, List, ℕ, [], map, string_bytes, ap, s
 use Rattle.std.specs.Prelude.{unwrap_or}
 use Rattle.clap.specs.Words.{app_of, found_of, is_simple, is_simple_and_free, rows_of}
 use Rattle.clap.proofs.WalkLemmas.{raw_values-rows}
-use Rattle.pt_words.specs.Grammar.{request_of}
+use Rattle.pt_words.specs.Grammar.{order_by}
 use Rattle.pt_words.specs.Views.{told}
 use Rattle.pt_words.proofs.Agreeing.{said_in}
 use Rattle.pt_words.proofs.Parsing.{at_err, at_ok, short_refused}
@@ -11,7 +11,7 @@ use Rattle.pt_words.proofs.words.order_with.Goals as goal
 pub returns-then-has_short : goal.returns-then-has_short
 returns-then-has_short c =
     let ws : List (List ℕ) = map string_bytes c.args.words.now in
-    sym (ap (option_and_then (request_of c.args.command)) (short_refused ws (sym c.has_short.ensures ∙ c.if-has_short.true)))
+    sym (ap (option_and_then (order_by c.args.verb)) (short_refused ws (sym c.has_short.ensures ∙ c.if-has_short.true)))
 
 pub returns-in-Ok : goal.returns-in-Ok
 returns-in-Ok c =
@@ -24,8 +24,8 @@ returns-in-Ok c =
       clocks = (c.values_in.ensures.clocks ∙ ap (λ o. unwrap_or o []) (raw_values-rows found (codes "clock"))) i;
       logs = (c.values_in.ensures.logs ∙ ap (λ o. unwrap_or o []) (raw_values-rows found (codes "log"))) i;
     } in
-    c.request_of.ensures
-    ∙ sym (ap (option_and_then (request_of c.args.command))
+    c.order_by.ensures
+    ∙ sym (ap (option_and_then (order_by c.args.verb))
     (at_ok (app_of c.in_ok-reader.reader) ws (rows_of found) (told c.values_in.result) is (sym c.has_short.ensures ∙ c.if-has_short.false)
     (c.in-Ok.ensures.kinds (ap is_simple_and_free is))
     (c.in-Ok.ensures.matches (ap is_simple is)).0 read))
@@ -36,5 +36,5 @@ returns c =
     let ws : List (List ℕ) = map string_bytes c.args.words.now in
     let kinds = c.in-Err.ensures.kinds (ap is_simple_and_free is) in
     let other = c.in_default.not-OutOfMemory in
-    sym (ap (option_and_then (request_of c.args.command)) (at_err (app_of c.in_ok-reader.reader) ws is (sym c.has_short.ensures ∙ c.if-has_short.false)
+    sym (ap (option_and_then (order_by c.args.verb)) (at_err (app_of c.in_ok-reader.reader) ws is (sym c.has_short.ensures ∙ c.if-has_short.false)
     (λ none. elim (rw none at kinds) [ inl m ↦ other (c.kind.ensures ∙ m) | inr h ↦ absurd h ])))
