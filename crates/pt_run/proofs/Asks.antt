@@ -15,21 +15,22 @@ use Rattle.pt_sensors.specs.Asked.{Asks, AsksFiles, Contents, Reading, file_of, 
 use Rattle.pt_sensors.proofs.Asking.{append_none, asks_more, asks_none}
 use Rattle.pt_turn.specs.declared.fault.TurnFault.{TurnFault}
 use Rattle.pt_turn.specs.Platforms.{PlatformView}
-use Rattle.pt_air.specs.declared.fault.AirFault.{AirFault}
-use Rattle.pt_air.specs.declared.fault.AirFault.TheVariants as airs
 use Rattle.pt_run.specs.declared.plan_run.RunFault.{RunFault}
 use Rattle.pt_run.specs.declared.plan_run.RunFault.TheVariants as stop
 use Rattle.pt_run.specs.declared.finished_run.Ran.{Ran}
 use Rattle.pt_run.specs.declared.fault.Fault.{Fault}
 use Rattle.pt_run.specs.declared.fault.Fault.TheVariants as fault
+use Rattle.pt_run.specs.declared.last_file.LastFile.{LastFile}
+use Rattle.pt_run.specs.declared.last_file.LastFile.TheVariants.{Log, Air}
 use Rattle.pt_run.specs.declared.outcome.Ending.{Ending}
 use Rattle.pt_run.specs.declared.replay.Stopped.{Stopped}
 use Rattle.pt_words.specs.declared.orders.Command.{Command}
 use Rattle.pt_run.specs.Asks.{AreAsked, AsksAlone, AsksFrom, AsksOf, AsksOver, AsksStopped, Begins, all_sensors, files_for}
 use Rattle.pt_run.specs.Causes.{Writing}
 use Rattle.pt_run.specs.Due.{AfterCycles, AfterOffsets, Answer, AnswersAsDue, EndsRefused, IsMeantBy, UnlessMemory}
-use Rattle.pt_run.specs.Faults.{fault_of_air, fault_of_cycle, fault_of_graph, fault_of_rows}
+use Rattle.pt_run.specs.Faults.{fault_of_cycle, fault_of_graph, fault_of_rows}
 use Rattle.pt_run.specs.Flown.{EndsAsReplayed, IsOfReplay, stop_in}
+use Rattle.pt_run.specs.LastFiles.{unread_of}
 use Rattle.pt_run.specs.Runs.{IsStop}
 use Rattle.pt_run.specs.Texts.{HasEnded, OrMemory, PutBy, PutsOrTells, fault_in}
 use Rattle.pt_words.specs.Grammar.{Order, audit, make, migrate, over, replay}
@@ -93,11 +94,6 @@ cycle_refused : (f : CycleFault) (sensors last : List (List ℕ)) → AreAsked (
 cycle_refused cycle.Memory sensors last = begins_none (sensors ++ last)
 cycle_refused (cycle.Cycle actors) sensors last = refl
 
--- all, if the recording has a fault
-air_refused : (f : AirFault) (sensors last : List (List ℕ)) → AreAsked (Some (fault_of_air f)) sensors last (sensors ++ last)
-air_refused airs.Memory sensors last = begins_all (sensors ++ last)
-air_refused f sensors last = refl
-
 -- Over a graph.
 
 -- nothing was asked for, since nothing is to be
@@ -153,13 +149,10 @@ module _ (g : Graph) (last : List (List ℕ)) (before now : Option (List (List �
   pub last_asked : (middle : Option (List (List ℕ))) → Asks before middle (all_sensors g) → Asks middle now last → Asks before now (all_sensors g ++ last)
   last_asked middle asks more = asks_more before middle now (all_sensors g) last asks more
 
-  -- memory ran out before it was asked for
-  pub short_asked : Asks before now (all_sensors g) → AsksOver (Some fault.Memory) [] (all_sensors g) last before now
-  short_asked asks = (all_sensors g, (last, refl), asks)
-
-  -- it has a fault
-  pub air_asked : (f : AirFault) → Asks before now (all_sensors g ++ last) → AsksOver (Some (fault_of_air f)) [] (all_sensors g) last before now
-  air_asked f asks = (all_sensors g ++ last, air_refused f (all_sensors g) last, asks)
+  -- it could not be read
+  pub unread_asked : (file : LastFile) → Asks before now (all_sensors g ++ last) → AsksOver (Some (unread_of file)) [] (all_sensors g) last before now
+  unread_asked Log asks = (all_sensors g ++ last, refl, asks)
+  unread_asked Air asks = (all_sensors g ++ last, refl, asks)
 
   -- memory ran out once all were asked for
   pub memory_asked : Asks before now (all_sensors g ++ last) → AsksOver (Some fault.Memory) [] (all_sensors g) last before now

@@ -6,7 +6,9 @@ use Rattle.pt_types.specs.declared.rows.Row.{Row}
 use Rattle.pt_offsets.specs.Plans.{IsAdmitted, Parts}
 use Rattle.pt_sensors.specs.declared.recorded_fault.RecordedFault.{RecordedFault}
 use Rattle.pt_sensors.specs.declared.recorded_fault.LateRows.TheVariants.{Refused}
+use Rattle.pt_sensors.specs.declared.sensor_rows.SensorRows.{SensorRows}
 use Rattle.pt_sensors.specs.Asked.{Asks, Contents, ReadFails, Reading}
+use Rattle.pt_sensors.specs.Listed.{rows_for}
 use Rattle.pt_sensors.specs.Places.{of_run}
 use Rattle.pt_sensors.specs.Recorded.{AllPass, AreRows, CauseOfRows}
 use Rattle.pt_sensors.proofs.Asking.{append_none, read_after}
@@ -14,6 +16,7 @@ use Rattle.pt_run.specs.Asks.{all_sensors}
 use Rattle.pt_run.specs.Auditing.{LastFails}
 use Rattle.pt_run.specs.Due.{AfterAdmission, AfterRows, Answer, RefusesAsDue, UnlessMemory, WithPlan}
 use Rattle.pt_run.specs.Faults.{fault_of_rows}
+use Rattle.pt_run.specs.LastFiles.{HasAllRows}
 use Rattle.pt_run.proofs.Ending.{rows_due}
 
 module _ (tells : Contents) (p : Parts) (g : Graph) (Then : Answer → Parts → (ℕ → List Row) → Type 0) (admitted : IsAdmitted p) (same : g ≡ p.graph) where
@@ -33,6 +36,11 @@ module _ (tells : Contents) (p : Parts) (g : Graph) (Then : Answer → Parts →
   pub past_rows : (rows : ℕ → List Row) → AreRows tells g rows → AllPass Refused g rows → (a : Answer) → UnlessMemory a (λ a. Then a p (of_run p.graph rows)) → UnlessMemory a (λ a. AfterAdmission tells p.graph [] a (Then a))
   past_rows rows are pass a (inl out) = inl out
   past_rows rows are pass a (inr k) = on_graph a (inr (inr (inr (inr (rows, subst (λ (z : Graph). AreRows tells z rows) same are, subst (λ (z : Graph). AllPass Refused z rows) same pass, (p, refl, admitted, k))))))
+
+-- all of its sensors have rows, and the call goes on
+pub past_all_rows : (tells : Contents) (p : Parts) (entries : List SensorRows) (Then : Answer → Parts → (ℕ → List Row) → Type 0) → HasAllRows tells p entries → (a : Answer) →
+    UnlessMemory a (λ a. Then a p (of_run p.graph (rows_for entries))) → UnlessMemory a (λ a. AfterAdmission tells p.graph [] a (Then a))
+past_all_rows tells p entries Then has a due = past_rows tells p p.graph Then has.admitted refl (rows_for entries) has.sensors has.in_time a due
 
 -- a last file could not be read after the files of the sensors
 pub last_unread : (file : List ℕ) (p : Parts) (g : Graph) (first asked now : Option (List (List ℕ))) (start before last : ℕ) → g ≡ p.graph → Asks first asked (all_sensors g) → start ≤ before → Asks asked now (file ∷ []) → Rose before last →

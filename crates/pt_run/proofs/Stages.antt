@@ -183,11 +183,15 @@ pub graph_told : (tells : Contents) (blocks : List Named) (name : List ℕ) (a :
     RefusesAsDue f a.read (λ a. AfterFile tells blocks name a (λ g. ⊥)) → UnlessMemory a (λ z. AfterFile tells blocks name z Then)
 graph_told tells blocks name a Then nothing still f told is tell refuses = past_file tells blocks name a.read a Then (told_due a f told (λ a. AfterFile tells blocks name a (λ g. ⊥)) nothing still is tell refuses)
 
+-- what is due after the admission is so if it follows from what was found
+pub on_admitted : (tells : Contents) (g : Graph) (Found Then : Answer → Parts → (ℕ → List Row) → Type 0) (a : Answer) → ((plan : Parts) (rows : ℕ → List Row) → Found a plan rows → Then a plan rows) →
+    UnlessMemory a (λ a. AfterAdmission tells g [] a (Found a)) → UnlessMemory a (λ a. AfterAdmission tells g [] a (Then a))
+on_admitted tells g Found Then a on (inl out) = inl out
+on_admitted tells g Found Then a on (inr h) = inr (on_admission a.fault a.left a.read a.read a.wrote tells g [] [] (λ late actor u. u) (Found a) (Then a) on h)
+
 -- a call that is refused up to its recording goes on with none
 pub past_air : (air : List ℕ) (log : Bool) (tells : Contents) (g : Graph) (a : Answer) → UnlessMemory a (λ a. AfterAdmission tells g [] a (λ p rows. AfterAir air tells g [] a ⊥)) → UnlessMemory a (IsReplayed air log tells g [])
-past_air air log tells g a (inl out) = inl out
-past_air air log tells g a (inr h) =
-    inr (on_admission a.fault a.left a.read a.read a.wrote tells g [] [] (λ late actor u. u) (λ p rows. AfterAir air tells g [] a ⊥) (IsReplayedBy air log tells g [] a) (λ plan rows k. past plan rows k) h)
+past_air air log tells g a h = on_admitted tells g (λ a p rows. AfterAir air tells g [] a ⊥) (IsReplayedBy air log tells g []) a past h
   where
     past : (plan : Parts) (rows : ℕ → List Row) → AfterAir air tells g [] a ⊥ → IsReplayedBy air log tells g [] a plan rows
     past plan rows (inl k) = inl k

@@ -28,3 +28,4 @@ pub mod Readings
 pub mod Went
 pub mod Clocks
 pub mod Due
+pub mod LastFiles

@@ -59,16 +59,12 @@ abbrev pub late_row_line : List ℕ → ℕ → ℕ → ℕ → List ℕ
 late_row_line name row seen limit = codes "late " ++ name ++ codes " row " ++ decimal row ++ codes ", seen " ++ decimal seen ++ codes " past " ++ decimal limit ++ 10 ∷ []
 
 --  at TIME.STEP, reading N past L
-abbrev pub at_part : Tag → ℕ → ℕ → List ℕ
-at_part tag reading limit = codes " at " ++ decimal tag.time ++ codes "." ++ decimal tag.step ++ codes ", reading " ++ decimal reading ++ codes " past " ++ decimal limit ++ 10 ∷ []
+abbrev pub past_part : Tag → ℕ → ℕ → List ℕ
+past_part tag reading limit = codes " at " ++ decimal tag.time ++ codes "." ++ decimal tag.step ++ codes ", reading " ++ decimal reading ++ codes " past " ++ decimal limit
 
 -- late RECEIVER at TIME.STEP, reading N past L
 abbrev pub late_message_line : List ℕ → Tag → ℕ → ℕ → List ℕ
-late_message_line name tag reading limit = (codes "late " ++ name) ++ at_part tag reading limit
-
---  at TIME.STEP, reading N past L
-abbrev pub past_part : Tag → ℕ → ℕ → List ℕ
-past_part tag reading limit = codes " at " ++ decimal tag.time ++ codes "." ++ decimal tag.step ++ codes ", reading " ++ decimal reading ++ codes " past " ++ decimal limit
+late_message_line name tag reading limit = (codes "late " ++ name) ++ (past_part tag reading limit ++ 10 ∷ [])
 
 -- , air row R
 abbrev pub row_part : ℕ → List ℕ

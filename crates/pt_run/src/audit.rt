@@ -18,7 +18,8 @@ ghost use Rattle.pt_run.specs.Texts.{PutsOrTells, fault_in, left_by};
 ghost use Rattle.pt_words.specs.Grammar.{audit as to_audit};
 
 use crate::admission::graph_at;
-use crate::fault::{Fault, fault_of_rows};
+use crate::fault::Fault;
+use crate::last_file::{LastFile, RowsAndBytes, fetched};
 use crate::notes::{tell, tell_write};
 use crate::outcome::Ending;
 use crate::output::put_text;
@@ -26,17 +27,14 @@ use crate::run::planned;
 use pt_audit::{Replayed, Verdict, replay};
 use pt_blocks::Blocks;
 use pt_confluence::tables_of;
-use pt_io::{FetchFault, Sink, Source};
+use pt_io::{Sink, Source};
 use pt_offsets::Plan;
-use pt_sensors::{LateRows, SensorRows, recorded};
+use pt_sensors::SensorRows;
 use pt_tags::Memory;
 use pt_turn::Platform;
 use pt_types::Graph;
 use std::alloc::Global;
 use std::sync::Arc;
-
-/// The most bytes that a log may have.
-const MOST_LOG_BYTES: usize = 67_108_864;
 
 /// Judges whether the file `log` is what a run of the graph in the file with this name writes, with the log, whatever its
 /// clock and its workers; if it is, writes the line `lawful`.
@@ -118,14 +116,9 @@ fn judge<S: Source>(
         (IsAudited log.now (S.tells source.old) (arc_value plan.now).graph []) }
     ensures asks { AsksOver (fault_in result) [] (all_sensors (arc_value plan.now).graph) (log.now ∷ []) (S.asked source.old) (S.asked source.new) }
 {
-    let entries = match recorded(alloc, source, plan.graph(), LateRows::Refused) {
-        Ok(entries) => entries,
-        Err(fault) => return Err(fault_of_rows(fault)),
-    };
-    let bytes = match source.fetch(alloc, log, MOST_LOG_BYTES) {
-        Ok(bytes) => bytes,
-        Err(FetchFault::Failed) => return Err(Fault::ReadLog),
-        Err(FetchFault::Memory) => return Err(Fault::Memory),
+    let RowsAndBytes { entries, bytes } = match fetched(alloc, plan, LastFile::Log, log, source) {
+        Ok(found) => found,
+        Err(fault) => return Err(fault),
     };
     let verdict = match verdict_on(alloc, plan, entries, blocks, bytes.as_slice()) {
         Ok(verdict) => verdict,

@@ -20,6 +20,7 @@ mod check;
 mod engines;
 mod fault;
 mod finished_run;
+mod last_file;
 mod laws;
 mod make;
 mod meaning;

@@ -3,7 +3,7 @@
 ghost use Rattle.std.specs.Prelude.{◌≡◌, ◌⊎◌, ◌++◌, [], ◌∷◌, IfOk, None, OnOk, Some, option_map, string_bytes};
 ghost use Rattle.pt_run.specs.declared.fault.Fault.TheVariants.{Memory, Write};
 ghost use Rattle.pt_run.specs.Telling.{Tells};
-ghost use Rattle.pt_run.specs.Notes.{actor_name_in, at_part, cycle_line, gain_part, infeasible_line, late_air_line, late_row_line, late_message_line, long_line, names_of, note_line, offset_part, past_part, platform_name_in, read_line, ring_line, row_part, sender_name_in, turn_part, unlawful_line, verdict_part};
+ghost use Rattle.pt_run.specs.Notes.{actor_name_in, cycle_line, gain_part, infeasible_line, late_air_line, late_row_line, late_message_line, long_line, names_of, note_line, offset_part, past_part, platform_name_in, read_line, ring_line, row_part, sender_name_in, turn_part, unlawful_line, verdict_part};
 
 use crate::fault::Fault;
 use pt_air::fault_line as air_line;
@@ -203,20 +203,8 @@ fn push_late_message(
     ensures { OnOk result (string_bytes line.new ≡ string_bytes line.old ++ late_message_line name.now tag.now reading limit) }
 {
     push_words(line, "late ", name)?;
-    push_at(line, tag.time, tag.step, reading, limit)
-}
-
-/// Appends a tag, a reading and a limit, and ends the line.
-fn push_at(
-    line: &mut String,
-    time: u64,
-    step: u64,
-    reading: u64,
-    limit: u64,
-) -> Result<(), AllocError>
-    ensures { OnOk result (string_bytes line.new ≡ string_bytes line.old ++ at_part (record { time = time; step = step }) reading limit) }
-{
-    write!(line, " at {time}.{step}, reading {reading} past {limit}\n")
+    push_past(line, tag.time, tag.step, reading, limit)?;
+    line.push_str("\n")
 }
 
 /// Appends the line of a late message of a replay, with a row of its recording.

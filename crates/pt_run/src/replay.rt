@@ -17,18 +17,19 @@ ghost use Rattle.pt_run.specs.Texts.{fault_in, left_by};
 ghost use Rattle.pt_words.specs.Grammar.{replay as to_replay};
 
 use crate::admission::graph_at;
-use crate::fault::{Fault, fault_of_air, fault_of_rows};
+use crate::fault::{Fault, fault_of_air};
+use crate::last_file::{LastFile, RowsAndBytes, fetched};
 use crate::notes::tell;
 use crate::outcome::Ending;
 use crate::run::{faults_of, leave, planned, write_run};
 use crate::went::{Went, outputs_of};
 use crate::{Ran, RunFault};
-use pt_air::{Air, MOST_BYTES, read_air};
+use pt_air::{Air, read_air};
 use pt_aired::{Aired, aired};
 use pt_blocks::Blocks;
-use pt_io::{FetchFault, Sink, Source};
+use pt_io::{Sink, Source};
 use pt_offsets::Plan;
-use pt_sensors::{LateRows, SensorRows, recorded};
+use pt_sensors::SensorRows;
 use pt_turn::{Platform, open_all};
 use pt_types::Graph;
 use std::alloc::Global;
@@ -163,14 +164,9 @@ fn read_inputs<S: Source>(
         (λ a. AfterAdmission (S.tells source.old) (arc_value plan.now).graph [] a (λ p rows. AfterAir air.now (S.tells source.old) (arc_value plan.now).graph [] a ⊥))) }
     ensures asks { AsksOver (fault_in result) [] (all_sensors (arc_value plan.now).graph) (air.now ∷ []) (S.asked source.old) (S.asked source.new) }
 {
-    let entries = match recorded(alloc, source, plan.graph(), LateRows::Refused) {
-        Ok(entries) => entries,
-        Err(fault) => return Err(fault_of_rows(fault)),
-    };
-    let bytes = match source.fetch(alloc, air, MOST_BYTES) {
-        Ok(bytes) => bytes,
-        Err(FetchFault::Failed) => return Err(Fault::ReadAir),
-        Err(FetchFault::Memory) => return Err(Fault::Memory),
+    let RowsAndBytes { entries, bytes } = match fetched(alloc, plan, LastFile::Air, air, source) {
+        Ok(found) => found,
+        Err(fault) => return Err(fault),
     };
     match read_air(alloc, bytes.as_slice(), plan.graph()) {
         Ok(air) => Ok(Inputs { entries, air }),
