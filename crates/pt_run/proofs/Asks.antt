@@ -1,5 +1,5 @@
 -- Which files a source was asked for.
-use Rattle.std.proofs.Common.{◌≡◌, ◌≢◌, ◌⊎◌, ℕ, zero, suc, List, [], ◌∷◌, ◌++◌, Option, Some, None, Result, Ok, Err, IfSome, IfErr, IfOk, take, append_assoc, refl, sym, ap, subst, ◌∙◌, inl, inr, ⊎_elim}
+use Rattle.std.proofs.Common.{◌≡◌, ◌≢◌, ◌⊎◌, ℕ, zero, suc, List, [], ◌∷◌, ◌+◌, ◌++◌, Option, Some, None, Result, Ok, Err, IfSome, IfErr, IfOk, take, append_assoc, refl, sym, ap, subst, ◌∙◌, inl, inr, ⊎_elim}
 use Rattle.pt_types.specs.declared.graph.Graph.{Graph}
 use Rattle.pt_types.specs.declared.graph.Actor.{Actor}
 use Rattle.pt_blocks.specs.declared.blocks.Named.{Named}
@@ -11,7 +11,7 @@ use Rattle.pt_causality.specs.declared.cycle.CycleFault.{CycleFault}
 use Rattle.pt_causality.specs.declared.cycle.CycleFault.TheVariants as cycle
 use Rattle.pt_sensors.specs.declared.recorded_fault.RecordedFault.{RecordedFault}
 use Rattle.pt_sensors.specs.declared.recorded_fault.RecordedFault.TheVariants as rows
-use Rattle.pt_sensors.specs.Asked.{Asks, AsksFiles, Contents, Reading, file_of, sensor_files}
+use Rattle.pt_sensors.specs.Asked.{Asks, AsksUpTo, Contents, Reading, file_of, files_before, sensor_files}
 use Rattle.pt_sensors.proofs.Asking.{append_none, asks_more, asks_none}
 use Rattle.pt_turn.specs.declared.fault.TurnFault.{TurnFault}
 use Rattle.pt_turn.specs.Platforms.{PlatformView}
@@ -25,7 +25,7 @@ use Rattle.pt_run.specs.declared.last_file.LastFile.TheVariants.{Log, Air}
 use Rattle.pt_run.specs.declared.outcome.Ending.{Ending}
 use Rattle.pt_run.specs.declared.replay.Stopped.{Stopped}
 use Rattle.pt_words.specs.declared.orders.Command.{Command}
-use Rattle.pt_run.specs.Asks.{AreAsked, AsksAlone, AsksFrom, AsksOf, AsksOver, AsksStopped, Begins, all_sensors, files_for}
+use Rattle.pt_run.specs.Asks.{AreAsked, AsksAlone, AsksFrom, AsksOf, AsksOver, AsksStopped, Begins, all_sensors, actors_for}
 use Rattle.pt_run.specs.Causes.{Writing}
 use Rattle.pt_run.specs.Due.{AfterCycles, AfterOffsets, Answer, AnswersAsDue, EndsRefused, IsMeantBy, UnlessMemory}
 use Rattle.pt_run.specs.Faults.{fault_of_cycle, fault_of_graph, fault_of_rows}
@@ -59,40 +59,42 @@ first_files actors zero = begins_none (sensor_files actors)
 first_files [] (suc n) = begins_none []
 first_files (a ∷ actors) (suc n) = begins_after (file_of a.kind) (sensor_files (take n actors)) (sensor_files actors) (first_files actors n)
 
+-- and of more
+begins_up_to : (actors : List Actor) (n : ℕ) (more files : List (List ℕ)) → files ≡ sensor_files (take n actors) → Begins files (sensor_files actors ++ more)
+begins_up_to actors n more files is = subst (λ xs. Begins xs (sensor_files actors ++ more)) (sym is) (begins_more (sensor_files (take n actors)) (sensor_files actors) more (first_files actors n))
+
+-- where there are no actors, there are no files
+no_files : (n : ℕ) → [] ≡ sensor_files (take n [])
+no_files zero = refl
+no_files (suc n) = refl
+
 -- By the outcome.
 
 -- however a call ends, its files are the first of all
-begin : (outcome : Option Fault) (sensors last files : List (List ℕ)) → AreAsked outcome sensors last files → Begins files (sensors ++ last)
-begin (Some (fault.Graph f)) sensors last files is = subst (λ xs. Begins xs (sensors ++ last)) (sym is) (begins_none (sensors ++ last))
-begin (Some (fault.Read None)) sensors last files is = subst (λ xs. Begins xs (sensors ++ last)) (sym is) (begins_none (sensors ++ last))
-begin (Some (fault.Cycle actors)) sensors last files is = subst (λ xs. Begins xs (sensors ++ last)) (sym is) (begins_none (sensors ++ last))
-begin (Some (fault.Infeasible send offset slack)) sensors last files is = subst (λ xs. Begins xs (sensors ++ last)) (sym is) (begins_none (sensors ++ last))
-begin (Some (fault.Ring sends gain)) sensors last files is = subst (λ xs. Begins xs (sensors ++ last)) (sym is) (begins_none (sensors ++ last))
-begin (Some (fault.Read (Some actor))) sensors last files is = begins_more files sensors last is
-begin (Some (fault.Sensor actor f)) sensors last files is = begins_more files sensors last is
-begin (Some (fault.LateRow actor row seen limit)) sensors last files is = begins_more files sensors last is
-begin (Some fault.Memory) sensors last files is = is
-begin outcome sensors last files is = subst (λ xs. Begins xs (sensors ++ last)) (sym is) (begins_all (sensors ++ last))
+begin : (outcome : Option Fault) (actors : List Actor) (last files : List (List ℕ)) → AreAsked outcome actors last files → Begins files (sensor_files actors ++ last)
+begin (Some (fault.Graph f)) actors last files is = subst (λ xs. Begins xs (sensor_files actors ++ last)) (sym is) (begins_none (sensor_files actors ++ last))
+begin (Some (fault.Read None)) actors last files is = subst (λ xs. Begins xs (sensor_files actors ++ last)) (sym is) (begins_none (sensor_files actors ++ last))
+begin (Some (fault.Cycle found)) actors last files is = subst (λ xs. Begins xs (sensor_files actors ++ last)) (sym is) (begins_none (sensor_files actors ++ last))
+begin (Some (fault.Infeasible send offset slack)) actors last files is = subst (λ xs. Begins xs (sensor_files actors ++ last)) (sym is) (begins_none (sensor_files actors ++ last))
+begin (Some (fault.Ring sends gain)) actors last files is = subst (λ xs. Begins xs (sensor_files actors ++ last)) (sym is) (begins_none (sensor_files actors ++ last))
+begin (Some (fault.Read (Some actor))) actors last files is = begins_up_to actors (actor + 1) last files is
+begin (Some (fault.Sensor actor f)) actors last files is = begins_up_to actors (actor + 1) last files is
+begin (Some (fault.LateRow actor row seen limit)) actors last files is = begins_up_to actors (actor + 1) last files is
+begin (Some fault.Memory) actors last files is = is
+begin outcome actors last files is = subst (λ xs. Begins xs (sensor_files actors ++ last)) (sym is) (begins_all (sensor_files actors ++ last))
 
 -- where there are no files to ask for
 none_to_ask : (outcome : Option Fault) → AreAsked outcome [] [] []
-none_to_ask (Some (fault.Read (Some actor))) = begins_none []
-none_to_ask (Some (fault.Sensor actor f)) = begins_none []
-none_to_ask (Some (fault.LateRow actor row seen limit)) = begins_none []
+none_to_ask (Some (fault.Read (Some actor))) = no_files (actor + 1)
+none_to_ask (Some (fault.Sensor actor f)) = no_files (actor + 1)
+none_to_ask (Some (fault.LateRow actor row seen limit)) = no_files (actor + 1)
 none_to_ask (Some fault.Memory) = begins_none []
 none_to_ask outcome = refl
 
--- some of the sensors' files, if their rows are not available
-rows_refused : (f : RecordedFault) (sensors last files : List (List ℕ)) → Begins files sensors → AreAsked (Some (fault_of_rows f)) sensors last files
-rows_refused rows.Memory sensors last files h = begins_more files sensors last h
-rows_refused (rows.Read sensor) sensors last files h = h
-rows_refused (rows.Sensor actor f) sensors last files h = h
-rows_refused (rows.Late actor row seen limit) sensors last files h = h
-
 -- none, if the graph has a cycle that takes no time
-cycle_refused : (f : CycleFault) (sensors last : List (List ℕ)) → AreAsked (Some (fault_of_cycle f)) sensors last []
-cycle_refused cycle.Memory sensors last = begins_none (sensors ++ last)
-cycle_refused (cycle.Cycle actors) sensors last = refl
+cycle_refused : (f : CycleFault) (actors : List Actor) (last : List (List ℕ)) → AreAsked (Some (fault_of_cycle f)) actors last []
+cycle_refused cycle.Memory actors last = begins_none (sensor_files actors ++ last)
+cycle_refused (cycle.Cycle found) actors last = refl
 
 -- Over a graph.
 
@@ -100,62 +102,65 @@ cycle_refused (cycle.Cycle actors) sensors last = refl
 pub asks_no_files : (outcome : Option Fault) (before now : Option (List (List ℕ))) → now ≡ before → AsksOver outcome [] [] [] before now
 asks_no_files outcome before now same = ([], none_to_ask outcome, asks_none before now same)
 
-module _ (first sensors last : List (List ℕ)) (before now : Option (List (List ℕ))) where
+module _ (first : List (List ℕ)) (actors : List Actor) (last : List (List ℕ)) (before now : Option (List (List ℕ))) where
   -- if memory runs out for the line of a fault
-  over_memory : (outcome : Option Fault) → AsksOver outcome first sensors last before now → AsksOver (Some fault.Memory) first sensors last before now
-  over_memory outcome (files, are, asks) = (files, begin outcome sensors last files are, asks)
+  over_memory : (outcome : Option Fault) → AsksOver outcome first actors last before now → AsksOver (Some fault.Memory) first actors last before now
+  over_memory outcome (files, are, asks) = (files, begin outcome actors last files are, asks)
 
-  over_told : (o : Option Fault) (f : Fault) → OrMemory o f → AsksOver (Some f) first sensors last before now → AsksOver o first sensors last before now
+  over_told : (o : Option Fault) (f : Fault) → OrMemory o f → AsksOver (Some f) first actors last before now → AsksOver o first actors last before now
   over_told o f told h =
       ⊎_elim
-      (λ (same : o ≡ Some f). subst (λ e. AsksOver e first sensors last before now) (sym same) h)
-      (λ (memory : o ≡ Some fault.Memory). subst (λ e. AsksOver e first sensors last before now) (sym memory) (over_memory (Some f) h))
+      (λ (same : o ≡ Some f). subst (λ e. AsksOver e first actors last before now) (sym same) h)
+      (λ (memory : o ≡ Some fault.Memory). subst (λ e. AsksOver e first actors last before now) (sym memory) (over_memory (Some f) h))
       told
 
   -- nothing more is asked for while an answer is given
-  pub given_asks : {X : Type 0} (text : X → List ℕ) (made : Result X Fault) (o : Ending) (w : Writing) → PutsOrTells text made o w → AsksOver (fault_in made) first sensors last before now → AsksOver o.fault first sensors last before now
+  pub given_asks : {X : Type 0} (text : X → List ℕ) (made : Result X Fault) (o : Ending) (w : Writing) → PutsOrTells text made o w → AsksOver (fault_in made) first actors last before now → AsksOver o.fault first actors last before now
   given_asks text (Ok made) o w (left, put) h = by_put o.fault put
     where
-      by_put : (e : Option Fault) → PutBy e (text made) w → AsksOver e first sensors last before now
+      by_put : (e : Option Fault) → PutBy e (text made) w → AsksOver e first actors last before now
       by_put None put = h
-      by_put (Some f) put = subst (λ e. AsksOver (Some e) first sensors last before now) (sym put.0) h
+      by_put (Some f) put = subst (λ e. AsksOver (Some e) first actors last before now) (sym put.0) h
   given_asks text (Err f) o w (left, told, same) h = over_told o.fault f told h
 
 -- the graph has a cycle that takes no time
-pub cycle_asks : (sensors last : List (List ℕ)) (before now : Option (List (List ℕ))) (f : CycleFault) → now ≡ before → AsksOver (Some (fault_of_cycle f)) [] sensors last before now
-cycle_asks sensors last before now f same = ([], cycle_refused f sensors last, asks_none before now same)
+pub cycle_asks : (actors : List Actor) (last : List (List ℕ)) (before now : Option (List (List ℕ))) (f : CycleFault) → now ≡ before → AsksOver (Some (fault_of_cycle f)) [] actors last before now
+cycle_asks actors last before now f same = ([], cycle_refused f actors last, asks_none before now same)
 
 -- it has no plan
-pub unplanned_asks : (sensors last : List (List ℕ)) (before now : Option (List (List ℕ))) (g : Graph) (o : Ending) → EndsRefused o (λ a. AfterCycles g a (AfterOffsets g a ⊥)) → now ≡ before → AsksOver o.fault [] sensors last before now
-unplanned_asks sensors last before now g o refused same =
-    by_refusal o g refused (λ e. AsksOver e [] sensors last before now) (λ actors. ([], refl, asks_none before now same)) (λ send offset slack. ([], refl, asks_none before now same)) ([], begins_none (sensors ++ last), asks_none before now same)
+pub unplanned_asks : (actors : List Actor) (last : List (List ℕ)) (before now : Option (List (List ℕ))) (g : Graph) (o : Ending) → EndsRefused o (λ a. AfterCycles g a (AfterOffsets g a ⊥)) → now ≡ before → AsksOver o.fault [] actors last before now
+unplanned_asks actors last before now g o refused same =
+    by_refusal o g refused (λ e. AsksOver e [] actors last before now) (λ found. ([], refl, asks_none before now same)) (λ send offset slack. ([], refl, asks_none before now same)) ([], begins_none (sensor_files actors ++ last), asks_none before now same)
 
 -- all were asked for, since nothing was refused
-pub whole_asks : (sensors last : List (List ℕ)) (before now : Option (List (List ℕ))) → AsksOver None [] sensors last before now → Asks before now (sensors ++ last)
-whole_asks sensors last before now (files, is, asks) = subst (Asks before now) is asks
+pub whole_asks : (actors : List Actor) (last : List (List ℕ)) (before now : Option (List (List ℕ))) → AsksOver None [] actors last before now → Asks before now (sensor_files actors ++ last)
+whole_asks actors last before now (files, is, asks) = subst (Asks before now) is asks
 
 -- by what a command asks for
-pub of_command : (command other : Command) (o : Option Fault) (g : Graph) (before now : Option (List (List ℕ))) → command ≡ other → AsksOver o [] (files_for other g) [] before now → AsksOver o [] (files_for command g) [] before now
-of_command command other o g before now is h = subst (λ d. AsksOver o [] (files_for d g) [] before now) (sym is) h
+pub of_command : (command other : Command) (o : Option Fault) (g : Graph) (before now : Option (List (List ℕ))) → command ≡ other → AsksOver o [] (actors_for other g) [] before now → AsksOver o [] (actors_for command g) [] before now
+of_command command other o g before now is h = subst (λ d. AsksOver o [] (actors_for d g) [] before now) (sym is) h
 
 -- By how its sensors' files were read.
 
 module _ (g : Graph) (last : List (List ℕ)) (before now : Option (List (List ℕ))) where
   -- the rows are not available
-  pub rows_asked : (f : RecordedFault) → AsksFiles g before now → AsksOver (Some (fault_of_rows f)) [] (all_sensors g) last before now
-  rows_asked f (n, asks) = (sensor_files (take n g.actors), rows_refused f (all_sensors g) last (sensor_files (take n g.actors)) (first_files g.actors n), asks)
+  pub rows_asked : (f : RecordedFault) → AsksUpTo f g before now → AsksOver (Some (fault_of_rows f)) [] g.actors last before now
+  rows_asked rows.Memory (n, asks) = (files_before g n, begins_up_to g.actors n last (files_before g n) refl, asks)
+  rows_asked (rows.Read actor) asks = (files_before g (actor + 1), refl, asks)
+  rows_asked (rows.Sensor actor f) asks = (files_before g (actor + 1), refl, asks)
+  rows_asked (rows.Late actor row seen limit) asks = (files_before g (actor + 1), refl, asks)
 
   -- the last file was asked for after them
   pub last_asked : (middle : Option (List (List ℕ))) → Asks before middle (all_sensors g) → Asks middle now last → Asks before now (all_sensors g ++ last)
   last_asked middle asks more = asks_more before middle now (all_sensors g) last asks more
 
   -- it could not be read
-  pub unread_asked : (file : LastFile) → Asks before now (all_sensors g ++ last) → AsksOver (Some (unread_of file)) [] (all_sensors g) last before now
+  pub unread_asked : (file : LastFile) → Asks before now (all_sensors g ++ last) → AsksOver (Some (unread_of file)) [] g.actors last before now
   unread_asked Log asks = (all_sensors g ++ last, refl, asks)
   unread_asked Air asks = (all_sensors g ++ last, refl, asks)
 
   -- memory ran out once all were asked for
-  pub memory_asked : Asks before now (all_sensors g ++ last) → AsksOver (Some fault.Memory) [] (all_sensors g) last before now
+  pub memory_asked : Asks before now (all_sensors g ++ last) → AsksOver (Some fault.Memory) [] g.actors last before now
   memory_asked asks = (all_sensors g ++ last, begins_all (all_sensors g ++ last), asks)
 
 -- a run whose platforms went on, finished or not
@@ -175,30 +180,30 @@ module _ (g : Graph) (rows : ℕ → List Row) (r : Reading) (before now : Optio
   abbrev refused : Fault → Answer
   refused f = record { fault = Some f; left = leaves_nothing; read = r; wrote = record { before = 0; now = 0; written_before = None; written_now = None } }
 
-  asks_whole : (o : Option Fault) → AreAsked o (all_sensors g) [] (all_sensors g ++ []) → AsksOver o [] (all_sensors g) [] before now
+  asks_whole : (o : Option Fault) → AreAsked o g.actors [] (all_sensors g ++ []) → AsksOver o [] g.actors [] before now
   asks_whole o are = (all_sensors g ++ [], are, subst (Asks before now) (sym (append_none (all_sensors g))) all)
 
-  meant : (f : Fault) → UnlessMemory (refused f) (IsMeantBy g rows) → AsksOver (Some f) [] (all_sensors g) [] before now
-  meant f (inl out) = subst (λ o. AsksOver o [] (all_sensors g) [] before now) (sym out.0) (asks_whole (Some fault.Memory) (begins_all (all_sensors g ++ [])))
-  meant f (inr (inl long)) = subst (λ o. AsksOver o [] (all_sensors g) [] before now) (sym long.0.0) (asks_whole (Some (fault.Long None)) refl)
+  meant : (f : Fault) → UnlessMemory (refused f) (IsMeantBy g rows) → AsksOver (Some f) [] g.actors [] before now
+  meant f (inl out) = subst (λ o. AsksOver o [] g.actors [] before now) (sym out.0) (asks_whole (Some fault.Memory) (begins_all (all_sensors g ++ [])))
+  meant f (inr (inl long)) = subst (λ o. AsksOver o [] g.actors [] before now) (sym long.0.0) (asks_whole (Some (fault.Long None)) refl)
   meant f (inr (inr puts)) =
       ⊎_elim
-      (λ text. subst (λ o. AsksOver o [] (all_sensors g) [] before now) (sym text.0) (asks_whole None refl))
-      (λ part. subst (λ o. AsksOver o [] (all_sensors g) [] before now) (sym part.0) (asks_whole (Some fault.Write) refl))
+      (λ text. subst (λ o. AsksOver o [] g.actors [] before now) (sym text.0) (asks_whole None refl))
+      (λ part. subst (λ o. AsksOver o [] g.actors [] before now) (sym part.0) (asks_whole (Some fault.Write) refl))
       puts.1
 
-  pub meant_asks : {X : Type 0} (text : X → List ℕ) (made : Result X Fault) → AnswersAsDue text made r (IsMeantBy g rows) → AsksOver (fault_in made) [] (all_sensors g) [] before now
+  pub meant_asks : {X : Type 0} (text : X → List ℕ) (made : Result X Fault) → AnswersAsDue text made r (IsMeantBy g rows) → AsksOver (fault_in made) [] g.actors [] before now
   meant_asks text (Ok x) due = asks_whole None refl
   meant_asks text (Err f) due = meant f (due (refused f) refl (refl, (refl, refl), refl))
 
 -- a run that ended, finished or not
 pub run_asks : (ran : Result Ran RunFault) (o : Ending) (w : Writing) (g plan_graph : Graph) (before now : Option (List (List ℕ))) → plan_graph ≡ g → HasEnded ran o w → IfErr ran (λ f. AsksStopped f plan_graph before now) →
-    IfOk ran (λ all. Asks before now (all_sensors plan_graph)) → AsksOver o.fault [] (all_sensors g) [] before now
+    IfOk ran (λ all. Asks before now (all_sensors plan_graph)) → AsksOver o.fault [] g.actors [] before now
 run_asks ran o w g plan_graph before now same ended part whole =
     by_ran ran ended (subst (λ (z : Graph). IfErr ran (λ f. AsksStopped f z before now)) same part) (subst (λ (z : Graph). IfOk ran (λ all. Asks before now (all_sensors z))) same whole)
   where
     Goal : Option Fault → Type 0
-    Goal e = AsksOver e [] (all_sensors g) [] before now
+    Goal e = AsksOver e [] g.actors [] before now
 
     to_end : Asks before now (all_sensors g) → Asks before now (all_sensors g ++ [])
     to_end all = subst (Asks before now) (sym (append_none (all_sensors g))) all
@@ -208,7 +213,7 @@ run_asks ran o w g plan_graph before now same ended part whole =
 
     by_ran : (j : Result Ran RunFault) → HasEnded j o w → IfErr j (λ f. AsksStopped f g before now) → IfOk j (λ all. Asks before now (all_sensors g)) → Goal o.fault
     by_ran (Ok ran) h part all = ⊎_elim (λ done. at None done.0 (all_sensors g ++ [], refl, to_end all)) (λ part. at (Some fault.Write) part.0 (all_sensors g ++ [], refl, to_end all)) h
-    by_ran (Err (stop.Rows f)) h files none = over_told [] (all_sensors g) [] before now o.fault (fault_of_rows f) h.0.0 (rows_asked g [] before now f files)
+    by_ran (Err (stop.Rows f)) h files none = over_told [] g.actors [] before now o.fault (fault_of_rows f) h.0.0 (rows_asked g [] before now f files)
     by_ran (Err (stop.Long platform left)) h all none =
         ⊎_elim (λ is. at (Some (fault.Long (Some platform))) is.0 (all_sensors g ++ [], refl, to_end all)) (λ memory. at (Some fault.Memory) memory.0 (memory_asked g [] before now (to_end all))) h.0
     by_ran (Err (stop.Late platform actor tag reading limit left)) h all none =
@@ -217,26 +222,26 @@ run_asks ran o w g plan_graph before now same ended part whole =
 
 -- a replay that began, by how its run ended; `none` says that its rows were available
 pub flown_asks : (f : RunFault) (breach : Option ℕ) (e : Fault) (left : List PlatformView) (g : Graph) (last : List (List ℕ)) (before now : Option (List (List ℕ))) → ((r : RecordedFault) → f ≢ stop.Rows r) → IsOfReplay f breach e left → Asks before now (all_sensors g ++ last) →
-    AsksOver (Some e) [] (all_sensors g) last before now
+    AsksOver (Some e) [] g.actors last before now
 flown_asks (stop.Rows r) breach e left g last before now none of all = absurd (none r refl)
-flown_asks (stop.Long platform ps) breach e left g last before now none of all = subst (λ z. AsksOver (Some z) [] (all_sensors g) last before now) (sym of.0) (all_sensors g ++ last, refl, all)
-flown_asks (stop.Late platform actor tag reading limit ps) breach e left g last before now none of all = subst (λ z. AsksOver (Some z) [] (all_sensors g) last before now) (sym of.2) (all_sensors g ++ last, refl, all)
-flown_asks stop.Memory breach e left g last before now none of all = subst (λ z. AsksOver (Some z) [] (all_sensors g) last before now) (sym of.0) (memory_asked g last before now all)
+flown_asks (stop.Long platform ps) breach e left g last before now none of all = subst (λ z. AsksOver (Some z) [] g.actors last before now) (sym of.0) (all_sensors g ++ last, refl, all)
+flown_asks (stop.Late platform actor tag reading limit ps) breach e left g last before now none of all = subst (λ z. AsksOver (Some z) [] g.actors last before now) (sym of.2) (all_sensors g ++ last, refl, all)
+flown_asks stop.Memory breach e left g last before now none of all = subst (λ z. AsksOver (Some z) [] g.actors last before now) (sym of.0) (memory_asked g last before now all)
 
 -- nothing more is asked for once a replay ended
-pub replayed_asks : (ran : Result Ran Stopped) (o : Ending) (w : Writing) (sensors last : List (List ℕ)) (before now : Option (List (List ℕ))) → EndsAsReplayed ran o w → AsksOver (stop_in ran) [] sensors last before now → AsksOver o.fault [] sensors last before now
-replayed_asks (Ok ran) o w sensors last before now ends h = ⊎_elim (λ all. subst (λ e. AsksOver e [] sensors last before now) (sym all.0) h) (λ part. subst (λ e. AsksOver e [] sensors last before now) (sym part.0) h) ends
-replayed_asks (Err s) o w sensors last before now ends h =
+pub replayed_asks : (ran : Result Ran Stopped) (o : Ending) (w : Writing) (actors : List Actor) (last : List (List ℕ)) (before now : Option (List (List ℕ))) → EndsAsReplayed ran o w → AsksOver (stop_in ran) [] actors last before now → AsksOver o.fault [] actors last before now
+replayed_asks (Ok ran) o w actors last before now ends h = ⊎_elim (λ all. subst (λ e. AsksOver e [] actors last before now) (sym all.0) h) (λ part. subst (λ e. AsksOver e [] actors last before now) (sym part.0) h) ends
+replayed_asks (Err s) o w actors last before now ends h =
     ⊎_elim
-    (λ is. subst (λ e. AsksOver e [] sensors last before now) (sym is.0) h)
-    (λ memory. subst (λ e. AsksOver e [] sensors last before now) (sym memory.0) (over_memory [] sensors last before now (Some s.fault) h))
+    (λ is. subst (λ e. AsksOver e [] actors last before now) (sym is.0) h)
+    (λ memory. subst (λ e. AsksOver e [] actors last before now) (sym memory.0) (over_memory [] actors last before now (Some s.fault) h))
     ends.0
 
 -- From the graph file on.
 
-module _ (tells : Contents) (blocks : List Named) (name : List ℕ) (sensors : Graph → List (List ℕ)) (last : List (List ℕ)) (first now : Option (List (List ℕ))) where
+module _ (tells : Contents) (blocks : List Named) (name : List ℕ) (actors : Graph → List Actor) (last : List (List ℕ)) (first now : Option (List (List ℕ))) where
   -- it defines this graph
-  pub asks_on : (g : Graph) (outcome : Option Fault) (asked : Option (List (List ℕ))) → IfSome (tells name) (λ bytes. graph_of blocks bytes ≡ Ok g) → Asks first asked (name ∷ []) → AsksOver outcome [] (sensors g) last asked now → AsksFrom outcome tells blocks name sensors last first now
+  pub asks_on : (g : Graph) (outcome : Option Fault) (asked : Option (List (List ℕ))) → IfSome (tells name) (λ bytes. graph_of blocks bytes ≡ Ok g) → Asks first asked (name ∷ []) → AsksOver outcome [] (actors g) last asked now → AsksFrom outcome tells blocks name actors last first now
   asks_on g outcome asked read asks (files, are, more) = inr (g, read, (files, are, asks_more first asked now (name ∷ []) files asks more))
 
   -- and no other file is to be asked for
@@ -250,19 +255,19 @@ module _ (tells : Contents) (blocks : List Named) (name : List ℕ) (sensors : G
   alone_memory (Some fault.Memory) h = h
   alone_memory outcome h = absurd h
 
-  from_memory : (outcome : Option Fault) → AsksFrom outcome tells blocks name sensors last first now → AsksFrom (Some fault.Memory) tells blocks name sensors last first now
+  from_memory : (outcome : Option Fault) → AsksFrom outcome tells blocks name actors last first now → AsksFrom (Some fault.Memory) tells blocks name actors last first now
   from_memory outcome (inl h) = inl (alone_memory outcome h)
-  from_memory outcome (inr (g, read, h)) = inr (g, read, over_memory (name ∷ []) (sensors g) last first now outcome h)
+  from_memory outcome (inr (g, read, h)) = inr (g, read, over_memory (name ∷ []) (actors g) last first now outcome h)
 
   -- its fault, or that there is no memory for its line
-  pub from_told : (outcome : Option Fault) (f told : Fault) → outcome ≡ Some told → (told ≡ f) ⊎ (told ≡ fault.Memory) → AsksFrom (Some f) tells blocks name sensors last first now → AsksFrom outcome tells blocks name sensors last first now
-  from_told outcome f told is tell h = subst (λ o. AsksFrom o tells blocks name sensors last first now) (sym is)
+  pub from_told : (outcome : Option Fault) (f told : Fault) → outcome ≡ Some told → (told ≡ f) ⊎ (told ≡ fault.Memory) → AsksFrom (Some f) tells blocks name actors last first now → AsksFrom outcome tells blocks name actors last first now
+  from_told outcome f told is tell h = subst (λ o. AsksFrom o tells blocks name actors last first now) (sym is)
       (⊎_elim
-      (λ (same : told ≡ f). subst (λ e. AsksFrom (Some e) tells blocks name sensors last first now) (sym same) h)
-      (λ (memory : told ≡ fault.Memory). subst (λ e. AsksFrom (Some e) tells blocks name sensors last first now) (sym memory) (from_memory (Some f) h))
+      (λ (same : told ≡ f). subst (λ e. AsksFrom (Some e) tells blocks name actors last first now) (sym same) h)
+      (λ (memory : told ≡ fault.Memory). subst (λ e. AsksFrom (Some e) tells blocks name actors last first now) (sym memory) (from_memory (Some f) h))
       tell)
 
-  pub from_graph : (outcome : Option Fault) (f told : Fault) → outcome ≡ Some told → (told ≡ f) ⊎ (told ≡ fault.Memory) → AsksAlone (Some f) name first now → AsksFrom outcome tells blocks name sensors last first now
+  pub from_graph : (outcome : Option Fault) (f told : Fault) → outcome ≡ Some told → (told ≡ f) ⊎ (told ≡ fault.Memory) → AsksAlone (Some f) name first now → AsksFrom outcome tells blocks name actors last first now
   from_graph outcome f told is tell h = from_told outcome f told is tell (inl h)
 
 -- the graph file was fetched and has a fault

@@ -9,7 +9,7 @@ ghost use Rattle.pt_offsets.specs.Plans.{IsAdmitted};
 ghost use Rattle.pt_sensors.specs.Listed.{rows_for};
 ghost use Rattle.pt_sensors.specs.Places.{StandInPlace, of_run};
 ghost use Rattle.pt_confluence.specs.Gathered.{AreTables, HaveFinished};
-ghost use Rattle.pt_run.specs.Asks.{AsksFrom, AsksOver, all_sensors};
+ghost use Rattle.pt_run.specs.Asks.{AsksFrom, AsksOver};
 ghost use Rattle.pt_run.specs.Auditing.{IsJudged, lawful_line};
 ghost use Rattle.pt_run.specs.Due.{AnswersAsDue, IsAudited, IsDue, UnlessMemory};
 ghost use Rattle.pt_run.specs.Statuses.{status_of};
@@ -51,7 +51,7 @@ pub fn audit<S: Source, K: Sink, E: Sink>(
     blocks: &Blocks,
 ) -> Ending
     ensures status { result.status ≡ status_of result.fault result.misses }
-    ensures asks { AsksFrom result.fault (S.tells source.old) blocks.now.listed.items name.now all_sensors (log.now ∷ []) (S.asked source.old) (S.asked source.new) }
+    ensures asks { AsksFrom result.fault (S.tells source.old) blocks.now.listed.items name.now (λ g. g.actors) (log.now ∷ []) (S.asked source.old) (S.asked source.new) }
     ensures due { IsDue (Some (to_audit name.now log.now)) (S.tells source.old) blocks.now.listed.items (record {
       fault = result.fault;
       left = left_by result;
@@ -83,7 +83,7 @@ fn audit_graph<S: Source, K: Sink, E: Sink>(
 ) -> Ending
     requires { IsLawful graph }
     ensures status { result.status ≡ status_of result.fault result.misses }
-    ensures asks { AsksOver result.fault [] (all_sensors graph) (log.now ∷ []) (S.asked source.old) (S.asked source.new) }
+    ensures asks { AsksOver result.fault [] graph.actors (log.now ∷ []) (S.asked source.old) (S.asked source.new) }
     ensures due { UnlessMemory (record {
       fault = result.fault;
       left = left_by result;
@@ -114,7 +114,7 @@ fn judge<S: Source>(
     ensures due { AnswersAsDue (λ unit. lawful_line) result
         (record { asked_before = S.asked source.old; asked_now = S.asked source.new; before = S.faults source.old; now = S.faults source.new })
         (IsAudited log.now (S.tells source.old) (arc_value plan.now).graph []) }
-    ensures asks { AsksOver (fault_in result) [] (all_sensors (arc_value plan.now).graph) (log.now ∷ []) (S.asked source.old) (S.asked source.new) }
+    ensures asks { AsksOver (fault_in result) [] (arc_value plan.now).graph.actors (log.now ∷ []) (S.asked source.old) (S.asked source.new) }
 {
     let RowsAndBytes { entries, bytes } = match fetched(alloc, plan, LastFile::Log, log, source) {
         Ok(found) => found,

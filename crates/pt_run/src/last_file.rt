@@ -2,7 +2,7 @@
 
 ghost use Rattle.std.specs.Prelude.{◌≡◌, [], ◌∷◌, IfErr, IfOk};
 ghost use Rattle.std.specs.Arc.{arc_value};
-ghost use Rattle.pt_run.specs.Asks.{AsksOver, all_sensors};
+ghost use Rattle.pt_run.specs.Asks.{AsksOver};
 ghost use Rattle.pt_run.specs.Due.{RefusesAsDue};
 ghost use Rattle.pt_run.specs.LastFiles.{HasAllRows, HasFetched, IsUnread, most_of, unread_of};
 ghost use Rattle.pt_run.specs.Texts.{fault_in};
@@ -69,7 +69,7 @@ pub fn fetched<S: Source>(
     ensures refused { IfErr result (λ f. RefusesAsDue f
         (record { asked_before = S.asked source.old; asked_now = S.asked source.new; before = S.faults source.old; now = S.faults source.new })
         (IsUnread last name.now (S.tells source.old) (arc_value plan.now).graph)) }
-    ensures asks { AsksOver (fault_in result) [] (all_sensors (arc_value plan.now).graph) (name.now ∷ []) (S.asked source.old) (S.asked source.new) }
+    ensures asks { AsksOver (fault_in result) [] (arc_value plan.now).graph.actors (name.now ∷ []) (S.asked source.old) (S.asked source.new) }
 {
     let entries = match recorded(alloc, source, plan.graph(), LateRows::Refused) {
         Ok(entries) => entries,

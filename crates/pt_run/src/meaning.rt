@@ -9,7 +9,7 @@ ghost use Rattle.pt_causality.specs.Ranked.{rank_of};
 ghost use Rattle.pt_sensors.specs.Asked.{Reading};
 ghost use Rattle.pt_sensors.specs.declared.recorded_fault.LateRows.TheVariants.{Taken};
 ghost use Rattle.pt_words.specs.declared.orders.Command.TheVariants.{Meaning};
-ghost use Rattle.pt_run.specs.Asks.{AsksOver, all_sensors};
+ghost use Rattle.pt_run.specs.Asks.{AsksOver};
 ghost use Rattle.pt_run.specs.Due.{AfterRows, AnswersAsDue, IsDueFor, IsMeantBy};
 ghost use Rattle.pt_run.specs.Texts.{fault_in};
 
@@ -32,7 +32,7 @@ pub fn meaning_answer<S: Source>(
     ensures due { AnswersAsDue string_bytes result
         (record { asked_before = S.asked source.old; asked_now = S.asked source.new; before = S.faults source.old; now = S.faults source.new })
         (IsDueFor Meaning (S.tells source.old) graph.now []) }
-    ensures asks { AsksOver (fault_in result) [] (all_sensors graph.now) [] (S.asked source.old) (S.asked source.new) }
+    ensures asks { AsksOver (fault_in result) [] graph.now.actors [] (S.asked source.old) (S.asked source.new) }
 {
     match ranks_of(alloc, graph) {
         Ok(ranks) => meaning_text(alloc, source, graph, &ranks),
@@ -52,7 +52,7 @@ fn meaning_text<S: Source>(
     ensures due { AnswersAsDue string_bytes result
         (record { asked_before = S.asked source.old; asked_now = S.asked source.new; before = S.faults source.old; now = S.faults source.new })
         (λ a. AfterRows Taken (S.tells source.old) graph.now [] a (λ rows. IsMeantBy graph.now rows a)) }
-    ensures asks { AsksOver (fault_in result) [] (all_sensors graph.now) [] (S.asked source.old) (S.asked source.new) }
+    ensures asks { AsksOver (fault_in result) [] graph.now.actors [] (S.asked source.old) (S.asked source.new) }
 {
     let sensors = match recorded(alloc, source, graph, LateRows::Taken) {
         Ok(sensors) => sensors,

@@ -54,7 +54,7 @@ pub fn run_own<S: Source, K: Sink, E: Sink, C: Clock + Send, R: Threads + Wait +
     requires lawful { IsLawful graph }
     requires clocks { length clocks.old.items ≡ 16 }
     ensures status { result.status ≡ status_of result.fault result.misses }
-    ensures asks { AsksOver result.fault [] (all_sensors graph) [] (S.asked source.old) (S.asked source.new) }
+    ensures asks { AsksOver result.fault [] graph.actors [] (S.asked source.old) (S.asked source.new) }
     ensures due { UnlessMemory (record {
       fault = result.fault;
       left = left_with result (read_by clock (tell C.told C.ahead clocks.old.items)) (read_by clock (tell C.told C.ahead clocks.new.items));

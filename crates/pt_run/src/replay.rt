@@ -8,7 +8,7 @@ ghost use Rattle.pt_offsets.specs.Plans.{IsAdmitted};
 ghost use Rattle.pt_sensors.specs.Listed.{rows_for};
 ghost use Rattle.pt_sensors.specs.Places.{StandInPlace, of_run};
 ghost use Rattle.pt_tables.specs.Misses.{miss_line};
-ghost use Rattle.pt_run.specs.Asks.{AsksFrom, AsksOver, all_sensors};
+ghost use Rattle.pt_run.specs.Asks.{AsksFrom, AsksOver};
 ghost use Rattle.pt_run.specs.Flown.{EndsAsReplayed, FinishedReplay, HasReplayed, IsOfReplay, IsRecorded, NamesRow, StopsInAir, stop_in};
 ghost use Rattle.pt_run.specs.Due.{AfterAdmission, AfterAir, IsDue, IsReplayed, RefusesAsDue, StopsAsDue, UnlessMemory};
 ghost use Rattle.pt_run.specs.Statuses.{status_of};
@@ -67,7 +67,7 @@ pub fn replay<S: Source, K: Sink, E: Sink>(
     blocks: &Blocks,
 ) -> Ending
     ensures status { result.status ≡ status_of result.fault result.misses }
-    ensures asks { AsksFrom result.fault (S.tells source.old) blocks.now.listed.items name.now all_sensors (air.now ∷ []) (S.asked source.old) (S.asked source.new) }
+    ensures asks { AsksFrom result.fault (S.tells source.old) blocks.now.listed.items name.now (λ g. g.actors) (air.now ∷ []) (S.asked source.old) (S.asked source.new) }
     ensures due { IsDue (Some (to_replay name.now air.now workers log)) (S.tells source.old) blocks.now.listed.items (record {
       fault = result.fault;
       left = left_by result;
@@ -101,7 +101,7 @@ fn replay_graph<S: Source, K: Sink, E: Sink>(
 ) -> Ending
     requires { IsLawful graph }
     ensures status { result.status ≡ status_of result.fault result.misses }
-    ensures asks { AsksOver result.fault [] (all_sensors graph) (air.now ∷ []) (S.asked source.old) (S.asked source.new) }
+    ensures asks { AsksOver result.fault [] graph.actors (air.now ∷ []) (S.asked source.old) (S.asked source.new) }
     ensures due { UnlessMemory (record {
       fault = result.fault;
       left = left_by result;
@@ -136,7 +136,7 @@ fn replay_of<S: Source>(
     ensures stopped { IfErr result (λ s. StopsAsDue s.fault s.platforms.items
         (record { asked_before = S.asked source.old; asked_now = S.asked source.new; before = S.faults source.old; now = S.faults source.new })
         (IsReplayed air.now log (S.tells source.old) (arc_value plan.now).graph [])) }
-    ensures asks { AsksOver (stop_in result) [] (all_sensors (arc_value plan.now).graph) (air.now ∷ []) (S.asked source.old) (S.asked source.new) }
+    ensures asks { AsksOver (stop_in result) [] (arc_value plan.now).graph.actors (air.now ∷ []) (S.asked source.old) (S.asked source.new) }
 {
     let Inputs { entries, air } = match read_inputs(alloc, plan, air, source) {
         Ok(recorded) => recorded,
@@ -162,7 +162,7 @@ fn read_inputs<S: Source>(
     ensures refused { IfErr result (λ f. RefusesAsDue f
         (record { asked_before = S.asked source.old; asked_now = S.asked source.new; before = S.faults source.old; now = S.faults source.new })
         (λ a. AfterAdmission (S.tells source.old) (arc_value plan.now).graph [] a (λ p rows. AfterAir air.now (S.tells source.old) (arc_value plan.now).graph [] a ⊥))) }
-    ensures asks { AsksOver (fault_in result) [] (all_sensors (arc_value plan.now).graph) (air.now ∷ []) (S.asked source.old) (S.asked source.new) }
+    ensures asks { AsksOver (fault_in result) [] (arc_value plan.now).graph.actors (air.now ∷ []) (S.asked source.old) (S.asked source.new) }
 {
     let RowsAndBytes { entries, bytes } = match fetched(alloc, plan, LastFile::Air, air, source) {
         Ok(found) => found,

@@ -6,7 +6,7 @@ ghost use Rattle.pt_types.specs.Lawful.{IsLawful};
 ghost use Rattle.pt_offsets.specs.Plans.{IsAdmitted};
 ghost use Rattle.pt_words.specs.declared.orders.ClockChoice.TheVariants.{Paced};
 ghost use Rattle.pt_words.specs.declared.orders.Command.TheVariants.{Run};
-ghost use Rattle.pt_run.specs.Asks.{AsksOver, all_sensors};
+ghost use Rattle.pt_run.specs.Asks.{AsksOver};
 ghost use Rattle.pt_run.specs.Due.{AfterCycles, AfterOffsets, EndsRefused, IsDueFor, UnlessMemory};
 ghost use Rattle.pt_run.specs.Statuses.{status_of};
 ghost use Rattle.pt_tables.specs.Misses.{miss_line};
@@ -39,7 +39,7 @@ pub fn run_graph<S: Source, K: Sink, E: Sink>(
 ) -> Ending
     requires { IsLawful graph }
     ensures status { result.status ≡ status_of result.fault result.misses }
-    ensures asks { AsksOver result.fault [] (all_sensors graph) [] (S.asked source.old) (S.asked source.new) }
+    ensures asks { AsksOver result.fault [] graph.actors [] (S.asked source.old) (S.asked source.new) }
     ensures due { UnlessMemory (record {
       fault = result.fault;
       left = left_by result;

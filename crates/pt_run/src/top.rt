@@ -4,7 +4,7 @@ ghost use Rattle.std.specs.Prelude.{◌≡◌, ◌≢◌, ◌↔◌, None, Some,
 ghost use Rattle.pt_io.specs.Told.{tell};
 ghost use Rattle.pt_types.specs.Lawful.{IsLawful};
 ghost use Rattle.pt_monitors.specs.Platforms.{missed_by};
-ghost use Rattle.pt_run.specs.Asks.{AsksFrom, AsksOf, AsksOver, files_for};
+ghost use Rattle.pt_run.specs.Asks.{AsksFrom, AsksOf, AsksOver, actors_for};
 ghost use Rattle.pt_run.specs.Clocks.{AreBack, AreBackFor};
 ghost use Rattle.pt_run.specs.Complete.{IsComplete, IsCompleteByAnyClock};
 ghost use Rattle.pt_run.specs.declared.fault.Fault.TheVariants.{Memory};
@@ -66,7 +66,7 @@ pub fn ptides<S: Source, K: Sink, E: Sink, C: Clock + Send, R: Threads + Wait + 
     // Which files the source was asked for, in order, if it reports them. None for `make`, and if the words are not valid; else the graph
     // file; for a run and `meaning` then the files of its sensors; for an audit and a replay these, and last the log or the recording. A
     // call asks for all of these, with three exceptions: if its graph is refused, for the graph file alone; if the file or the rows of a
-    // sensor are refused, for the graph file and then some or all of the sensors' files, from the first on; and if memory runs out, for
+    // sensor are refused, for the graph file and then the sensors' files up to that one, its own included; and if memory runs out, for
     // some or all of these, from the first on, or for none.
     ensures asks { AsksOf result.fault (order_of words.now) (S.tells source.old) blocks.now.listed.items
         (record { asked_before = S.asked source.old; asked_now = S.asked source.new; before = S.faults source.old; now = S.faults source.new }) }
@@ -199,7 +199,7 @@ fn run_file<S: Source, K: Sink, E: Sink, C: Clock + Send, R: Threads + Wait + Sy
 ) -> Ending
     requires clocks { length clocks.old.items ≡ 16 }
     ensures status { result.status ≡ status_of result.fault result.misses }
-    ensures asks { AsksFrom result.fault (S.tells source.old) blocks.now.listed.items name.now (files_for command) [] (S.asked source.old) (S.asked source.new) }
+    ensures asks { AsksFrom result.fault (S.tells source.old) blocks.now.listed.items name.now (actors_for command) [] (S.asked source.old) (S.asked source.new) }
     ensures due { IsDue (Some (over command name.now)) (S.tells source.old) blocks.now.listed.items (record {
       fault = result.fault;
       left = left_over result command (tell C.told C.ahead clocks.old.items) (tell C.told C.ahead clocks.new.items);
@@ -239,7 +239,7 @@ fn run_command<S: Source, K: Sink, E: Sink, C: Clock + Send, R: Threads + Wait +
     requires lawful { IsLawful graph }
     requires clocks { length clocks.old.items ≡ 16 }
     ensures status { result.status ≡ status_of result.fault result.misses }
-    ensures asks { AsksOver result.fault [] (files_for command graph) [] (S.asked source.old) (S.asked source.new) }
+    ensures asks { AsksOver result.fault [] (actors_for command graph) [] (S.asked source.old) (S.asked source.new) }
     ensures due { UnlessMemory (record {
       fault = result.fault;
       left = left_over result command (tell C.told C.ahead clocks.old.items) (tell C.told C.ahead clocks.new.items);

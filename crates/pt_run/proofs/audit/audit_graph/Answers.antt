@@ -4,7 +4,7 @@ use Rattle.pt_types.specs.declared.graph.Graph.{Graph}
 use Rattle.pt_sensors.specs.Asked.{Reading}
 use Rattle.pt_run.specs.Auditing.{lawful_line}
 use Rattle.pt_run.specs.Causes.{Writing}
-use Rattle.pt_run.specs.Asks.{AsksOver, all_sensors}
+use Rattle.pt_run.specs.Asks.{AsksOver}
 use Rattle.pt_run.specs.Due.{IsAudited, IsJudgedBy, UnlessMemory}
 use Rattle.pt_run.specs.Texts.{fault_in, left_by}
 use Rattle.pt_run.proofs.Asks.{given_asks, unplanned_asks}
@@ -24,11 +24,11 @@ pub returns-clause-asks : goal.returns-clause-asks
 returns-clause-asks g c =
     let last = c.args.log.now ∷ [] in
     let w : Writing = record { before = g.K.Sink.faults c.args.out.now; now = g.K.Sink.faults c.end_audit.new.out; written_before = g.K.Sink.written c.args.out.now; written_now = g.K.Sink.written c.end_audit.new.out } in
-    given_asks [] (all_sensors c.args.graph) last (g.S.Source.asked c.args.source.now) (g.S.Source.asked c.judge-judged.new.source) (λ unit. lawful_line) c.judge-judged.result c.end_audit.result w c.end_audit.ensures.gives
-    (subst (λ (h : Graph). AsksOver (fault_in c.judge-judged.result) [] (all_sensors h) last (g.S.Source.asked c.args.source.now) (g.S.Source.asked c.judge-judged.new.source)) c.in-Ok.ensures.plan c.judge-judged.ensures.asks)
+    given_asks [] c.args.graph.actors last (g.S.Source.asked c.args.source.now) (g.S.Source.asked c.judge-judged.new.source) (λ unit. lawful_line) c.judge-judged.result c.end_audit.result w c.end_audit.ensures.gives
+    (subst (λ (h : Graph). AsksOver (fault_in c.judge-judged.result) [] h.actors last (g.S.Source.asked c.args.source.now) (g.S.Source.asked c.judge-judged.new.source)) c.in-Ok.ensures.plan c.judge-judged.ensures.asks)
 
 pub returns-in-Err-clause-asks : goal.returns-in-Err-clause-asks
-returns-in-Err-clause-asks g c = unplanned_asks (all_sensors c.args.graph) (c.args.log.now ∷ []) (g.S.Source.asked c.args.source.now) (g.S.Source.asked c.args.source.now) c.args.graph c.in-Err.ending c.in-Err.ensures.refused refl
+returns-in-Err-clause-asks g c = unplanned_asks c.args.graph.actors (c.args.log.now ∷ []) (g.S.Source.asked c.args.source.now) (g.S.Source.asked c.args.source.now) c.args.graph c.in-Err.ending c.in-Err.ensures.refused refl
 
 pub returns-in-Err-clause-due : goal.returns-in-Err-clause-due
 returns-in-Err-clause-due g c =

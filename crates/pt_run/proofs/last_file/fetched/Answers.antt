@@ -46,9 +46,9 @@ returns-in-Err-clause-asks g c =
     let last = c.args.name.now ∷ [] in
     let graph : c.graph.result.now ≡ plan.graph = c.graph.ensures.value ∙ ap (λ (p : Parts). p.graph) c.deref.ensures in
     let now = g.S.Source.asked c.recorded.new.source in
-    let refused = rows_asked c.graph.result.now last (g.S.Source.asked c.args.source.now) now c.in-Err.fault c.recorded.ensures.asks in
-    subst (λ e. AsksOver (Some e) [] (all_sensors plan.graph) last (g.S.Source.asked c.args.source.now) now) (sym c.fault_of_rows.ensures)
-    (subst (λ (h : Graph). AsksOver (Some (fault_of_rows c.in-Err.fault)) [] (all_sensors h) last (g.S.Source.asked c.args.source.now) now) graph refused)
+    let refused = rows_asked c.graph.result.now last (g.S.Source.asked c.args.source.now) now c.in-Err.fault c.in-Err.ensures.asks_up_to in
+    subst (λ e. AsksOver (Some e) [] plan.graph.actors last (g.S.Source.asked c.args.source.now) now) (sym c.fault_of_rows.ensures)
+    (subst (λ (h : Graph). AsksOver (Some (fault_of_rows c.in-Err.fault)) [] h.actors last (g.S.Source.asked c.args.source.now) now) graph refused)
 
 pub returns-in-Err-Failed-clause-asks : goal.returns-in-Err-Failed-clause-asks
 returns-in-Err-Failed-clause-asks g c =
@@ -57,6 +57,6 @@ returns-in-Err-Failed-clause-asks g c =
     let graph : c.graph.result.now ≡ plan.graph = c.graph.ensures.value ∙ ap (λ (p : Parts). p.graph) c.deref.ensures in
     let files = subst (λ (h : Graph). Asks (g.S.Source.asked c.args.source.now) (g.S.Source.asked c.recorded.new.source) (all_sensors h)) graph c.in-Ok.ensures.asks_all in
     let one : Asks (g.S.Source.asked c.recorded.new.source) (g.S.Source.asked c.fetch.new.self) last = search rules in
-    subst (λ e. AsksOver (Some e) [] (all_sensors plan.graph) last (g.S.Source.asked c.args.source.now) (g.S.Source.asked c.fetch.new.self)) (sym c.unread.ensures)
+    subst (λ e. AsksOver (Some e) [] plan.graph.actors last (g.S.Source.asked c.args.source.now) (g.S.Source.asked c.fetch.new.self)) (sym c.unread.ensures)
     (unread_asked plan.graph last (g.S.Source.asked c.args.source.now) (g.S.Source.asked c.fetch.new.self) c.args.last
     (last_asked plan.graph last (g.S.Source.asked c.args.source.now) (g.S.Source.asked c.fetch.new.self) (g.S.Source.asked c.recorded.new.source) files one))

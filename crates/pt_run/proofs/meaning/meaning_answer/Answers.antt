@@ -1,5 +1,5 @@
 use Rattle.pt_run.proofs.Asks.{cycle_asks}
-use Rattle.pt_run.specs.Asks.{AsksOver, all_sensors}
+use Rattle.pt_run.specs.Asks.{AsksOver}
 use Rattle.std.proofs.Common.{[], Some, subst, sym, refl}
 use Rattle.std.specs.Prelude.{string_bytes}
 use Rattle.pt_causality.specs.Ranked.{level_of}
@@ -14,4 +14,4 @@ returns-in-Ok-clause-due g c =
 
 pub returns-in-Err-clause-asks : goal.returns-in-Err-clause-asks
 returns-in-Err-clause-asks g c =
-    subst (λ e. AsksOver (Some e) [] (all_sensors c.args.graph.now) [] (g.S.Source.asked c.args.source.now) (g.S.Source.asked c.args.source.now)) (sym c.fault_of_cycle.ensures) (cycle_asks (all_sensors c.args.graph.now) [] (g.S.Source.asked c.args.source.now) (g.S.Source.asked c.args.source.now) c.in-Err.fault refl)
+    subst (λ e. AsksOver (Some e) [] c.args.graph.now.actors [] (g.S.Source.asked c.args.source.now) (g.S.Source.asked c.args.source.now)) (sym c.fault_of_cycle.ensures) (cycle_asks c.args.graph.now.actors [] (g.S.Source.asked c.args.source.now) (g.S.Source.asked c.args.source.now) c.in-Err.fault refl)

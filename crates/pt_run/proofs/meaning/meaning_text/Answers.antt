@@ -1,4 +1,4 @@
-use Rattle.pt_run.specs.Asks.{AsksOver, all_sensors}
+use Rattle.pt_run.specs.Asks.{AsksOver}
 use Rattle.std.proofs.Common.{List, subst, Some, [], sym}
 use Rattle.std.specs.Prelude.{string_bytes}
 use Rattle.std.specs.declared.alloc.Global.{Global}
@@ -26,7 +26,7 @@ returns-clause-asks g c =
 pub returns-in-Err-clause-asks : goal.returns-in-Err-clause-asks
 returns-in-Err-clause-asks g c =
     let now = g.S.Source.asked c.recorded.new.source in
-    subst (λ e. AsksOver (Some e) [] (all_sensors c.args.graph.now) [] (g.S.Source.asked c.args.source.now) now) (sym c.fault_of_rows.ensures) (rows_asked c.args.graph.now [] (g.S.Source.asked c.args.source.now) now c.in-Err.fault c.recorded.ensures.asks)
+    subst (λ e. AsksOver (Some e) [] c.args.graph.now.actors [] (g.S.Source.asked c.args.source.now) now) (sym c.fault_of_rows.ensures) (rows_asked c.args.graph.now [] (g.S.Source.asked c.args.source.now) now c.in-Err.fault c.in-Err.ensures.asks_up_to)
 
 pub returns-in-Err-clause-due : goal.returns-in-Err-clause-due
 returns-in-Err-clause-due g c =

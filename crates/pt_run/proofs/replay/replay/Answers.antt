@@ -1,11 +1,11 @@
 use Rattle.std.proofs.Common.{[], ◌∷◌, refl, subst}
+use Rattle.pt_types.specs.declared.graph.Graph.{Graph}
 use Rattle.pt_sensors.specs.Asked.{Contents, Reading}
 use Rattle.pt_run.specs.Causes.{Writing}
 use Rattle.pt_run.specs.Due.{Answer, IsReplayed, UnlessMemory}
 use Rattle.pt_run.specs.Texts.{left_by}
 use Rattle.pt_run.specs.Telling.{paced_run}
 use Rattle.pt_run.specs.Written.{Leaves}
-use Rattle.pt_run.specs.Asks.{all_sensors}
 use Rattle.pt_run.proofs.Asks.{asks_on, from_graph}
 use Rattle.pt_run.proofs.Ending.{has_nothing}
 use Rattle.pt_run.proofs.Stages.{graph_told, replay_on_file, replay_past}
@@ -26,7 +26,7 @@ returns-in-Ok-clause-due g c =
 
 pub returns-in-Ok-clause-asks : goal.returns-in-Ok-clause-asks
 returns-in-Ok-clause-asks g c =
-    asks_on (g.S.Source.tells c.args.source.now) c.args.blocks.now.listed.items c.args.name.now all_sensors (c.args.air.now ∷ []) (g.S.Source.asked c.args.source.now) (g.S.Source.asked c.replay_graph.new.source) c.in-Ok.graph c.replay_graph.result.fault (g.S.Source.asked c.graph_at.new.source)
+    asks_on (g.S.Source.tells c.args.source.now) c.args.blocks.now.listed.items c.args.name.now (λ (h : Graph). h.actors) (c.args.air.now ∷ []) (g.S.Source.asked c.args.source.now) (g.S.Source.asked c.replay_graph.new.source) c.in-Ok.graph c.replay_graph.result.fault (g.S.Source.asked c.graph_at.new.source)
     c.in-Ok.ensures.graph c.in-Ok.ensures.asks c.replay_graph.ensures.asks
 
 pub returns-in-Ok-clause-notes : goal.returns-in-Ok-clause-notes
@@ -48,5 +48,5 @@ returns-in-Err-clause-due g c =
 
 pub returns-in-Err-clause-asks : goal.returns-in-Err-clause-asks
 returns-in-Err-clause-asks g c =
-    from_graph (g.S.Source.tells c.args.source.now) c.args.blocks.now.listed.items c.args.name.now all_sensors (c.args.air.now ∷ []) (g.S.Source.asked c.args.source.now) (g.S.Source.asked c.graph_at.new.source)
+    from_graph (g.S.Source.tells c.args.source.now) c.args.blocks.now.listed.items c.args.name.now (λ (h : Graph). h.actors) (c.args.air.now ∷ []) (g.S.Source.asked c.args.source.now) (g.S.Source.asked c.graph_at.new.source)
     c.refused.result.fault c.in-Err.fault c.tell-fault.result c.refused.ensures.fault c.tell-fault.ensures.fault c.in-Err.ensures.asks_alone

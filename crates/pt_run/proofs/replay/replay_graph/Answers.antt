@@ -3,7 +3,7 @@ use Rattle.std.specs.Arc.{arc_value}
 use Rattle.pt_types.specs.declared.graph.Graph.{Graph}
 use Rattle.pt_sensors.specs.Asked.{Reading}
 use Rattle.pt_run.specs.Causes.{Writing}
-use Rattle.pt_run.specs.Asks.{AsksOver, all_sensors}
+use Rattle.pt_run.specs.Asks.{AsksOver}
 use Rattle.pt_run.specs.Due.{IsReplayedBy}
 use Rattle.pt_run.specs.Flown.{stop_in}
 use Rattle.pt_run.proofs.Asks.{replayed_asks, unplanned_asks}
@@ -22,11 +22,11 @@ pub returns-clause-asks : goal.returns-clause-asks
 returns-clause-asks g c =
     let last = c.args.air.now ∷ [] in
     let w : Writing = record { before = g.K.Sink.faults c.args.out.now; now = g.K.Sink.faults c.end_replay.new.out; written_before = g.K.Sink.written c.args.out.now; written_now = g.K.Sink.written c.end_replay.new.out } in
-    replayed_asks c.replay_of-ran.result c.end_replay.result w (all_sensors c.args.graph) last (g.S.Source.asked c.args.source.now) (g.S.Source.asked c.replay_of-ran.new.source) c.end_replay.ensures.ended
-    (subst (λ (h : Graph). AsksOver (stop_in c.replay_of-ran.result) [] (all_sensors h) last (g.S.Source.asked c.args.source.now) (g.S.Source.asked c.replay_of-ran.new.source)) c.in-Ok.ensures.plan c.replay_of-ran.ensures.asks)
+    replayed_asks c.replay_of-ran.result c.end_replay.result w c.args.graph.actors last (g.S.Source.asked c.args.source.now) (g.S.Source.asked c.replay_of-ran.new.source) c.end_replay.ensures.ended
+    (subst (λ (h : Graph). AsksOver (stop_in c.replay_of-ran.result) [] h.actors last (g.S.Source.asked c.args.source.now) (g.S.Source.asked c.replay_of-ran.new.source)) c.in-Ok.ensures.plan c.replay_of-ran.ensures.asks)
 
 pub returns-in-Err-clause-asks : goal.returns-in-Err-clause-asks
-returns-in-Err-clause-asks g c = unplanned_asks (all_sensors c.args.graph) (c.args.air.now ∷ []) (g.S.Source.asked c.args.source.now) (g.S.Source.asked c.args.source.now) c.args.graph c.in-Err.ending c.in-Err.ensures.refused refl
+returns-in-Err-clause-asks g c = unplanned_asks c.args.graph.actors (c.args.air.now ∷ []) (g.S.Source.asked c.args.source.now) (g.S.Source.asked c.args.source.now) c.args.graph c.in-Err.ending c.in-Err.ensures.refused refl
 
 pub returns-in-Err-clause-due : goal.returns-in-Err-clause-due
 returns-in-Err-clause-due g c =

@@ -1,4 +1,3 @@
-use Rattle.pt_run.specs.Asks.{all_sensors}
 use Rattle.std.proofs.Common.{◌∷◌, [], subst}
 use Rattle.std.specs.Arc.{arc_value}
 use Rattle.pt_offsets.specs.Plans.{Parts}
@@ -33,4 +32,4 @@ returns-clause-asks g c =
     let rows = of_run plan.graph (rows_for c.in-Ok.recorded.entries.items) in
     flown_asks c.in-Err-run_over_air.fault c.in-Ok.recorded.air.breach c.stopped_by.result.fault c.stopped_by.result.platforms.items plan.graph (c.args.air.now ∷ []) (g.S.Source.asked c.args.source.now) (g.S.Source.asked c.read_inputs.new.source)
     (λ r is. subst (λ (f : RunFault). StopsInAir f plan rows c.in-Ok.recorded.air) is c.in-Err-run_over_air.ensures.fault) c.stopped_by.ensures
-    (whole_asks (all_sensors plan.graph) (c.args.air.now ∷ []) (g.S.Source.asked c.args.source.now) (g.S.Source.asked c.read_inputs.new.source) c.in-Ok.ensures.asks)
+    (whole_asks plan.graph.actors (c.args.air.now ∷ []) (g.S.Source.asked c.args.source.now) (g.S.Source.asked c.read_inputs.new.source) c.in-Ok.ensures.asks)

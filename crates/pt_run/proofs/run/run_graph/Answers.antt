@@ -1,4 +1,3 @@
-use Rattle.pt_run.specs.Asks.{all_sensors}
 use Rattle.std.proofs.Common.{[], refl}
 use Rattle.std.specs.Arc.{arc_value}
 use Rattle.pt_sensors.specs.Asked.{Reading}
@@ -23,7 +22,7 @@ returns-clause-asks g c =
     run_asks c.run_of-ran.result c.end_run.result w c.args.graph (arc_value c.in-Ok.plan).graph (g.S.Source.asked c.args.source.now) (g.S.Source.asked c.run_of-ran.new.source) c.in-Ok.ensures.plan c.end_run.ensures.ended c.run_of-ran.ensures.asks c.run_of-ran.ensures.asks_all
 
 pub returns-in-Err-clause-asks : goal.returns-in-Err-clause-asks
-returns-in-Err-clause-asks g c = unplanned_asks (all_sensors c.args.graph) [] (g.S.Source.asked c.args.source.now) (g.S.Source.asked c.args.source.now) c.args.graph c.in-Err.ending c.in-Err.ensures.refused refl
+returns-in-Err-clause-asks g c = unplanned_asks c.args.graph.actors [] (g.S.Source.asked c.args.source.now) (g.S.Source.asked c.args.source.now) c.args.graph c.in-Err.ending c.in-Err.ensures.refused refl
 
 pub returns-in-Err-clause-due : goal.returns-in-Err-clause-due
 returns-in-Err-clause-due g c =

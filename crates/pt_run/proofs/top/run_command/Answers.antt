@@ -10,7 +10,6 @@ use Rattle.pt_run.specs.Clocks.{AreBackFor}
 use Rattle.pt_run.specs.Texts.{left_over}
 use Rattle.pt_words.specs.declared.orders.ClockChoice.{ClockChoice}
 use Rattle.pt_words.specs.declared.orders.ClockChoice.TheVariants.{Paced}
-use Rattle.pt_run.specs.Asks.{all_sensors}
 use Rattle.pt_run.proofs.Asks.{asks_no_files, given_asks, of_command}
 use Rattle.pt_run.proofs.Ending.{given_due}
 use Rattle.pt_run.proofs.top.run_command.Goals as goal
@@ -32,7 +31,7 @@ returns-in-Meaning-clause-due g c =
 pub returns-in-Meaning-clause-asks : goal.returns-in-Meaning-clause-asks
 returns-in-Meaning-clause-asks g c =
     let w : Writing = record { before = g.K.Sink.faults c.args.out.now; now = g.K.Sink.faults c.give-in-Meaning.new.out; written_before = g.K.Sink.written c.args.out.now; written_now = g.K.Sink.written c.give-in-Meaning.new.out } in
-    rw c.in-Meaning.is (given_asks [] (all_sensors c.args.graph) [] (g.S.Source.asked c.args.source.now) (g.S.Source.asked c.meaning_answer-answer.new.source) string_bytes c.meaning_answer-answer.result c.give-in-Meaning.result w c.give-in-Meaning.ensures.gives c.meaning_answer-answer.ensures.asks)
+    rw c.in-Meaning.is (given_asks [] c.args.graph.actors [] (g.S.Source.asked c.args.source.now) (g.S.Source.asked c.meaning_answer-answer.new.source) string_bytes c.meaning_answer-answer.result c.give-in-Meaning.result w c.give-in-Meaning.ensures.gives c.meaning_answer-answer.ensures.asks)
 
 pub returns-in-Slacks-clause-due : goal.returns-in-Slacks-clause-due
 returns-in-Slacks-clause-due g c =

@@ -7,7 +7,7 @@ use Rattle.pt_run.specs.Texts.{left_over}
 use Rattle.pt_run.specs.Written.{Leaves}
 use Rattle.pt_run.proofs.Told.{told_file}
 use Rattle.pt_sensors.specs.Asked.{Contents, Reading}
-use Rattle.pt_run.specs.Asks.{files_for}
+use Rattle.pt_run.specs.Asks.{actors_for}
 use Rattle.pt_run.proofs.Asks.{asks_on, from_graph}
 use Rattle.pt_run.proofs.Ending.{has_nothing}
 use Rattle.pt_run.proofs.Stages.{command_on_file, command_past, graph_told}
@@ -27,7 +27,7 @@ returns-in-Ok-clause-due g c =
 
 pub returns-in-Ok-clause-asks : goal.returns-in-Ok-clause-asks
 returns-in-Ok-clause-asks g c =
-    asks_on (g.S.Source.tells c.args.source.now) c.args.blocks.now.listed.items c.args.name.now (files_for c.args.command) [] (g.S.Source.asked c.args.source.now) (g.S.Source.asked c.run_command.new.source) c.in-Ok.graph c.run_command.result.fault (g.S.Source.asked c.graph_at.new.source)
+    asks_on (g.S.Source.tells c.args.source.now) c.args.blocks.now.listed.items c.args.name.now (actors_for c.args.command) [] (g.S.Source.asked c.args.source.now) (g.S.Source.asked c.run_command.new.source) c.in-Ok.graph c.run_command.result.fault (g.S.Source.asked c.graph_at.new.source)
     c.in-Ok.ensures.graph c.in-Ok.ensures.asks c.run_command.ensures.asks
 
 pub returns-in-Ok-clause-notes : goal.returns-in-Ok-clause-notes
@@ -51,5 +51,5 @@ returns-in-Err-clause-due g c =
 
 pub returns-in-Err-clause-asks : goal.returns-in-Err-clause-asks
 returns-in-Err-clause-asks g c =
-    from_graph (g.S.Source.tells c.args.source.now) c.args.blocks.now.listed.items c.args.name.now (files_for c.args.command) [] (g.S.Source.asked c.args.source.now) (g.S.Source.asked c.graph_at.new.source)
+    from_graph (g.S.Source.tells c.args.source.now) c.args.blocks.now.listed.items c.args.name.now (actors_for c.args.command) [] (g.S.Source.asked c.args.source.now) (g.S.Source.asked c.graph_at.new.source)
     c.refused.result.fault c.in-Err.fault c.tell-fault.result c.refused.ensures.fault c.tell-fault.ensures.fault c.in-Err.ensures.asks_alone
