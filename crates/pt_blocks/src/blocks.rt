@@ -7,17 +7,21 @@ use crate::block::{Block, Function};
 use pt_tags::{Memory, Name};
 use pt_types::Law;
 use std::alloc::Global;
+use thiserror::Error;
 
 const MOST_BLOCKS: usize = 64;
 
 /// Why a block was not added.
-#[derive(Clone, Copy, Debug, PartialEq, Eq)]
+#[derive(Clone, Copy, Debug, PartialEq, Eq, Error)]
 pub enum BlockFault {
     /// Out of memory.
+    #[error("memory")]
     Memory,
     /// There is a block with that name.
+    #[error("there is a block with that name")]
     Repeated,
     /// There are 64 blocks, and none has that name.
+    #[error("there are {most} blocks", most = MOST_BLOCKS)]
     Full,
 }
 

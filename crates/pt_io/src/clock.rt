@@ -196,7 +196,7 @@ impl<R: SystemClock + Drop> Clock for MachineClock<R> {
     }
 }
 
-/// As many clocks of the machine. Each begins at 0 now.
+/// `count` clocks of the machine. Each begins at 0 now.
 pub fn machine_clocks<R: SystemClock>(
     alloc: Global,
     clock: &R,

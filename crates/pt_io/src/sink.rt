@@ -3,11 +3,14 @@
 ghost use Rattle.std.specs.Prelude.{◌≡◌, ◌≤◌, ℕ, List, Option, OnOk, OnErr};
 ghost use Rattle.pt_io.specs.Causes.{Rose, Appends, AppendsPart, Keeps};
 
+use thiserror::Error;
+
 /// Why a put or a flush failed.
-#[derive(Clone, Copy, Debug, PartialEq, Eq)]
+#[derive(Clone, Copy, Debug, PartialEq, Eq, Error)]
 pub enum PutFault {
     /// A put took only a prefix of the bytes, maybe none, and perhaps only a prefix of the buffer was written. The sink's
     /// count of faults rose in that call.
+    #[error("the bytes could not be written in full")]
     Failed,
 }
 

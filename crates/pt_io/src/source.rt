@@ -4,13 +4,16 @@ ghost use Rattle.std.specs.Prelude.{◌≡◌, ◌+◌, ◌≤◌, ℕ, List, Op
 ghost use Rattle.pt_io.specs.Causes.{Rose, AddsName};
 
 use std::alloc::Global;
+use thiserror::Error;
 
 /// Why a fetch gave no bytes.
-#[derive(Clone, Copy, Debug, PartialEq, Eq)]
+#[derive(Clone, Copy, Debug, PartialEq, Eq, Error)]
 pub enum FetchFault {
     /// The content couldn't be read. The source's count of faults rose in that call.
+    #[error("the content could not be read")]
     Failed,
     /// Out of memory.
+    #[error("memory")]
     Memory,
 }
 

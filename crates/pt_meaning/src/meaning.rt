@@ -16,13 +16,16 @@ use pt_sensors::SensorRows;
 use pt_tags::List;
 use pt_types::{Edge, Graph};
 use std::alloc::Global;
+use thiserror::Error;
 
 /// Why there is no result.
-#[derive(Clone, Copy, Debug, PartialEq, Eq)]
+#[derive(Clone, Copy, Debug, PartialEq, Eq, Error)]
 pub enum MeaningFault {
     /// Memory ran out.
+    #[error("memory")]
     Memory,
     /// The meaning has more firings than `most`.
+    #[error("the meaning has too many firings")]
     Long,
 }
 

@@ -14,12 +14,15 @@ use pt_turn::{Platform, TurnFault};
 use std::alloc::Global;
 use std::marker::{Model, PhantomData};
 use std::sync::Wait;
+use thiserror::Error;
 
 /// Why a visit gave up.
-#[derive(Clone, Copy, Debug, PartialEq, Eq)]
+#[derive(Clone, Copy, Debug, PartialEq, Eq, Error)]
 pub enum VisitFault {
     /// The turn of the visit ended with this fault.
+    #[error(transparent)]
     Turn(TurnFault),
+    #[error("memory")]
     Memory,
 }
 

@@ -15,21 +15,27 @@ use pt_offsets::Plan;
 use pt_sensors::{LateRows, RecordedFault, recorded};
 use pt_tags::Tag;
 use pt_turn::{Platform, open_all};
+use pt_types::MOST_CLAIMS;
 use std::alloc::Global;
+use std::fmt;
 use std::sync::Arc;
+use thiserror::Error;
 
 /// Why a run did not finish.
-#[derive(Drop)]
+#[derive(Drop, Error)]
 pub enum RunFault {
     /// The rows of the sensors are not available: a file has a fault or could not be read, a row is late, or memory ran out.
+    #[error(transparent)]
     Rows(RecordedFault),
     /// This platform is the first that made all its claims and needed more; all platforms are as they were then.
+    #[error("platform {platform} made {most} claims and needs more", most = MOST_CLAIMS)]
     Long {
         platform: u32,
         platforms: Vec<Platform>,
     },
     /// On this platform a message for this receiver at this tag was late: its last reading was `reading`, past `limit`. All
     /// platforms are as they were then.
+    #[error("on platform {platform} a message for actor {actor} at {time}.{step} is late: read at {reading}, past {limit}", time = .tag.time, step = .tag.step)]
     Late {
         platform: u32,
         actor: u32,
@@ -39,7 +45,15 @@ pub enum RunFault {
         platforms: Vec<Platform>,
     },
     /// Memory ran out.
+    #[error("memory")]
     Memory,
+}
+
+/// Shows the message alone, without the platforms.
+impl fmt::Debug for RunFault {
+    fn fmt<W: fmt::Write>(&self, f: &mut fmt::Formatter<W>) -> fmt::Result {
+        write!(f, "{self}")
+    }
 }
 
 /// Runs a plan over the files of its sensors under the paced clock: reads their rows, runs all platforms in rounds until

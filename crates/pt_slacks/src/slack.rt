@@ -1,6 +1,7 @@
 //! Slacks, and why a graph has none with which it can run.
 
 use pt_tags::List;
+use thiserror::Error;
 
 /// The slack of a sender or an actuator.
 #[derive(Clone, Copy, Debug, PartialEq, Eq)]
@@ -12,12 +13,14 @@ pub struct Slack {
 }
 
 /// Why there are no least slacks.
-#[derive(Drop)]
+#[derive(Debug, Drop, Error)]
 pub enum SlackFault {
     /// Memory ran out.
+    #[error("memory")]
     Memory,
     /// However great the slacks are, one of these senders can't send in time: from each to the next, and from the last to
     /// the first, the slack that is needed grows, by `gain` microseconds in all. Senders are named by their numbers in the
     /// graph, from 0; the first has the least number.
+    #[error("around the senders {sends:?} the slack that is needed grows by {gain}")]
     Ring { sends: List<u32>, gain: u64 },
 }

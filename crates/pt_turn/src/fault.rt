@@ -1,12 +1,15 @@
 //! Why a platform stops.
 
 use pt_tags::Tag;
+use pt_types::MOST_CLAIMS;
+use thiserror::Error;
 
 /// Why a platform makes no more turns.
-#[derive(Clone, Copy, Debug, PartialEq, Eq)]
+#[derive(Clone, Copy, Debug, PartialEq, Eq, Error)]
 pub enum TurnFault {
     /// A message for this receiver was late: the last reading before the turn was past `limit`, the tag's time plus the
     /// link's bound. All are microseconds. With time 50 and bound 10, `limit` is 60, and a reading of 61 is past it.
+    #[error("a message for actor {actor} at {time}.{step} is late: read at {reading}, past {limit}", time = .tag.time, step = .tag.step)]
     Late {
         actor: u32,
         tag: Tag,
@@ -14,5 +17,6 @@ pub enum TurnFault {
         limit: u64,
     },
     /// 200,000 claims were made, and a unit is still safe.
+    #[error("{most} claims were made, and a unit is still safe", most = MOST_CLAIMS)]
     Long,
 }
