@@ -3,10 +3,10 @@
 # each definition and each clause.
 #
 # Of the text it reads what is in backticks and the targets of links. A file is looked up from the top, from the
-# document's folder, in crates/ and in each crate; `crate::path::name` has to be declared in that crate's src/; in "clauses `A` and
-# `B` of `crate::name`", and in a table with the head `Crate | Function | Clause`, the crate has to have a clause of each name.
-# tools/check-names.py looks up the definitions, and checks that no two crates define one name. docs/ARCHITECTURE.md has a row for each
-# crate, and README.md and docs/TRUST.md name each library that the program is built with. The last line is `N passed, M failed`.
+# document's folder, in crates/ and in each crate; `crate::path::name` has to be declared in that crate's src/. tools/check-clauses.py
+# looks up the clauses at the functions that are named with them, and tools/check-names.py the definitions; it also checks that no two
+# crates define one name. docs/ARCHITECTURE.md has a row for each crate, and README.md and docs/TRUST.md name each library that the
+# program is built with. The last line is `N passed, M failed`.
 # The back-quotes in the patterns are letters that are looked for.
 # shellcheck disable=SC2016
 set -u
@@ -47,54 +47,6 @@ is_declared() { # crate, name
     grep -rqE "\b(fn|struct|enum|trait|mod|type|const) $2\b|^ +$2\b( \{|,|\()" "crates/$1/src" 2>/dev/null
 }
 
-# Whether one of the crates has a clause of the name.
-is_clause() { # crates, name
-    local crate
-    for crate in $1; do
-        ! grep -rqE "ensures $2 " "crates/$crate/src" 2>/dev/null || return 0
-    done
-    return 1
-}
-
-# The names in backticks of a text, one a line.
-quoted() {
-    grep -oE '`[^`]+`' | tr -d '`'
-}
-
-check_clauses() { # document, its prose in one line
-    local found crate clause
-    while IFS= read -r found; do
-        crate=$(grep -oE '`[a-z_]+::' <<<"$found" | tr -d '`:')
-        while IFS= read -r clause; do
-            is_clause "$crate" "$clause"
-            judge "$1" "clause $clause of $crate" $?
-        done < <(quoted <<<"${found%of \`*}")
-    done < <(grep -oE 'clauses? (`[a-z_]+`(, | and )?)+ of `[a-z_]+::' <<<"$2" | sort -u)
-}
-
-# The rows of tables of clauses: the crates, which are those of the rows below too, and the clauses.
-clause_rows() { # document
-    awk -F'|' '
-        !/^\|/ { inside = 0 }
-        /^\| *Crate *\| *Function *\| *Clause/ { inside = 1; next }
-        inside && /`/ {
-            if ($2 ~ /`/) crates = $2
-            gsub(/[`,]/, " ", crates)
-            if ($4 ~ /`/) print crates "|" $4
-        }
-    ' "$1"
-}
-
-check_tables_of_clauses() { # document
-    local crates clauses clause
-    while IFS='|' read -r crates clauses; do
-        while IFS= read -r clause; do
-            is_clause "$crates" "$clause"
-            judge "$1" "clause $clause of $crates" $?
-        done < <(quoted <<<"$clauses")
-    done < <(clause_rows "$1")
-}
-
 check_word() { # document, word
     local word=$2 crate name
     case $word in
@@ -121,6 +73,21 @@ check_word() { # document, word
     esac
 }
 
+# Adds up what a script of this folder counted: its last line is `N passed, M failed`.
+count() { # SCRIPT
+    local found last
+    found=$("$1")
+    last=${found##*$'\n'}
+    if [[ $last =~ ^([0-9]+)\ passed,\ ([0-9]+)\ failed$ ]]; then
+        passed=$((passed + BASH_REMATCH[1]))
+        failed=$((failed + BASH_REMATCH[2]))
+        head -n -1 <<<"$found"
+    else
+        failed=$((failed + 1))
+        echo "failed: $1 ends with a fault"
+    fi
+}
+
 for document in ./*.md docs/*.md bench/*.md examples/README.md examples/*/README.md; do
     [ -e "$document" ] || continue
     # Blocks of code show what is typed and printed, and cite nothing.
@@ -136,9 +103,6 @@ for document in ./*.md docs/*.md bench/*.md examples/README.md examples/*/README
         is_heading "$document" "$target" "$anchor"
         judge "$document" "$target#$anchor" $?
     done < <(grep -oE '\]\([^)]*#[^)]+' <<<"$prose" | sed 's/^](//' | grep -v '^http' | sort -u)
-    line=$(tr -s '\n ' ' ' <<<"$prose")
-    check_clauses "$document" "$line"
-    check_tables_of_clauses "$document"
 done
 while IFS= read -r crate; do
     grep -qF -- "| \`$crate\` |" docs/ARCHITECTURE.md
@@ -152,10 +116,7 @@ while IFS= read -r library; do
 done < <(sed 's/#.*//; s/^[^:]*://' crates.txt | tr -s ' ' '\n' | grep . | sort -u | grep -vxF -- "$crates")
 tools/count-definitions.py --check
 judge docs/PROOF-TOUR.md 'the right count of definitions' $?
-found=$(tools/check-names.py)
-grep -v ' passed, ' <<<"$found"
-read -r more _ less _ <<<"${found##*$'\n'}"
-passed=$((passed + more))
-failed=$((failed + less))
+count tools/check-clauses.py
+count tools/check-names.py
 echo "$passed passed, $failed failed"
 [ "$failed" -eq 0 ]
