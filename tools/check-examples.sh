@@ -15,8 +15,8 @@
 #   expected.slacks  what `slacks` writes
 #   rows.py, make.py   write the sensor files that are stored, or a file that is too large to be stored
 #
-# It also checks the commands and outputs in the READMEs and in docs/REPLAY.md, the schema, the manual page and the completion. What isn't
-# installed is skipped by name. The last line is `N passed, M failed, K skipped`.
+# It also checks the commands and outputs in the READMEs and in docs/AUDIT.md, docs/REPLAY.md and docs/TIMING.md, the schema, the manual
+# page and the completion. What isn't installed is skipped by name. The last line is `N passed, M failed, K skipped`.
 set -u
 here=$(realpath -- "$0") || exit 1
 . "${here%/*}/common.sh"
@@ -194,9 +194,9 @@ count() { # COMMAND..
 
 check_documents() {
     if is_there python3; then
-        count python3 tools/check-transcripts.py "$program" README.md docs/REPLAY.md examples/*/README.md
+        TMPDIR=$work count python3 tools/check-transcripts.py "$program" README.md docs/{AUDIT,REPLAY,TIMING}.md examples/*/README.md
     else
-        skip "the commands in the READMEs, since python3 isn't there"
+        skip "the commands in the documents, since python3 isn't there"
     fi
     if ! is_there python3; then
         skip "schemas/graph.schema.json, since python3 isn't there"

@@ -3,19 +3,22 @@
 
     check-transcripts.py PROGRAM DOCUMENT..
 
-In a block of text a line `$ COMMAND` that calls ptides is run by a shell in the document's folder, or in the one above it for a page of
-docs, with PROGRAM instead of the path to ptides. The lines up to the next `$` or the end of the block are its output, standard error
-at the end; a line `...` means any lines. Words that only the launcher knows, as companions, go to the launcher, with PROGRAM as the
-program. The last line is `N passed, M failed`.
+In a block of text a line `$ COMMAND` that calls ptides is run by a shell, with PROGRAM instead of the path to ptides: in the document's
+folder, or, for README.md and the pages of docs, in a new one with links to what is in the project's folder, so that a command may write
+a file. The lines up to the next `$` or the end of the block are its output, standard error at the end; a line `...` means any lines.
+Words that only the launcher knows, as companions, go to the launcher, with PROGRAM as the program. The last line is
+`N passed, M failed`.
 """
 import os
 import re
 import shlex
 import subprocess
 import sys
+import tempfile
 from typing import List, NamedTuple
 
-LAUNCHER = os.path.join(os.path.dirname(os.path.dirname(os.path.realpath(__file__))), "ptides")
+TOP = os.path.dirname(os.path.dirname(os.path.realpath(__file__)))
+LAUNCHER = os.path.join(TOP, "ptides")
 # A path to ptides, folders to go to first, and the next word.
 PTIDES = re.compile(r"(?<!\S)(?:\./|(?:\.\./)+)ptides(?P<folders>(?: -C \S+)*)(?= (?P<word>\S+))")
 COMMANDS = {"run", "check", "meaning", "make", "migrate", "slacks", "audit", "replay"}
@@ -68,23 +71,30 @@ def lines_of(command: str, folder: str) -> List[str]:
     return (done.stdout + done.stderr).decode("utf-8", "replace").split("\n")[:-1]
 
 
+def check(document: str, program: str, linked: str) -> List[bool]:
+    """Whether each command of a document writes what is shown. Commands that are typed in the project's folder are run in `linked`."""
+    with open(document, encoding="utf-8") as file:
+        text = file.read()
+    folder, found = os.path.dirname(document), []
+    for command, wanted in transcripts(text):
+        lines = lines_of(placed(command, program), linked if folder in ("", "docs") else folder)
+        found.append(agrees(wanted, lines))
+        if not found[-1]:
+            print(f"failed: {document}: {command} writes", *lines[:20], sep="\n    ")
+    return found
+
+
 def main() -> None:
+    """Prints what fails, and the counts."""
     if len(sys.argv) < 2:
         sys.exit("usage: check-transcripts.py PROGRAM DOCUMENT..")
-    program, documents = os.path.abspath(sys.argv[1]), sys.argv[2:]
-    passed = failed = 0
-    for document in documents:
-        with open(document, encoding="utf-8") as file:
-            text = file.read()
-        folder = os.path.dirname(document) if os.path.dirname(document) != "docs" else ""
-        for command, wanted in transcripts(text):
-            lines = lines_of(placed(command, program), folder or ".")
-            if agrees(wanted, lines):
-                passed += 1
-            else:
-                failed += 1
-                print(f"failed: {document}: {command} writes", *lines[:20], sep="\n    ")
-    print(f"{passed} passed, {failed} failed")
+    found = []
+    for document in sys.argv[2:]:
+        with tempfile.TemporaryDirectory() as linked:
+            for name in os.listdir(TOP):
+                os.symlink(os.path.join(TOP, name), os.path.join(linked, name))
+            found += check(document, os.path.abspath(sys.argv[1]), linked)
+    print(f"{found.count(True)} passed, {found.count(False)} failed")
 
 
 if __name__ == "__main__":
