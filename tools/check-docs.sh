@@ -5,8 +5,8 @@
 # Of the text it reads what is in backticks and the targets of links. A file is looked up from the top, from the
 # document's folder, in crates/ and in each crate; `crate::path::name` has to be declared in that crate's src/. tools/check-clauses.py
 # looks up the clauses at the functions that are named with them, and tools/check-names.py the definitions; it also checks that no two
-# crates define one name. docs/ARCHITECTURE.md has a row for each crate, and README.md and docs/TRUST.md name each library that the
-# program is built with. The last line is `N passed, M failed`.
+# crates define one name. docs/ARCHITECTURE.md has a row for each crate, README.md and docs/TRUST.md name each library that the program
+# is built with, and docs/BLOCKS.md quotes the program of its example. The last line is `N passed, M failed`.
 # The back-quotes in the patterns are letters that are looked for.
 # shellcheck disable=SC2016
 set -u
@@ -73,6 +73,25 @@ check_word() { # document, word
     esac
 }
 
+# The blocks of code of a document are quoted from the sources of a folder, but for what they are indented by.
+check_quotes() { # document, folder
+    local sources line first quote='' inside=false
+    sources=$'\n'$(sed 's/^ *//' "$2"/*.rt)$'\n'
+    while IFS= read -r line; do
+        if [ "$line" = '```rust' ]; then
+            inside=true
+            quote=$'\n'
+        elif $inside && [ "$line" = '```' ]; then
+            first=${quote#?}
+            [[ $sources == *"$quote"* ]]
+            judge "$1" "in $2 the code that begins with ${first%%$'\n'*}" $?
+            inside=false
+        elif $inside; then
+            quote+=${line#"${line%%[! ]*}"}$'\n'
+        fi
+    done <<<"$(<"$1")"
+}
+
 # Adds up what a script of this folder counted: its last line is `N passed, M failed`.
 count() { # SCRIPT
     local found last
@@ -114,6 +133,7 @@ while IFS= read -r library; do
         judge "$document" "the library $library" $?
     done
 done < <(sed 's/#.*//; s/^[^:]*://' crates.txt | tr -s ' ' '\n' | grep . | sort -u | grep -vxF -- "$crates")
+check_quotes docs/BLOCKS.md crates/slow_blocks/src
 tools/count-definitions.py --check
 judge docs/PROOF-TOUR.md 'the right count of definitions' $?
 count tools/check-clauses.py
