@@ -20,12 +20,7 @@ pub fn causality(alloc: Global, graph: &Graph) -> Result<(Least, Ranks), CycleFa
     ensures levels { IfOk result (λ both. AreLevels graph.now (level_of both.1)) }
     ensures cycle { IfErr result (λ fault. CauseOfCycle fault graph.now) }
 {
-    let ranks = match ranks_of(alloc, graph) {
-        Ok(ranks) => ranks,
-        Err(fault) => return Err(fault),
-    };
-    match least_delays(alloc, graph) {
-        Ok(least) => Ok((least, ranks)),
-        Err(_) => Err(CycleFault::Memory),
-    }
+    let ranks = ranks_of(alloc, graph)?;
+    let least = least_delays(alloc, graph)?;
+    Ok((least, ranks))
 }

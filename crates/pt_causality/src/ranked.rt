@@ -49,15 +49,7 @@ pub fn ranks_of(alloc: Global, graph: &Graph) -> Result<Ranks, CycleFault>
     ensures levels { IfOk result (λ r. AreLevels graph.now (level_of r)) }
     ensures cycle { IfErr result (λ f. CauseOfCycle f graph.now) }
 {
-    let Ok(incoming) = incoming_of(alloc, graph) else {
-        return Err(CycleFault::Memory);
-    };
-    let places = match visit_all(alloc, incoming.as_slice()) {
-        Ok(places) => places,
-        Err(fault) => return Err(fault),
-    };
-    let Ok(ranks) = ranks_at(alloc, places.as_slice()) else {
-        return Err(CycleFault::Memory);
-    };
-    Ok(ranks)
+    let incoming = incoming_of(alloc, graph)?;
+    let places = visit_all(alloc, incoming.as_slice())?;
+    Ok(ranks_at(alloc, places.as_slice())?)
 }

@@ -112,9 +112,7 @@ pub fn visit_all(alloc: Global, incoming: &[List<Edge>]) -> Result<Vec<Place>, C
     ensures done { IfOk result (λ places. ActorsAreDone incoming.now places.items) }
     ensures ring { IfErr result (MeetsRing incoming.now) }
 {
-    let Ok(mut places) = fresh(alloc, incoming) else {
-        return Err(CycleFault::Memory);
-    };
+    let mut places = fresh(alloc, incoming)?;
     for actor in 0..incoming.len() {
         visit(alloc, incoming, &mut places, actor as u32)?;
     }

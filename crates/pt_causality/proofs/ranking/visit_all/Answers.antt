@@ -6,6 +6,6 @@ use Rattle.pt_causality.proofs.ranking.visit_all.Goals as goal
 
 pub loop-actor-init : goal.loop-actor-init
 loop-actor-init c = record {
-  rests = subst (λ (ps : List Place). Rests c.args.incoming.now ps) (sym c.in-Ok.ensures) (fresh_rests c.args.incoming.now);
+  rests = subst (λ (ps : List Place). Rests c.args.incoming.now ps) (sym c.in_ok-places.ensures) (fresh_rests c.args.incoming.now);
   done = λ a below. absurd (omega (arith, below));
 }
