@@ -88,6 +88,7 @@ pub fn fire_into(kind: &Kind, state: i64, inputs: &Ports, outputs: &mut Ports) -
 }
 
 /// Writes the outputs of a firing, and returns the state after it; stored functions are called if `blocks` is given.
+#[inline(always)]
 fn fired(
     blocks: Option<&Blocks>,
     kind: &Kind,

@@ -1,5 +1,8 @@
 //! The faults of a sensor file.
 
+use pt_tags::Memory;
+use std::alloc::AllocError;
+
 /// The first fault of a sensor file. Row numbers are from 1.
 #[derive(Clone, Copy, Debug, PartialEq, Eq)]
 pub enum RowFault {
@@ -21,4 +24,26 @@ pub enum RowFault {
     SeenEarly(u32),
     /// A record follows the first 100,000 rows, and these have no fault.
     TooManyRows,
+}
+
+impl From<AllocError> for RowFault {
+    ghost use Rattle.std.specs.Prelude.{◌≡◌};
+    ghost use Rattle.pt_sensors.specs.declared.fault.RowFault.TheVariants.{Memory};
+
+    ghost from_gives = { λ _ fault. fault ≡ Memory };
+
+    fn from(_refused: AllocError) -> RowFault {
+        RowFault::Memory
+    }
+}
+
+impl From<Memory> for RowFault {
+    ghost use Rattle.std.specs.Prelude.{◌≡◌};
+    ghost use Rattle.pt_sensors.specs.declared.fault.RowFault.TheVariants.{Memory};
+
+    ghost from_gives = { λ _ fault. fault ≡ Memory };
+
+    fn from(_memory: Memory) -> RowFault {
+        RowFault::Memory
+    }
 }

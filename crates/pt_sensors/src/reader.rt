@@ -44,18 +44,11 @@ fn read(alloc: Global, bytes: &[u8]) -> Result<List<Row>, RowFault>
         return Err(RowFault::TooLong);
     }
     let mut reader = reader_of(alloc, bytes);
-    let Ok(mut line) = ByteRecord::with_capacity(alloc, LINE_BYTES, 4) else {
-        return Err(RowFault::Memory);
-    };
-    match advance(&mut reader, &mut line) {
-        Ok(found) => {
-            if found && is_header(&line) {
-                rows(alloc, &mut reader, &mut line)
-            } else {
-                Err(RowFault::Header)
-            }
-        }
-        Err(Memory) => Err(RowFault::Memory),
+    let mut line = ByteRecord::with_capacity(alloc, LINE_BYTES, 4)?;
+    if advance(&mut reader, &mut line)? && is_header(&line) {
+        rows(alloc, &mut reader, &mut line)
+    } else {
+        Err(RowFault::Header)
     }
 }
 
@@ -77,10 +70,7 @@ pub fn advance(reader: &mut Reader<&[u8]>, line: &mut ByteRecord) -> Result<bool
     ensures { IfOk result (λ found. Finds (λ r. Some r.now)
         (next (reader_state reader.old) (bytes_left (λ r. Some r.now) reader.old)) found reader.new (fields_of line.new)) }
 {
-    match reader.read_byte_record(line) {
-        Ok(found) => Ok(found),
-        Err(_) => Err(Memory),
-    }
+    reader.read_byte_record(line).map_err(|_| Memory)
 }
 
 /// The rows that follow; the header was read.
@@ -95,9 +85,7 @@ fn rows(
     let mut rows = Vec::new(alloc);
     let mut before = None;
     for number in 1..MOST_ROWS + 1 {
-        let Ok(found) = advance(reader, line) else {
-            return Err(RowFault::Memory);
-        };
+        let found = advance(reader, line)?;
         if !found {
             return Ok(List::new(rows));
         }
@@ -107,15 +95,11 @@ fn rows(
         }
         before = Some(row);
     }
-    match advance(reader, line) {
-        Ok(found) => {
-            if found {
-                Err(RowFault::TooManyRows)
-            } else {
-                Ok(List::new(rows))
-            }
-        }
-        Err(Memory) => Err(RowFault::Memory),
+    let found = advance(reader, line)?;
+    if found {
+        Err(RowFault::TooManyRows)
+    } else {
+        Ok(List::new(rows))
     }
 }
 

@@ -42,14 +42,9 @@ fn rows_of_actor<S: Source>(
     let Kind::Sensor { file, bound } = &graph.actors.as_slice()[actor as usize].kind else {
         return Ok(List::new(Vec::new(alloc)));
     };
-    let rows = match rows_of_file(alloc, source, actor, file.as_str()) {
-        Ok(rows) => rows,
-        Err(fault) => return Err(fault),
-    };
-    match judged(late, actor, rows.as_slice(), *bound, graph.until) {
-        Ok(()) => Ok(rows),
-        Err(fault) => Err(fault),
-    }
+    let rows = rows_of_file(alloc, source, actor, file.as_str())?;
+    judged(late, actor, rows.as_slice(), *bound, graph.until)?;
+    Ok(rows)
 }
 
 /// The rows of all sensors of a graph, read in graph order: one entry for each actor, empty if it is not a sensor.
@@ -79,10 +74,7 @@ pub fn recorded<S: Source>(
     let mut all = Vec::new(alloc);
     for number in 0..count {
         let actor = number as u32;
-        let rows = match rows_of_actor(alloc, source, graph, actor, late) {
-            Ok(rows) => rows,
-            Err(fault) => return Err(fault),
-        };
+        let rows = rows_of_actor(alloc, source, graph, actor, late)?;
         if all.push(SensorRows { actor, rows }).is_err() {
             return Err(RecordedFault::Memory);
         }

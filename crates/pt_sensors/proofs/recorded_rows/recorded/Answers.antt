@@ -1,4 +1,5 @@
 use Rattle.std.proofs.Common.{◌≡◌, ◌<◌, ◌≤◌, ◌+◌, ◌∙◌, refl, subst, sym, arith, is_ok, true, length, rules}
+use Rattle.std.proofs.lemmas.Result.{err_from_is_err_and}
 use Rattle.pt_sensors.specs.declared.sensor_rows.SensorRows.{SensorRows}
 use Rattle.pt_sensors.specs.Asked.{Reading}
 use Rattle.pt_sensors.specs.Recorded.{RowsOfKind}
@@ -7,24 +8,28 @@ use Rattle.pt_sensors.proofs.Asking.{asks_all, asks_by_files, asks_files, asks_u
 use Rattle.pt_sensors.proofs.Recording.{AreFirstRows, first_rows_more, fit_rows, later}
 use Rattle.pt_sensors.proofs.recorded_rows.recorded.Goals as goal
 
-pub returns-in-Err-clause-fault : goal.returns-in-Err-clause-fault
-returns-in-Err-clause-fault g c =
-    later c.args.late (g.S.Source.tells c.args.source.now) (g.S.Source.tells c.loop-number.source) c.args.graph.now c.loop-number.all.items c.loop-number.number
+pub returns-in_err-rows-clause-fault : goal.returns-in_err-rows-clause-fault
+returns-in_err-rows-clause-fault g c =
+    let p = err_from_is_err_and c.from_residual.result c.from_residual.ensures.1 in
+    rw (p.1, p.2)
+    (later c.args.late (g.S.Source.tells c.args.source.now) (g.S.Source.tells c.loop-number.source) c.args.graph.now c.loop-number.all.items c.loop-number.number
     (g.S.Source.asked c.args.source.now) (g.S.Source.asked c.loop-number.source) (g.S.Source.asked c.rows_of_actor.new.source)
-    (g.S.Source.faults c.args.source.now) (g.S.Source.faults c.loop-number.source) (g.S.Source.faults c.rows_of_actor.new.source) c.in-Err.fault c.loop-number.invariant.keeps
-    c.loop-number.invariant.rows c.loop-number.invariant.asks c.loop-number.invariant.grows c.in-Err.ensures.fault
+    (g.S.Source.faults c.args.source.now) (g.S.Source.faults c.loop-number.source) (g.S.Source.faults c.rows_of_actor.new.source) _ c.loop-number.invariant.keeps
+    c.loop-number.invariant.rows c.loop-number.invariant.asks c.loop-number.invariant.grows c.in_err-rows.ensures.fault)
 
-pub returns-in-Err-clause-asks : goal.returns-in-Err-clause-asks
-returns-in-Err-clause-asks g c =
+pub returns-in_err-rows-clause-asks : goal.returns-in_err-rows-clause-asks
+returns-in_err-rows-clause-asks g c =
     let within : c.loop-number.number < length c.args.graph.now.actors = search rules in
-    asks_by_files c.args.graph.now c.loop-number.number c.in-Err.fault (g.S.Source.asked c.args.source.now) (g.S.Source.asked c.loop-number.source) (g.S.Source.asked c.rows_of_actor.new.source) within c.loop-number.invariant.asks c.in-Err.ensures.asks_by
+    asks_by_files c.args.graph.now c.loop-number.number _ (g.S.Source.asked c.args.source.now) (g.S.Source.asked c.loop-number.source) (g.S.Source.asked c.rows_of_actor.new.source) within c.loop-number.invariant.asks c.in_err-rows.ensures.asks_by
 
-pub returns-in-Err-clause-asks_up_to : goal.returns-in-Err-clause-asks_up_to
-returns-in-Err-clause-asks_up_to g c =
+pub returns-in_err-rows-clause-asks_up_to : goal.returns-in_err-rows-clause-asks_up_to
+returns-in_err-rows-clause-asks_up_to g c =
+    let p = err_from_is_err_and c.from_residual.result c.from_residual.ensures.1 in
     let within : c.loop-number.number < length c.args.graph.now.actors = search rules in
     let reading : Reading = record { asked_before = g.S.Source.asked c.loop-number.source; asked_now = g.S.Source.asked c.rows_of_actor.new.source; before = g.S.Source.faults c.loop-number.source; now = g.S.Source.faults c.rows_of_actor.new.source } in
-    asks_up_to c.args.late (g.S.Source.tells c.loop-number.source) c.args.graph.now c.loop-number.number c.in-Err.fault reading (g.S.Source.asked c.args.source.now) (g.S.Source.asked c.loop-number.source) (g.S.Source.asked c.rows_of_actor.new.source) within c.loop-number.invariant.asks
-    c.in-Err.ensures.fault c.in-Err.ensures.asks_by
+    rw (p.1, p.2)
+    (asks_up_to c.args.late (g.S.Source.tells c.loop-number.source) c.args.graph.now c.loop-number.number _ reading (g.S.Source.asked c.args.source.now) (g.S.Source.asked c.loop-number.source) (g.S.Source.asked c.rows_of_actor.new.source) within c.loop-number.invariant.asks
+    c.in_err-rows.ensures.fault c.in_err-rows.ensures.asks_by)
 
 pub loop-number-preserved : goal.loop-number-preserved
 loop-number-preserved g c =
@@ -33,29 +38,29 @@ loop-number-preserved g c =
     let n = c.loop-number.number in
     let pushed : is_ok c.push.result ≡ true = search rules in
     let items = rw pushed at c.push.ensures.items in
-    let entry : SensorRows = record { actor = c.loop-number.number; rows = c.in-Ok.rows } in
+    let entry : SensorRows = record { actor = c.loop-number.number; rows = c.in_ok-rows.rows } in
     let within : c.loop-number.number < length c.args.graph.now.actors = search rules in
-    let kind = subst (λ t. RowsOfKind t (kind_of graph n) c.in-Ok.rows) c.loop-number.invariant.keeps c.in-Ok.ensures.rows in
+    let kind = subst (λ t. RowsOfKind t (kind_of graph n) c.in_ok-rows.rows) c.loop-number.invariant.keeps c.in_ok-rows.ensures.rows in
     record {
       rows = subst (λ xs. AreFirstRows c.args.late tells graph xs (c.loop-number.number + 1)) (sym items)
-          (first_rows_more c.args.late tells graph c.loop-number.all.items n entry c.loop-number.invariant.rows refl within (record { kind = kind; passes = c.in-Ok.ensures.passes; order = c.in-Ok.ensures.order }));
+          (first_rows_more c.args.late tells graph c.loop-number.all.items n entry c.loop-number.invariant.rows refl within (record { kind = kind; passes = c.in_ok-rows.ensures.passes; order = c.in_ok-rows.ensures.order }));
       keeps = c.rows_of_actor.ensures.keeps ∙ c.loop-number.invariant.keeps;
       grows = omega (arith, c.loop-number.invariant.grows, c.rows_of_actor.ensures.grows);
-      asks = asks_files graph n (g.S.Source.asked c.args.source.now) (g.S.Source.asked c.loop-number.source) (g.S.Source.asked c.rows_of_actor.new.source) within c.loop-number.invariant.asks c.in-Ok.ensures.asks;
+      asks = asks_files graph n (g.S.Source.asked c.args.source.now) (g.S.Source.asked c.loop-number.source) (g.S.Source.asked c.rows_of_actor.new.source) within c.loop-number.invariant.asks c.in_ok-rows.ensures.asks;
     }
 
 pub returns-then-is_err-clause-asks : goal.returns-then-is_err-clause-asks
 returns-then-is_err-clause-asks g c =
     let within : c.loop-number.number < length c.args.graph.now.actors = search rules in (
       c.loop-number.number + 1,
-      asks_files c.args.graph.now c.loop-number.number (g.S.Source.asked c.args.source.now) (g.S.Source.asked c.loop-number.source) (g.S.Source.asked c.rows_of_actor.new.source) within c.loop-number.invariant.asks c.in-Ok.ensures.asks,
+      asks_files c.args.graph.now c.loop-number.number (g.S.Source.asked c.args.source.now) (g.S.Source.asked c.loop-number.source) (g.S.Source.asked c.rows_of_actor.new.source) within c.loop-number.invariant.asks c.in_ok-rows.ensures.asks,
     )
 
 pub returns-then-is_err-clause-asks_up_to : goal.returns-then-is_err-clause-asks_up_to
 returns-then-is_err-clause-asks_up_to g c =
     let within : c.loop-number.number < length c.args.graph.now.actors = search rules in (
       c.loop-number.number + 1,
-      asks_files c.args.graph.now c.loop-number.number (g.S.Source.asked c.args.source.now) (g.S.Source.asked c.loop-number.source) (g.S.Source.asked c.rows_of_actor.new.source) within c.loop-number.invariant.asks c.in-Ok.ensures.asks,
+      asks_files c.args.graph.now c.loop-number.number (g.S.Source.asked c.args.source.now) (g.S.Source.asked c.loop-number.source) (g.S.Source.asked c.rows_of_actor.new.source) within c.loop-number.invariant.asks c.in_ok-rows.ensures.asks,
     )
 
 pub returns-clause-fit : goal.returns-clause-fit
