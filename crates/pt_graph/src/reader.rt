@@ -72,12 +72,8 @@ fn wired(alloc: Global, document: &Document) -> Result<Wiring, GraphFault>
     ensures { GivesWiring document.now result }
 {
     let numbers = check(alloc, document)?;
-    let Ok(wires) = wires_of(alloc, &numbers, document.wires.as_slice()) else {
-        return Err(GraphFault::Memory);
-    };
-    let Ok(links) = links_of(alloc, &numbers, document.links.as_slice()) else {
-        return Err(GraphFault::Memory);
-    };
+    let wires = wires_of(alloc, &numbers, document.wires.as_slice())?;
+    let links = links_of(alloc, &numbers, document.links.as_slice())?;
     Ok(Wiring { wires, links })
 }
 
@@ -90,9 +86,7 @@ fn check<'a>(alloc: Global, document: &'a Document) -> Result<BTreeMap<&'a str, 
     refuse(range_fault(document))?;
     refuse(name_fault(document))?;
     check_repeated(alloc, document)?;
-    let Ok(numbers) = numbers(alloc, document.actors.as_slice()) else {
-        return Err(GraphFault::Memory);
-    };
+    let numbers = numbers(alloc, document.actors.as_slice())?;
     refuse(unknown_fault(document, &numbers))?;
     Ok(numbers)
 }
@@ -112,10 +106,9 @@ fn name_fault(document: &Document) -> Option<GraphFault>
 fn check_repeated(alloc: Global, document: &Document) -> Result<(), GraphFault>
     ensures { Gives (refused (option_map fault.Repeated (repeated_place document.now))) result }
 {
-    match repeated_place(alloc, document) {
-        Ok(Some(place)) => Err(GraphFault::Repeated(place)),
-        Ok(None) => Ok(()),
-        Err(_) => Err(GraphFault::Memory),
+    match repeated_place(alloc, document)? {
+        Some(place) => Err(GraphFault::Repeated(place)),
+        None => Ok(()),
     }
 }
 
@@ -147,15 +140,10 @@ fn build(
     ensures { Gives (built listed.now document) result }
 {
     let Wiring { wires, links } = wiring;
-    let Ok(actors) = actors_of(alloc, listed, &document) else {
-        return Err(GraphFault::Memory);
-    };
+    let actors = actors_of(alloc, listed, &document)?;
     check_ends(alloc, actors.as_slice(), wires.as_slice(), links.as_slice())?;
     refuse(block_fault(&document, listed))?;
-    match graph(alloc, document, actors, wires, links) {
-        Ok(graph) => Ok(graph),
-        Err(_) => Err(GraphFault::Memory),
-    }
+    Ok(graph(alloc, document, actors, wires, links)?)
 }
 
 /// The graph of these parts, with the hidden wires added.

@@ -1,5 +1,7 @@
 //! The faults of a graph file.
 
+use std::alloc::AllocError;
+
 /// The parts of the file that a fault can name.
 #[derive(Clone, Copy, Debug, PartialEq, Eq)]
 pub enum Part {
@@ -76,4 +78,15 @@ pub enum GraphFault {
     LinkEnd(Place),
     /// There is no block with the name that an actor gives.
     Block(Place),
+}
+
+impl From<AllocError> for GraphFault {
+    ghost use Rattle.std.specs.Prelude.{◌≡◌};
+    ghost use Rattle.pt_graph_text.specs.declared.fault.GraphFault.TheVariants.{Memory};
+
+    ghost from_gives = { λ _ fault. fault ≡ Memory };
+
+    fn from(_refused: AllocError) -> GraphFault {
+        GraphFault::Memory
+    }
 }

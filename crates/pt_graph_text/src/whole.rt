@@ -62,9 +62,7 @@ fn read_top(alloc: Global, version: Version, text: &str) -> Result<Object<Arrays
         (λ e. e ≢ GraphFault.Memory → (e ≡ GraphFault.NotJson) × (read text.now ≡ None)) }
 {
     let mut scratch = Scratch::new(alloc);
-    let Ok(mut reader) = Reader::new(text, &mut scratch) else {
-        return Err(GraphFault::Memory);
-    };
+    let mut reader = Reader::new(text, &mut scratch)?;
     match read_object(alloc, version, &mut reader, MOST_DEPTH) {
         Ok(object) => if reader.next().is_none() {
             Ok(object)

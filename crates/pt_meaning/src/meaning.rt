@@ -13,9 +13,9 @@ use crate::Receiver;
 use crate::engine::{begin, fire_next, no_firing};
 use pt_causality::{all_edges, outgoing};
 use pt_sensors::SensorRows;
-use pt_tags::List;
+use pt_tags::{List, Memory};
 use pt_types::{Edge, Graph};
-use std::alloc::Global;
+use std::alloc::{AllocError, Global};
 use thiserror::Error;
 
 /// Why there is no result.
@@ -27,6 +27,28 @@ pub enum MeaningFault {
     /// The meaning has more firings than `most`.
     #[error("the meaning has too many firings")]
     Long,
+}
+
+impl From<AllocError> for MeaningFault {
+    ghost use Rattle.std.specs.Prelude.{◌≡◌};
+    ghost use Rattle.pt_meaning.specs.declared.meaning.MeaningFault.TheVariants.{Memory};
+
+    ghost from_gives = { λ _ fault. fault ≡ Memory };
+
+    fn from(_refused: AllocError) -> MeaningFault {
+        MeaningFault::Memory
+    }
+}
+
+impl From<Memory> for MeaningFault {
+    ghost use Rattle.std.specs.Prelude.{◌≡◌};
+    ghost use Rattle.pt_meaning.specs.declared.meaning.MeaningFault.TheVariants.{Memory};
+
+    ghost from_gives = { λ _ fault. fault ≡ Memory };
+
+    fn from(_memory: Memory) -> MeaningFault {
+        MeaningFault::Memory
+    }
 }
 
 /// Gives a receiver the firings that are the meaning of a graph with these rows, one after another: by tag, then rank, then
@@ -48,12 +70,8 @@ pub fn fire_all<R: Receiver>(
     ensures meaning { OnOk result (Handed graph.now (rank_in ranks.now) (λ a. rows_until graph.now.until (rows_for sensors.now a)) most (R.took receiver.old receiver.new)) }
     ensures long { IsErrOf result MeaningFault.Long → IsLonger graph.now (rank_in ranks.now) (λ a. rows_until graph.now.until (rows_for sensors.now a)) most }
 {
-    let Ok(edges) = all_edges(alloc, graph) else {
-        return Err(MeaningFault::Memory);
-    };
-    let Ok(outgoing) = outgoing(alloc, graph, edges.as_slice()) else {
-        return Err(MeaningFault::Memory);
-    };
+    let edges = all_edges(alloc, graph)?;
+    let outgoing = outgoing(alloc, graph, edges.as_slice())?;
     run(
         alloc,
         graph,
@@ -83,9 +101,7 @@ fn run<R: Receiver>(
     ensures meaning { OnOk result (Handed graph.now (rank_in ranks.now) (λ a. rows_until graph.now.until (rows_for sensors.now a)) most (R.took receiver.old receiver.new)) }
     ensures long { IsErrOf result MeaningFault.Long → IsLonger graph.now (rank_in ranks.now) (λ a. rows_until graph.now.until (rows_for sensors.now a)) most }
 {
-    let Ok(mut list) = begin(alloc, graph, ranks, sensors) else {
-        return Err(MeaningFault::Memory);
-    };
+    let mut list = begin(alloc, graph, ranks, sensors)?;
     let mut firing = no_firing();
     let mut count = 0;
     while let Some(next) = list.waiting.first() {
@@ -94,12 +110,8 @@ fn run<R: Receiver>(
         }
         let leaving = outgoing[next.actor as usize].as_slice();
         let (tag, actor) = (next.tag, next.actor);
-        let Ok(()) = fire_next(&mut list, graph, ranks, leaving, tag, actor, &mut firing) else {
-            return Err(MeaningFault::Memory);
-        };
-        let Ok(()) = receiver.take(&firing) else {
-            return Err(MeaningFault::Memory);
-        };
+        fire_next(&mut list, graph, ranks, leaving, tag, actor, &mut firing)?;
+        receiver.take(&firing)?;
         count += 1;
     }
     Ok(())

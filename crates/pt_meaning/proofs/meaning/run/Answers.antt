@@ -13,9 +13,9 @@ use Rattle.pt_meaning.proofs.meaning.run.Goals as goal
 
 pub loop-next-init : goal.loop-next-init
 loop-next-init g c = record {
-  went = record { firings = []; len = refl; steps = sym c.in-Ok.ensures.world; took = c.requires.nothing };
-  states = c.in-Ok.ensures.states;
-  sound = c.in-Ok.ensures.sound;
+  went = record { firings = []; len = refl; steps = sym c.in_ok-list.ensures.world; took = c.requires.nothing };
+  states = c.in_ok-list.ensures.states;
+  sound = c.in_ok-list.ensures.sound;
   most = omega arith;
 }
 
@@ -54,11 +54,11 @@ loop-next-preserved g c =
       went = record {
         firings = went.firings ++ c.fire_next.new.firing ∷ [];
         len = length_push went.firings c.fire_next.new.firing ∙ ap (λ n. n + 1) went.len;
-        steps = steps_push graph rank start went.firings before c.fire_next.new.firing after went.steps c.in-Ok-fire_next.ensures.fires c.in-Ok-fire_next.ensures.after;
-        took = c.in-Ok-take.ensures c.args.receiver.now went.firings went.took;
+        steps = steps_push graph rank start went.firings before c.fire_next.new.firing after went.steps c.in_ok-fire_next.ensures.fires c.in_ok-fire_next.ensures.after;
+        took = c.in_ok-take.ensures c.args.receiver.now went.firings went.took;
       };
-      states = c.in-Ok-fire_next.ensures.states;
-      sound = c.in-Ok-fire_next.ensures.sound (c.loop-next.count + 1) later was;
+      states = c.in_ok-fire_next.ensures.states;
+      sound = c.in_ok-fire_next.ensures.sound (c.loop-next.count + 1) later was;
       most = omega (arith, below);
     }
 
