@@ -29,6 +29,9 @@ use std::alloc::Global;
 use std::collections::VecDeque;
 use std::marker::Model;
 
+/// How many events memory is reserved for beyond a request.
+const AHEAD: usize = 256;
+
 /// The pending events of a platform.
 ///
 /// Contracts see the groups of the actors' inputs, the list of events, and `spare`: how many more events fit in memory.
@@ -116,7 +119,8 @@ impl Queue {
         self.make_room(count)
     }
 
-    /// As `reserve`. Moves loose events into their lines, and makes room in the line that last refused an event.
+    /// As `reserve`. Moves loose events into their lines, and makes room in the line that last refused an event. Memory for
+    /// `AHEAD` more events is reserved, so that most turns reserve none.
     #[inline(never)]
     fn make_room(&mut self, count: usize) -> Result<(), Memory>
         ensures spare { OnOk result (count ≤ self.new.spare) }
@@ -132,8 +136,9 @@ impl Queue {
         if self.spare >= count {
             return Ok(());
         }
-        self.loose.reserve(count)?;
-        self.spare = count;
+        let ahead = count.saturating_add(AHEAD);
+        self.loose.reserve(ahead)?;
+        self.spare = ahead;
         Ok(())
     }
 

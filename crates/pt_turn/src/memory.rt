@@ -25,6 +25,7 @@ pub struct Needs {
 }
 
 /// Reserves the memory of a turn. If memory runs out, some may be reserved, and nothing else changes.
+#[inline(always)]
 pub fn make_room(
     fields: &mut Fields,
     lists: &mut Lists,

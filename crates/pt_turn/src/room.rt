@@ -23,6 +23,7 @@ pub struct Room {
 
 /// What a turn at a reading, in microseconds, may need: an event for each wire, row and message, and a message on each
 /// link for each result and for closing. `None` if 64 bits do not hold a number.
+#[inline(always)]
 pub fn needs_of(plan: &Plan, fields: &Fields, reading: u64, room: Room) -> Option<Needs>
     requires { AreSensors plan.now.graph fields.now.sensors.items }
     ensures { IfSome result (AreEnough plan.now.graph fields.now reading room) }

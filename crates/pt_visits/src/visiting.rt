@@ -20,6 +20,7 @@ use pt_turn::{Platform, Room};
 use pt_types::OnLink;
 
 /// Quick path: with no message and no result, tries an idle turn, and returns whether it made one. If not, nothing changes.
+#[inline(always)]
 fn rests(
     platform: &mut Platform,
     results: &[Done],
