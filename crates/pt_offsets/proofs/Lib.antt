@@ -3,4 +3,3 @@ pub mod Maxima
 pub mod Small
 pub mod Sources
 pub mod Times
-pub mod Planned

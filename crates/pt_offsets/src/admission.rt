@@ -36,9 +36,7 @@ pub fn offsets_of(alloc: Global, graph: &Graph, least: &Least) -> Result<Offsets
     ensures feasible { IfOk result (λ _. IsFeasible graph.now) }
     ensures infeasible { IfErr result (λ f. CauseOfOffset f graph.now) }
 {
-    let Ok(actors) = timings(alloc, graph, least) else {
-        return Err(OffsetFault::Memory);
-    };
+    let actors = timings(alloc, graph, least).map_err(|_| OffsetFault::Memory)?;
     admit_all(graph, actors.as_slice())?;
     Ok(Offsets { actors })
 }

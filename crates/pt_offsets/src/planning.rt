@@ -6,7 +6,7 @@ ghost use Rattle.pt_offsets.specs.Faults.{CauseOfPlan};
 ghost use Rattle.pt_offsets.specs.Plans.{IsAdmitted};
 
 use crate::admission::offsets_of;
-use crate::fault::{PlanFault, of_cycle, of_offset};
+use crate::fault::PlanFault;
 use crate::plan::Plan;
 use pt_causality::{find_branches, least_delays, ranks_of};
 use pt_types::Graph;
@@ -31,7 +31,7 @@ pub fn plan_of(alloc: Global, graph: Graph) -> Result<Plan, Unplanned>
     let ranks = match ranks_of(alloc, &graph) {
         Ok(ranks) => ranks,
         Err(fault) => {
-            let fault = of_cycle(fault);
+            let fault = PlanFault::Cycle(fault);
             return Err(Unplanned { graph, fault });
         }
     };
@@ -49,7 +49,7 @@ pub fn plan_of(alloc: Global, graph: Graph) -> Result<Plan, Unplanned>
             Ok(Plan::new(graph, least, ranks, offsets, branches))
         }
         Err(fault) => {
-            let fault = of_offset(fault);
+            let fault = PlanFault::Offset(fault);
             Err(Unplanned { graph, fault })
         }
     }

@@ -1,25 +1,32 @@
-use Rattle.std.proofs.Common.{None, slice_index_or}
+use Rattle.std.proofs.Common.{◌≡◌, None, Ok, arith, slice_index_or}
+use Rattle.std.proofs.lemmas.Result.{IfOk-at_ok}
 use Rattle.pt_types.specs.declared.graph.Unit.{Unit as Part}
-use Rattle.pt_offsets.specs.Timings.{actor_offset_of, bound_in, margin_in, offset_of, timing_at}
+use Rattle.pt_offsets.specs.Timings.{AreTimings, actor_offset_of, bound_in, margin_in, offset_of, timing_at}
 use Rattle.pt_offsets.proofs.Admitted.{feasible}
 use Rattle.pt_offsets.proofs.admission.offsets_of.Goals as goal
 
+-- the timings are those that were computed: their error alone was changed
+timed : (c : goal.In_ok-admit_all) → AreTimings c.args.graph.now c.in_ok-actors.actors.items
+timed c =
+    let is : c.timings.result ≡ Ok c.in_ok-actors.actors = grind (arith, c.in_ok-actors.ensures.cases) in
+    IfOk-at_ok _ is c.timings.ensures
+
 pub returns-clause-offsets : goal.returns-clause-offsets
 unfolding offset_of
-returns-clause-offsets c = λ u. (c.in-Ok.ensures u.actor).offsets u.group
+returns-clause-offsets c = λ u. (timed c u.actor).offsets u.group
 
 pub returns-clause-actors : goal.returns-clause-actors
 unfolding actor_offset_of
-returns-clause-actors c = λ a. (c.in-Ok.ensures a).offset
+returns-clause-actors c = λ a. (timed c a).offset
 
 pub returns-clause-bounds : goal.returns-clause-bounds
 unfolding bound_in
-returns-clause-bounds c = λ a. (c.in-Ok.ensures a).bound
+returns-clause-bounds c = λ a. (timed c a).bound
 
 pub returns-clause-margins : goal.returns-clause-margins
 unfolding margin_in
-returns-clause-margins c = λ a. ((timing_at c.in-Ok.actors.items a).offset, (c.in-Ok.ensures a).offset, (c.in-Ok.ensures a).margin)
+returns-clause-margins c = λ a. ((timing_at c.in_ok-actors.actors.items a).offset, (timed c a).offset, (timed c a).margin)
 
 pub returns-clause-feasible : goal.returns-clause-feasible
 returns-clause-feasible c =
-    feasible c.args.graph.now (λ (u : Part). slice_index_or (timing_at c.in-Ok.actors.items u.actor).offsets u.group None) (λ u. (c.in-Ok.ensures u.actor).offsets u.group) c.in_ok-admit_all.ensures
+    feasible c.args.graph.now (λ (u : Part). slice_index_or (timing_at c.in_ok-actors.actors.items u.actor).offsets u.group None) (λ u. (timed c u.actor).offsets u.group) c.in_ok-admit_all.ensures

@@ -1,13 +1,12 @@
 use Rattle.std.proofs.Common.{sym, subst}
+use Rattle.pt_semantics.proofs.Acyclic.{levels_forbid_cycles}
 use Rattle.pt_causality.specs.Delays.{AreLeast, AreSmall}
 use Rattle.pt_causality.specs.Ranked.{level_of}
-use Rattle.pt_offsets.specs.declared.fault.PlanFault.{PlanFault}
-use Rattle.pt_offsets.specs.Faults.{CauseOfPlan}
-use Rattle.pt_offsets.proofs.Planned.{offsets_fail}
 use Rattle.pt_offsets.proofs.planning.plan_of.Goals as goal
 
+-- a graph that has levels has no cycle that takes no time
 pub returns-in-Err-offsets_of-clause-fault : goal.returns-in-Err-offsets_of-clause-fault
-returns-in-Err-offsets_of-clause-fault c = subst (λ (f : PlanFault). CauseOfPlan f c.args.graph) (sym c.of_offset-fault.ensures) (offsets_fail c.args.graph (level_of c.in-Ok.ranks) c.in-Err-offsets_of.fault c.in-Ok.ensures.levels c.in-Err-offsets_of.ensures.infeasible)
+returns-in-Err-offsets_of-clause-fault c = (levels_forbid_cycles c.args.graph (level_of c.in-Ok.ranks) c.in-Ok.ensures.levels, c.in-Err-offsets_of.ensures.infeasible)
 
 pub new-requires-clause-least : goal.new-requires-clause-least
 new-requires-clause-least c = subst (AreLeast c.args.graph) (sym c.with_before-least.ensures) c.in-Ok-least_delays.ensures.least
