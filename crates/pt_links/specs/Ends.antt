@@ -23,6 +23,6 @@ pub record Parted : Type 0 where
   pub taken : List Message
   pub left : List Message
 
--- a link that is none
+-- an identity for where there is no link
 abbrev pub no_link : LinkId
 no_link = record { words = 0; slots = 0; views_name = 0; atom = 0; block = 0; offset = 0; slot_names = [] }

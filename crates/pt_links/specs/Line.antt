@@ -1,5 +1,5 @@
--- What was sent is what was taken and then what the queue holds. One pass at most sends, and it has the list of what was
--- sent. The same for taking. What was sent is orderly for the receiver, where the link has its bounds.
+-- What was sent is what was taken and then what the queue holds. At most one pass sends, and it has the list of what was
+-- sent. The same is true of taking. If the link has its receiver's bounds, what was sent is orderly for that receiver.
 use Rattle.std.specs.Prelude.{◌≡◌, ℕ, Bool, true, List, Option, None, Some, ◌++◌}
 use mathlib.Core.Option.{some}
 use lib.ListN.{get_elem?}

@@ -11,7 +11,7 @@ use std::sync::{Arc, Wait};
 
 const CAPACITY: usize = 64;
 
-/// The end that sends. Contracts see which link's end it is and what was sent.
+/// The end that sends. Contracts see which link it belongs to and what was sent.
 #[derive(Drop)]
 pub struct Outlet {
     line: Arc<Line>,
@@ -31,7 +31,7 @@ impl Model for Outlet {
     ghost invariant = { λ o. IsPassOf (arc_value o.line) o.pass × ((known o.pass).sends ≡ true) × (ruled_capacity (arc_value o.line) ≡ 64) };
 }
 
-/// The end that takes. Contracts see which link's end it is and what was taken.
+/// The end that takes. Contracts see which link it belongs to and what was taken.
 #[derive(Drop)]
 pub struct Inlet {
     line: Arc<Line>,
@@ -70,7 +70,7 @@ impl Model for Settled {
     ghost invariant = { λ s. ((known s.pass).sent ≡ (known s.pass).taken ++ drop (length (known s.pass).taken) (known s.pass).sent) × (s.left ≡ length (drop (length (known s.pass).taken) (known s.pass).sent)) };
 }
 
-/// A new link of 64 places, to a receiver with these bounds.
+/// A new link of 64 places, whose receiver has these bounds.
 pub fn link(alloc: Global, bounds: Bounds) -> Result<(Outlet, Inlet), Memory>
     ensures one { IfOk result (λ r. r.1.link ≡ r.0.link) }
     ensures limits { IfOk result (λ r. (r.0.limits ≡ Some bounds) × (r.1.limits ≡ Some bounds)) }
@@ -85,16 +85,10 @@ fn link_by<J: Bounded>(alloc: Global, bounds: Bounds) -> Result<(Outlet, Inlet),
     ensures one { IfOk result (λ r. r.1.link ≡ r.0.link) }
     ensures new { IfOk result (λ r. (r.0.sent ≡ []) × (r.1.taken ≡ [])) }
 {
-    let Ok((line, mut pass)) = Line::ruled(alloc, CAPACITY) else {
-        return Err(Memory);
-    };
+    let (line, mut pass) = Line::ruled(alloc, CAPACITY)?;
     let other = line.another::<Ends<J>>(&mut pass);
-    let Ok(line) = Arc::new(alloc, line) else {
-        return Err(Memory);
-    };
-    let Ok(also) = Arc::try_clone(&line) else {
-        return Err(Memory);
-    };
+    let line = Arc::new(alloc, line)?;
+    let also = Arc::try_clone(&line)?;
     Ok((
         Outlet { line, pass },
         Inlet {
@@ -105,7 +99,7 @@ fn link_by<J: Bounded>(alloc: Global, bounds: Bounds) -> Result<(Outlet, Inlet),
 }
 
 impl Outlet {
-    /// Sends a message. It comes back only where at least 64 were sent before.
+    /// Sends a message. It is returned only if at least 64 messages were sent before.
     pub fn push<R: Wait>(&mut self, rt: &R, message: Message) -> Result<(), Message>
         requires orderly { IsOrderlyBy self.old.limits (self.old.sent ++ message ∷ []) }
         ensures link { (self.new.link ≡ self.old.link) × (self.new.limits ≡ self.old.limits) }
@@ -116,7 +110,7 @@ impl Outlet {
 }
 
 impl Inlet {
-    /// Takes the oldest message.
+    /// Takes the oldest message; `None` if none is found.
     pub fn take<R: Wait>(&mut self, rt: &R) -> Option<Message>
         ensures link { (self.new.link ≡ self.old.link) × (self.new.limits ≡ self.old.limits) }
         ensures taken { MatchOption result (self.new.taken ≡ self.old.taken) (λ x. self.new.taken ≡ self.old.taken ++ x ∷ []) }
@@ -126,7 +120,7 @@ impl Inlet {
     }
 }
 
-/// Shows what was sent, what was taken and what is left, once both ends are in one hand.
+/// Joins the two ends of a link, and shows what was sent, what was taken and what is left.
 pub fn settle<R: Wait>(rt: &R, outlet: Outlet, inlet: Inlet) -> Settled
     requires { inlet.link ≡ outlet.link }
     ensures sent { result.sent ≡ outlet.sent }

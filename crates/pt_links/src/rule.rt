@@ -5,7 +5,7 @@ use pt_tags::Message;
 use std::collections::LinkedList;
 use std::marker::{Brand, PhantomData};
 
-/// What bounds the messages of a link: the horizon, the number of actors, and the level of its receiver.
+/// What bounds the messages of a link: the horizon (microseconds), the number of actors, and the level of its receiver.
 #[derive(Clone, Copy, Debug, PartialEq, Eq)]
 pub struct Bounds {
     pub until: u64,
@@ -24,7 +24,7 @@ impl Bounded for Brand {
     ghost limits = { record { until = 0; actors = 0; level = 0 } };
 }
 
-/// What a pass may do, what it has sent and what it has taken. No value of it is made.
+/// What a pass may do, what it has sent and what it has taken. Only contracts speak of it: no value of it is made.
 pub struct Log {
     pub sends: bool,
     pub takes: bool,
@@ -44,7 +44,7 @@ impl Protocol<Message, Log> for InOrder {
     ghost first = { log true true None [] [] };
 }
 
-/// The two passes are made.
+/// Splits the first pass into one that sends and one that takes.
 pub struct Ends<J: Bounded> {
     of: PhantomData<J>,
 }
@@ -58,7 +58,7 @@ impl<J: Bounded> Split<Log> for Ends<J> {
     ghost right = { λ v. log false true (Some J.limits) [] v.taken };
 }
 
-/// The two passes come together.
+/// Joins the two passes into one.
 pub struct Together;
 
 impl Join<Log> for Together {
@@ -100,7 +100,7 @@ impl Lesson<Message, Log> for Takes {
     ghost fact = { λ v items. Unit {0} };
 }
 
-/// What both passes in one hand show.
+/// What the joined pass shows: what was sent is what was taken, and then what the queue holds.
 pub struct Whole;
 
 impl Lesson<Message, Log> for Whole {
