@@ -39,6 +39,7 @@ fn open_claim(unit: Unit, task: &Task) -> OpenClaim
 }
 
 /// Claims the events of a unit at a tag: makes them an open claim, and returns its task. Allocates nothing.
+#[inline(always)]
 pub fn claim(fields: &mut Fields, graph: &Graph, next: Waiting) -> Task
     requires sound { IsSound graph.now fields.old }
     requires unit { IsUnit graph.now next.unit }

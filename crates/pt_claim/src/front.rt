@@ -197,6 +197,7 @@ impl Front {
     }
 
     /// Takes the first safe unit; `None` if no unit is safe.
+    #[inline(always)]
     pub fn take(
         &mut self,
         fields: &Fields,

@@ -110,13 +110,12 @@ impl History {
         ensures turns { self.new.turns ≡ kept_with self.old.turns (fresh reading) }
         ensures room { self.new.room ≡ record self.old.room { turns = self.old.room.turns - 1 } }
     {
-        let head = Head::single(reading);
         match self.run() {
             Some(run) => {
-                self.join(run, head);
+                self.join(run, Head::single(reading));
                 self.room.turns -= 1;
             }
-            None => self.add(head),
+            None => self.add(reading),
         }
     }
 
@@ -130,30 +129,29 @@ impl History {
         ensures unchanged { result ≡ false → self.new ≡ self.old }
         ensures why { result ≡ false → self.old.room.turns ≡ 0 }
     {
-        let head = Head::single(reading);
         match self.run() {
             Some(run) => {
-                self.join(run, head);
+                self.join(run, Head::single(reading));
                 true
             }
             None => {
                 if self.room.turns == 0 {
                     return false;
                 }
-                self.add(head);
+                self.add(reading);
                 true
             }
         }
     }
 
-    /// Adds a quiet turn at the end. Not inlined, since `rest` mostly joins.
+    /// Adds a quiet turn at a reading, in microseconds, at the end. Not inlined, since `rest` mostly joins.
     #[inline(never)]
-    fn add(&mut self, head: Head)
+    fn add(&mut self, reading: u64)
         requires { 0 < self.old.room.turns }
-        ensures turns { self.new.turns ≡ self.old.turns ++ quiet head.first head.last head.count ∷ [] }
+        ensures turns { self.new.turns ≡ self.old.turns ++ fresh reading ∷ [] }
         ensures room { self.new.room ≡ record self.old.room { turns = self.old.room.turns - 1 } }
     {
-        self.heads.push(head);
+        self.heads.push(Head::single(reading));
         self.room.turns -= 1;
         self.work.begin();
         self.rows.begin();

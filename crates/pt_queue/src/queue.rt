@@ -143,6 +143,7 @@ impl Queue {
     }
 
     /// Inserts an event at an input and tag where none waits. Allocates nothing.
+    #[inline(always)]
     pub fn insert(&mut self, event: Event)
         requires spare { 0 < self.old.spare }
         requires actor { event.actor < length self.old.groups }

@@ -1,6 +1,7 @@
 //! The units that have events, each with its least tag.
 
-ghost use Rattle.std.specs.Prelude.{◌≡◌, ◌<◌, ◌≤◌, length, remove, None, Some, IsSome, if◌then◌else◌, vec_capacity};
+ghost use Rattle.std.specs.Prelude.{◌≡◌, ◌<◌, ◌≤◌, length, remove, None, Some, IsSome, if◌then◌else◌, vec_len, vec_capacity};
+ghost use Rattle.std.specs.List.{insert};
 ghost use Rattle.pt_types.specs.declared.graph.Unit.{Unit as Part};
 ghost use Rattle.pt_semantics.specs.Lists.{Each};
 ghost use Rattle.pt_semantics.specs.Units.{same_part};
@@ -76,6 +77,21 @@ fn put(listed: &mut Vec<Waiting>, place: usize, unit: Unit, tag: Tag)
     let next = Waiting { unit, tag };
     if tag_at(listed.as_slice(), place, unit).is_some() {
         listed[place] = next;
+        return;
+    }
+    insert_at(listed, place, next);
+}
+
+/// Inserts a unit at a place, in memory that is there. No unit moves if that is behind the last, as mostly in a short list.
+#[inline(always)]
+fn insert_at(listed: &mut Vec<Waiting>, place: usize, next: Waiting)
+    requires place { place ≤ vec_len listed.old }
+    requires room { vec_len listed.old < vec_capacity listed.old }
+    ensures items { listed.new.items ≡ insert listed.old.items place next }
+    ensures capacity { vec_capacity listed.old ≤ vec_capacity listed.new }
+{
+    if place == listed.len() {
+        listed.push_reserved(next);
         return;
     }
     match listed.insert(place, next) {

@@ -1,4 +1,5 @@
 use Rattle.std.proofs.Common.{◌∷◌, [], ◌++◌, ap, ◌∙◌}
+use Rattle.pt_history.specs.declared.head.Head.{Head}
 use Rattle.pt_history.specs.Keeping.{turns_from, Lists}
 use Rattle.pt_history.specs.Turns.{RoomyTurns, quiet}
 use Rattle.pt_history.specs.Whole.{lists_of}
@@ -11,7 +12,8 @@ returns-clause-turns c =
     let q : Lists = record { posted = c.begin.new.self.posted.lists; rows = c.begin-2.new.self.lists; taken = c.begin-3.new.self.lists; claimed = c.begin.new.self.claimed.lists; sent = c.begin-4.new.self.lists } in
     let inv = c.self.invariant in
     ap (λ hs. turns_from q 0 hs) c.push.ensures.items
-    ∙ turns_begin p q c.self.inside.heads.items c.args.head
+    ∙ turns_begin p q c.self.inside.heads.items c.single.result
     (record { posted = inv.posted.lists; rows = inv.rows.lists; taken = inv.taken.lists; claimed = inv.claimed.lists; sent = inv.sent.lists })
     (record { posted = c.begin.ensures.posted; rows = c.begin-2.ensures.lists; taken = c.begin-3.ensures.lists; claimed = c.begin.ensures.claimed; sent = c.begin-4.ensures.lists })
-    ∙ ap (λ (v : RoomyTurns). v.turns ++ quiet c.args.head.first c.args.head.last c.args.head.count ∷ []) c.self.view_is
+    ∙ ap (λ (v : RoomyTurns). v.turns ++ quiet c.single.result.first c.single.result.last c.single.result.count ∷ []) c.self.view_is
+    ∙ ap (λ (h : Head). c.args.self.now.turns ++ quiet h.first h.last h.count ∷ []) c.single.ensures
