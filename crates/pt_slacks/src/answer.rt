@@ -30,12 +30,8 @@ pub fn slacks(alloc: Global, graph: &Graph, least: &Least) -> Result<Vec<Slack>,
     ensures slacks { IfOk result (λ v. (slack : ℕ → ℕ) × AreLeastSlacks graph.now slack × (v.items ≡ listed graph.now slack)) }
     ensures ring { IfErr result (λ f. CauseOfSlacks f graph.now) }
 {
-    let Ok(hops) = hops_of(alloc, graph) else {
-        return Err(SlackFault::Memory);
-    };
-    let Ok(settled) = settle(alloc, graph, least, hops.as_slice()) else {
-        return Err(SlackFault::Memory);
-    };
+    let hops = hops_of(alloc, graph).map_err(|_| SlackFault::Memory)?;
+    let settled = settle(alloc, graph, least, hops.as_slice()).map_err(|_| SlackFault::Memory)?;
     slacks_or_ring(alloc, graph, least, hops.as_slice(), settled)
 }
 
@@ -55,15 +51,12 @@ fn slacks_or_ring(
     ensures ring { IfErr result (λ f. CauseOfSlacks f graph.now) }
 {
     match settled {
-        Settled::Row(row) => match least_slacks(alloc, graph, least, hops, row.as_slice()) {
-            Ok(slacks) => Ok(slacks),
-            Err(_) => Err(SlackFault::Memory),
-        },
+        Settled::Row(row) => {
+            least_slacks(alloc, graph, least, hops, row.as_slice()).map_err(|_| SlackFault::Memory)
+        }
         Settled::Rising { rows, link } => {
-            match ring_of(alloc, graph, least, hops, rows.as_slice(), link) {
-                Ok(fault) => Err(fault),
-                Err(_) => Err(SlackFault::Memory),
-            }
+            let ring = ring_of(alloc, graph, least, hops, rows.as_slice(), link);
+            Err(ring.unwrap_or(SlackFault::Memory))
         }
     }
 }
