@@ -7,6 +7,7 @@ use pt_tags::Memory;
 use pt_types::Task;
 use std::alloc::Global;
 use std::marker::Model;
+use std::mem;
 
 /// A list of tasks, with reserved room for more. Contracts see `tasks` and `spare`, the number of tasks that still fit.
 #[derive(Drop)]
@@ -76,6 +77,23 @@ impl Tasks {
             Ok(()) => self.room -= more.len(),
             Err(_) => unreachable!(),
         }
+    }
+
+    /// Moves the tasks of a list behind these, which uses the room, and leaves the list empty. It takes no memory. No task is
+    /// copied if there was none before: the two exchange their memory.
+    #[inline(always)]
+    pub fn append(&mut self, more: &mut Vec<Task>)
+        requires { length more.old.items ≤ self.old.spare }
+        ensures tasks { self.new.tasks ≡ self.old.tasks ++ more.old.items }
+        ensures empty { more.new.items ≡ [] }
+    {
+        if self.items.is_empty() {
+            mem::swap(&mut self.items, more);
+            self.room = 0;
+            return;
+        }
+        self.extend(more.as_slice());
+        more.clear();
     }
 
     /// The number of tasks.

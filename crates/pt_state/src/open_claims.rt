@@ -1,6 +1,6 @@
 //! The open claims: those whose results are not posted yet.
 
-ghost use Rattle.std.specs.Prelude.{◌≡◌, ◌+◌, ◌<◌, ◌≤◌, ◌==◌, ◌++◌, ◌∷◌, [], None, Some, filter, length, remove, IsOk, OnOk, OnErr, option_map, slice_get};
+ghost use Rattle.std.specs.Prelude.{◌≡◌, ◌+◌, ◌<◌, ◌≤◌, ◌==◌, ◌++◌, ◌∷◌, [], None, Some, filter, true, length, remove, IfSome, IsOk, OnOk, OnErr, option_map, slice_get};
 ghost use Rattle.std.specs.Option.{is_some};
 ghost use Rattle.std.specs.VecDeque.{deque_len, deque_capacity};
 ghost use Rattle.pt_types.specs.declared.graph.Graph.{Graph};
@@ -41,8 +41,42 @@ impl Model for OpenClaims {
     ghost invariant = { λ o. AreOfDifferentUnits o.claims.items × (o.spare + deque_len o.claims ≤ deque_capacity o.claims) };
 }
 
-/// The index of a unit's open claim; `None` if it has none.
+/// Whether the first open claim is that of a unit.
+#[inline(always)]
+fn is_first(claims: &VecDeque<OpenClaim>, unit: Unit) -> bool
+    ensures { result ≡ true → IsPlaceOf claims.now.items unit (Some 0) }
+{
+    match claims.front() {
+        Some(claim) => same_unit(claim.unit, unit),
+        None => false,
+    }
+}
+
+/// The unit of the first open claim, if it has this task.
+#[inline(always)]
+fn first_with(claims: &VecDeque<OpenClaim>, task: &Task) -> Option<Unit>
+    ensures { IfSome result (λ unit. IsFound claims.now.items task.now (Some unit)) }
+{
+    match claims.front() {
+        Some(claim) if same_task(&claim.task, task) => Some(claim.unit),
+        _ => None,
+    }
+}
+
+/// The index of a unit's open claim, which is mostly the first; `None` if it has none.
+#[inline(always)]
 fn place_of(claims: &VecDeque<OpenClaim>, unit: Unit) -> Option<usize>
+    ensures { IsPlaceOf claims.now.items unit result }
+{
+    if is_first(claims, unit) {
+        return Some(0);
+    }
+    place_among(claims, unit)
+}
+
+/// The index of a unit's open claim, of all; `None` if it has none.
+#[inline(never)]
+fn place_among(claims: &VecDeque<OpenClaim>, unit: Unit) -> Option<usize>
     ensures { IsPlaceOf claims.now.items unit result }
 {
     for place in 0..claims.len() {
@@ -125,8 +159,20 @@ impl OpenClaims {
         }
     }
 
-    /// The unit of the open claim with this task; `None` if there is no such claim.
+    /// The unit of the open claim with this task, which is mostly the first; `None` if there is no such claim.
+    #[inline(always)]
     pub fn find(&self, task: &Task) -> Option<Unit>
+        ensures { IsFound self.now.items task.now result }
+    {
+        if let Some(unit) = first_with(&self.claims, task) {
+            return Some(unit);
+        }
+        self.find_among(task)
+    }
+
+    /// The unit of the open claim, of all, with this task; `None` if there is no such claim.
+    #[inline(never)]
+    fn find_among(&self, task: &Task) -> Option<Unit>
         ensures { IsFound self.now.items task.now result }
     {
         for place in 0..self.claims.len() {
@@ -142,6 +188,9 @@ impl OpenClaims {
     pub fn has(&self, unit: Unit) -> bool
         ensures { result ≡ is_some (busy_in self.now.items unit) }
     {
+        if self.claims.is_empty() {
+            return false;
+        }
         place_of(&self.claims, unit).is_some()
     }
 

@@ -1,6 +1,6 @@
 //! Recording a turn in the history.
 
-ghost use Rattle.std.specs.Prelude.{◌≡◌, ◌<◌, ◌≤◌, [], length};
+ghost use Rattle.std.specs.Prelude.{◌≡◌, ◌<◌, ◌≤◌, ◌++◌, [], length};
 ghost use Rattle.pt_history.specs.Lists.{on_last};
 ghost use Rattle.pt_history.specs.Turns.{claiming, entering, posting, taking};
 ghost use Rattle.pt_semantics.specs.Kept.{kept_with};
@@ -8,6 +8,7 @@ ghost use Rattle.pt_turn.specs.Steps.{AreEmpty, turn_of};
 ghost use Rattle.pt_turn.specs.Platforms.{raised_to};
 
 use crate::Lists;
+use pt_actors::Tasks;
 use pt_history::History;
 use pt_types::{Done, OnLink, RowAt, Task};
 
@@ -21,23 +22,25 @@ pub fn raised_to(last: Option<u64>, reading: u64) -> u64
     }
 }
 
-/// Records a turn at a reading, in microseconds, and empties the lists. Allocates nothing.
+/// Records a turn at a reading, in microseconds, appends its claims to `tasks`, and empties the lists. Allocates nothing.
 #[inline(always)]
-pub fn keep(history: &mut History, reading: u64, lists: &mut Lists)
+pub fn keep(history: &mut History, reading: u64, lists: &mut Lists, tasks: &mut Tasks)
     requires turns { 0 < history.old.room.turns }
     requires posted { length lists.old.posted.items ≤ history.old.room.posted }
     requires rows { length lists.old.rows.items ≤ history.old.room.rows }
     requires taken { length lists.old.taken.items ≤ history.old.room.taken }
     requires claimed { length lists.old.claimed.items ≤ history.old.room.claimed }
+    requires tasks { length lists.old.claimed.items ≤ tasks.old.spare }
     ensures turns { history.new.turns ≡ kept_with history.old.turns (turn_of reading lists.old) }
     ensures sent { history.new.room.sent ≡ history.old.room.sent }
+    ensures tasks { tasks.new.tasks ≡ tasks.old.tasks ++ lists.old.claimed.items }
     ensures empty { AreEmpty lists.new }
 {
     history.begin(reading);
     keep_posted(history, &mut lists.posted);
     keep_rows(history, &mut lists.rows);
     keep_taken(history, &mut lists.taken);
-    keep_claimed(history, &mut lists.claimed);
+    keep_claimed(history, &mut lists.claimed, tasks);
 }
 
 /// Records results posted in the last turn, and empties their list. Mostly a list is empty, so each is looked at first.
@@ -94,18 +97,20 @@ fn keep_taken(history: &mut History, messages: &mut Vec<OnLink>)
     messages.clear();
 }
 
-/// Records tasks claimed in the last turn, and empties their list.
+/// Records tasks claimed in the last turn, and moves them to `tasks`.
 #[inline(always)]
-fn keep_claimed(history: &mut History, tasks: &mut Vec<Task>)
-    requires room { length tasks.old.items ≤ history.old.room.claimed }
+fn keep_claimed(history: &mut History, claimed: &mut Vec<Task>, tasks: &mut Tasks)
+    requires room { length claimed.old.items ≤ history.old.room.claimed }
+    requires tasks { length claimed.old.items ≤ tasks.old.spare }
     requires begun { 0 < length history.old.turns }
-    ensures turns { history.new.turns ≡ on_last (claiming tasks.old.items) history.old.turns }
+    ensures turns { history.new.turns ≡ on_last (claiming claimed.old.items) history.old.turns }
     ensures sent { history.new.room.sent ≡ history.old.room.sent }
-    ensures empty { tasks.new.items ≡ [] }
+    ensures tasks { tasks.new.tasks ≡ tasks.old.tasks ++ claimed.old.items }
+    ensures empty { claimed.new.items ≡ [] }
 {
-    if tasks.as_slice().is_empty() {
+    if claimed.as_slice().is_empty() {
         return;
     }
-    history.claim(tasks.as_slice());
-    tasks.clear();
+    history.claim(claimed.as_slice());
+    tasks.append(claimed);
 }

@@ -19,18 +19,7 @@ use pt_actors::{Done, Tasks};
 use pt_history::History;
 use pt_offsets::Plan;
 use pt_state::Fields;
-use pt_types::{OnLink, Task};
-
-/// Appends these tasks, one by one, since mostly there is one or none.
-#[inline(always)]
-fn hand_on(tasks: &mut Tasks, claimed: &[Task])
-    requires { length claimed.now ≤ tasks.old.spare }
-    ensures { tasks.new.tasks ≡ tasks.old.tasks ++ claimed.now }
-{
-    for task in claimed {
-        tasks.push(*task);
-    }
-}
+use pt_types::OnLink;
 
 /// Makes a turn at a reading (in microseconds) that is not before the last, records it, and appends its claims to `tasks`.
 /// Returns the fault of the turn, if it has one. Allocates nothing.
@@ -65,13 +54,12 @@ pub fn make(
     let ending = turn(
         fields, plan, number, closing, reading, dones, messages, most, lists,
     );
-    hand_on(tasks, lists.claimed.as_slice());
     match ending {
         Ending::On => {
-            keep(history, reading, lists);
+            keep(history, reading, lists, tasks);
             None
         }
-        _ => keep_last(plan, ending, last, history, reading, lists),
+        _ => keep_last(plan, ending, last, history, reading, lists, tasks),
     }
 }
 
@@ -85,6 +73,7 @@ fn keep_last(
     history: &mut History,
     reading: u64,
     lists: &mut Lists,
+    tasks: &mut Tasks,
 ) -> Option<TurnFault>
     requires late { ending ≡ Late → SomeIsLate plan.now.graph last lists.old.taken.items }
     requires turns { 0 < history.old.room.turns }
@@ -92,12 +81,14 @@ fn keep_last(
     requires rows { length lists.old.rows.items ≤ history.old.room.rows }
     requires taken { length lists.old.taken.items ≤ history.old.room.taken }
     requires claimed { length lists.old.claimed.items ≤ history.old.room.claimed }
+    requires tasks { length lists.old.claimed.items ≤ tasks.old.spare }
     ensures fault { IsFaultOf plan.now.graph last lists.old.taken.items ending result }
     ensures turns { history.new.turns ≡ kept_with history.old.turns (turn_of reading lists.old) }
     ensures sent { history.new.room.sent ≡ history.old.room.sent }
+    ensures tasks { tasks.new.tasks ≡ tasks.old.tasks ++ lists.old.claimed.items }
     ensures empty { AreEmpty lists.new }
 {
     let fault = fault_of(plan, ending, last, lists.taken.as_slice());
-    keep(history, reading, lists);
+    keep(history, reading, lists, tasks);
     fault
 }

@@ -20,7 +20,7 @@ returns-in-On-clause-kept g c = record {
   full = c.turn-ending.ensures.full;
   names = subst (λ (ending : Ending). IsFaultOf c.args.plan.now.graph c.args.fields.now.reading c.turn-ending.new.lists.taken.items ending None) (sym c.in-On.is) refl;
   turns = c.keep.ensures.turns;
-  tasks = c.hand_on.ensures ∙ ap (λ (ts : List Task). c.args.tasks.now.tasks ++ ts) c.as_slice.ensures.value;
+  tasks = c.keep.ensures.tasks;
 }
 
 pub returns-in_default-clause-kept : goal.returns-in_default-clause-kept
@@ -31,5 +31,5 @@ returns-in_default-clause-kept g c = record {
   full = c.turn-ending.ensures.full;
   names = c.keep_last.ensures.fault;
   turns = c.keep_last.ensures.turns;
-  tasks = c.hand_on.ensures ∙ ap (λ (ts : List Task). c.args.tasks.now.tasks ++ ts) c.as_slice.ensures.value;
+  tasks = c.keep_last.ensures.tasks;
 }

@@ -5,7 +5,7 @@ use Rattle.pt_semantics.specs.Lists.{IsIn}
 use Rattle.pt_state.specs.declared.fields.OpenClaim.{OpenClaim}
 use Rattle.pt_state.specs.Unposted.{Unposted}
 use Rattle.pt_state.proofs.ClaimLists.{in_more, read_in}
-use Rattle.pt_state.proofs.open_claims.OpenClaims.find.Goals as goal
+use Rattle.pt_state.proofs.open_claims.OpenClaims.find_among.Goals as goal
 
 pub returns-then-same_task : goal.returns-then-same_task
 returns-then-same_task c =
