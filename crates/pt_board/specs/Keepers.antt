@@ -53,11 +53,11 @@ pub record HasPlaced (old new : KeeperView) (task : Task) : Type 0 where
   pub table : new.table ≡ old.table
   pub next : new.next ≡ old.next + 1
 
--- each slot is out
+-- no slot is free
 abbrev pub IsAllOut : KeeperView → Type 0
 IsAllOut v = (k : ℕ) → k < 32 → out_at k v.knows ≢ None
 
--- the result of the task that was out in a slot under that number, which is then free
+-- the result of the task that was out in a slot under that number; the slot is then free
 pub record HasCollected (old new : KeeperView) (result : Done) : Type 0 where
   pub slot : ℕ
   pub low : slot < 32
@@ -70,7 +70,7 @@ pub record HasCollected (old new : KeeperView) (result : Done) : Type 0 where
   pub table : new.table ≡ old.table
   pub next : new.next ≡ old.next
 
--- nothing changed but that the word of each slot that is out was loaded once, and none was done
+-- the word of each slot that is out was loaded once, and none was done; nothing else changed
 pub record SawNoneDone (old new : KeeperView) : Type 0 where
   pub same : (k : ℕ) → k < 32 → out_at k new.knows ≡ out_at k old.knows
   pub seen : (k : ℕ) → k < 32 → out_at k old.knows ≢ None → ((part k new.knows).loads ≡ (part k old.knows).loads + 1) × ((part k new.knows).last % 4 ≢ 3)
@@ -78,7 +78,7 @@ pub record SawNoneDone (old new : KeeperView) : Type 0 where
   pub table : new.table ≡ old.table
   pub next : new.next ≡ old.next
 
--- the word of one slot was loaded, where it is out, and it wasn't done
+-- if the slot is out, its word was loaded once, and it wasn't done
 pub record LookedAt (slot : ℕ) (old new : KeeperView) : Type 0 where
   pub same : out_at slot new.knows ≡ out_at slot old.knows
   pub seen : out_at slot old.knows ≢ None → ((part slot new.knows).loads ≡ (part slot old.knows).loads + 1) × ((part slot new.knows).last % 4 ≢ 3)

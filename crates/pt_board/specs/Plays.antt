@@ -6,7 +6,7 @@
 --   exchange lost  tried, second case: one lost exchange more, and the word found
 --   store done     put_done: the hand no longer has the slot
 --   store free     put_free: the slot is no longer out
---   split, join    `NewHand` and `Leaves`: a view that has nothing, and the spent view
+--   split, join    `NewHand` and `Leaves`: the view of a hand that has claimed nothing, and of one that left
 use Rattle.std.specs.Prelude.{◌≡◌, ℕ, ◌+◌, ◌*◌, ◌/◌, ◌%◌, ◌==◌, Bool, true, false, Option, Some, None, List, [], ◌∷◌, MatchBool}
 use Rattle.atomic_table.specs.Table.{Step, Me, rest}
 use Rattle.pt_types.specs.declared.firing.Done.{Done}
@@ -40,7 +40,7 @@ losing p n = record { out = p.out; mine = p.mine; holds = p.holds; loads = p.loa
 abbrev pub took_free : Step Item → Seated → ℕ → Seated → Type 0
 took_free s m n w = (y : Item) × (w ≡ (with_part m.0 s.word (holding (looking (part s.word m.0) n) true), (s.word, y) ∷ m.1))
 
--- the keeper puts the content, a task, back: the task is out under the number
+-- the keeper puts a task into the slot as its content: the task is out under the number
 abbrev pub put_ready : Step Item → Seated → Seated → Type 0
 put_ready s m w = (t : Task) × (n : ℕ) × (s.first ≡ n * 4 + 1) × (m.1 ≡ (s.word, Placed t) ∷ rest m.1) × (w ≡ (with_part m.0 s.word (outing (part s.word m.0) (Some (n, t))), rest m.1))
 
@@ -48,13 +48,13 @@ put_ready s m w = (t : Task) × (n : ℕ) × (s.first ≡ n * 4 + 1) × (m.1 ≡
 abbrev pub with_load : Step Item → Seated → ℕ → Seated → Type 0
 with_load s m n w = w ≡ (with_part m.0 s.word (looking (part s.word m.0) n), m.1)
 
--- the exchange was won, and the hand has the slot, which it didn't have before, with its number and task; or another word was found
+-- the exchange was won, and the hand has the slot, which it didn't have before, with its number and task; or it was lost
 abbrev pub tried : Step Item → Seated → ℕ → Seated → Type 0
 tried s m found w =
     MatchBool (found == s.first) ((t : Task) × (w ≡ (with_part m.0 s.word (with_claim (part s.word m.0) (Some (s.first / 4, t)) true), (s.word, Placed t) ∷ m.1)) × ((part s.word m.0).mine ≡ None))
     (w ≡ (with_part m.0 s.word (losing (part s.word m.0) found), m.1))
 
--- the hand puts the content, its result, back and no longer has the slot
+-- the hand puts its result into the slot as its content, and no longer has the slot
 abbrev pub put_done : Step Item → Seated → Seated → Type 0
 put_done s m w = w ≡ (with_part m.0 s.word (with_claim (part s.word m.0) None false), rest m.1)
 

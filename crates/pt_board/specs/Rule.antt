@@ -16,7 +16,7 @@ use Rattle.pt_board.specs.declared.rule.View.{View}
 use Rattle.pt_board.specs.declared.table.Item.{Item}
 use Rattle.pt_board.specs.declared.table.Item.TheVariants.{Nothing, Placed, Finished}
 
--- a result is what the kind of its task's actor gives
+-- a result is what the kind of its task's actor computes
 abbrev pub IsResult : Graph → Done → Type 0
 IsResult g d = d.fired ≡ fired (kind_of g d.task.actor) d.task.state d.task.inputs
 
@@ -42,12 +42,12 @@ with_part v k p = record { is_keeper = v.is_keeper; graph = v.graph; parts = sli
 abbrev pub keeper_first : Graph → View
 keeper_first g = record { is_keeper = true; graph = Some g; parts = replicate 32 no_part }
 
--- a content that no seat has taken out lies in its slot: in phase ready it is the task, in phase done the result of the task
+-- a content that no seat has taken out is in its slot: in phase ready it is the task, in phase done the result of the task
 abbrev pub Content : Graph → ℕ → Task → Bool → mathlib.Core.Option.Option (mathlib.Core.Option.Option Item) → Type 0
 Content g phase task busy home = busy ≡ false → (y : Item) × (home ≡ some (some y)) × (phase ≡ 1 → y ≡ Placed task) × (phase ≡ 3 → (done : Done) × (y ≡ Finished done) × (done.task ≡ task) × IsResult g done)
 
 -- what a seat knows of a slot agrees with the slot: with its keeper, the number and task of its last placement, its phase,
--- the hand that claimed it, and whether its content is out
+-- the hand that claimed it, and whether a seat has taken its content out
 pub record SeatFits (keeper number : ℕ) (task : Task) (phase owner : ℕ) (busy : Bool) (id : ℕ) (is_keeper : Bool) (p : Part) : Type 0 where
   pub only : is_keeper ≡ true → id ≡ keeper
   pub free : is_keeper ≡ true → phase ≡ 0 → p.out ≡ None
@@ -72,7 +72,7 @@ pub record Slot (g : Graph) (keeper k : ℕ) (word : ℕ) (home : mathlib.Core.O
   pub content : Content g phase task busy home
   pub fits : (id : ℕ) (v : View) → get_elem? views id ≡ some v → SeatFits keeper number task phase owner busy id v.is_keeper (part k v)
 
--- the rule of the whole board; each view but a spent one names the board's graph
+-- the rule of the whole board; each view names the board's graph, or none if its seat was joined to another
 pub record BoardRule (g : Graph) (s : State Item View) : Type 0 where
   pub keeper : ℕ
   pub words : length s.words ≡ 32
@@ -81,6 +81,6 @@ pub record BoardRule (g : Graph) (s : State Item View) : Type 0 where
   pub graphs : (id : ℕ) (v : View) (h : Graph) → get_elem? s.views id ≡ some v → v.graph ≡ Some h → h ≡ g
   pub slots : (k : ℕ) → k < 32 → Slot g keeper k (slice_index s.words k) (home_at k s) s.views
 
--- the view of a new hand, and with no graph that of a hand that left
+-- the view of a new hand; without a graph, the view of a hand that left
 abbrev pub hand_first : Option Graph → View
 hand_first g = record { is_keeper = false; graph = g; parts = replicate 32 no_part }

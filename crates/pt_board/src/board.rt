@@ -29,9 +29,7 @@ impl Board {
         ensures board { IfOk result (λ r. r.0.graph ≡ graph.now) }
         ensures keeper { IfOk result (λ r. (r.1.table ≡ r.0.table) × (r.1.knows ≡ keeper_first graph.now) × (r.1.next ≡ 0)) }
     {
-        let Ok((slots, seat)) = Slots::new(alloc, graph) else {
-            return Err(Memory);
-        };
+        let (slots, seat) = Slots::new(alloc, graph)?;
         Ok((Board { slots }, Keeper::new(seat, graph)))
     }
 }

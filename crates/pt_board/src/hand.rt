@@ -94,7 +94,7 @@ impl Board {
         self.slots.join(&mut keeper.seat, seat);
     }
 
-    /// Claims the task of one slot, where it is ready.
+    /// Claims the task of one slot; `None` if none is ready there or the exchange is lost.
     fn claim_from(&self, hand: &mut Hand, slot: usize) -> Option<Ticket>
         requires table { hand.old.table ≡ self.now.table }
         requires slot { slot < 32 }
@@ -108,7 +108,7 @@ impl Board {
 
     /// Claims a ready task, in one pass over the slots with at most one exchange at each.
     ///
-    /// `None` comes only where at each slot the hand found the word not ready, or lost the exchange to another hand.
+    /// Returns `None` only if at each slot the hand found the word not ready, or lost the exchange to another hand.
     pub fn claim(&self, hand: &mut Hand) -> Option<Ticket>
         requires table { hand.old.table ≡ self.now.table }
         ensures claimed { MatchOption result (SawNoneReady hand.old hand.new) (HoldsOneMore hand.old hand.new) }

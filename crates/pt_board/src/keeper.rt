@@ -12,13 +12,14 @@ use pt_actors::Done;
 use pt_types::{Graph, Task};
 use std::marker::Model;
 
-/// The seat that places tasks and collects results, with the numbers of the placements that are out.
+/// The seat that places tasks and collects results, with the numbers of the placements that are out: whose results it hasn't
+/// collected yet.
 ///
 /// Contracts see its board's table, what it knows, and the number of its next placement.
 #[derive(Drop)]
 pub struct Keeper {
     pub(crate) seat: Seat<Item, View>,
-    /// By slot, the number of the placement that is out there.
+    /// For each slot, the number of the placement that is out there; `None` if the slot is free.
     places: [Option<u64>; SLOTS],
     next: u64,
 }
@@ -61,7 +62,7 @@ fn first_free(places: &[Option<u64>]) -> Option<usize>
 }
 
 impl Board {
-    /// Puts a task into the first free slot. It comes back exactly where no slot is free. No memory is taken.
+    /// Puts a task into the first free slot, or returns it if no slot is free. Allocates nothing.
     pub fn place(&self, keeper: &mut Keeper, task: Task) -> Result<(), Task>
         requires table { keeper.old.table ≡ self.now.table }
         requires number { keeper.old.next < 2 ^ 62 }
@@ -77,7 +78,7 @@ impl Board {
         Ok(())
     }
 
-    /// Takes the result of a slot, where it is out and done.
+    /// Takes the result out of a slot; `None` if the slot is free or its task isn't done.
     fn collect_from(&self, keeper: &mut Keeper, slot: usize) -> Option<Done>
         requires table { keeper.old.table ≡ self.now.table }
         requires slot { slot < 32 }
@@ -95,7 +96,7 @@ impl Board {
 
     /// Takes a result that was handed in.
     ///
-    /// `None` comes only where the word of each slot that is out was loaded and none was done. No memory is taken.
+    /// Returns `None` only if the word of each slot that is out was loaded and none was done. Allocates nothing.
     pub fn collect(&self, keeper: &mut Keeper) -> Option<Done>
         requires table { keeper.old.table ≡ self.now.table }
         ensures collected { MatchOption result (SawNoneDone keeper.old keeper.new) (HasCollected keeper.old keeper.new) }

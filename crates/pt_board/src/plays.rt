@@ -1,4 +1,4 @@
-//! What each step numbers. No value of these is made.
+//! The steps of a seat: each type names one, and says what the seat knows after it. No value of these types is made.
 ghost use Rattle.pt_board.specs.Plays.{took_free, put_ready, with_load, tried, put_done, looked_done, put_free, gave_back, took_again};
 
 use crate::rule::View;
@@ -19,7 +19,7 @@ impl Play<Item, View> for PutReady {
     ghost then = { λ s m r n. put_ready s m n };
 }
 
-/// A hand looks whether a slot is ready: a load.
+/// A hand checks whether a slot is ready: a load.
 pub struct Look;
 
 impl Play<Item, View> for Look {
@@ -40,7 +40,7 @@ impl Play<Item, View> for PutDone {
     ghost then = { λ s m r n. put_done s m n };
 }
 
-/// The keeper looks whether a slot is done, and takes the result out: a load.
+/// The keeper checks whether a slot is done, and if so takes the result out: a load.
 pub struct LookDone;
 
 impl Play<Item, View> for LookDone {
@@ -68,7 +68,7 @@ impl Play<Item, View> for TakeAgain {
     ghost then = { took_again };
 }
 
-/// A new hand, with a view that has nothing: a split of the keeper's seat.
+/// A new hand, which has claimed nothing: a split of the keeper's seat.
 pub struct NewHand;
 
 impl Split<View> for NewHand {

@@ -1,18 +1,18 @@
-//! What a seat at the board knows. No value of these types is made.
+//! What a seat at the board knows. Only contracts speak of these types: no value of them is made.
 use pt_types::{Graph, Task};
 use std::collections::LinkedList;
 
 /// What a seat knows of one slot.
 pub struct Part {
-    /// The keeper's: the placement that is out there, with its number.
+    /// For the keeper: the number and the task of the placement that is out there.
     pub out: Option<(u64, Task)>,
-    /// A hand's: the task that it claimed there, with its number.
+    /// For a hand: the number and the task of the placement that it claimed there.
     pub mine: Option<(u64, Task)>,
-    /// The content is out with this seat.
+    /// Whether this seat has taken the slot's content out.
     pub holds: bool,
-    /// The loads of the word by this seat.
+    /// How often this seat loaded the word.
     pub loads: u64,
-    /// The exchanges that this seat lost.
+    /// How many exchanges of the word this seat lost.
     pub lost: u64,
     /// The last word that this seat found.
     pub last: u64,
@@ -21,8 +21,8 @@ pub struct Part {
 /// What a seat knows.
 pub struct View {
     pub is_keeper: bool,
-    /// The board's graph; none where the seat was joined to another.
+    /// The board's graph; `None` if the seat was joined to another.
     pub graph: Option<Graph>,
-    /// By slot.
+    /// What it knows of each slot, by the slot's index.
     pub parts: LinkedList<Part>,
 }

@@ -1,7 +1,8 @@
 //! The 32 slots of a board, and the steps of a seat on one of them.
 //!
 //! The word of a slot is the number of its last placement times four, and a phase: 0 free, 1 ready, 2 taken, 3 done.
-//! A slot's content moves only while a seat has it, and a seat takes it and gives it back at a load or store of the word.
+//! A slot's content is read and written only by a seat that has taken it out. A seat takes it out at a load or a won exchange
+//! of the word, and puts it back at a load or a store.
 ghost use Rattle.std.specs.Prelude.{◌≡◌, ◌≢◌, ℕ, ◌<◌, ◌^◌, ◌+◌, ◌*◌, ◌%◌, ◌∷◌, [], true, false, None, Some, IfOk, IfSome, IfNone, MatchOption, length, replicate};
 ghost use Rattle.pt_board.specs.Rule.{IsResultOf, IsResult, keeper_first, hand_first, part};
 ghost use Rattle.pt_types.specs.declared.firing.Task.{Task};
@@ -46,10 +47,8 @@ impl Slots {
     {
         let items = nothings(alloc)?;
         let words = [0u64; SLOTS];
-        match Table::new(alloc, &words, items, graph) {
-            Ok((table, seat)) => Ok((Slots { table }, seat)),
-            Err(_) => Err(AllocError),
-        }
+        let (table, seat) = Table::new(alloc, &words, items, graph).map_err(|_| AllocError)?;
+        Ok((Slots { table }, seat))
     }
 
     /// Splits the seat of a hand off the keeper's.
@@ -92,7 +91,7 @@ impl Slots {
             .store::<PutReady>(keeper, slot, number * 4 + 1);
     }
 
-    /// Tries to claim the task of a slot: its number and the task.
+    /// Tries to claim the task of a slot. Returns the number of its placement, and the task.
     pub(crate) fn claim_at(&self, hand: &mut Seat<Item, View>, slot: usize) -> Option<(u64, Task)>
         requires seat { IsSeatOf self.now.table.shared.table_id hand.old × IsHandView hand.old.me.0 }
         requires slot { slot < 32 }
@@ -145,7 +144,7 @@ impl Slots {
             .store::<PutDone>(hand, slot, number * 4 + 3);
     }
 
-    /// Collects the result of a slot that is out: of the task that was placed there.
+    /// Collects the result of the task that was placed in a slot under this number; `None` if it isn't done yet.
     pub(crate) fn collect_at(
         &self,
         keeper: &mut Seat<Item, View>,
