@@ -1,5 +1,7 @@
 //! The faults of an air file.
 
+use pt_tags::Memory;
+
 /// The first fault of an air file. Row numbers are from 1.
 #[derive(Clone, Copy, Debug, PartialEq, Eq)]
 pub enum AirFault {
@@ -19,4 +21,15 @@ pub enum AirFault {
     Repeated(u32),
     /// A record follows the first 100,000 rows, and these have no fault.
     TooManyRows,
+}
+
+impl From<Memory> for AirFault {
+    ghost use Rattle.std.specs.Prelude.{◌≡◌};
+    ghost use Rattle.pt_air.specs.declared.fault.AirFault.TheVariants.{Memory};
+
+    ghost from_gives = { λ _ fault. fault ≡ Memory };
+
+    fn from(_memory: Memory) -> AirFault {
+        AirFault::Memory
+    }
 }

@@ -18,7 +18,7 @@ use csv::{ByteRecord, Reader};
 use pt_sensors::{advance, reader_of};
 use pt_tags::{List, Memory};
 use pt_types::Graph;
-use std::alloc::{AllocError, Global};
+use std::alloc::Global;
 
 /// The most bytes of an air file.
 pub const MOST_BYTES: usize = 8_388_608;
@@ -37,14 +37,12 @@ pub fn read_air(alloc: Global, bytes: &[u8], graph: &Graph) -> Result<Air, AirFa
     ensures bounds { IfOk result (λ air. (air.breach ≡ None) ↔ KeepsBounds graph.now air) }
 {
     let rows = rows_of(alloc, bytes, graph)?;
-    match air_with(alloc, graph, rows.as_slice()) {
-        Ok(air) => Ok(air),
-        Err(_) => Err(AirFault::Memory),
-    }
+    let air = air_with(alloc, graph, rows.as_slice())?;
+    Ok(air)
 }
 
 /// What the rows of a file say.
-fn air_with(alloc: Global, graph: &Graph, rows: &[AirRow]) -> Result<Air, AllocError>
+fn air_with(alloc: Global, graph: &Graph, rows: &[AirRow]) -> Result<Air, Memory>
     requires { length rows.now ≤ 100000 }
     ensures { IfOk result (λ air. air ≡ air_with graph.now rows.now) }
 {
@@ -68,15 +66,11 @@ fn rows_of(alloc: Global, bytes: &[u8], graph: &Graph) -> Result<List<AirRow>, A
     }
     let mut reader = reader_of(alloc, bytes);
     let mut line = ByteRecord::new(alloc);
-    match advance(&mut reader, &mut line) {
-        Ok(found) => {
-            if found && is_header(&line) {
-                rows(alloc, graph, &mut reader, &mut line)
-            } else {
-                Err(AirFault::Header)
-            }
-        }
-        Err(Memory) => Err(AirFault::Memory),
+    let found = advance(&mut reader, &mut line)?;
+    if found && is_header(&line) {
+        rows(alloc, graph, &mut reader, &mut line)
+    } else {
+        Err(AirFault::Header)
     }
 }
 
@@ -92,9 +86,7 @@ fn rows(
 {
     let mut rows = Vec::new(alloc);
     for number in 1..MOST_ROWS + 1 {
-        let Ok(found) = advance(reader, line) else {
-            return Err(AirFault::Memory);
-        };
+        let found = advance(reader, line)?;
         if !found {
             return Ok(List::new(rows));
         }
@@ -103,14 +95,10 @@ fn rows(
             return Err(AirFault::Memory);
         }
     }
-    match advance(reader, line) {
-        Ok(found) => {
-            if found {
-                Err(AirFault::TooManyRows)
-            } else {
-                Ok(List::new(rows))
-            }
-        }
-        Err(Memory) => Err(AirFault::Memory),
+    let found = advance(reader, line)?;
+    if found {
+        Err(AirFault::TooManyRows)
+    } else {
+        Ok(List::new(rows))
     }
 }

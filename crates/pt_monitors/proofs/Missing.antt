@@ -1,7 +1,8 @@
 -- The list of missed entries has each of them, and nothing else.
-use Rattle.std.proofs.Common.{◌≡◌, ℕ, ℤ, ◌+◌, ◌<◌, ◌++◌, [], append_assoc, ap₂, List, Option, Some, None, nat_lt, slice_get, refl, sym, ap, subst, ◌∙◌, inl, inr, ⊎_elim, lt-ltb}
+use Rattle.std.proofs.Common.{◌≡◌, ℕ, ℤ, ◌+◌, ◌<◌, ◌++◌, [], append_assoc, List, Option, Some, None, nat_lt, slice_get, refl, sym, ap, subst, ◌∙◌, inl, inr, ⊎_elim, lt-ltb}
 use Rattle.std.specs.Prelude.{filter_map, option_map, unwrap_or}
 use Rattle.std.proofs.lemmas.Bool.{ltb-true}
+use Rattle.std.proofs.lemmas.List.{append-nil}
 use Rattle.pt_tags.specs.declared.message.Message.{Message}
 use Rattle.pt_tags.specs.declared.message.Message.TheVariants.{Event, End}
 use Rattle.pt_tags.specs.declared.tag.Tag.{Tag}
@@ -20,7 +21,7 @@ use Rattle.pt_semantics.specs.Turn.{Turn}
 use Rattle.pt_semantics.proofs.Lookups.{IsIn-append, IsIn-append_left, IsIn-append_right, none_some, same_some, when_found}
 use Rattle.pt_semantics.proofs.Words.{when-true}
 use Rattle.pt_history.specs.declared.miss.Miss.{Miss}
-use Rattle.pt_monitors.specs.Misses.{ListsMissed, miss_by, miss_of_message, miss_of_result, miss_on, miss_past, missed_at, missed_of}
+use Rattle.pt_monitors.specs.Misses.{HaveMissed, IsLastReading, ListsMissed, miss_by, miss_of_message, miss_of_result, miss_on, miss_past, missed_at, missed_of}
 use Rattle.pt_monitors.proofs.Members.{filter_map_in, flat_map_in, in_filter_map, in_flat_map}
 
 -- what an entry says
@@ -155,13 +156,19 @@ lists_missed g turns = λ m. (
 )
 
 -- what was appended for a turn
-pub missed_here : (g : Graph) (o : Option Turn) (reading : ℕ) (sent : List OnLink) (old mid new : List Miss) → option_map (λ (turn : Turn). turn.last) o ≡ Some reading → option_map (λ (turn : Turn). turn.sent) o ≡ Some sent
-    → mid ≡ old ++ filter_map (miss_of_result g reading) (unwrap_or (option_map (λ (turn : Turn). turn.posted) o) []) → new ≡ mid ++ filter_map (miss_of_message g reading) sent
+pub missed_here : (g : Graph) (o : Option Turn) (sent : List OnLink) (old mid new : List Miss) → option_map (λ (turn : Turn). turn.sent) o ≡ Some sent
+    → HaveMissed g o (unwrap_or (option_map (λ (turn : Turn). turn.posted) o) []) old mid → ((reading : ℕ) → IsLastReading o reading → new ≡ mid ++ filter_map (miss_of_message g reading) sent)
     → option_map (λ (turn : Turn). old ++ missed_at g turn) o ≡ Some new
-missed_here g None reading sent old mid new last was results messages = absurd (none_some reading last)
-missed_here g (Some turn) reading sent old mid new last was results messages =
+missed_here g None sent old mid new was results messages = absurd (none_some sent was)
+missed_here g (Some turn) sent old mid new was results messages =
     ap Some
-    (ap₂ (λ r s. old ++ (filter_map (miss_of_result g r) turn.posted ++ filter_map (miss_of_message g r) s)) (same_some turn.last reading last) (same_some turn.sent sent was)
-    ∙ sym (append_assoc old (filter_map (miss_of_result g reading) turn.posted) (filter_map (miss_of_message g reading) sent))
-    ∙ ap (λ l. l ++ filter_map (miss_of_message g reading) sent) (sym results)
-    ∙ sym messages)
+    (ap (λ s. old ++ (filter_map (miss_of_result g turn.last) turn.posted ++ filter_map (miss_of_message g turn.last) s)) (same_some turn.sent sent was)
+    ∙ sym (append_assoc old (filter_map (miss_of_result g turn.last) turn.posted) (filter_map (miss_of_message g turn.last) sent))
+    ∙ ap (λ l. l ++ filter_map (miss_of_message g turn.last) sent) (sym (results turn.last refl))
+    ∙ sym (messages turn.last refl))
+
+-- and if it sent nothing
+pub missed_results_alone : (g : Graph) (o : Option Turn) (sent : List OnLink) (old mid : List Miss) → option_map (λ (turn : Turn). turn.sent) o ≡ Some sent → sent ≡ []
+    → HaveMissed g o (unwrap_or (option_map (λ (turn : Turn). turn.posted) o) []) old mid → option_map (λ (turn : Turn). old ++ missed_at g turn) o ≡ Some mid
+missed_results_alone g o sent old mid was none results =
+    missed_here g o sent old mid mid was results (λ reading is. sym (append-nil mid) ∙ ap (λ (s : List OnLink). mid ++ filter_map (miss_of_message g reading) s) (sym none))

@@ -1,5 +1,5 @@
 -- The misses of recorded turns, in order.
-use Rattle.std.specs.Prelude.{◌≡◌, ◌+◌, ◌++◌, ◌↔◌, ℕ, List, None, Option, Some, filter_map, flat_map, nat_lt, slice_get}
+use Rattle.std.specs.Prelude.{◌≡◌, ◌+◌, ◌++◌, ◌↔◌, ℕ, List, None, Option, Some, filter_map, flat_map, nat_lt, option_map, slice_get}
 use Rattle.pt_tags.specs.declared.message.Message.{Message}
 use Rattle.pt_tags.specs.declared.message.Message.TheVariants.{Event}
 use Rattle.pt_tags.specs.declared.tag.Tag.{Tag}
@@ -44,6 +44,14 @@ miss_of_message g reading sent = miss_on g reading (slice_get g.links sent.link)
 -- the misses of a turn: first of the results that it posted, and then of the messages sent after it
 abbrev pub missed_at : Graph → Turn → List Miss
 missed_at g turn = filter_map (miss_of_result g turn.last) turn.posted ++ filter_map (miss_of_message g turn.last) turn.sent
+
+-- this is the last reading of a turn
+abbrev pub IsLastReading : Option Turn → ℕ → Type 0
+IsLastReading turn reading = option_map (λ (t : Turn). t.last) turn ≡ Some reading
+
+-- the misses of the first of these results, at the last reading of their turn, were appended
+abbrev pub HaveMissed : Graph → Option Turn → List Done → List Miss → List Miss → Type 0
+HaveMissed g turn dones old new = (reading : ℕ) → IsLastReading turn reading → new ≡ old ++ filter_map (miss_of_result g reading) dones
 
 -- the misses of all turns, in order
 abbrev pub missed_of : Graph → List Turn → List Miss

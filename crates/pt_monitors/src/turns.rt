@@ -1,11 +1,11 @@
 //! The misses of a history.
 
-ghost use Rattle.std.specs.Prelude.{◌≡◌, ◌<◌, ◌++◌, OnOk, Some, filter_map, length, option_map, option_to_list, slice_get};
+ghost use Rattle.std.specs.Prelude.{◌≡◌, ℕ, ◌<◌, ◌++◌, OnOk, Some, filter_map, length, option_map, option_to_list, slice_get};
 ghost use Rattle.pt_types.specs.declared.firing.Done.{Done};
 ghost use Rattle.pt_types.specs.Lookups.{slack_of};
 ghost use Rattle.pt_history.specs.Tasks.{mark_of};
 ghost use Rattle.pt_history.specs.Turns.{posted_in};
-ghost use Rattle.pt_monitors.specs.Misses.{ListsMissed, miss_of_message, miss_of_result, miss_past, missed_at, missed_of};
+ghost use Rattle.pt_monitors.specs.Misses.{HaveMissed, IsLastReading, ListsMissed, miss_of_message, miss_of_result, miss_past, missed_at, missed_of};
 
 use pt_history::{History, Mark, Miss};
 use pt_tags::{Memory, Message, Tag};
@@ -39,15 +39,17 @@ fn missed_at(
     if posted == 0 && sent.is_empty() {
         return Ok(());
     }
-    let reading = history.last(number);
-    missed_results(graph, reading, history, number, posted, misses)?;
-    missed_messages(graph, reading, sent, misses)
+    missed_results(graph, history, number, posted, misses)?;
+    if sent.is_empty() {
+        return Ok(());
+    }
+    missed_messages(graph, history.last(number), sent, misses)
 }
 
-/// Appends the misses among the results, `posted` in number, that a recorded turn posted at a reading.
+/// Appends the misses among the results, `posted` in number, that a recorded turn posted. The turn's reading is looked up for
+/// an actuator's result alone: most results are of other actors.
 fn missed_results(
     graph: &Graph,
-    reading: u64,
     history: &History,
     turn: usize,
     posted: usize,
@@ -55,11 +57,11 @@ fn missed_results(
 ) -> Result<(), Memory>
     requires turn { turn < length history.now.turns }
     requires posted { posted ≡ length (posted_in history.now.turns turn) }
-    ensures { OnOk result (misses.new.items ≡ misses.old.items ++ filter_map (miss_of_result graph.now reading) (posted_in history.now.turns turn)) }
+    ensures { OnOk result (HaveMissed graph.now (slice_get history.now.turns turn) (posted_in history.now.turns turn) misses.old.items misses.new.items) }
 {
     for number in 0..posted {
         let mark = history.done_mark(turn, number);
-        push(misses, miss_of_result(graph, reading, mark))?;
+        push(misses, miss_of_result(graph, history, turn, mark))?;
     }
     Ok(())
 }
@@ -90,13 +92,17 @@ fn push(misses: &mut Vec<Miss>, miss: Option<Miss>) -> Result<(), Memory>
     Ok(())
 }
 
-/// The miss of the result of a task, which is given without its inputs: an actuator's, posted past its limit.
-fn miss_of_result(graph: &Graph, reading: u64, mark: Mark) -> Option<Miss>
-    ensures { (done : Done) → mark_of done.task ≡ mark → result ≡ miss_of_result graph.now reading done }
+/// The miss of the result of a task, which is given without its inputs, in a recorded turn: an actuator's, posted past its
+/// limit.
+fn miss_of_result(graph: &Graph, history: &History, turn: usize, mark: Mark) -> Option<Miss>
+    requires { turn < length history.now.turns }
+    ensures { (done : Done) (reading : ℕ) → mark_of done.task ≡ mark → IsLastReading (slice_get history.now.turns turn) reading → result ≡ miss_of_result graph.now reading done }
 {
     let actor = graph.actors.as_slice().get(mark.actor as usize)?;
     match &actor.kind {
-        Kind::Actuator { slack } => miss_past(reading, mark.actor, mark.tag, *slack),
+        Kind::Actuator { slack } => {
+            miss_past(history.last(turn), mark.actor, mark.tag, *slack)
+        }
         _ => None,
     }
 }

@@ -15,21 +15,21 @@ air_with-requires c =
     subst (λ (rows : List AirRow). length rows ≤ 100000) (sym c.as_slice.ensures)
     (rows_of-rows c.args.graph.now c.args.bytes.now c.in_ok-rows.rows c.in_ok-rows.ensures).few
 
-pub returns-in-Ok-clause-lengths : goal.returns-in-Ok-clause-lengths
-returns-in-Ok-clause-lengths c =
-    let e = c.in-Ok.ensures ∙ ap (air_with c.args.graph.now) c.as_slice.ensures in (
+pub returns-clause-lengths : goal.returns-clause-lengths
+returns-clause-lengths c =
+    let e = c.in_ok-air.ensures ∙ ap (air_with c.args.graph.now) c.as_slice.ensures in (
       ap (λ (air : Air). length air.lags) e ∙ lags_len c.args.graph.now c.in_ok-rows.rows,
       ap (λ (air : Air). length air.transits) e ∙ transits_len c.args.graph.now c.in_ok-rows.rows,
     )
 
-pub returns-in-Ok-clause-numbers : goal.returns-in-Ok-clause-numbers
-returns-in-Ok-clause-numbers c =
-    let e = c.in-Ok.ensures ∙ ap (air_with c.args.graph.now) c.as_slice.ensures in
+pub returns-clause-numbers : goal.returns-clause-numbers
+returns-clause-numbers c =
+    let e = c.in_ok-air.ensures ∙ ap (air_with c.args.graph.now) c.as_slice.ensures in
     let rows = rows_of-rows c.args.graph.now c.args.bytes.now c.in_ok-rows.rows c.in_ok-rows.ensures in
     subst (λ (air : Air). All (λ n. n ≤ 1000000000000000) air.lags × All (All (λ n. n ≤ 1000000000000000)) air.transits) (sym e)
     (small_lags c.args.graph.now c.in_ok-rows.rows rows.each, small_transits c.args.graph.now c.in_ok-rows.rows rows.each)
 
-pub returns-in-Ok-clause-bounds : goal.returns-in-Ok-clause-bounds
-returns-in-Ok-clause-bounds c =
-    let e = c.in-Ok.ensures ∙ ap (air_with c.args.graph.now) c.as_slice.ensures in
+pub returns-clause-bounds : goal.returns-clause-bounds
+returns-clause-bounds c =
+    let e = c.in_ok-air.ensures ∙ ap (air_with c.args.graph.now) c.as_slice.ensures in
     subst (λ (air : Air). (air.breach ≡ None) ↔ KeepsBounds c.args.graph.now air) (sym e) (breach-None c.args.graph.now c.in_ok-rows.rows)

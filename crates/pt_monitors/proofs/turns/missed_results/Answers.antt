@@ -11,14 +11,14 @@ pub done_mark-mark-requires : goal.done_mark-mark-requires
 done_mark-mark-requires c = omega (arith, c.loop-number-test.true, c.requires.posted)
 
 pub loop-number-preserved : goal.loop-number-preserved
-loop-number-preserved c =
+loop-number-preserved c = λ reading last.
     let dones = posted_in c.args.history.now.turns c.args.turn in
     let (done, at, is) = mapped (λ (done : Done). mark_of done.task) (slice_get dones c.loop-number.number) c.done_mark-mark.result c.done_mark-mark.ensures in
-    filter_map_next (miss_of_result c.args.graph.now c.args.reading) dones c.loop-number.number done c.args.misses.now.items c.loop-number.misses.items c.push.new.misses.items c.miss_of_result.result
-    at c.loop-number.invariant (c.miss_of_result.ensures done is) c.in_ok-push.ensures
+    filter_map_next (miss_of_result c.args.graph.now reading) dones c.loop-number.number done c.args.misses.now.items c.loop-number.misses.items c.push.new.misses.items c.miss_of_result.result
+    at (c.loop-number.invariant reading last) (c.miss_of_result.ensures done reading is last) c.in_ok-push.ensures
 
 pub returns : goal.returns
-returns c =
+returns c = λ reading last.
     let dones = posted_in c.args.history.now.turns c.args.turn in
     let past : length dones ≤ c.loop-number.number = omega (arith, c.loop-number-test.false, c.requires.posted) in
-    c.loop-number.invariant ∙ ap (λ ds. c.args.misses.now.items ++ filter_map (miss_of_result c.args.graph.now c.args.reading) ds) (take_all c.loop-number.number dones past)
+    c.loop-number.invariant reading last ∙ ap (λ ds. c.args.misses.now.items ++ filter_map (miss_of_result c.args.graph.now reading) ds) (take_all c.loop-number.number dones past)
