@@ -68,7 +68,7 @@ returns-clause-meaning g c =
     let went = c.loop-next.invariant.went in
     record {
       firings = went.firings;
-      meaning = steps_end graph rank (at_start graph (λ a. rows_until graph.until (rows_for c.args.sensors.now a))) went.firings (world_in c.args.ranks.now c.loop-next.list.waiting c.loop-next.list.states.items) went.steps (c.in_default-first.ensures.empty rank);
+      meaning = steps_end graph rank (at_start graph (λ a. rows_until graph.until (rows_for c.args.sensors.now a))) went.firings (world_in c.args.ranks.now c.loop-next.list.waiting c.loop-next.list.states.items) went.steps (c.in_default.ensures.empty rank);
       few = let low : length went.firings ≤ c.args.most = omega (arith, went.len, c.loop-next.invariant.most) in low;
       took = went.took;
     }
