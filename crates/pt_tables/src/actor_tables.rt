@@ -41,6 +41,7 @@ impl ActorTables {
 
     /// Appends the line of a firing of an actor, with this value at input 0, to its table; does nothing if the actor is not
     /// an actuator.
+    #[inline(always)]
     pub fn push(
         &mut self,
         actors: &[Actor],
@@ -57,7 +58,8 @@ impl ActorTables {
         self.push_line(number, actors[number].name.as_str(), tag, value)
     }
 
-    /// Appends a line to table `number`.
+    /// Appends a line to table `number`. Not inlined, since most firings are of other actors.
+    #[inline(never)]
     fn push_line(
         &mut self,
         number: usize,

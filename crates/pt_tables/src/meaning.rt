@@ -55,15 +55,9 @@ pub fn tables_of_meaning(
     ensures long { IsErrOf result MeaningFault.Long → IsLonger graph.now (rank_in ranks.now) (λ a. rows_until graph.now.until (rows_for sensors.now a)) most }
 {
     let actors = graph.actors.as_slice();
-    let Ok(tables) = ActorTables::new(alloc, actors) else {
-        return Err(MeaningFault::Memory);
-    };
+    let tables = ActorTables::new(alloc, actors)?;
     let mut filling = Filling { actors, tables };
-    match fire_all(alloc, graph, ranks, sensors, most, &mut filling) {
-        Err(fault) => Err(fault),
-        Ok(()) => match filling.tables.text(alloc) {
-            Ok(text) => Ok(text),
-            Err(_) => Err(MeaningFault::Memory),
-        },
-    }
+    fire_all(alloc, graph, ranks, sensors, most, &mut filling)?;
+    let text = filling.tables.text(alloc)?;
+    Ok(text)
 }
