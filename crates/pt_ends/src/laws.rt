@@ -2,7 +2,7 @@
 
 ghost use Rattle.pt_ends.specs.Numbered.{NumberedInOrder};
 
-/// What a threaded run returns is in the order that settling asks for.
+/// The stations that a threaded run returns are in the order that settling requires.
 pub fn numbered_stations_are_in_order()
     ensures { NumberedInOrder }
 {}

@@ -1,4 +1,4 @@
-//! The ends of the links between stations, in places by the numbers of their links. After a run all links are settled.
+//! The ends of the links between stations, each in the place of its link's number. After a run all links are settled.
 //!
 //! Read first: `settle_run`, then `specs/Settled.antt`.
 #![tactic(auto)]

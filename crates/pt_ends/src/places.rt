@@ -6,7 +6,7 @@ ghost use Rattle.pt_ends.specs.Places.{AreCollected, AreDistinct, AreLaid, Place
 use pt_tags::Memory;
 use std::alloc::Global;
 
-/// Takes the things of one owner out of their places, with their numbers. `owners` has the owner of each number.
+/// Takes the things of one owner out of their places, with their numbers. `owners` lists the owner of each number.
 pub fn collect<T: Drop>(
     alloc: Global,
     owners: &[u32],
@@ -19,9 +19,7 @@ pub fn collect<T: Drop>(
     ensures collected { IfOk result (λ things. AreCollected owners.now owner (length owners.now) places.old.items things.items) }
     ensures others { (l : ℕ) → IsElsewhere owners.now owner l → slice_get places.new.items l ≡ slice_get places.old.items l }
 {
-    let Ok(mut things) = Vec::with_capacity(alloc, owners.len()) else {
-        return Err(Memory);
-    };
+    let mut things = Vec::with_capacity(alloc, owners.len())?;
     for l in 0..owners.len() {
         if owners[l] == owner {
             let place = &mut places[l];

@@ -34,7 +34,7 @@ pub struct Settled<C: Clock> {
     pub clocks: Vec<C>,
 }
 
-/// Takes the stations of a run apart and settles their links: on each link the receiver's turns took the first of the messages
+/// Takes the stations of a run apart and settles their links. On each link the receiver's turns took the first of the messages
 /// that the sender's turns sent, perhaps all.
 pub fn settle_run<J: Run, C: Clock, R: Wait>(
     rt: &R,
@@ -78,12 +78,8 @@ fn take_apart<J: Run, C: Clock>(
 {
     let mut outlets = empty_places(alloc, links)?;
     let mut inlets = empty_places(alloc, links)?;
-    let (Ok(mut platforms), Ok(mut clocks)) = (
-        Vec::with_capacity(alloc, stations.len()),
-        Vec::with_capacity(alloc, stations.len()),
-    ) else {
-        return Err(Memory);
-    };
+    let mut platforms = Vec::with_capacity(alloc, stations.len())?;
+    let mut clocks = Vec::with_capacity(alloc, stations.len())?;
     while let Some(station) = stations.pop() {
         let parts = station.into_parts();
         let Parts {
@@ -107,7 +103,7 @@ fn take_apart<J: Run, C: Clock>(
     })
 }
 
-/// Settles each link whose two ends are there.
+/// Settles each link of which both ends are there.
 fn settle_all<R: Wait>(rt: &R, mut outlets: Vec<Option<Outlet>>, mut inlets: Vec<Option<Inlet>>)
     requires count { vec_len inlets ≡ vec_len outlets }
     requires ends { AreOfOneLink outlets.items inlets.items }

@@ -1,4 +1,4 @@
--- m powers of two add up to 2 ^ m - 1 only where each of 2 ^ 0 to 2 ^ (m - 1) is among them.
+-- m powers of two add up to 2 ^ m - 1 only if each of 2 ^ 0 to 2 ^ (m - 1) is among them.
 use Rattle.std.proofs.Common.{◌≡◌, ℕ, zero, suc, ◌+◌, ◌*◌, ◌^◌, ◌-◌, ◌<◌, ◌≤◌, List, [], ◌∷◌, ◌++◌, length, refl, ap, arith, zero-le}
 use Rattle.std.proofs.Math.Nat.{pow-suc}
 use Rattle.pt_free.specs.Orders.{order_weight, Among}

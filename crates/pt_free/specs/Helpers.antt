@@ -19,7 +19,7 @@ pub record IsNewBoard (g : Graph) (board : BoardView) (keeper : KeeperView) : Ty
   pub graph : keeper.knows.graph ≡ Some g
   pub none : keeper.next ≡ 0
 
--- each board is the one of its place
+-- the i-th board is that of platform i
 abbrev pub AreBoards : (ℕ → TableId) → List TableId → Type 0
 AreBoards table boards = (i : ℕ) (t : TableId) → slice_get boards i ≡ Some t → t ≡ table i
 

@@ -22,15 +22,19 @@ order_weight (x ∷ xs) = 2 ^ x + order_weight xs
 abbrev pub Among : ℕ → List ℕ → Type 0
 Among w xs = (i : ℕ) × (i < length xs) × ((d : ℕ) → slice_index_or xs i d ≡ w)
 
--- the station of this number has its place
+-- the station of this number is in the place of this number
 abbrev pub HasAt : List (Option StationView) → ℕ → Type 0
 HasAt slots w = (s : StationView) × ((d : Option StationView) → slice_index_or slots w d ≡ Some s) × (s.platform.number ≡ w)
+
+-- each place below n has the station of its number
+abbrev pub AreFilled : ℕ → List (Option StationView) → Type 0
+AreFilled n places = (k : ℕ) → k < n → HasAt places k
 
 -- each station is finished, without a fault
 abbrev pub AllDone : List StationView → Type 0
 AllDone xs = (i : ℕ) (d : StationView) → i < length xs → IsFinished (slice_index_or xs i d).platform.plan.graph (slice_index_or xs i d).platform.number (state_at (slice_index_or xs i d).platform) × ((slice_index_or xs i d).platform.fault ≡ None)
 
--- no visit of a station gave up for want of memory
+-- no visit of a station gave up because memory ran out
 abbrev pub AreUnmarked : List StationView → Type 0
 AreUnmarked xs = (i : ℕ) (d : StationView) → i < length xs → (slice_index_or xs i d).marked ≡ false
 

@@ -1,4 +1,4 @@
--- What a survey says.
+-- What each answer of a survey means.
 use Rattle.std.specs.Prelude.{List}
 use Rattle.pt_free.specs.declared.ended.Survey.{Survey}
 use Rattle.pt_free.specs.declared.ended.Survey.TheVariants.{Going, Over, Failed, Marked}

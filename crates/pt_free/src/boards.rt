@@ -37,12 +37,10 @@ impl<J: Run> Model for NewBoard<J> {
 }
 
 impl<J: Run> NewBoard<J> {
-    /// For the tasks of the run that `firing` fires.
+    /// A new board for the tasks of the run whose tasks `firing` fires.
     fn open(alloc: Global, firing: &Hand<J>) -> Result<NewBoard<J>, Memory> {
         let (board, keeper) = Board::new(alloc, firing.graph())?;
-        let Ok(board) = Arc::new(alloc, board) else {
-            return Err(Memory);
-        };
+        let board = Arc::new(alloc, board)?;
         Ok(NewBoard {
             board,
             keeper,
@@ -50,7 +48,7 @@ impl<J: Run> NewBoard<J> {
         })
     }
 
-    /// The site of a station, with this board.
+    /// The site of a station and this board.
     pub(crate) fn with_station<B: Boards, C: Clock>(
         self,
         alloc: Global,
@@ -68,7 +66,7 @@ impl<J: Run> NewBoard<J> {
     }
 }
 
-/// As many new boards.
+/// Opens `count` new boards.
 pub(crate) fn open_boards<J: Run>(
     alloc: Global,
     firing: &Hand<J>,
@@ -76,25 +74,21 @@ pub(crate) fn open_boards<J: Run>(
 ) -> Result<Vec<NewBoard<J>>, Memory>
     ensures { IfOk result (λ v. vec_len v ≡ count) }
 {
-    let Ok(mut boards) = Vec::with_capacity(alloc, count) else {
-        return Err(Memory);
-    };
+    let mut boards = Vec::with_capacity(alloc, count)?;
     for _k in 0..count {
         boards.push_reserved(NewBoard::open(alloc, firing)?);
     }
     Ok(boards)
 }
 
-/// As many crews, each without a hand.
+/// A crew without hands for each worker.
 pub(crate) fn empty_crews<J: Run, B: Boards>(
     alloc: Global,
     workers: u32,
 ) -> Result<Vec<Vec<Helper<J, B>>>, Memory> {
     let mut crews = Vec::new(alloc);
     for _w in 0..workers {
-        if crews.push(Vec::new(alloc)).is_err() {
-            return Err(Memory);
-        }
+        crews.push(Vec::new(alloc))?;
     }
     Ok(crews)
 }
@@ -108,18 +102,14 @@ pub(crate) fn staff<J: Run, B: Boards, C: Clock>(
 {
     let platform = site.platform().number();
     for k in 0..crews.len() {
-        let Ok(board) = Arc::try_clone(site.board()) else {
-            return Err(Memory);
-        };
+        let board = Arc::try_clone(site.board())?;
         let helper = Helper::new(board, site.hand(), platform);
-        if crews[k].push(helper).is_err() {
-            return Err(Memory);
-        }
+        crews[k].push(helper)?;
     }
     Ok(())
 }
 
-/// Takes the last hand of each crew back, where it is of this site's board.
+/// Removes the last hand of each crew, and gives it back to the board of this site if it belongs there.
 pub(crate) fn dismiss<J: Run, B: Boards, C: Clock>(
     site: &mut Site<J, B, C>,
     crews: &mut [Vec<Helper<J, B>>],

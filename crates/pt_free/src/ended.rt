@@ -1,4 +1,4 @@
-//! A threaded run: the workers visit the stations, and then the caller visits them to the end.
+//! A threaded run: the workers visit the stations, and then the caller visits them until the run is over.
 ghost use Rattle.pt_pool.specs.Station.{plan_graph};
 ghost use Rattle.std.specs.Prelude.{◌≡◌, ◌≤◌, Ok, None, length, vec_len, IfOk, IfSome, OnOk, false};
 ghost use Rattle.pt_free.specs.Helpers.{AreBoards};
@@ -31,7 +31,7 @@ pub struct Ended<J: Run, C: Clock> {
     pub fault: Option<usize>,
 }
 
-/// How far all stations are.
+/// How far the run is, from a look at all stations.
 pub enum Survey {
     Going,
     Over,
@@ -39,7 +39,7 @@ pub enum Survey {
     Marked,
 }
 
-/// Whether a visit of one of them gave up for want of memory.
+/// Whether a visit of one of the stations gave up because memory ran out.
 fn any_marked<J: Run, C: Clock>(stations: &Vec<Station<J, C>>) -> bool
     ensures { result ≡ false → AreUnmarked stations.now.items }
 {
@@ -52,7 +52,7 @@ fn any_marked<J: Run, C: Clock>(stations: &Vec<Station<J, C>>) -> bool
     false
 }
 
-/// Looks for marks in all stations first, so that a fault is named only where the turns of every platform are known.
+/// Surveys all stations. It looks for marks first, so that a fault is named only if no visit of any station gave up.
 fn look_over<J: Run, C: Clock>(stations: &Vec<Station<J, C>>) -> Survey
     ensures { Surveyed result stations.now.items }
 {
@@ -73,6 +73,7 @@ fn look_over<J: Run, C: Clock>(stations: &Vec<Station<J, C>>) -> Survey
     if over { Survey::Over } else { Survey::Going }
 }
 
+/// Visits each station once.
 fn visit_each<J: Run, C: Clock, R: Wait>(
     rt: &R,
     alloc: Global,
@@ -158,6 +159,7 @@ fn finish<J: Run, C: Clock, R: Wait>(
     unreachable!()
 }
 
+/// The run, with `L` as the name of its ledger and `B` as that of its boards.
 fn free_in<
     J: Run + Send + Sync,
     L: Ledger + Send + Sync,
@@ -211,10 +213,12 @@ fn free_in<
     Ok(Ended { stations, fault })
 }
 
-/// Runs the stations of all platforms of a plan by `workers` threads: each visits the stations one after another, each under
-/// its lock. What a visit claims goes onto the station's board, from which each worker takes a task after its visits and fires it
-/// without a lock. A platform claims at most `most` units at a visit. After the workers the caller
-/// visits all stations until all are finished or one has a fault: the first that has one is named. Every visit had its memory.
+/// Runs the stations of all platforms of a plan with `workers` threads. Each thread visits the stations one after another, each
+/// under its lock. The tasks that a visit claims are placed on the station's board, from which workers take tasks after their
+/// visits and fire them without a lock. A platform claims at most `most` units at a visit.
+///
+/// Once the workers have ended, the caller visits all stations until all are finished or one has a fault: the first station that
+/// has one is named. If the result is `Ok`, no visit ran out of memory.
 ///
 /// If the readings of a clock stop rising, the run may go on forever. If memory runs out, the stations are lost.
 pub fn free<J: Run + Send + Sync, C: Clock + Send, G: Gate + Sync, R: Threads + Wait + Sync>(

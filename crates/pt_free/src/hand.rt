@@ -1,4 +1,4 @@
-//! What fires the tasks of a run.
+//! Fires the tasks of a run.
 
 ghost use Rattle.pt_pool.specs.Station.{plan_graph};
 ghost use Rattle.std.specs.Prelude.{◌≡◌, Some};
@@ -14,7 +14,7 @@ use pt_visits::fire_one;
 use std::marker::PhantomData;
 use std::sync::Arc;
 
-/// The plan of a run. Any worker fires tasks with it, without a lock.
+/// The plan of a run, by which any worker fires tasks without a lock.
 #[derive(Drop)]
 pub struct Hand<J: Run> {
     plan: Arc<Plan>,

@@ -14,7 +14,7 @@ use pt_sites::Boards;
 use std::marker::{Model, PhantomData};
 use std::sync::Arc;
 
-/// A worker's hand at the board of one platform, between two tickets. Contracts see the platform's number.
+/// A worker's hand at the board of one platform. It holds no ticket between calls. Contracts see the platform's number.
 #[derive(Drop)]
 pub(crate) struct Helper<J: Run, B: Boards> {
     board: Arc<Board>,
@@ -38,7 +38,7 @@ impl<J: Run, B: Boards> Model for Helper<J, B> {
 }
 
 impl<J: Run, B: Boards> Helper<J, B> {
-    /// For a hand of this board that holds no ticket.
+    /// From a hand of this board that holds no ticket.
     pub(crate) fn new(board: Arc<Board>, hand: BoardHand, platform: u32) -> Helper<J, B>
         requires table { (hand.table ≡ (arc_value board).table) × (hand.table ≡ B.table platform) }
         requires graph { hand.knows.graph ≡ Some (plan_graph J.plan) }
@@ -54,7 +54,7 @@ impl<J: Run, B: Boards> Helper<J, B> {
         }
     }
 
-    /// Its platform's number.
+    /// The number of its platform.
     pub(crate) fn platform(&self) -> u32
         ensures { result ≡ self.now }
     {

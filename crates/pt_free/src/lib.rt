@@ -1,4 +1,5 @@
-//! The threaded engine: workers visit the stations under locks, and after them the caller visits all stations to the end.
+//! The threaded engine: workers visit the stations under locks. Once they have ended, the caller visits all stations until the
+//! run is over.
 //!
 //! Read first: `free`, then `specs/Orders.antt`.
 #![tactic(auto)]

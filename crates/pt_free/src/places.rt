@@ -1,4 +1,4 @@
-//! Places for things with a number.
+//! Numbered places, one for each thing with a number.
 
 ghost use Rattle.std.specs.Prelude.{◌≡◌, vec_len, IfOk};
 
@@ -9,9 +9,7 @@ use std::alloc::Global;
 pub fn empty_places<T: Drop>(alloc: Global, count: usize) -> Result<Vec<Option<T>>, Memory>
     ensures { IfOk result (λ v. vec_len v ≡ count) }
 {
-    let Ok(mut places) = Vec::with_capacity(alloc, count) else {
-        return Err(Memory);
-    };
+    let mut places = Vec::with_capacity(alloc, count)?;
     for _k in 0..count {
         places.push_reserved(None);
     }

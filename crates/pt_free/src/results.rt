@@ -9,7 +9,7 @@ use pt_pool::Run;
 use std::alloc::Global;
 use std::marker::{Model, PhantomData};
 
-/// Results, each of which is what the kind of its task's actor gives. Contracts see them as a list.
+/// Results, each of which is what the kind of its task's actor computes. Contracts see them as a list.
 #[derive(Drop)]
 pub(crate) struct Results<J: Run> {
     items: Vec<Done>,
@@ -30,7 +30,7 @@ impl<J: Run> Model for Results<J> {
 }
 
 impl<J: Run> Results<J> {
-    /// None. No memory is taken.
+    /// An empty list. Allocates nothing.
     pub(crate) fn new(alloc: Global) -> Results<J> {
         Results {
             items: Vec::new(alloc),
@@ -48,7 +48,7 @@ impl<J: Run> Results<J> {
         }
     }
 
-    /// All of them.
+    /// All results, in the order in which they were added.
     pub(crate) fn as_slice(&self) -> &[Done]
         ensures { AreDone (plan_graph J.plan) result.now }
     {

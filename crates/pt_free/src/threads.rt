@@ -7,21 +7,21 @@ use std::sync::Wait;
 use std::thread;
 use std::thread::Threads;
 
-/// Is called between the claim and the firing of each task, while no lock is held.
+/// What a run calls between the claim and the firing of each task, while no lock is held.
 pub trait Gate {
     fn at(&self, platform: u32, task: &Task);
 }
 
-/// Does nothing.
+/// A gate that does nothing.
 pub struct Open;
 
 impl Gate for Open {
     fn at(&self, _platform: u32, _task: &Task) {}
 }
 
-/// The stations of a run, which any thread may work on.
+/// The work of a run, which several threads share.
 pub(crate) trait Rota: Sync {
-    /// Does one worker's part of the run, from station `first` on.
+    /// Does one worker's part of the run. `first` is the worker's number, from 0, and gives the station at which it begins.
     fn work<G: Gate, R: Wait>(
         &self,
         rt: &R,
@@ -34,7 +34,7 @@ pub(crate) trait Rota: Sync {
 
 /// Starts the workers and waits for them. If a thread can't be started, the caller does its part.
 ///
-/// The stations are behind a type parameter: that they may be shared follows from its bound.
+/// The stations are passed as a type parameter, since its bound `Rota` says that threads may share them.
 pub(crate) fn run_workers<S: Rota, G: Gate + Sync, R: Threads + Wait + Sync>(
     rt: &R,
     alloc: Global,

@@ -1,4 +1,4 @@
-//! Workers over locked sites.
+//! The workers, and the sites under their locks.
 ghost use Rattle.pt_pool.specs.Station.{plan_graph};
 ghost use Rattle.std.specs.Prelude.{◌≡◌, ◌+◌, ◌^◌, ◌<◌, ◌≤◌, ℕ, length, vec_len, IfOk};
 ghost use Rattle.pt_post.specs.Posted.{IsDone};
@@ -50,7 +50,7 @@ impl Went {
     }
 }
 
-/// When the workers end. Nothing rests on it.
+/// By these the workers know when to end. No contract depends on them.
 #[derive(Drop)]
 pub(crate) struct Signs {
     unfinished: AtomicU64,
@@ -73,13 +73,13 @@ impl Signs {
     }
 }
 
-/// Whether nothing happened in the last turn of a platform.
+/// Whether the platform made a turn and nothing happened in its last one.
 fn was_quiet(platform: &Platform) -> bool {
     let history = platform.history();
     history.turns() != 0 && history.was_quiet()
 }
 
-/// One visit of a site. `tasks` gets the tasks that found no free slot on the board.
+/// Visits a site once. Tasks for which no slot on the board is free are added to `tasks`.
 fn visit_site<J: Run, B: Boards, C: Clock, R: Wait>(
     rt: &R,
     alloc: Global,
@@ -110,7 +110,7 @@ fn visit_site<J: Run, B: Boards, C: Clock, R: Wait>(
 }
 
 impl<J: Run, L: Ledger, B: Boards, C: Clock> Bay<J, L, B, C> {
-    /// One visit. `tasks` gets the tasks that found no free slot on the board.
+    /// Visits its site once. Tasks for which no slot on the board is free are added to `tasks`.
     fn visit<R: Wait>(
         &mut self,
         rt: &R,
@@ -131,7 +131,7 @@ impl<J: Run, L: Ledger, B: Boards, C: Clock> Bay<J, L, B, C> {
     }
 }
 
-/// One visit under the lock.
+/// Visits a site once, under its lock.
 fn visit_at<J: Run, L: Ledger, B: Boards, C: Clock, R: Wait>(
     rt: &R,
     alloc: Global,
@@ -144,7 +144,7 @@ fn visit_at<J: Run, L: Ledger, B: Boards, C: Clock, R: Wait>(
     bay.lock(rt).visit(rt, alloc, most, tasks)
 }
 
-/// A result goes back to the platform that claimed the task.
+/// Keeps a result, under the lock, for the platform that claimed its task. `false` if memory ran out.
 fn keep_at<J: Run, L: Ledger, B: Boards, C: Clock, R: Wait>(
     rt: &R,
     bay: &Mutex<Bay<J, L, B, C>>,
@@ -155,24 +155,24 @@ fn keep_at<J: Run, L: Ledger, B: Boards, C: Clock, R: Wait>(
     bay.lock(rt).keep(done)
 }
 
-/// The hands of one worker, by the order of the sites.
+/// The hands of one worker, one for each site.
 type Crew<J, B> = Vec<Helper<J, B>>;
 
-/// What all workers share: the sites under their locks, what fires their tasks, and each worker's hands.
+/// What all workers share: the sites under their locks, the hand that fires their tasks, and each worker's hands at the boards.
 #[derive(Drop)]
 pub(crate) struct Shared<J: Run, L: Ledger, B: Boards, C: Clock> {
     pub(crate) hand: Hand<J>,
     pub(crate) bays: Vec<Mutex<Bay<J, L, B, C>>>,
     pub(crate) crews: Vec<Mutex<Crew<J, B>>>,
     pub(crate) signs: Signs,
-    /// How many units a platform claims at most at a visit.
+    /// The greatest number of units that a platform claims at a visit.
     pub(crate) most: usize,
     ghost some: { 1 ≤ most },
     ghost few: { most ≤ 32 },
 }
 
 impl<J: Run, L: Ledger, B: Boards, C: Clock> Shared<J, L, B, C> {
-    /// No worker has begun.
+    /// The state before any worker begins.
     pub(crate) fn new(
         hand: Hand<J>,
         bays: Vec<Mutex<Bay<J, L, B, C>>>,
@@ -196,7 +196,7 @@ impl<J: Run, L: Ledger, B: Boards, C: Clock> Shared<J, L, B, C> {
     }
 }
 
-/// Takes the tickets of a board one after another, until no task is found ready. Says whether there was one.
+/// Claims and fires the tasks of a board one after another, until no task is found ready. Returns whether there was one.
 fn serve_all<J: Run, B: Boards, G: Gate, R: Wait>(
     rt: &R,
     helper: &mut Helper<J, B>,
@@ -214,7 +214,7 @@ fn serve_all<J: Run, B: Boards, G: Gate, R: Wait>(
     some
 }
 
-/// Fires the tasks that found no free slot on the board of a site.
+/// Fires the tasks of a site for which no slot on its board was free.
 fn fire_left<J: Run, L: Ledger, B: Boards, C: Clock, G: Gate, R: Wait>(
     rt: &R,
     shared: &Shared<J, L, B, C>,
@@ -232,7 +232,7 @@ fn fire_left<J: Run, L: Ledger, B: Boards, C: Clock, G: Gate, R: Wait>(
     }
 }
 
-/// Visits a site, and then, with the lock released, fires the tasks that lie ready on its board. Says whether nothing happened.
+/// Visits a site, and then, with the lock released, fires the tasks that are ready on its board. Returns whether nothing happened.
 fn visit_and_fire<J: Run, L: Ledger, B: Boards, C: Clock, G: Gate, R: Wait>(
     rt: &R,
     alloc: Global,
@@ -255,7 +255,7 @@ fn visit_and_fire<J: Run, L: Ledger, B: Boards, C: Clock, G: Gate, R: Wait>(
     quiet && !served
 }
 
-/// The place after this one, from 0 on again after the last.
+/// The place after this one; after the last one it is 0.
 fn next_place(at: usize, count: usize) -> usize
     requires { at < count }
     ensures { result < count }
@@ -263,7 +263,7 @@ fn next_place(at: usize, count: usize) -> usize
     if at + 1 < count { at + 1 } else { 0 }
 }
 
-/// Visits the sites one after another, and fires tasks of each. After a round in which nothing happened it lets other threads run.
+/// Visits the sites one after another, and fires tasks of each. After a round in which nothing happened it yields to other threads.
 fn work<J: Run, L: Ledger, B: Boards, C: Clock, G: Gate, R: Wait>(
     rt: &R,
     alloc: Global,
@@ -322,8 +322,8 @@ fn power(n: u32) -> u64
     1u64 << n
 }
 
-/// Puts each station, with its board, under a lock, beside a share of one part whose amount is 2 to the power of its number.
-/// Each crew gets a hand at each board.
+/// Puts each station under a lock, with its board and a share of the ledger. The share has one part, and its amount is 2 to the
+/// power of the station's number. Each crew gets a hand at each board.
 pub(crate) fn lock_all<J: Run, L: Ledger, B: Boards, C: Clock>(
     alloc: Global,
     blank: Blank,
@@ -341,9 +341,7 @@ pub(crate) fn lock_all<J: Run, L: Ledger, B: Boards, C: Clock>(
     ensures rest { IfOk result (λ r. (r.2.parts ≡ 0) × (r.2.amount ≡ 0)) }
 {
     let (mut book, mut rest) = blank.open::<L>();
-    let Ok(mut bays) = Vec::with_capacity(alloc, stations.len()) else {
-        return Err(Memory);
-    };
+    let mut bays = Vec::with_capacity(alloc, stations.len())?;
     while let Some(station) = stations.pop() {
         let Some(board) = boards.pop() else {
             unreachable!()
@@ -358,38 +356,32 @@ pub(crate) fn lock_all<J: Run, L: Ledger, B: Boards, C: Clock>(
     Ok((bays, book.close(), rest))
 }
 
-/// Puts each crew under a lock, its hands in the order of the sites.
+/// Puts each crew under a lock, with its hands in the order of the sites.
 pub(crate) fn lock_crews<J: Run, B: Boards>(
     alloc: Global,
     mut crews: Vec<Crew<J, B>>,
 ) -> Result<Vec<Mutex<Crew<J, B>>>, Memory> {
-    let Ok(mut locked) = Vec::with_capacity(alloc, crews.len()) else {
-        return Err(Memory);
-    };
+    let mut locked = Vec::with_capacity(alloc, crews.len())?;
     while let Some(mut crew) = crews.pop() {
         crew.as_mut_slice().reverse();
-        if locked.push(Mutex::new(crew)).is_err() {
-            return Err(Memory);
-        }
+        locked.push(Mutex::new(crew))?;
     }
     Ok(locked)
 }
 
-/// Takes each crew out from under its lock.
+/// Takes each crew out of its lock.
 fn unlock_crews<J: Run, B: Boards>(
     alloc: Global,
     mut locked: Vec<Mutex<Crew<J, B>>>,
 ) -> Result<Vec<Crew<J, B>>, Memory> {
     let mut crews = Vec::new(alloc);
     while let Some(crew) = locked.pop() {
-        if crews.push(crew.into_inner()).is_err() {
-            return Err(Memory);
-        }
+        crews.push(crew.into_inner())?;
     }
     Ok(crews)
 }
 
-/// Takes each station out from under its lock; the hands go back to their boards. The powers of the stations add up to the
+/// Takes each station out of its lock, and gives the hands back to their boards. The stations' powers of two add up to the
 /// ledger's total.
 pub(crate) fn unlock_all<J: Run, L: Ledger, B: Boards, C: Clock>(
     alloc: Global,
@@ -404,9 +396,7 @@ pub(crate) fn unlock_all<J: Run, L: Ledger, B: Boards, C: Clock>(
     ensures weight { IfOk result (λ v. order_weight (numbers v.items) ≡ total.now.amount) }
 {
     let mut crews = unlock_crews(alloc, crews)?;
-    let Ok(mut stations) = Vec::with_capacity(alloc, bays.len()) else {
-        return Err(Memory);
-    };
+    let mut stations = Vec::with_capacity(alloc, bays.len())?;
     while let Some(bay) = bays.pop() {
         let Bay { mut site, share } = bay.into_inner();
         dismiss(&mut site, crews.as_mut_slice());

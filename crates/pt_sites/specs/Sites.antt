@@ -20,7 +20,7 @@ pub record SiteView : Type 0 where
   pub results : List Done
 
 -- the keeper is that of the platform's board in this run, its tasks are of the run's graph, it placed no more tasks than the
--- platform claimed, and each waiting result is what the kind of its task's actor gives
+-- platform claimed, and each waiting result is what the kind of its task's actor computes
 pub record IsSite (plan : Option Parts) (table : ℕ → TableId) (board : BoardView) (station : StationView) (keeper : KeeperView) (results : List Done) : Type 0 where
   pub of_board : keeper.table ≡ board.table
   pub named : keeper.table ≡ table station.platform.number
@@ -33,7 +33,7 @@ abbrev pub Collects : KeeperView → List Done → KeeperView → Type 0
 Collects old [] new = new ≡ old
 Collects old (d ∷ ds) new = (mid : KeeperView) × HasCollected old mid d × Collects mid ds new
 
--- these results were collected: 32, or all until none was found done
+-- these results were collected: 32, or fewer, and then none was found done
 pub record HaveCollected (old new : KeeperView) (results : List Done) : Type 0 where
   pub after : KeeperView
   pub each : Collects old results after
@@ -43,7 +43,7 @@ pub record HaveCollected (old new : KeeperView) (results : List Done) : Type 0 w
 abbrev pub IsOut : KeeperView → Task → Type 0
 IsOut v task = (slot number : ℕ) × (slot < 32) × (out_at slot v.knows ≡ Some (number, task))
 
--- the first of these tasks, in order, are each out in a slot, and the others were left; tasks were left only where each slot is out
+-- the first of these tasks, in order, are each out in a slot, and the others were left; tasks were left only if no slot is free
 pub record HavePlaced (tasks : List Task) (old new : KeeperView) (handed now : List Task) : Type 0 where
   pub out : List Task
   pub left : List Task
@@ -68,7 +68,7 @@ pub record SiteVisited (result : Result (Unit {0}) VisitFault) (most : ℕ) (g :
   pub placed : HavePlaced claimed mid now handed left
   pub none : waits ≡ []
 
--- memory ran out: the station's visit was refused, and what was collected waits
+-- memory ran out: the station made no turn, and what was collected waits for the next visit
 pub record SiteRefused (g : Graph) (old new : StationView) (was now : KeeperView) (kept waits : List Done) (handed left : List Task) : Type 0 where
   pub collected : List Done
   pub got : HaveCollected was now collected ⊎ ((now ≡ was) × (collected ≡ []))

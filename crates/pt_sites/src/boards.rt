@@ -2,7 +2,7 @@
 
 use std::marker::Brand;
 
-/// The boards of one run, by the numbers of the platforms. It has no functions.
+/// Names the board of each platform in one run, by the platform's number. It has no functions: only contracts speak of it.
 pub trait Boards {
     ghost use Rattle.std.specs.Prelude.{ℕ};
     ghost use Rattle.atomic_table.specs.Seated.{TableId};

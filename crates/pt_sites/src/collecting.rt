@@ -1,4 +1,4 @@
-//! Results that lie on a board.
+//! Collects results from a board.
 
 ghost use Rattle.std.specs.Prelude.{◌≡◌, ◌+◌, ◌≤◌, ◌++◌, List, vec_len, vec_capacity};
 ghost use Rattle.pt_types.specs.declared.firing.Done.{Done as Whole};
@@ -7,7 +7,7 @@ ghost use Rattle.pt_sites.specs.Sites.{HaveCollected};
 use pt_actors::Done;
 use pt_board::{Board, Keeper};
 
-/// The most results that are collected in one visit: the slots of a board.
+/// The greatest number of results that one visit collects: a board has 32 slots.
 pub(crate) const MOST: usize = 32;
 
 /// Collects results until none is found done, or 32 were collected.

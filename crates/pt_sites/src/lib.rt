@@ -1,6 +1,6 @@
-//! Sites: a station with the board over which its tasks go to other threads.
+//! Sites: a station with a board, through which its tasks go to other threads.
 //!
-//! A visit collects the results that lie on the board, visits the station with them, and places the tasks that were claimed.
+//! A visit collects results from the board, visits the station with them, and places the tasks that it claimed on the board.
 //!
 //! Read first: `Site`, then `specs/Sites.antt`.
 #![tactic(auto)]

@@ -1,4 +1,4 @@
-//! Tasks that go onto a board.
+//! Places tasks on a board.
 
 ghost use Rattle.std.specs.Prelude.{◌≡◌, ◌+◌, ◌≤◌, ◌^◌, length};
 ghost use Rattle.pt_sites.specs.Sites.{HavePlaced};
@@ -7,7 +7,7 @@ use pt_actors::Tasks;
 use pt_board::{Board, Keeper};
 use pt_types::Task;
 
-/// Places tasks into free slots. Those that find no free slot are added to `left`.
+/// Places tasks into free slots, in order. Those for which no slot is free are added to `left`.
 pub(crate) fn place_all(board: &Board, keeper: &mut Keeper, tasks: &[Task], left: &mut Tasks)
     requires table { keeper.old.table ≡ board.now.table }
     requires numbers { keeper.old.next + length tasks.now ≤ 2 ^ 62 }

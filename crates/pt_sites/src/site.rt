@@ -43,7 +43,7 @@ impl<J: Run, B: Boards, C: Clock> Model for Site<J, B, C> {
 }
 
 impl<J: Run, B: Boards, C: Clock> Site<J, B, C> {
-    /// A station with its board, on which nothing was placed. No memory is taken.
+    /// A station with its board, on which nothing was placed yet. Allocates nothing.
     pub fn new(
         alloc: Global,
         station: Station<J, C>,
@@ -65,7 +65,7 @@ impl<J: Run, B: Boards, C: Clock> Site<J, B, C> {
         }
     }
 
-    /// Its station's platform.
+    /// The platform of its station.
     pub fn platform(&self) -> &Platform
         ensures platform { result.now ≡ self.now.station.platform }
         ensures below { result.now.number < length (plan_graph J.plan).platforms }
@@ -74,14 +74,14 @@ impl<J: Run, B: Boards, C: Clock> Site<J, B, C> {
         self.station.platform()
     }
 
-    /// Whether a visit gave up for want of memory.
+    /// Whether a visit gave up because memory ran out.
     pub fn marked(&self) -> bool
         ensures { result ≡ self.now.station.marked }
     {
         self.station.marked()
     }
 
-    /// The board that other threads share.
+    /// Its board, which other threads share.
     pub fn board(&self) -> &Arc<Board>
         ensures { (arc_value result.now).table ≡ B.table self.now.station.platform.number }
     {
@@ -113,15 +113,13 @@ impl<J: Run, B: Boards, C: Clock> Site<J, B, C> {
         ensures kept { OnOk result (self.new ≡ record self.old { results = self.old.results ++ done ∷ [] }) }
         ensures unchanged { OnErr result (self.new ≡ self.old) }
     {
-        match self.results.push(done) {
-            Ok(()) => Ok(()),
-            Err(_) => Err(Memory),
-        }
+        self.results.push(done)?;
+        Ok(())
     }
 
-    /// One visit: collects results from the board until none is found done, or 32 were collected; visits the station with those
-    /// that were kept, and then the collected ones; and places the tasks that it claimed on the board. `tasks` gets those that
-    /// found no free slot.
+    /// Visits the station once, in three steps: collects results from the board until none is found done or 32 were collected;
+    /// visits the station with the results that were kept before and then these; and places the tasks that it claimed on the
+    /// board. Tasks for which no slot is free are added to `tasks`.
     ///
     /// If memory runs out, no turn is made, the station is marked, and what was collected is kept for the next visit.
     pub fn visit<R: Wait>(
@@ -149,7 +147,7 @@ impl<J: Run, B: Boards, C: Clock> Site<J, B, C> {
         )
     }
 
-    /// Its station alone. What lies on the board is lost.
+    /// Its station, without the board. Tasks and results that are still on the board are lost.
     pub fn into_station(self) -> Station<J, C>
         ensures { result ≡ self.station }
     {

@@ -1,4 +1,4 @@
-//! A visit of a station, over the keeper of its board.
+//! A visit of a station and its board.
 
 ghost use Rattle.std.specs.Prelude.{◌≡◌, ◌+◌, ◌≤◌, ◌++◌, None, Some, OnErr, OnOk, vec_len, vec_capacity};
 ghost use Rattle.pt_post.specs.Posted.{AreDone};
@@ -15,19 +15,17 @@ use pt_tags::Memory;
 use std::alloc::Global;
 use std::sync::Wait;
 
-/// Makes room for 32 results, and for `most` tasks that find no free slot.
+/// Reserves memory for 32 results, and for `most` tasks in case no slot is free.
 fn make_room(results: &mut Vec<Done>, tasks: &mut Tasks, most: usize) -> Result<(), Memory>
     ensures results { (results.new.items ≡ results.old.items) × (vec_len results.new ≡ vec_len results.old) }
     ensures tasks { tasks.new.tasks ≡ tasks.old.tasks }
     ensures room { OnOk result ((vec_len results.new + 32 ≤ vec_capacity results.new) × (most ≤ tasks.new.spare)) }
 {
-    if results.reserve(MOST).is_err() {
-        return Err(Memory);
-    }
+    results.reserve(MOST)?;
     tasks.reserve(most)
 }
 
-/// Visits a station with the results that wait and those that lie on the board, and places what it claimed.
+/// Visits a station with the results that wait and those that are collected from the board, and places what it claimed.
 pub(crate) fn visit_over<J: Run, C: Clock, R: Wait>(
     rt: &R,
     alloc: Global,

@@ -56,7 +56,7 @@ some_at : {A : Type 0} (xs : List A) (k : ℕ) → k < length xs → (x : A) × 
 some_at [] k lt = absurd (omega (arith, lt))
 some_at (x ∷ xs) k lt = (get_or (x ∷ xs) k x, get_here (x ∷ xs) k x lt)
 
--- a value for what is there, and none for what is not
+-- the value of what is there, and none if there is nothing
 abbrev chosen : {X Y : Type 0} (P : X → List Y → Type 0) (o : Option X) → ((x : X) → o ≡ Some x → (ys : List Y) × P x ys) → List Y
 chosen P None f = []
 chosen P (Some x) f = (f x refl).0
@@ -68,7 +68,7 @@ chosen_is P None f x e = absurd (none_some x e)
     none_some x e = cc
 chosen_is P (Some y) f x e = subst (λ z. P z (f y refl).0) (same_some y x e) (f y refl).1
 
--- what clocks told, from their views
+-- the readings that clocks gave, from their views
 pub told_at : {X : Type 0} (told : X → Option (List ℕ)) (ahead : X → Option (ℕ → ℕ)) (xs : List X) (stations : List StationView) → map told xs ≡ map told_of_station stations → (i : ℕ) (n : ClockView) → slice_get (tell told ahead xs) i ≡ Some n → slice_get (map told_of_station stations) i ≡ Some n.told
 told_at told ahead xs stations same i n at =
     let p = got_map (λ x. record { told = told x; ahead = ahead x }) xs i n at in
@@ -189,7 +189,7 @@ module _ (plan : Parts) (whole : Option Parts) (own_rows : ℕ → List Row) (li
         (subst (λ (n : ℕ). IsLegal plan.graph (level_of plan.ranks) n (rows_at v) v.turns (state_at v)) (number_is i v at)
         (subst (λ (p : Parts). IsLegal p.graph (level_of p.ranks) v.number (rows_at v) v.turns (state_at v)) (plan_is i v at) (legal i v at)))
 
-    -- where all are finished, all that was sent was taken
+    -- if all are finished, all that was sent was taken
     linked : AllDone stations → AreLinked plan.graph (histories_of platforms)
     linked done = linked_if_finished plan.graph (level_of plan.ranks) rows (histories_of platforms) (state_of rows) is_wired admitted.levels ready.fit
         (λ i lt. let v = there i lt in

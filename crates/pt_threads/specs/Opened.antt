@@ -32,6 +32,6 @@ pub record AreOwners (g : Graph) (side : Graph → Link → ℕ) (n : ℕ) (owne
 abbrev pub AreNamedBy : (ℕ → LinkId) → List (Option SentBy) → Type 0
 AreNamedBy link outs = (l : ℕ) (o : SentBy) → slice_get outs l ≡ Some (Some o) → o.link ≡ link l
 
--- each clock has told these readings, and has these fixed ahead
+-- each clock has given these readings, and has these fixed ahead
 abbrev pub AreBegun : (ℕ → Option (List ℕ)) → (ℕ → Option (ℕ → ℕ)) → List ClockView → Type 0
 AreBegun began fixed clocks = (i : ℕ) (c : ClockView) → slice_get clocks i ≡ Some c → (began i ≡ c.told) × (fixed i ≡ c.ahead)

@@ -14,7 +14,7 @@ abbrev pub IsReportedFault : PlatformView → Option (ℕ × TurnFault) → Type
 IsReportedFault v None = v.fault ≡ None
 IsReportedFault v (Some f) = (f.0 ≡ v.number) × (v.fault ≡ Some f.1) × Shows v.plan.graph v.turns (state_at v) f.1
 
--- the fault of the platform in this place; none where there is no place
+-- the fault of the platform in this place; none if there is no place
 abbrev pub IsReported : List PlatformView → Option ℕ → Option (ℕ × TurnFault) → Type 0
 IsReported platforms None fault = fault ≡ None
 IsReported platforms (Some i) fault = (v : PlatformView) × (slice_get platforms i ≡ Some v) × IsReportedFault v fault

@@ -26,7 +26,7 @@ use std::marker::Brand;
 use std::sync::{Arc, Wait};
 use std::thread::Threads;
 
-/// The run, once it is named: its links are open, and its clocks have not been read yet.
+/// The run that `J` names: its links are open, and its clocks have not been read yet.
 fn run_named<J: Run + Send + Sync, C: Clock + Send, G: Gate + Sync, R: Threads + Wait + Sync>(
     rt: &R,
     alloc: Global,
@@ -50,9 +50,7 @@ fn run_named<J: Run + Send + Sync, C: Clock + Send, G: Gate + Sync, R: Threads +
     ensures ran { IfOk result (λ e. (p : Parts) (rows : ℕ → List Row) → AreReady p rows platforms.items →
         HaveGone p rows (tell C.told C.ahead clocks.items) (tell C.told C.ahead e.clocks.items) e.platforms.items e.fault) }
 {
-    let Ok(shared) = Arc::try_clone(&plan) else {
-        return Err(Memory);
-    };
+    let shared = Arc::try_clone(&plan)?;
     let stations = make_stations::<J, C>(alloc, &plan, platforms, clocks, ends)?;
     let pt_free::Ended {
         stations,
@@ -81,7 +79,7 @@ fn run_named<J: Run + Send + Sync, C: Clock + Send, G: Gate + Sync, R: Threads +
 /// them, in any order. A platform claims at most `most` units at a visit. The gate is called between the claim and the firing
 /// of each task.
 ///
-/// Without a fault all are finished; else the first platform that has one is named.
+/// If no fault is returned, all platforms are finished; otherwise the first platform that has a fault is named, with the fault.
 ///
 /// If the readings of a clock stop rising, the run may go on forever. If memory runs out, platforms and clocks are lost.
 pub fn threaded<C: Clock + Send, G: Gate + Sync, R: Threads + Wait + Sync>(
@@ -101,9 +99,7 @@ pub fn threaded<C: Clock + Send, G: Gate + Sync, R: Threads + Wait + Sync>(
     ensures ran { IfOk result (λ e. (plan : Parts) (rows : ℕ → List Row) → AreReady plan rows platforms.items →
         HaveGone plan rows (tell C.told C.ahead clocks.items) (tell C.told C.ahead e.clocks.items) e.platforms.items e.fault) }
 {
-    let Ok(plan) = Arc::try_clone(platforms[0].plan()) else {
-        return Err(Memory);
-    };
+    let plan = Arc::try_clone(platforms[0].plan())?;
     let ends = open_links(alloc, &plan)?;
     run_named::<Brand, C, G, R>(
         rt, alloc, plan, platforms, clocks, ends, blocks, workers, most, gate,

@@ -1,5 +1,5 @@
 //! The threaded engine as one call: platforms and clocks become stations with links between them, workers visit the stations,
-//! and afterwards the platforms and clocks come back.
+//! and afterwards the platforms and clocks are returned.
 //!
 //! Read first: `threaded`, then `specs/Opened.antt`.
 #![tactic(auto)]

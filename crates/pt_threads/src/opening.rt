@@ -17,7 +17,7 @@ pub(crate) struct Ends {
     pub(crate) inlets: Vec<Option<Inlet>>,
 }
 
-/// For each link the platform that it leaves, and the one that it reaches.
+/// For each link the number of the platform that it leaves, and of the one that it reaches.
 #[derive(Drop)]
 pub(crate) struct Owners {
     pub(crate) senders: Vec<u32>,
@@ -41,12 +41,8 @@ pub(crate) fn open_links(alloc: Global, plan: &Plan) -> Result<Ends, Memory>
     ensures { IfOk result (λ e. AreOpenEnds plan.now (length plan.now.graph.links) e.outlets.items e.inlets.items) }
 {
     let links = plan.graph().links.as_slice();
-    let (Ok(mut outlets), Ok(mut inlets)) = (
-        Vec::with_capacity(alloc, links.len()),
-        Vec::with_capacity(alloc, links.len()),
-    ) else {
-        return Err(Memory);
-    };
+    let mut outlets = Vec::with_capacity(alloc, links.len())?;
+    let mut inlets = Vec::with_capacity(alloc, links.len())?;
     for l in 0..links.len() {
         let bounds = bounds(plan, &links[l]);
         let (outlet, inlet) = link(alloc, bounds)?;
@@ -62,12 +58,8 @@ pub(crate) fn owners_of(alloc: Global, graph: &Graph) -> Result<Owners, Memory>
     ensures receivers { IfOk result (λ o. AreOwners graph.now receiving_platform (length graph.now.links) o.receivers.items) }
 {
     let links = graph.links.as_slice();
-    let (Ok(mut senders), Ok(mut receivers)) = (
-        Vec::with_capacity(alloc, links.len()),
-        Vec::with_capacity(alloc, links.len()),
-    ) else {
-        return Err(Memory);
-    };
+    let mut senders = Vec::with_capacity(alloc, links.len())?;
+    let mut receivers = Vec::with_capacity(alloc, links.len())?;
     for l in 0..links.len() {
         senders.push_reserved(graph.platform_of(links[l].from));
         receivers.push_reserved(graph.platform_of(links[l].to));

@@ -40,9 +40,7 @@ pub(crate) fn make_stations<J: Run, C: Clock>(
         mut outlets,
         mut inlets,
     } = ends;
-    let Ok(mut stations) = Vec::with_capacity(alloc, platforms.len()) else {
-        return Err(Memory);
-    };
+    let mut stations = Vec::with_capacity(alloc, platforms.len())?;
     while let Some(platform) = platforms.pop() {
         let Some(clock) = clocks.pop() else {
             unreachable!()

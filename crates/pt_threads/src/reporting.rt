@@ -16,7 +16,7 @@ fn fault_of(platform: &Platform) -> Option<(u32, TurnFault)>
     }
 }
 
-/// The fault of the platform in this place, with the platform's number; `None` where there is no place.
+/// The fault of the platform in this place, with the platform's number; `None` if the place is `None`.
 pub(crate) fn fault_at(platforms: &[Platform], place: Option<usize>) -> Option<(u32, TurnFault)>
     requires { IsPlaceBelow (length platforms.now) place }
     ensures { IsReported platforms.now place result }
@@ -27,7 +27,7 @@ pub(crate) fn fault_at(platforms: &[Platform], place: Option<usize>) -> Option<(
     }
 }
 
-/// The recorded turns of each platform are a legal history.
+/// Shows that the recorded turns of each platform are a legal history.
 pub(crate) fn show_histories(platforms: &[Platform])
     ensures { HaveLegalHistories platforms.now }
 {

@@ -10,9 +10,9 @@ pub loop-station-init : goal.loop-station-init
 loop-station-init g c =
     let xs = c.args.stations.items in record {
       count = (c.in_ok-outlets.ensures, c.in_ok-inlets.ensures);
-      room = (omega (arith, c.in-Ok-Ok.ensures.len), omega (arith, c.in-Ok-Ok.ensures'.len));
-      exact = (c.in-Ok-Ok.ensures.exact ∙ c.len.ensures, c.in-Ok-Ok.ensures'.exact ∙ c.len-2.ensures);
-      front = ([], sym (append-nil xs), ap reverse c.in-Ok-Ok.ensures.items, ap (λ z. map g.C.Clock.told (reverse z)) c.in-Ok-Ok.ensures'.items);
+      room = (omega (arith, c.in_ok-platforms.ensures.len), omega (arith, c.in_ok-clocks.ensures.len));
+      exact = (c.in_ok-platforms.ensures.exact ∙ c.len.ensures, c.in_ok-clocks.ensures.exact ∙ c.len-2.ensures);
+      front = ([], sym (append-nil xs), ap reverse c.in_ok-platforms.ensures.items, ap (λ z. map g.C.Clock.told (reverse z)) c.in_ok-clocks.ensures.items);
       sent = λ l link i s at le at_i home. let w = slice_get_within xs i s at_i in absurd (omega (arith, w, le));
       taken = λ l link i s at le at_i home. let w = slice_get_within xs i s at_i in absurd (omega (arith, w, le));
       of_run = λ i s le at_i. let w = slice_get_within xs i s at_i in absurd (omega (arith, w, le));
@@ -77,5 +77,5 @@ loop-station-preserved g c =
 
 pub returns-clause-of_run : goal.returns-clause-of_run
 returns-clause-of_run g c i s le at =
-    let none : length c.loop-station.stations.items ≡ 0 = sym c.loop-station.stations.ok.0 ∙ c.in_default-pop.ensures.cases.0 in
+    let none : length c.loop-station.stations.items ≡ 0 = sym c.loop-station.stations.ok.0 ∙ c.in_default.ensures.cases.0 in
     c.loop-station.invariant.of_run i s (omega (arith, none)) at

@@ -20,5 +20,5 @@ loop-bay-preserved g c =
 pub returns-clause-weight : goal.returns-clause-weight
 returns-clause-weight g c =
     let inv = c.loop-bay.invariant in
-    let none : vec_len c.loop-bay.bays ≡ 0 = c.in_default-pop.ensures.cases.0 in
+    let none : vec_len c.loop-bay.bays ≡ 0 = c.in_default.ensures.cases.0 in
     inv.weight ∙ c.audit.ensures.whole (omega arith)

@@ -18,8 +18,8 @@ loop-platform-init g c = record {
   sending = λ l o at lt. refl;
   taking = λ l o at lt. refl;
   count = (refl, refl);
-  room = (omega (arith, c.in-Ok.ensures.len), c.in-Ok.ensures.exact ∙ c.len.ensures);
-  order = ap (λ (xs : List StationView). count_up (vec_len c.args.platforms) ++ numbers (reverse xs)) c.in-Ok.ensures.items ∙ append-nil (count_up (vec_len c.args.platforms));
+  room = (omega (arith, c.in_ok-stations.ensures.len), c.in_ok-stations.ensures.exact ∙ c.len.ensures);
+  order = ap (λ (xs : List StationView). count_up (vec_len c.args.platforms) ++ numbers (reverse xs)) c.in_ok-stations.ensures.items ∙ append-nil (count_up (vec_len c.args.platforms));
 }
 
 pub collect-requires-clause-full : goal.collect-requires-clause-full
