@@ -65,10 +65,8 @@ pub(crate) fn replay_turn(
     if !is_counted(hints.last, hints.count, history.was_quiet()) {
         return Ok(false);
     }
-    match is_text_of(text, graph, hints, history, block) {
-        Ok(same) => Ok(same),
-        Err(_) => Err(Memory),
-    }
+    let same = is_text_of(text, graph, hints, history, block)?;
+    Ok(same)
 }
 
 /// Whether a turn may have this count: one in which something happened counts once.
