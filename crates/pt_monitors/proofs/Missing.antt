@@ -1,5 +1,5 @@
 -- The list of missed entries has each of them, and nothing else.
-use Rattle.std.proofs.Common.{◌≡◌, ℕ, ℤ, ◌+◌, ◌<◌, ◌++◌, [], append_assoc, List, Option, Some, None, nat_lt, slice_get, refl, sym, ap, subst, ◌∙◌, inl, inr, ⊎_elim, lt-ltb}
+use Rattle.std.proofs.Common.{◌∷◌, length, arith, ◌≡◌, ℕ, ℤ, ◌+◌, ◌<◌, ◌++◌, [], append_assoc, List, Option, Some, None, nat_lt, slice_get, refl, sym, ap, subst, ◌∙◌, inl, inr, ⊎_elim, lt-ltb}
 use Rattle.std.specs.Prelude.{filter_map, option_map, unwrap_or}
 use Rattle.std.proofs.lemmas.Bool.{ltb-true}
 use Rattle.std.proofs.lemmas.List.{append-nil}
@@ -166,6 +166,11 @@ missed_here g (Some turn) sent old mid new was results messages =
     ∙ sym (append_assoc old (filter_map (miss_of_result g turn.last) turn.posted) (filter_map (miss_of_message g turn.last) sent))
     ∙ ap (λ l. l ++ filter_map (miss_of_message g turn.last) sent) (sym (results turn.last refl))
     ∙ sym (messages turn.last refl))
+
+-- a list of no length
+pub empty_list : {X : Type 0} (xs : List X) → length xs ≡ 0 → xs ≡ []
+empty_list [] h = refl
+empty_list (x ∷ xs) h = absurd (omega (arith, h))
 
 -- and if it sent nothing
 pub missed_results_alone : (g : Graph) (o : Option Turn) (sent : List OnLink) (old mid : List Miss) → option_map (λ (turn : Turn). turn.sent) o ≡ Some sent → sent ≡ []

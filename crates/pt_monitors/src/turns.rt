@@ -100,9 +100,7 @@ fn miss_of_result(graph: &Graph, history: &History, turn: usize, mark: Mark) -> 
 {
     let actor = graph.actors.as_slice().get(mark.actor as usize)?;
     match &actor.kind {
-        Kind::Actuator { slack } => {
-            miss_past(history.last(turn), mark.actor, mark.tag, *slack)
-        }
+        Kind::Actuator { slack } => { miss_past(history.last(turn), mark.actor, mark.tag, *slack) }
         _ => None,
     }
 }

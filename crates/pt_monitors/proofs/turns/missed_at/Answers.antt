@@ -1,14 +1,14 @@
-use Rattle.std.proofs.Common.{◌++◌, filter_map, slice_get, sym, ap, ◌∙◌, rules}
+use Rattle.std.proofs.Common.{◌++◌, filter_map, slice_get, sym, ap, ◌∙◌, length, eqb-true}
 use Rattle.std.proofs.lemmas.Result.{on_ok_weaker}
 use Rattle.pt_semantics.proofs.Lookups.{same_some}
 use Rattle.pt_monitors.specs.Misses.{miss_of_message}
-use Rattle.pt_monitors.proofs.Missing.{missed_here, missed_results_alone}
+use Rattle.pt_monitors.proofs.Missing.{empty_list, missed_here, missed_results_alone}
 use Rattle.pt_monitors.proofs.turns.missed_at.Goals as goal
 
-pub returns-then-is_empty : goal.returns-then-is_empty
-returns-then-is_empty c =
+pub returns-then-is_empty-2 : goal.returns-then-is_empty-2
+returns-then-is_empty-2 c =
     missed_results_alone c.args.graph.now (slice_get c.args.history.now.turns c.args.number) c.sent-sent.result.now c.args.misses.now.items c.missed_results.new.misses.items
-    c.sent-sent.ensures (search rules) c.in_ok-missed_results.ensures
+    c.sent-sent.ensures (empty_list c.sent-sent.result.now (eqb-true (length c.sent-sent.result.now) 0 (sym c.is_empty-2.ensures ∙ c.if-is_empty-2.true))) c.in_ok-missed_results.ensures
 
 pub returns : goal.returns
 returns c =
