@@ -55,21 +55,26 @@ use Rattle.pt_blocks.specs.declared.blocks.Named.{Named}
 use Rattle.pt_sensors.specs.Asked.{Contents, Reading}
 use Rattle.pt_sensors.proofs.Asking.{asks_none}
 use Rattle.pt_run.specs.Asks.{AsksOf}
+use Rattle.pt_run.specs.Faults.{fault_of_plan}
 use Rattle.pt_run.specs.Making.{IsMadeRun}
 use Rattle.pt_run.specs.Telling.{Tells}
+use Rattle.pt_causality.specs.declared.cycle.CycleFault.TheVariants as cycle
 use Rattle.pt_offsets.specs.Faults.{CauseOfPlan}
+use Rattle.pt_offsets.specs.declared.fault.OffsetFault.TheVariants as offset
 use Rattle.pt_offsets.specs.declared.fault.PlanFault.{PlanFault}
 use Rattle.pt_offsets.specs.declared.fault.PlanFault.TheVariants as unplanned
 use Rattle.pt_words.specs.Grammar.{make, order_of}
 use Rattle.pt_types.specs.Limits.{most_claims}
 
 -- a made graph has a plan, unless memory runs out
-pub never_refused : (n : ℕ) (f : PlanFault) → CauseOfPlan f (made_graph n) → f ≢ unplanned.Memory → ⊥
-never_refused n (unplanned.Cycle actors) h other = no_cycle n h.first h.edge h.path h.cycle h.free
-never_refused n (unplanned.Infeasible send offset slack) h other =
+pub never_refused : (n : ℕ) (f : PlanFault) → CauseOfPlan f (made_graph n) → fault_of_plan f ≢ fault.Memory → ⊥
+never_refused n (unplanned.Cycle (cycle.Cycle actors)) h other = no_cycle n h.first h.edge h.path h.cycle h.free
+never_refused n (unplanned.Cycle cycle.Memory) h other = other refl
+never_refused n (unplanned.Offset offset.Memory) h other = other refl
+never_refused n (unplanned.Offset (offset.Infeasible send o slack)) h other =
     let late = h.1.infeasible in
     let (s, b, path, feeds, is) = late.offset_is.some in
-    in_time b slack (sum_along path).time offset (feasible n send slack s b path late.sends feeds) is late.late
+    in_time b slack (sum_along path).time o (feasible n send slack s b path late.sends feeds) is late.late
   where
     in_time : (b slack t : ℕ) (o : ℤ) → b + 1 ≤ slack + t → pos b -ℤ pos t ≡ o → pos slack <ℤ (o +ℤ pos 1) → ⊥
     in_time b slack t o le is late = omega (arith, ints)

@@ -5,7 +5,9 @@ use Rattle.pt_io.specs.Causes.{Appends, AppendsPart, Rose}
 use Rattle.pt_types.specs.declared.graph.Graph.{Graph}
 use Rattle.pt_types.specs.declared.rows.Row.{Row}
 use Rattle.pt_history.specs.declared.miss.Miss.{Miss}
+use Rattle.pt_causality.specs.declared.cycle.CycleFault.TheVariants as cycle
 use Rattle.pt_offsets.specs.Faults.{CauseOfPlan}
+use Rattle.pt_offsets.specs.declared.fault.OffsetFault.TheVariants as offset
 use Rattle.pt_offsets.specs.declared.fault.PlanFault.{PlanFault}
 use Rattle.pt_offsets.specs.declared.fault.PlanFault.TheVariants as plan
 use Rattle.pt_offsets.specs.Plans.{IsAdmitted, Parts}
@@ -177,8 +179,10 @@ pub plan_refused : (f : PlanFault) (told : Fault) (g : Graph) (o : Ending) → C
 plan_refused f told g o cause tell is none = (none, told, is, λ r a same out. ⊎_elim (λ (e : told ≡ fault_of_plan f). by_fault f cause a (subst (λ z. RefusedWith z a) e out)) (λ (e : told ≡ fault.Memory). inl (subst (λ z. RefusedWith z a) e out)) tell)
   where
     by_fault : (e : PlanFault) → CauseOfPlan e g → (a : Answer) → RefusedWith (fault_of_plan e) a → UnlessMemory a (λ a. AfterCycles g a (AfterOffsets g a ⊥))
-    by_fault (plan.Cycle actors) k a out = inr (inl (actors, out, k))
-    by_fault (plan.Infeasible send offset slack) k a out = inr (inr (k.0, inl (send, offset, slack, out, k.1)))
+    by_fault (plan.Cycle (cycle.Cycle actors)) k a out = inr (inl (actors, out, k))
+    by_fault (plan.Cycle cycle.Memory) k a out = inl out
+    by_fault (plan.Offset (offset.Infeasible send o slack)) k a out = inr (inr (k.0, inl (send, o, slack, out, k.1)))
+    by_fault (plan.Offset offset.Memory) k a out = inl out
     by_fault plan.Memory k a out = inl out
 
 pub no_plan_memory : (told : Fault) (g : Graph) (o : Ending) → (told ≡ fault.Memory) ⊎ (told ≡ fault.Memory) → o.fault ≡ Some told → left_by o ≡ leaves_nothing → EndsRefused o (λ a. AfterCycles g a (AfterOffsets g a ⊥))

@@ -40,8 +40,8 @@ fault_of_slacks (slack.Ring sends gain) = fault.Ring sends gain
 -- the fault of a call, from that of a graph without a plan
 abbrev pub fault_of_plan : PlanFault → Fault
 fault_of_plan plan.Memory = fault.Memory
-fault_of_plan (plan.Cycle actors) = fault.Cycle actors
-fault_of_plan (plan.Infeasible send o slack) = fault.Infeasible send o slack
+fault_of_plan (plan.Cycle f) = fault_of_cycle f
+fault_of_plan (plan.Offset f) = fault_of_offset f
 
 -- the fault of a call, from that of the sensors' files
 abbrev pub fault_of_rows : RecordedFault → Fault

@@ -186,16 +186,8 @@ pub fn fault_of_plan(fault: PlanFault) -> Fault
 {
     match fault {
         PlanFault::Memory => Fault::Memory,
-        PlanFault::Cycle { actors } => Fault::Cycle(actors),
-        PlanFault::Infeasible {
-            send,
-            offset,
-            slack,
-        } => Fault::Infeasible {
-            send,
-            offset,
-            slack,
-        },
+        PlanFault::Cycle(fault) => fault_of_cycle(fault),
+        PlanFault::Offset(fault) => fault_of_offset(fault),
     }
 }
 

@@ -15,7 +15,7 @@ ghost use Rattle.pt_run.specs.Telling.{Tells};
 ghost use Rattle.pt_run.specs.Texts.{left_by};
 ghost use Rattle.pt_words.specs.Grammar.{make as to_make};
 
-use crate::fault::Fault;
+use crate::fault::{Fault, fault_of_plan};
 use crate::notes::{tell, tell_write};
 use crate::outcome::Ending;
 use crate::output::put_text;
@@ -24,7 +24,7 @@ use pt_confluence::gather;
 use pt_io::Sink;
 use pt_made::{made_graph, made_rows, summary};
 use pt_monitors::missed;
-use pt_offsets::{Plan, PlanFault, Unplanned, plan_of};
+use pt_offsets::{Plan, Unplanned, plan_of};
 use pt_rounds::{Rounds, paced};
 use pt_tags::Memory;
 use pt_turn::{Platform, open_all};
@@ -96,8 +96,8 @@ fn made_plan(alloc: Global, number: u32) -> Result<Plan, Memory>
     let graph = made_graph(alloc, number)?;
     match plan_of(alloc, graph) {
         Ok(plan) => Ok(plan),
-        Err(Unplanned { graph: _, fault }) => match fault {
-            PlanFault::Memory => Err(Memory),
+        Err(Unplanned { graph: _, fault }) => match fault_of_plan(fault) {
+            Fault::Memory => Err(Memory),
             _ => unreachable!(),
         },
     }
