@@ -30,15 +30,11 @@ fn check_text(alloc: Global, graph: &Graph) -> Result<String, Fault>
     requires { IsLawful graph.now }
     ensures { (r : Reading) → AnswersAsDue string_bytes result r (λ a. AfterOffsets graph.now a (OnlyPuts a (IsChecked graph.now))) }
 {
-    let Ok(least) = least_delays(alloc, graph) else {
-        return Err(Fault::Memory);
-    };
+    let least = least_delays(alloc, graph)?;
     let offsets = match offsets_of(alloc, graph, &least) {
         Ok(offsets) => offsets,
         Err(fault) => return Err(fault_of_offset(fault)),
     };
-    match margins(alloc, graph, &offsets) {
-        Ok(text) => Ok(text),
-        Err(_) => Err(Fault::Memory),
-    }
+    let text = margins(alloc, graph, &offsets)?;
+    Ok(text)
 }

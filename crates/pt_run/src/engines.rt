@@ -120,10 +120,8 @@ fn parted<C: Clock>(clocks: Vec<C>, count: usize) -> Result<(Vec<C>, Vec<C>), Me
     ensures { IfOk result (λ parts. (parts.0.items ≡ take count clocks.items) × (parts.1.items ≡ drop count clocks.items)) }
 {
     let mut first = VecDeque::from(clocks);
-    match first.split_off(count) {
-        Ok(others) => Ok((Vec::from(first), Vec::from(others))),
-        Err(_) => Err(Memory),
-    }
+    let others = first.split_off(count)?;
+    Ok((Vec::from(first), Vec::from(others)))
 }
 
 /// Some clocks, with others after them.
@@ -132,8 +130,6 @@ fn joined<C: Clock>(first: Vec<C>, others: Vec<C>) -> Result<Vec<C>, Memory>
 {
     let mut all = first;
     let mut others = others;
-    match all.append(&mut others) {
-        Ok(()) => Ok(all),
-        Err(_) => Err(Memory),
-    }
+    all.append(&mut others)?;
+    Ok(all)
 }

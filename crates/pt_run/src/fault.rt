@@ -11,7 +11,8 @@ use pt_graph::GraphFault;
 use pt_offsets::{OffsetFault, PlanFault};
 use pt_sensors::{RecordedFault, RowFault};
 use pt_slacks::SlackFault;
-use pt_tags::{List, Tag};
+use pt_tags::{List, Memory, Tag};
+use std::alloc::AllocError;
 use thiserror::Error;
 
 /// Why a call did not write its whole answer. Actors are numbered as in the graph, from 0; times are microseconds.
@@ -105,6 +106,28 @@ pub enum Fault {
     /// Memory ran out.
     #[error("memory")]
     Memory,
+}
+
+impl From<AllocError> for Fault {
+    ghost use Rattle.std.specs.Prelude.{◌≡◌};
+    ghost use Rattle.pt_run.specs.declared.fault.Fault.TheVariants as fault;
+
+    ghost from_gives = { λ _ given. given ≡ fault.Memory };
+
+    fn from(_error: AllocError) -> Fault {
+        Fault::Memory
+    }
+}
+
+impl From<Memory> for Fault {
+    ghost use Rattle.std.specs.Prelude.{◌≡◌};
+    ghost use Rattle.pt_run.specs.declared.fault.Fault.TheVariants as fault;
+
+    ghost from_gives = { λ _ given. given ≡ fault.Memory };
+
+    fn from(_error: Memory) -> Fault {
+        Fault::Memory
+    }
 }
 
 /// The status of a fault.

@@ -2,6 +2,7 @@
 
 ghost use Rattle.std.specs.Prelude.{◌≡◌, ◌⊎◌, ◌++◌, [], ◌∷◌, IfOk, None, OnOk, Some, option_map, string_bytes};
 ghost use Rattle.pt_run.specs.declared.fault.Fault.TheVariants.{Memory, Write};
+ghost use Rattle.pt_run.specs.Statuses.{status_of_fault};
 ghost use Rattle.pt_run.specs.Telling.{Tells};
 ghost use Rattle.pt_run.specs.Notes.{actor_name_in, cycle_line, gain_part, infeasible_line, late_air_line, late_row_line, late_message_line, long_line, names_of, note_line, offset_part, past_part, platform_name_in, read_line, ring_line, row_part, sender_name_in, turn_part, unlawful_line, verdict_part};
 
@@ -70,27 +71,9 @@ fn push_line(line: &mut String, fault: &Fault, graph: Option<&Graph>) -> Result<
         } => push_infeasible(line, actor_name(graph, *send), offset, *slack),
         Fault::Ring { sends, gain } => push_ring(line, sends.as_slice(), *gain, graph),
         Fault::Sensor { actor, fault } => sensor_line(line, actor_name(graph, *actor), fault),
-        Fault::LateRow {
-            actor,
-            row,
-            seen,
-            limit,
-        } => push_late(line, actor_name(graph, *actor), *row, *seen, *limit),
-        Fault::LateMessage {
-            platform: _,
-            actor,
-            tag,
-            reading,
-            limit,
-        } => push_late_message(line, actor_name(graph, *actor), tag, *reading, *limit),
-        Fault::LateAir {
-            platform: _,
-            actor,
-            tag,
-            reading,
-            limit,
-            row,
-        } => push_late_air(line, actor_name(graph, *actor), tag, *reading, *limit, *row),
+        Fault::LateRow { .. } | Fault::LateMessage { .. } | Fault::LateAir { .. } => {
+            push_late(line, fault, graph)
+        }
         Fault::Long { platform } => push_long(line, *platform, graph),
         Fault::Read { sensor } => push_read(line, *sensor, graph),
         Fault::ReadLog => line.push_str("read fault: log\n"),
@@ -179,8 +162,38 @@ fn push_words(line: &mut String, start: &str, name: &str) -> Result<(), AllocErr
     line.push_str(name)
 }
 
+/// Appends the line of a late row or message; nothing for another fault.
+fn push_late(line: &mut String, fault: &Fault, graph: Option<&Graph>) -> Result<(), AllocError>
+    ensures { status_of_fault fault.now ≡ 4 → OnOk result (string_bytes line.new ≡ string_bytes line.old ++ note_line fault.now (option_map (λ g. g.now) graph.entry)) }
+{
+    match fault {
+        Fault::LateRow {
+            actor,
+            row,
+            seen,
+            limit,
+        } => push_late_row(line, actor_name(graph, *actor), *row, *seen, *limit),
+        Fault::LateMessage {
+            platform: _,
+            actor,
+            tag,
+            reading,
+            limit,
+        } => push_late_message(line, actor_name(graph, *actor), tag, *reading, *limit),
+        Fault::LateAir {
+            platform: _,
+            actor,
+            tag,
+            reading,
+            limit,
+            row,
+        } => push_late_air(line, actor_name(graph, *actor), tag, *reading, *limit, *row),
+        _ => Ok(()),
+    }
+}
+
 /// Appends the line of a late row.
-fn push_late(
+fn push_late_row(
     line: &mut String,
     name: &str,
     row: u32,

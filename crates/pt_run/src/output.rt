@@ -40,10 +40,8 @@ fn put_lines<K: Sink>(out: &mut K, text: &[u8]) -> Result<(), PutFault>
     let mut rest = text;
     while !rest.is_empty() {
         let (line, more) = rest.split_at(line_len(rest));
-        match out.put(line) {
-            Ok(()) => rest = more,
-            Err(fault) => return Err(fault),
-        }
+        out.put(line)?;
+        rest = more;
     }
     Ok(())
 }

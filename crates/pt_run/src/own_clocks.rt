@@ -101,9 +101,7 @@ fn own_run_of<S: Source, C: Clock + Send, R: Threads + Wait + Sync>(
     ensures grows { S.faults source.old ≤ S.faults source.new }
 {
     let platforms = opened_of(alloc, plan, source)?;
-    let Ok(went) = go_by(rt, alloc, platforms, workers, clock, clocks, blocks) else {
-        return Err(RunFault::Memory);
-    };
+    let went = go_by(rt, alloc, platforms, workers, clock, clocks, blocks)?;
     outputs_of(alloc, plan, went, log)
 }
 

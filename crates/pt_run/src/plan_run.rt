@@ -13,7 +13,7 @@ use pt_blocks::Blocks;
 use pt_io::Source;
 use pt_offsets::Plan;
 use pt_sensors::{LateRows, RecordedFault, recorded};
-use pt_tags::Tag;
+use pt_tags::{Memory, Tag};
 use pt_turn::{Platform, open_all};
 use pt_types::MOST_CLAIMS;
 use std::alloc::Global;
@@ -49,6 +49,17 @@ pub enum RunFault {
     Memory,
 }
 
+impl From<Memory> for RunFault {
+    ghost use Rattle.std.specs.Prelude.{◌≡◌};
+    ghost use Rattle.pt_run.specs.declared.plan_run.RunFault.TheVariants as stop;
+
+    ghost from_gives = { λ _ fault. fault ≡ stop.Memory };
+
+    fn from(_error: Memory) -> RunFault {
+        RunFault::Memory
+    }
+}
+
 /// Shows the message alone, without the platforms.
 impl fmt::Debug for RunFault {
     fn fmt<W: fmt::Write>(&self, f: &mut fmt::Formatter<W>) -> fmt::Result {
@@ -76,9 +87,7 @@ pub fn run_of<S: Source>(
     ensures grows { S.faults source.old ≤ S.faults source.new }
 {
     let platforms = opened_of(alloc, plan, source)?;
-    let Ok(went) = go_paced(alloc, platforms, blocks, workers) else {
-        return Err(RunFault::Memory);
-    };
+    let went = go_paced(alloc, platforms, blocks, workers)?;
     outputs_of(alloc, plan, went, log)
 }
 
@@ -102,8 +111,6 @@ pub fn opened_of<S: Source>(
         Ok(entries) => entries,
         Err(fault) => return Err(RunFault::Rows(fault)),
     };
-    match open_all(alloc, plan, entries) {
-        Ok(platforms) => Ok(platforms),
-        Err(_) => Err(RunFault::Memory),
-    }
+    let platforms = open_all(alloc, plan, entries)?;
+    Ok(platforms)
 }

@@ -191,13 +191,8 @@ fn run_over_air(
     ensures ran { IfOk result (λ ran. FinishedReplay log ran (arc_value plan.now) (of_run (arc_value plan.now).graph (rows_for entries.items)) air.now) }
     ensures fault { IfErr result (λ f. StopsInAir f (arc_value plan.now) (of_run (arc_value plan.now).graph (rows_for entries.items)) air.now) }
 {
-    let Ok(platforms) = open_all(alloc, plan, entries) else {
-        return Err(RunFault::Memory);
-    };
-    let Ok(flown) = aired(alloc, platforms, air, blocks, workers) else {
-        return Err(RunFault::Memory);
-    };
-    let Aired { platforms, fault } = flown;
+    let platforms = open_all(alloc, plan, entries)?;
+    let Aired { platforms, fault } = aired(alloc, platforms, air, blocks, workers)?;
     outputs_of(alloc, plan, Went { platforms, fault }, log)
 }
 

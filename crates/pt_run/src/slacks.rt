@@ -29,15 +29,11 @@ fn least_text(alloc: Global, graph: &Graph) -> Result<String, Fault>
     requires { IsLawful graph.now }
     ensures { (r : Reading) → AnswersAsDue string_bytes result r (IsSlackedBy graph.now) }
 {
-    let Ok(least) = least_delays(alloc, graph) else {
-        return Err(Fault::Memory);
-    };
+    let least = least_delays(alloc, graph)?;
     let slacks = match slacks(alloc, graph, &least) {
         Ok(slacks) => slacks,
         Err(fault) => return Err(fault_of_slacks(fault)),
     };
-    match slacks_text(alloc, graph, slacks.as_slice()) {
-        Ok(text) => Ok(text),
-        Err(_) => Err(Fault::Memory),
-    }
+    let text = slacks_text(alloc, graph, slacks.as_slice())?;
+    Ok(text)
 }

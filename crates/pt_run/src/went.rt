@@ -74,10 +74,7 @@ pub fn outputs_of(alloc: Global, plan: &Arc<Plan>, went: Went, log: bool) -> Res
 {
     let Went { platforms, fault } = went;
     let Some((platform, fault)) = fault else {
-        return match told(alloc, plan, platforms, log) {
-            Ok(ran) => Ok(ran),
-            Err(_) => Err(RunFault::Memory),
-        };
+        return Ok(told(alloc, plan, platforms, log)?);
     };
     match fault {
         TurnFault::Long => Err(RunFault::Long {

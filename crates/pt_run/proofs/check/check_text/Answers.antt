@@ -4,14 +4,14 @@ use Rattle.pt_run.specs.Written.{IsChecked}
 use Rattle.pt_run.proofs.Ending.{checked_due}
 use Rattle.pt_run.proofs.check.check_text.Goals as goal
 
-pub returns-in-Ok-margins : goal.returns-in-Ok-margins
-returns-in-Ok-margins c =
-    let checked : IsChecked c.args.graph.now (string_bytes c.in-Ok-margins.text) = record {
-      feasible = c.in-Ok-offsets_of.ensures.feasible;
-      offset = actor_offset_of c.in-Ok-offsets_of.offsets;
-      margin = margin_in c.in-Ok-offsets_of.offsets;
-      offsets = c.in-Ok-offsets_of.ensures.actors;
-      margins = c.in-Ok-offsets_of.ensures.margins;
-      lines = c.in-Ok-margins.ensures;
+pub returns : goal.returns
+returns c =
+    let checked : IsChecked c.args.graph.now (string_bytes c.in_ok-text.text) = record {
+      feasible = c.in-Ok.ensures.feasible;
+      offset = actor_offset_of c.in-Ok.offsets;
+      margin = margin_in c.in-Ok.offsets;
+      offsets = c.in-Ok.ensures.actors;
+      margins = c.in-Ok.ensures.margins;
+      lines = c.in_ok-text.ensures;
     } in
-    λ r. checked_due string_bytes c.in-Ok-margins.text c.args.graph.now r checked
+    λ r. checked_due string_bytes c.in_ok-text.text c.args.graph.now r checked

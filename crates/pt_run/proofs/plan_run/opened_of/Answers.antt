@@ -14,8 +14,8 @@ returns-in-Err-clause-asks g c =
     let graph : c.graph.result.now ≡ plan.graph = c.graph.ensures.value ∙ ap (λ (p : Parts). p.graph) c.deref.ensures in
     subst (λ (h : Graph). AsksUpTo c.in-Err.fault h (g.S.Source.asked c.args.source.now) (g.S.Source.asked c.recorded.new.source)) graph c.in-Err.ensures.asks_up_to
 
-pub returns-in-Ok-open_all-clause-opened : goal.returns-in-Ok-open_all-clause-opened
-returns-in-Ok-open_all-clause-opened g c =
+pub returns-clause-opened : goal.returns-clause-opened
+returns-clause-opened g c =
     let plan : Parts = arc_value c.args.plan.now in
     let graph : c.graph.result.now ≡ plan.graph = c.graph.ensures.value ∙ ap (λ (p : Parts). p.graph) c.deref.ensures in
     let rows = rows_for c.in-Ok.entries.items in
@@ -24,5 +24,5 @@ returns-in-Ok-open_all-clause-opened g c =
       rows = rows;
       sensors = subst (λ (h : Graph). AreRows (g.S.Source.tells c.args.source.now) h rows) graph c.in-Ok.ensures.rows;
       in_time = subst (λ (h : Graph). AllPass Refused h rows) graph c.in-Ok.ensures.passes;
-      went = c.in-Ok-open_all.ensures;
+      went = c.in_ok-platforms.ensures;
     }
