@@ -21,7 +21,7 @@ use Rattle.pt_semantics.specs.Turn.{Turn}
 use Rattle.pt_semantics.proofs.Lookups.{IsIn-append, IsIn-append_left, IsIn-append_right, none_some, same_some, when_found}
 use Rattle.pt_semantics.proofs.Words.{when-true}
 use Rattle.pt_history.specs.declared.miss.Miss.{Miss}
-use Rattle.pt_monitors.specs.Misses.{HaveMissed, IsLastReading, ListsMissed, miss_by, miss_of_message, miss_of_result, miss_on, miss_past, missed_at, missed_of}
+use Rattle.pt_monitors.specs.Misses.{AppendsMisses, IsLastReading, ListsMissed, miss_by, miss_of_message, miss_of_result, miss_on, miss_past, missed_at, missed_of}
 use Rattle.pt_monitors.proofs.Members.{filter_map_in, flat_map_in, in_filter_map, in_flat_map}
 
 -- what an entry says
@@ -157,7 +157,7 @@ lists_missed g turns = λ m. (
 
 -- what was appended for a turn
 pub missed_here : (g : Graph) (o : Option Turn) (sent : List OnLink) (old mid new : List Miss) → option_map (λ (turn : Turn). turn.sent) o ≡ Some sent
-    → HaveMissed g o (unwrap_or (option_map (λ (turn : Turn). turn.posted) o) []) old mid → ((reading : ℕ) → IsLastReading o reading → new ≡ mid ++ filter_map (miss_of_message g reading) sent)
+    → AppendsMisses g o (unwrap_or (option_map (λ (turn : Turn). turn.posted) o) []) old mid → ((reading : ℕ) → IsLastReading o reading → new ≡ mid ++ filter_map (miss_of_message g reading) sent)
     → option_map (λ (turn : Turn). old ++ missed_at g turn) o ≡ Some new
 missed_here g None sent old mid new was results messages = absurd (none_some sent was)
 missed_here g (Some turn) sent old mid new was results messages =
@@ -174,6 +174,6 @@ empty_list (x ∷ xs) h = absurd (omega (arith, h))
 
 -- and if it sent nothing
 pub missed_results_alone : (g : Graph) (o : Option Turn) (sent : List OnLink) (old mid : List Miss) → option_map (λ (turn : Turn). turn.sent) o ≡ Some sent → sent ≡ []
-    → HaveMissed g o (unwrap_or (option_map (λ (turn : Turn). turn.posted) o) []) old mid → option_map (λ (turn : Turn). old ++ missed_at g turn) o ≡ Some mid
+    → AppendsMisses g o (unwrap_or (option_map (λ (turn : Turn). turn.posted) o) []) old mid → option_map (λ (turn : Turn). old ++ missed_at g turn) o ≡ Some mid
 missed_results_alone g o sent old mid was none results =
     missed_here g o sent old mid mid was results (λ reading is. sym (append-nil mid) ∙ ap (λ (s : List OnLink). mid ++ filter_map (miss_of_message g reading) s) (sym none))

@@ -50,8 +50,8 @@ abbrev pub IsLastReading : Option Turn → ℕ → Type 0
 IsLastReading turn reading = option_map (λ (t : Turn). t.last) turn ≡ Some reading
 
 -- the misses of the first of these results, at the last reading of their turn, were appended
-abbrev pub HaveMissed : Graph → Option Turn → List Done → List Miss → List Miss → Type 0
-HaveMissed g turn dones old new = (reading : ℕ) → IsLastReading turn reading → new ≡ old ++ filter_map (miss_of_result g reading) dones
+abbrev pub AppendsMisses : Graph → Option Turn → List Done → List Miss → List Miss → Type 0
+AppendsMisses g turn dones old new = (reading : ℕ) → IsLastReading turn reading → new ≡ old ++ filter_map (miss_of_result g reading) dones
 
 -- the misses of all turns, in order
 abbrev pub missed_of : Graph → List Turn → List Miss

@@ -5,7 +5,7 @@ ghost use Rattle.pt_types.specs.declared.firing.Done.{Done};
 ghost use Rattle.pt_types.specs.Lookups.{slack_of};
 ghost use Rattle.pt_history.specs.Tasks.{mark_of};
 ghost use Rattle.pt_history.specs.Turns.{posted_in};
-ghost use Rattle.pt_monitors.specs.Misses.{HaveMissed, IsLastReading, ListsMissed, miss_of_message, miss_of_result, miss_past, missed_at, missed_of};
+ghost use Rattle.pt_monitors.specs.Misses.{AppendsMisses, IsLastReading, ListsMissed, miss_of_message, miss_of_result, miss_past, missed_at, missed_of};
 
 use pt_history::{History, Mark, Miss};
 use pt_tags::{Memory, Message, Tag};
@@ -57,7 +57,7 @@ fn missed_results(
 ) -> Result<(), Memory>
     requires turn { turn < length history.now.turns }
     requires posted { posted ≡ length (posted_in history.now.turns turn) }
-    ensures { OnOk result (HaveMissed graph.now (slice_get history.now.turns turn) (posted_in history.now.turns turn) misses.old.items misses.new.items) }
+    ensures { OnOk result (AppendsMisses graph.now (slice_get history.now.turns turn) (posted_in history.now.turns turn) misses.old.items misses.new.items) }
 {
     for number in 0..posted {
         let mark = history.done_mark(turn, number);
