@@ -112,7 +112,8 @@ impl Line {
         }
     }
 
-    /// Takes the first event.
+    /// Takes the first event. Not inlined, so that the look at it stays short.
+    #[inline(never)]
     fn pop(&mut self) -> Option<Sent>
         ensures { MatchOption result (self.old ≡ []) (λ sent. self.old ≡ sent ∷ self.new) }
     {

@@ -55,7 +55,8 @@ impl Pending {
         Some(sooner(near, far))
     }
 
-    /// Puts an event where it belongs, unless one waits at its place.
+    /// Puts an event where it belongs, unless one waits at its place. Not inlined, since most events are of the tag that runs.
+    #[inline(never)]
     pub fn enter(&mut self, place: Place, value: i64) -> Result<(), Memory>
         ensures { OnOk result (Enters place value (pending_value self.old) (pending_value self.new)) }
     {
