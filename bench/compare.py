@@ -1,11 +1,10 @@
 #!/usr/bin/env python3
 """Called by compare.sh: compare.py FOLDER PTIDES [ROUNDS [WORKLOAD..]]. The folder has the plain programs.
 
-Processor time is user and system time over all threads, the median over the rounds; in a round each program runs once. Memory is
-the peak of the resident set. Output goes to nowhere, but for one run of each whose tables are compared.
+Processor time is user and system time over all threads, the least of all rounds, since other work only adds to it; in a round each
+program runs once. Memory is the peak of the resident set. Output goes to nowhere, but for one run of each whose tables are compared.
 """
 import os
-import statistics
 import subprocess
 import sys
 
@@ -29,7 +28,7 @@ def memory(words):
 
 
 def measure(programs, rounds):
-    """For each program its median time and its memory, where all write the same tables."""
+    """For each program its least time and its memory, where all write the same tables."""
     tables = {name: subprocess.run(words, stdout=subprocess.PIPE, check=True).stdout for name, words in programs.items()}
     times = {name: [] for name in programs}
     first = next(iter(tables.values()))
@@ -39,7 +38,7 @@ def measure(programs, rounds):
     for _ in range(rounds):
         for name, words in programs.items():
             times[name].append(spent(words))
-    return {name: (statistics.median(times[name]), memory(words)) for name, words in programs.items()}
+    return {name: (min(times[name]), memory(words)) for name, words in programs.items()}
 
 
 def firings(engine):
