@@ -1,5 +1,5 @@
 -- Steps of clap's walk over the words, whatever was read before.
-use Rattle.std.proofs.Common.{◌≡◌, ℕ, List, [], ◌∷◌, Bool, true, false, Option, Some, None, refl}
+use Rattle.std.proofs.Common.{◌≡◌, ℕ, List, [], ◌∷◌, Bool, true, false, Option, Some, None, refl, ◌∙◌}
 use Rattle.std.specs.Prelude.{codes, ◌==◌, ◌&&◌}
 use Rattle.std.specs.Str.{bytes_eq}
 use Rattle.clap.specs.Walk.{Walk, Held, Row, Waiting, walked, idle, option, positional, settled_rows, Rule, arg_by_long, reading_by, takes_values, with_values}
@@ -159,11 +159,16 @@ workers_ended_fault rows w = refl
 pub workers_due_fault_long : (rows : List Row) (z : ℕ) (zs : Text) → turn_fault app.top [] (at rows (Some (codes "workers", [])) (option (codes "workers")) false) (45 ∷ 45 ∷ z ∷ zs) ≡ [] → ⊥
 workers_due_fault_long rows z zs = or_else_none _ _ (long_stuck (arg_by_long app.top.rules (name_and_value (z ∷ zs)).0) (name_and_value (z ∷ zs)).1 (held rows (Some (codes "workers", []))) kind.InvalidValue refl)
 
+-- a word that begins with two dashes does the same after a positional word as at the start
+long_turn : (rows : List Row) (p : Option (Text × List Text)) (b : Bool) (z : ℕ) (zs : Text)
+    → turn_fault app.top [] (at rows p (resting b) false) (45 ∷ 45 ∷ z ∷ zs) ≡ turn_fault app.top [] (at rows p idle false) (45 ∷ 45 ∷ z ∷ zs)
+long_turn rows p true z zs = refl
+long_turn rows p false z zs = refl
+
 -- `--workers=VALUE`
 pub workers_value_fault : (rows : List Row) (p : Option (Text × List Text)) (b : Bool) (z : ℕ) (zs name v : Text) → IsWhole rows p → (name_and_value (z ∷ zs)).0 ≡ name → (name_and_value (z ∷ zs)).1 ≡ Some v
     → bytes_eq (codes "workers") name ≡ true → turn_fault app.top [] (at rows p (resting b) false) (45 ∷ 45 ∷ z ∷ zs) ≡ []
-workers_value_fault rows p true z zs name v f e g a = rw (e, g, a, f) refl
-workers_value_fault rows p false z zs name v f e g a = rw (e, g, a, f) refl
+workers_value_fault rows p b z zs name v f e g a = long_turn rows p b z zs ∙ rw (e, g, a, f) refl
 
 pub workers_value_step : (rows : List Row) (p : Option (Text × List Text)) (b : Bool) (z : ℕ) (zs name v : Text) → (name_and_value (z ∷ zs)).0 ≡ name → (name_and_value (z ∷ zs)).1 ≡ Some v
     → bytes_eq (codes "workers") name ≡ true
@@ -175,8 +180,7 @@ workers_value_step rows p false z zs name v e g a = rw (e, g, a) refl
 -- `--workers`
 pub workers_fault : (rows : List Row) (p : Option (Text × List Text)) (b : Bool) (z : ℕ) (zs name : Text) → IsWhole rows p → (name_and_value (z ∷ zs)).0 ≡ name → (name_and_value (z ∷ zs)).1 ≡ None
     → bytes_eq (codes "workers") name ≡ true → turn_fault app.top [] (at rows p (resting b) false) (45 ∷ 45 ∷ z ∷ zs) ≡ []
-workers_fault rows p true z zs name f e g a = rw (e, g, a, f) refl
-workers_fault rows p false z zs name f e g a = rw (e, g, a, f) refl
+workers_fault rows p b z zs name f e g a = long_turn rows p b z zs ∙ rw (e, g, a, f) refl
 
 pub workers_step : (rows : List Row) (p : Option (Text × List Text)) (b : Bool) (z : ℕ) (zs name : Text) → (name_and_value (z ∷ zs)).0 ≡ name → (name_and_value (z ∷ zs)).1 ≡ None
     → bytes_eq (codes "workers") name ≡ true
@@ -225,8 +229,7 @@ clock_due_fault_long rows z zs = or_else_none _ _ (long_stuck (arg_by_long app.t
 -- `--clock=VALUE`
 pub clock_value_fault : (rows : List Row) (p : Option (Text × List Text)) (b : Bool) (z : ℕ) (zs name v : Text) → IsWhole rows p → (name_and_value (z ∷ zs)).0 ≡ name → (name_and_value (z ∷ zs)).1 ≡ Some v
     → bytes_eq (codes "workers") name ≡ false → bytes_eq (codes "clock") name ≡ true → turn_fault app.top [] (at rows p (resting b) false) (45 ∷ 45 ∷ z ∷ zs) ≡ []
-clock_value_fault rows p true z zs name v f e g n0 a = rw (e, g, n0, a, f) refl
-clock_value_fault rows p false z zs name v f e g n0 a = rw (e, g, n0, a, f) refl
+clock_value_fault rows p b z zs name v f e g n0 a = long_turn rows p b z zs ∙ rw (e, g, n0, a, f) refl
 
 pub clock_value_step : (rows : List Row) (p : Option (Text × List Text)) (b : Bool) (z : ℕ) (zs name v : Text) → (name_and_value (z ∷ zs)).0 ≡ name → (name_and_value (z ∷ zs)).1 ≡ Some v
     → bytes_eq (codes "workers") name ≡ false → bytes_eq (codes "clock") name ≡ true
@@ -238,8 +241,7 @@ clock_value_step rows p false z zs name v e g n0 a = rw (e, g, n0, a) refl
 -- `--clock`
 pub clock_fault : (rows : List Row) (p : Option (Text × List Text)) (b : Bool) (z : ℕ) (zs name : Text) → IsWhole rows p → (name_and_value (z ∷ zs)).0 ≡ name → (name_and_value (z ∷ zs)).1 ≡ None
     → bytes_eq (codes "workers") name ≡ false → bytes_eq (codes "clock") name ≡ true → turn_fault app.top [] (at rows p (resting b) false) (45 ∷ 45 ∷ z ∷ zs) ≡ []
-clock_fault rows p true z zs name f e g n0 a = rw (e, g, n0, a, f) refl
-clock_fault rows p false z zs name f e g n0 a = rw (e, g, n0, a, f) refl
+clock_fault rows p b z zs name f e g n0 a = long_turn rows p b z zs ∙ rw (e, g, n0, a, f) refl
 
 pub clock_step : (rows : List Row) (p : Option (Text × List Text)) (b : Bool) (z : ℕ) (zs name : Text) → (name_and_value (z ∷ zs)).0 ≡ name → (name_and_value (z ∷ zs)).1 ≡ None
     → bytes_eq (codes "workers") name ≡ false → bytes_eq (codes "clock") name ≡ true
@@ -252,8 +254,7 @@ clock_step rows p false z zs name e g n0 a = rw (e, g, n0, a) refl
 pub log_fault : (rows : List Row) (p : Option (Text × List Text)) (b : Bool) (z : ℕ) (zs name : Text) → IsWhole rows p → (name_and_value (z ∷ zs)).0 ≡ name → (name_and_value (z ∷ zs)).1 ≡ None
     → bytes_eq (codes "workers") name ≡ false → bytes_eq (codes "clock") name ≡ false → bytes_eq (codes "log") name ≡ true
     → turn_fault app.top [] (at rows p (resting b) false) (45 ∷ 45 ∷ z ∷ zs) ≡ []
-log_fault rows p true z zs name f e g n0 n1 a = rw (e, g, n0, n1, a, f) refl
-log_fault rows p false z zs name f e g n0 n1 a = rw (e, g, n0, n1, a, f) refl
+log_fault rows p b z zs name f e g n0 n1 a = long_turn rows p b z zs ∙ rw (e, g, n0, n1, a, f) refl
 
 pub log_step : (rows : List Row) (p : Option (Text × List Text)) (b : Bool) (z : ℕ) (zs name : Text) → (name_and_value (z ∷ zs)).0 ≡ name → (name_and_value (z ∷ zs)).1 ≡ None
     → bytes_eq (codes "workers") name ≡ false → bytes_eq (codes "clock") name ≡ false → bytes_eq (codes "log") name ≡ true
@@ -266,12 +267,10 @@ log_step rows p false z zs name e g n0 n1 a = rw (e, g, n0, n1, a) refl
 pub log_value_fault : (rows : List Row) (p : Option (Text × List Text)) (b : Bool) (z : ℕ) (zs name v : Text) → (name_and_value (z ∷ zs)).0 ≡ name → (name_and_value (z ∷ zs)).1 ≡ Some v
     → bytes_eq (codes "workers") name ≡ false → bytes_eq (codes "clock") name ≡ false → bytes_eq (codes "log") name ≡ true
     → turn_fault app.top [] (at rows p (resting b) false) (45 ∷ 45 ∷ z ∷ zs) ≡ kind.TooManyValues ∷ []
-log_value_fault rows p true z zs name v e g n0 n1 a = rw (e, g, n0, n1, a) refl
-log_value_fault rows p false z zs name v e g n0 n1 a = rw (e, g, n0, n1, a) refl
+log_value_fault rows p b z zs name v e g n0 n1 a = long_turn rows p b z zs ∙ rw (e, g, n0, n1, a) refl
 
 -- another name is refused
 pub unknown_fault : (rows : List Row) (p : Option (Text × List Text)) (b : Bool) (z : ℕ) (zs name : Text) → (name_and_value (z ∷ zs)).0 ≡ name
     → bytes_eq (codes "workers") name ≡ false → bytes_eq (codes "clock") name ≡ false → bytes_eq (codes "log") name ≡ false
     → turn_fault app.top [] (at rows p (resting b) false) (45 ∷ 45 ∷ z ∷ zs) ≡ kind.UnknownArgument ∷ []
-unknown_fault rows p true z zs name e n0 n1 n2 = rw (e, n0, n1, n2) refl
-unknown_fault rows p false z zs name e n0 n1 n2 = rw (e, n0, n1, n2) refl
+unknown_fault rows p b z zs name e n0 n1 n2 = long_turn rows p b z zs ∙ rw (e, n0, n1, n2) refl
