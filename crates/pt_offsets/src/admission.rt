@@ -36,9 +36,9 @@ pub fn offsets_of(alloc: Global, graph: &Graph, least: &Least) -> Result<Offsets
     ensures feasible { IfOk result (λ _. IsFeasible graph.now) }
     ensures infeasible { IfErr result (λ f. CauseOfOffset f graph.now) }
 {
-    let actors = timings(alloc, graph, least).map_err(|_| OffsetFault::Memory)?;
+    let actors = timings(alloc, graph, least)?;
     admit_all(graph, actors.as_slice())?;
-    Ok(Offsets { actors })
+    Ok(Offsets::new(alloc, actors)?)
 }
 
 /// Checks that each sender can send in time.

@@ -1,11 +1,12 @@
 //! The bounds of sensors and receivers.
 
-ghost use Rattle.std.specs.Prelude.{◌≡◌, ◌+◌, ◌<◌, ◌≤◌, ◌^◌, ℕ, IfOk, Some, None};
+ghost use Rattle.std.specs.Prelude.{◌≡◌, ◌+◌, ◌<◌, ◌≤◌, ◌^◌, ℕ, IfOk, Some, None, length};
 ghost use Rattle.pt_types.specs.Lawful.{IsLawful};
 ghost use Rattle.pt_semantics.specs.Bounds.{error_of, link_bound, bound_by};
 ghost use Rattle.pt_types.specs.Lookups.{slack_of};
 ghost use Rattle.pt_types.specs.Lookups.{platform_of};
 ghost use Rattle.pt_offsets.specs.Bounded.{AreBounds, bound_at, received};
+ghost use Rattle.pt_offsets.specs.Sources.{AreSources};
 
 use pt_types::{Actor, Graph, Kind, Link};
 use std::alloc::{AllocError, Global};
@@ -20,6 +21,20 @@ pub fn bounds_of(alloc: Global, graph: &Graph) -> Result<Vec<Option<u64>>, Alloc
         bounds.push(bound(graph, number as u32, &actor.kind))?;
     }
     Ok(bounds)
+}
+
+/// The numbers of the actors that have a bound, rising.
+pub fn sources_of(alloc: Global, bounds: &[Option<u64>]) -> Result<Vec<u32>, AllocError>
+    requires few { length bounds.now < 2 ^ 32 }
+    ensures { IfOk result (λ v. AreSources bounds.now v.items) }
+{
+    let mut sources = Vec::new(alloc);
+    for (number, bound) in bounds.iter().enumerate() {
+        if bound.is_some() {
+            sources.push(number as u32)?;
+        }
+    }
+    Ok(sources)
 }
 
 /// The bound of an actor; `None` past the last actor.

@@ -1,6 +1,7 @@
 //! Why a graph is not admitted.
 
 use pt_causality::CycleFault;
+use std::alloc::AllocError;
 use thiserror::Error;
 
 /// Why a graph has no offsets with which it can run.
@@ -13,6 +14,17 @@ pub enum OffsetFault {
     /// of 20 needs a slack of at least 21. The sender is the first of this kind in the order of the graph.
     #[error("the sender {send} has a slack of {slack}, not more than its offset {offset}")]
     Infeasible { send: u32, offset: i64, slack: u64 },
+}
+
+impl From<AllocError> for OffsetFault {
+    ghost use Rattle.std.specs.Prelude.{◌≡◌};
+    ghost use Rattle.pt_offsets.specs.declared.fault.OffsetFault.TheVariants.{Memory};
+
+    ghost from_gives = { λ _ fault. fault ≡ Memory };
+
+    fn from(_refused: AllocError) -> OffsetFault {
+        OffsetFault::Memory
+    }
 }
 
 /// Why a graph has no plan. Actors are named by their numbers in the graph, from 0; times are microseconds.

@@ -1,9 +1,11 @@
 //! The bounds, offsets and margins of all actors.
 
-ghost use Rattle.std.specs.Prelude.{◌≡◌};
+ghost use Rattle.std.specs.Prelude.{◌≡◌, IfOk, map};
+ghost use Rattle.pt_offsets.specs.Firsts.{first_offset};
 
 use pt_tags::List;
 use pt_types::Unit;
+use std::alloc::{AllocError, Global};
 
 /// The bound, offsets and margin of one actor, in microseconds.
 #[derive(Drop)]
@@ -18,21 +20,57 @@ pub(crate) struct Timing {
     pub(crate) margin: Option<i64>,
 }
 
+/// The offset of an actor's first unit; `None` if it has none.
+fn first_offset(timing: &Timing) -> Option<i64>
+    ensures { result ≡ first_offset timing.now }
+{
+    timing.offsets.as_slice().get(0).copied().unwrap_or(None)
+}
+
+/// The offset of each actor's first unit.
+fn first_offsets(alloc: Global, timings: &[Timing]) -> Result<Vec<Option<i64>>, AllocError>
+    ensures { IfOk result (λ firsts. firsts.items ≡ map first_offset timings.now) }
+{
+    let mut firsts = Vec::new(alloc);
+    for timing in timings {
+        firsts.push(first_offset(timing))?;
+    }
+    Ok(firsts)
+}
+
 /// The bounds, offsets and margins of a graph's actors and units, in microseconds.
 #[derive(Drop)]
 pub struct Offsets {
     /// By actor.
-    pub(crate) actors: Vec<Timing>,
+    actors: Vec<Timing>,
+    /// The offset of each actor's first unit, which is mostly its only one: close together, since a turn asks for many.
+    firsts: Vec<Option<i64>>,
+    ghost firsts_are: { firsts.items ≡ map first_offset actors.items },
 }
 
 impl Offsets {
     ghost use Rattle.pt_offsets.specs.Timings.{offset_of, actor_offset_of, bound_in, margin_in};
+
+    /// The offsets of actors with these timings.
+    pub(crate) fn new(alloc: Global, actors: Vec<Timing>) -> Result<Offsets, AllocError>
+        ensures { IfOk result (λ offsets. offsets.actors.items ≡ actors.items) }
+    {
+        let firsts = first_offsets(alloc, actors.as_slice())?;
+        Ok(Offsets { actors, firsts })
+    }
 
     /// The offset of a unit; `None` if no sensor and no receiver leads to it.
     #[tactic(auto, unfolding(crate::specs::Timings::offset_of))]
     pub fn of_unit(&self, unit: Unit) -> Option<i64>
         ensures { result ≡ offset_of self.now unit }
     {
+        if unit.group == 0 {
+            return self
+                .firsts
+                .get(unit.actor as usize)
+                .copied()
+                .unwrap_or(None);
+        }
         let timing = self.actors.get(unit.actor as usize)?;
         let offsets = timing.offsets.as_slice();
         offsets.get(unit.group as usize).copied().unwrap_or(None)

@@ -8,9 +8,10 @@ ghost use Rattle.pt_causality.specs.Delays.{AreLeast, AreSmall, least_of};
 ghost use Rattle.pt_types.specs.Lookups.{kind_of};
 ghost use Rattle.pt_offsets.specs.Bounded.{AreBounds};
 ghost use Rattle.pt_offsets.specs.Margins.{margin_of};
+ghost use Rattle.pt_offsets.specs.Sources.{AreSources};
 ghost use Rattle.pt_offsets.specs.Timings.{AreTimings, IsTiming};
 
-use crate::bounds::{bound_at, bounds_of};
+use crate::bounds::{bound_at, bounds_of, sources_of};
 use crate::greatest::greatest;
 use crate::table::Timing;
 use crate::unit_offsets::unit_offsets;
@@ -27,12 +28,14 @@ pub fn timings(alloc: Global, graph: &Graph, least: &Least) -> Result<Vec<Timing
     ensures { IfOk result (λ v. AreTimings graph.now v.items) }
 {
     let bounds = bounds_of(alloc, graph)?;
+    let sources = sources_of(alloc, bounds.as_slice())?;
     let mut timings = Vec::new(alloc);
     for (number, actor) in graph.actors.as_slice().iter().enumerate() {
         let timing = timing(
             alloc,
             graph,
             bounds.as_slice(),
+            sources.as_slice(),
             least,
             number as u32,
             &actor.kind,
@@ -47,12 +50,14 @@ fn timing(
     alloc: Global,
     graph: &Graph,
     bounds: &[Option<u64>],
+    sources: &[u32],
     least: &Least,
     number: u32,
     kind: &Kind,
 ) -> Result<Timing, AllocError>
     requires lawful { IsLawful graph.now }
     requires bounds { AreBounds graph.now bounds.now }
+    requires sources { AreSources bounds.now sources.now }
     requires least { AreLeast graph.now (least_of least.now) }
     requires small { AreSmall (least_of least.now) }
     requires there { number < length graph.now.actors }
@@ -60,7 +65,7 @@ fn timing(
     ensures { IfOk result (IsTiming graph.now number) }
 {
     let groups = graph.groups(number);
-    let offsets = unit_offsets(alloc, bounds, least, number, groups)?;
+    let offsets = unit_offsets(alloc, bounds, sources, least, number, groups)?;
     let offset = greatest(offsets.as_slice());
     Ok(Timing {
         bound: bound_at(bounds, number),

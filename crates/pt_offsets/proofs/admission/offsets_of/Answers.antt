@@ -1,15 +1,13 @@
-use Rattle.std.proofs.Common.{◌≡◌, None, Ok, arith, slice_index_or}
-use Rattle.std.proofs.lemmas.Result.{IfOk-at_ok}
+use Rattle.std.proofs.Common.{None, slice_index_or, sym, subst}
 use Rattle.pt_types.specs.declared.graph.Unit.{Unit as Part}
 use Rattle.pt_offsets.specs.Timings.{AreTimings, actor_offset_of, bound_in, margin_in, offset_of, timing_at}
 use Rattle.pt_offsets.proofs.Admitted.{feasible}
 use Rattle.pt_offsets.proofs.admission.offsets_of.Goals as goal
+use Rattle.pt_offsets.proofs.admission.offsets_of.Goals.{In_ok-new}
 
--- the timings are those that were computed: their error alone was changed
-timed : (c : goal.In_ok-admit_all) → AreTimings c.args.graph.now c.in_ok-actors.actors.items
-timed c =
-    let is : c.timings.result ≡ Ok c.in_ok-actors.actors = grind (arith, c.in_ok-actors.ensures.cases) in
-    IfOk-at_ok _ is c.timings.ensures
+-- the table has the timings that were computed
+timed : (c : In_ok-new) → AreTimings c.args.graph.now c.in_ok-new.field-0.actors.items
+timed c = subst (AreTimings c.args.graph.now) (sym c.in_ok-new.ensures) c.in_ok-actors.ensures
 
 pub returns-clause-offsets : goal.returns-clause-offsets
 unfolding offset_of
@@ -25,8 +23,8 @@ returns-clause-bounds c = λ a. (timed c a).bound
 
 pub returns-clause-margins : goal.returns-clause-margins
 unfolding margin_in
-returns-clause-margins c = λ a. ((timing_at c.in_ok-actors.actors.items a).offset, (timed c a).offset, (timed c a).margin)
+returns-clause-margins c = λ a. ((timing_at c.in_ok-new.field-0.actors.items a).offset, (timed c a).offset, (timed c a).margin)
 
 pub returns-clause-feasible : goal.returns-clause-feasible
 returns-clause-feasible c =
-    feasible c.args.graph.now (λ (u : Part). slice_index_or (timing_at c.in_ok-actors.actors.items u.actor).offsets u.group None) (λ u. (timed c u.actor).offsets u.group) c.in_ok-admit_all.ensures
+    feasible c.args.graph.now (λ (u : Part). slice_index_or (timing_at c.in_ok-new.field-0.actors.items u.actor).offsets u.group None) (λ u. (timed c u.actor).offsets u.group) c.in_ok-admit_all.ensures
