@@ -30,8 +30,8 @@ pub fn slacks(alloc: Global, graph: &Graph, least: &Least) -> Result<Vec<Slack>,
     ensures slacks { IfOk result (λ v. (slack : ℕ → ℕ) × AreLeastSlacks graph.now slack × (v.items ≡ listed graph.now slack)) }
     ensures ring { IfErr result (λ f. CauseOfSlacks f graph.now) }
 {
-    let hops = hops_of(alloc, graph).map_err(|_| SlackFault::Memory)?;
-    let settled = settle(alloc, graph, least, hops.as_slice()).map_err(|_| SlackFault::Memory)?;
+    let hops = hops_of(alloc, graph)?;
+    let settled = settle(alloc, graph, least, hops.as_slice())?;
     slacks_or_ring(alloc, graph, least, hops.as_slice(), settled)
 }
 
@@ -52,11 +52,12 @@ fn slacks_or_ring(
 {
     match settled {
         Settled::Row(row) => {
-            least_slacks(alloc, graph, least, hops, row.as_slice()).map_err(|_| SlackFault::Memory)
+            let slacks = least_slacks(alloc, graph, least, hops, row.as_slice())?;
+            Ok(slacks)
         }
         Settled::Rising { rows, link } => {
-            let ring = ring_of(alloc, graph, least, hops, rows.as_slice(), link);
-            Err(ring.unwrap_or(SlackFault::Memory))
+            let ring = ring_of(alloc, graph, least, hops, rows.as_slice(), link)?;
+            Err(ring)
         }
     }
 }

@@ -1,6 +1,7 @@
 //! Slacks, and why a graph has none with which it can run.
 
 use pt_tags::List;
+use std::alloc::AllocError;
 use thiserror::Error;
 
 /// The slack of a sender or an actuator.
@@ -23,4 +24,15 @@ pub enum SlackFault {
     /// graph, from 0; the first has the least number.
     #[error("around the senders {sends:?} the slack that is needed grows by {gain}")]
     Ring { sends: List<u32>, gain: u64 },
+}
+
+impl From<AllocError> for SlackFault {
+    ghost use Rattle.std.specs.Prelude.{◌≡◌};
+    ghost use Rattle.pt_slacks.specs.declared.slack.SlackFault.TheVariants.{Memory};
+
+    ghost from_gives = { λ _ fault. fault ≡ Memory };
+
+    fn from(_refused: AllocError) -> SlackFault {
+        SlackFault::Memory
+    }
 }
