@@ -41,7 +41,8 @@ pub fn fire_onto(
     ensures { OnOk result (IsFiredOnto kind.now task.now results.old.items results.new.items) }
 {
     let place = results.len();
-    results.push(Done::new(task))?;
+    results.reserve(1)?;
+    results.push_reserved(Done::new(task));
     fire_done(blocks, kind, &mut results[place]);
     Ok(())
 }
