@@ -79,7 +79,7 @@ fn holder_listed(
 }
 
 /// Whether a unit may be among those with a bit in `before`: its bit is set, or it has none.
-fn may_lead(before: &[u64], unit: Unit) -> bool
+pub fn may_lead(before: &[u64], unit: Unit) -> bool
     ensures { MayHave before.now unit → result ≡ true }
 {
     if unit.group >= 8 {

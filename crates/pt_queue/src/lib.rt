@@ -21,6 +21,7 @@ mod queue;
 mod taking;
 mod waiting;
 
+pub use blocked::may_lead;
 pub use events::reaches;
 pub use queue::Queue;
 pub use waiting::Waiting;
