@@ -2,7 +2,7 @@
 use Rattle.std.proofs.Common.{◌≡◌, ℕ, zero, suc, ◌+◌, ◌-◌, ◌<◌, ◌≤◌, List, [], ◌∷◌, ◌++◌, take, drop, length, get_or, set, Some, refl, sym, ap, ap₂, subst, ◌∙◌, arith, length-append}
 use Rattle.std.specs.Prelude.{slice_get}
 use Rattle.std.specs.List.{flat_map}
-use Rattle.std.proofs.lemmas.List.{take-append-le, drop-append-le, take_all, drop_all, drop-take}
+use Rattle.std.proofs.lemmas.List.{take-append-le, drop-append-le, take_all, drop_all, drop-take, length-drop, length-take}
 use Rattle.std.proofs.lemmas.List.Folds.{drop_split}
 use Rattle.std.proofs.Math.Seq.{take-length}
 use Rattle.pt_history.specs.Lists.{pieces, Rises, on_last}
@@ -69,3 +69,15 @@ pieces_total from (e ∷ es) xs h = ap (λ l. drop from (take e xs) ++ l) (piece
   where
     joined : {X : Type 0} (from e : ℕ) (xs : List X) → from ≤ e → drop from (take e xs) ++ drop e xs ≡ drop from xs
     joined from e xs le = ap (λ l. l ++ drop e xs) (cut from e xs le) ∙ sym (drop_split xs from e le)
+
+-- how many items the first pieces have: the next one begins behind them
+pub pieces_before : {X : Type 0} (from : ℕ) (es : List ℕ) (xs : List X) (k : ℕ) → k ≤ length es → Rises from es (length xs) → from + length (flat_map (λ (l : List X). l) (take k (pieces from es xs))) ≡ get_or (from ∷ es) k 0
+pieces_before from [] xs zero le h = omega arith
+pieces_before from [] xs (suc k) le h = absurd (omega arith)
+pieces_before from (e ∷ es) xs zero le h = omega arith
+pieces_before {X} from (e ∷ es) xs (suc k) le h =
+    let within : e ≤ length xs = rises_below e es (length xs) h.1 in
+    let first : length (drop from (take e xs)) ≡ e - from = simp (length-take, length-drop) (omega (arith, within, h.0)) in
+    let rest : e + length (flat_map (λ (l : List X). l) (take k (pieces e es xs))) ≡ get_or (e ∷ es) k 0 = pieces_before e es xs k (omega arith) h.1 in
+    let sum : length (drop from (take e xs) ++ flat_map (λ (l : List X). l) (take k (pieces e es xs))) ≡ length (drop from (take e xs)) + length (flat_map (λ (l : List X). l) (take k (pieces e es xs))) = length-append (drop from (take e xs)) (flat_map (λ (l : List X). l) (take k (pieces e es xs))) in
+    omega (arith, first, rest, sum, h.0)

@@ -5,6 +5,7 @@ pub mod Joining
 pub mod Reading
 pub mod Quietness
 pub mod Cutting
+pub mod Dated
 pub mod LastMember
 pub mod Filling
 pub mod CellLists

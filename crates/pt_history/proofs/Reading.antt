@@ -1,10 +1,11 @@
 -- What heads and lists tell of each turn.
-use Rattle.std.proofs.Common.{rules, ◌≡◌, ℕ, zero, suc, ◌+◌, ◌<◌, List, [], ◌∷◌, ◌++◌, length, get_or, Some, None, Option, subst, ◌≤◌, ◌⊎◌, inl, inr, drop, refl, sym, ap, ap₂, ◌∙◌, arith, eqb}
+use Rattle.std.proofs.Common.{rules, ◌≡◌, ℕ, zero, suc, ◌+◌, ◌<◌, List, [], ◌∷◌, ◌++◌, length, get_or, Some, None, Option, subst, ◌≤◌, ◌⊎◌, inl, inr, drop, take, refl, sym, ap, ap₂, ◌∙◌, arith, eqb}
 use Rattle.std.specs.Prelude.{option_map, slice_get, unwrap_or}
 use Rattle.std.specs.List.{flat_map}
 use Rattle.std.proofs.lemmas.List.{drop_all, drop_more, get_or_past}
 use Rattle.std.proofs.lemmas.Bool.{cases_lt}
 use Rattle.std.proofs.lemmas.Option.{get_or_from_slice_get}
+use Rattle.pt_types.specs.declared.firing.Done.{Done}
 use Rattle.pt_types.specs.declared.firing.OnLink.{OnLink}
 use Rattle.pt_types.specs.declared.firing.Task.{Task}
 use Rattle.pt_semantics.specs.Turn.{Turn, is_empty}
@@ -51,6 +52,29 @@ all_claims p hs e = all_from (λ (turn : Turn). turn.claimed) p p.claimed 0 hs (
 -- all messages that were taken
 pub all_messages : (p : Lists) (hs : List Head) → length p.taken ≡ length hs → flat_map (λ (turn : Turn). turn.taken) (turns_from p 0 hs) ≡ flat_map (λ (messages : List OnLink). messages) p.taken
 all_messages p hs e = all_from (λ (turn : Turn). turn.taken) p p.taken 0 hs (λ k h. refl) (omega arith)
+
+-- all messages that were sent
+pub all_sent : (p : Lists) (hs : List Head) → length p.sent ≡ length hs → flat_map (λ (turn : Turn). turn.sent) (turns_from p 0 hs) ≡ flat_map (λ (messages : List OnLink). messages) p.sent
+all_sent p hs e = all_from (λ (turn : Turn). turn.sent) p p.sent 0 hs (λ k h. refl) (omega arith)
+
+-- all results
+pub all_posted : (p : Lists) (hs : List Head) → length p.posted ≡ length hs → flat_map (λ (turn : Turn). turn.posted) (turns_from p 0 hs) ≡ flat_map (λ (dones : List Done). dones) p.posted
+all_posted p hs e = all_from (λ (turn : Turn). turn.posted) p p.posted 0 hs (λ k h. refl) (omega arith)
+
+-- the results of the first turns
+first_from : (p : Lists) (n i : ℕ) (hs : List Head) → i + length hs ≡ length p.posted → flat_map (λ (turn : Turn). turn.posted) (take n (turns_from p i hs)) ≡ flat_map (λ (dones : List Done). dones) (take n (drop i p.posted))
+first_from p n i [] e = nothing (λ (turn : Turn). turn.posted) n ∙ sym (ap (λ (lists : List (List Done)). flat_map (λ (dones : List Done). dones) (take n lists)) (drop_all i p.posted (omega arith)) ∙ nothing (λ (dones : List Done). dones) n)
+  where
+    nothing : {X Y : Type 0} (f : X → List Y) (n : ℕ) → flat_map f (take n []) ≡ []
+    nothing f zero = refl
+    nothing f (suc n) = refl
+first_from p zero i (h ∷ hs) e = sym (ap (λ (lists : List (List Done)). flat_map (λ (dones : List Done). dones) (take zero lists)) (drop_more p.posted i [] (omega arith)))
+first_from p (suc n) i (h ∷ hs) e =
+    ap (λ more. get_or p.posted i [] ++ more) (first_from p n (i + 1) hs (omega arith))
+    ∙ sym (ap (λ (lists : List (List Done)). flat_map (λ (dones : List Done). dones) (take (suc n) lists)) (drop_more p.posted i [] (omega arith)))
+
+pub first_posted : (p : Lists) (n : ℕ) (hs : List Head) → length p.posted ≡ length hs → flat_map (λ (turn : Turn). turn.posted) (take n (turns_from p 0 hs)) ≡ flat_map (λ (dones : List Done). dones) (take n p.posted)
+first_posted p n hs e = first_from p n 0 hs (omega arith)
 
 -- whether a list is empty, by its length
 pub empty_by_length : {X : Type 0} (xs : List X) → is_empty xs ≡ eqb (length xs) 0

@@ -1,5 +1,6 @@
 -- Recorded turns, and the room for more.
-use Rattle.std.specs.Prelude.{ℕ, ◌++◌, [], List, max, option_map, slice_get, unwrap_or}
+use Rattle.std.specs.Prelude.{ℕ, ◌++◌, [], List, map, max, option_map, slice_get, unwrap_or}
+use Rattle.std.specs.List.{flat_map}
 use Rattle.pt_types.specs.declared.firing.Done.{Done}
 use Rattle.pt_types.specs.declared.firing.OnLink.{OnLink}
 use Rattle.pt_types.specs.declared.firing.Task.{Task}
@@ -50,6 +51,18 @@ claiming tasks turn = record turn { claimed = turn.claimed ++ tasks }
 -- a turn with more messages sent after it
 abbrev pub sending : List OnLink → Turn → Turn
 sending messages turn = record turn { sent = turn.sent ++ messages }
+
+-- a result, with the last reading of the turn that posted it
+pub record Dated : Type 0 where
+  pub reading : ℕ
+  pub done : Done
+
+-- the results of a turn, and those of all turns, in order
+abbrev pub dated : Turn → List Dated
+dated turn = map (λ (done : Done). record { reading = turn.last; done = done }) turn.posted
+
+abbrev pub all_dated : List Turn → List Dated
+all_dated turns = flat_map dated turns
 
 -- the results posted in turn `number`; none if there is no such turn
 abbrev pub posted_in : List Turn → ℕ → List Done

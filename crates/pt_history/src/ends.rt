@@ -128,6 +128,26 @@ impl Ends {
         }
     }
 
+    /// The list that has an item, which is counted from 0 over all lists.
+    pub fn list_of(&self, item: usize) -> usize
+        requires { item < self.now.total }
+        ensures within { result < length self.now.ends }
+        ensures starts { slice_index (0 ∷ self.now.ends) result ≤ item }
+        ensures ends { item < slice_index self.now.ends result }
+    {
+        let mut low = 0;
+        let mut high = self.starts.len();
+        while high - low > 1 {
+            let middle = low + (high - low) / 2;
+            if self.start(middle) <= item {
+                low = middle;
+            } else {
+                high = middle;
+            }
+        }
+        low
+    }
+
     /// Whether a list is known to be empty. `false` says nothing.
     #[inline(always)]
     pub fn is_bare(&self, number: usize) -> bool

@@ -5,7 +5,7 @@ ghost use Rattle.std.specs.List.{flat_map};
 ghost use Rattle.pt_history.specs.Lists.{on_last};
 ghost use Rattle.pt_semantics.specs.Turn.{is_quiet};
 ghost use Rattle.pt_semantics.specs.Kept.{kept_with, settled};
-ghost use Rattle.pt_history.specs.Turns.{claimed_in, claiming, entering, fresh, larger, posted_in, posting, quiet, sending, taking};
+ghost use Rattle.pt_history.specs.Turns.{all_dated, claimed_in, claiming, entering, fresh, larger, posted_in, posting, quiet, sending, taking};
 ghost use Rattle.pt_history.specs.Keeping.{Joins};
 ghost use Rattle.pt_history.specs.Tasks.{mark_of};
 
@@ -317,6 +317,29 @@ impl History {
         self.work.done_mark(turn, number)
     }
 
+    /// How many results were posted in all recorded turns.
+    pub fn results(&self) -> usize
+        ensures { result ≡ length (all_dated self.now.turns) }
+    {
+        self.work.results()
+    }
+
+    /// The task of result `number` of all recorded turns, counted from 0, without its inputs and its state.
+    pub fn result_mark(&self, number: usize) -> Mark
+        requires { number < length (all_dated self.now.turns) }
+        ensures { option_map (λ dated. mark_of dated.done.task) (slice_get (all_dated self.now.turns) number) ≡ Some result }
+    {
+        self.work.result_mark(number)
+    }
+
+    /// The last reading of the turn that posted result `number` of all recorded turns, counted from 0, in microseconds.
+    pub fn posted_at(&self, number: usize) -> u64
+        requires { number < length (all_dated self.now.turns) }
+        ensures { option_map (λ dated. dated.reading) (slice_get (all_dated self.now.turns) number) ≡ Some result }
+    {
+        self.heads.get(self.work.list_of_result(number)).last
+    }
+
     /// The rows entered in a recorded turn.
     pub fn rows(&self, number: usize) -> &[RowAt]
         requires { number < length self.now.turns }
@@ -338,6 +361,13 @@ impl History {
         ensures { result.now ≡ flat_map (λ turn. turn.taken) self.now.turns }
     {
         self.taken.all()
+    }
+
+    /// The messages sent after all recorded turns, in order.
+    pub fn all_sent(&self) -> &[OnLink]
+        ensures { result.now ≡ flat_map (λ turn. turn.sent) self.now.turns }
+    {
+        self.sent.all()
     }
 
     /// How many tasks were claimed in a recorded turn.

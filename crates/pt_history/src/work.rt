@@ -153,6 +153,13 @@ impl Work {
         self.claims.mark(number)
     }
 
+    /// The number of results.
+    pub fn results(&self) -> usize
+        ensures { result ≡ length self.now.dones }
+    {
+        self.sources.len()
+    }
+
     /// The task of result `number`, counted from 0, without its inputs and its state.
     pub fn done_mark(&self, number: usize) -> Mark
         requires { number < length self.now.dones }

@@ -1,6 +1,6 @@
 //! The claims and the results of each turn.
 
-ghost use Rattle.std.specs.Prelude.{◌≡◌, ◌+◌, ◌<◌, ◌≤◌, ◌++◌, ◌∷◌, [], OnOk, Some, length, option_map, slice_get, slice_index_or};
+ghost use Rattle.std.specs.Prelude.{◌≡◌, ◌+◌, ◌<◌, ◌≤◌, ◌++◌, ◌∷◌, [], OnOk, Some, length, option_map, slice_get, slice_index_or, take};
 ghost use Rattle.std.specs.List.{flat_map};
 ghost use Rattle.pt_history.specs.Lists.{on_last};
 ghost use Rattle.pt_history.specs.Tasks.{mark_of};
@@ -163,6 +163,31 @@ impl WorkLists {
             return 0;
         }
         self.posted.end(list) - self.posted.start(list)
+    }
+
+    /// The number of results in all lists.
+    pub fn results(&self) -> usize
+        ensures { result ≡ length (flat_map (λ list. list) self.now.posted.lists) }
+    {
+        self.work.results()
+    }
+
+    /// The task of result `number` of all lists, counted from 0, without its inputs and its state.
+    pub fn result_mark(&self, number: usize) -> Mark
+        requires { number < length (flat_map (λ list. list) self.now.posted.lists) }
+        ensures { option_map (λ done. mark_of done.task) (slice_get (flat_map (λ list. list) self.now.posted.lists) number) ≡ Some result }
+    {
+        self.work.done_mark(number)
+    }
+
+    /// The list that has result `number` of all lists, counted from 0.
+    pub fn list_of_result(&self, number: usize) -> usize
+        requires { number < length (flat_map (λ list. list) self.now.posted.lists) }
+        ensures within { result < length self.now.posted.lists }
+        ensures starts { length (flat_map (λ list. list) (take result self.now.posted.lists)) ≤ number }
+        ensures ends { number < length (flat_map (λ list. list) (take (result + 1) self.now.posted.lists)) }
+    {
+        self.posted.list_of(number)
     }
 
     /// Result `number` of a list, counted from 0.
