@@ -2,12 +2,10 @@
 use Rattle.std.proofs.Common.{◌∷◌, length, arith, ◌≡◌, ℕ, ℤ, ◌+◌, ◌<◌, ◌++◌, [], append_assoc, List, Option, Some, None, nat_lt, slice_get, refl, sym, ap, subst, ◌∙◌, inl, inr, ⊎_elim, lt-ltb}
 use Rattle.std.specs.Prelude.{filter_map, option_map, unwrap_or}
 use Rattle.std.proofs.lemmas.Bool.{ltb-true}
-use Rattle.std.proofs.lemmas.List.{append-nil}
 use Rattle.pt_tags.specs.declared.message.Message.{Message}
 use Rattle.pt_tags.specs.declared.message.Message.TheVariants.{Event, End}
 use Rattle.pt_tags.specs.declared.tag.Tag.{Tag}
 use Rattle.pt_types.specs.declared.firing.Done.{Done}
-use Rattle.pt_types.specs.declared.firing.OnLink.{OnLink}
 use Rattle.pt_types.specs.declared.firing.Task.{Task}
 use Rattle.pt_types.specs.declared.graph.Graph.{Graph}
 use Rattle.pt_types.specs.declared.graph.Link.{Link}
@@ -21,7 +19,7 @@ use Rattle.pt_semantics.specs.Turn.{Turn}
 use Rattle.pt_semantics.proofs.Lookups.{IsIn-append, IsIn-append_left, IsIn-append_right, none_some, same_some, when_found}
 use Rattle.pt_semantics.proofs.Words.{when-true}
 use Rattle.pt_history.specs.declared.miss.Miss.{Miss}
-use Rattle.pt_monitors.specs.Misses.{AppendsMisses, IsLastReading, ListsMissed, miss_by, miss_of_message, miss_of_result, miss_on, miss_past, missed_at, missed_of}
+use Rattle.pt_monitors.specs.Misses.{AppendsMisses, AppendsSent, ListsMissed, miss_by, miss_of_message, miss_of_result, miss_on, miss_past, missed_at, missed_of}
 use Rattle.pt_monitors.proofs.Members.{filter_map_in, flat_map_in, in_filter_map, in_flat_map}
 
 -- what an entry says
@@ -155,25 +153,17 @@ lists_missed g turns = λ m. (
   λ is. flat_map_in (missed_at g) turns is.0 m is.1 (of_turn g is.0 m is.2 is.3),
 )
 
--- what was appended for a turn
-pub missed_here : (g : Graph) (o : Option Turn) (sent : List OnLink) (old mid new : List Miss) → option_map (λ (turn : Turn). turn.sent) o ≡ Some sent
-    → AppendsMisses g o (unwrap_or (option_map (λ (turn : Turn). turn.posted) o) []) old mid → ((reading : ℕ) → IsLastReading o reading → new ≡ mid ++ filter_map (miss_of_message g reading) sent)
-    → option_map (λ (turn : Turn). old ++ missed_at g turn) o ≡ Some new
-missed_here g None sent old mid new was results messages = absurd (none_some sent was)
-missed_here g (Some turn) sent old mid new was results messages =
+-- what was appended for a turn: the misses of its results, and then those of its messages
+pub missed_turn : (g : Graph) (o : Option Turn) (dones : List Done) (old mid new : List Miss) → option_map (λ (turn : Turn). turn.posted) o ≡ Some dones
+    → AppendsMisses g o (unwrap_or (option_map (λ (turn : Turn). turn.posted) o) []) old mid → AppendsSent g o mid new → option_map (λ (turn : Turn). old ++ missed_at g turn) o ≡ Some new
+missed_turn g None dones old mid new there results messages = absurd (none_some dones there)
+missed_turn g (Some turn) dones old mid new there results messages =
     ap Some
-    (ap (λ s. old ++ (filter_map (miss_of_result g turn.last) turn.posted ++ filter_map (miss_of_message g turn.last) s)) (same_some turn.sent sent was)
-    ∙ sym (append_assoc old (filter_map (miss_of_result g turn.last) turn.posted) (filter_map (miss_of_message g turn.last) sent))
-    ∙ ap (λ l. l ++ filter_map (miss_of_message g turn.last) sent) (sym (results turn.last refl))
-    ∙ sym (messages turn.last refl))
+    (sym (append_assoc old (filter_map (miss_of_result g turn.last) turn.posted) (filter_map (miss_of_message g turn.last) turn.sent))
+    ∙ ap (λ l. l ++ filter_map (miss_of_message g turn.last) turn.sent) (sym (results turn.last refl))
+    ∙ sym (messages turn refl))
 
 -- a list of no length
 pub empty_list : {X : Type 0} (xs : List X) → length xs ≡ 0 → xs ≡ []
 empty_list [] h = refl
 empty_list (x ∷ xs) h = absurd (omega (arith, h))
-
--- and if it sent nothing
-pub missed_results_alone : (g : Graph) (o : Option Turn) (sent : List OnLink) (old mid : List Miss) → option_map (λ (turn : Turn). turn.sent) o ≡ Some sent → sent ≡ []
-    → AppendsMisses g o (unwrap_or (option_map (λ (turn : Turn). turn.posted) o) []) old mid → option_map (λ (turn : Turn). old ++ missed_at g turn) o ≡ Some mid
-missed_results_alone g o sent old mid was none results =
-    missed_here g o sent old mid mid was results (λ reading is. sym (append-nil mid) ∙ ap (λ (s : List OnLink). mid ++ filter_map (miss_of_message g reading) s) (sym none))

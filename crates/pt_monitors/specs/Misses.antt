@@ -53,6 +53,10 @@ IsLastReading turn reading = option_map (λ (t : Turn). t.last) turn ≡ Some re
 abbrev pub AppendsMisses : Graph → Option Turn → List Done → List Miss → List Miss → Type 0
 AppendsMisses g turn dones old new = (reading : ℕ) → IsLastReading turn reading → new ≡ old ++ filter_map (miss_of_result g reading) dones
 
+-- the misses of the messages sent after this turn, if there is one, were appended
+abbrev pub AppendsSent : Graph → Option Turn → List Miss → List Miss → Type 0
+AppendsSent g o old new = (turn : Turn) → o ≡ Some turn → new ≡ old ++ filter_map (miss_of_message g turn.last) turn.sent
+
 -- the misses of all turns, in order
 abbrev pub missed_of : Graph → List Turn → List Miss
 missed_of g turns = flat_map (missed_at g) turns

@@ -1,11 +1,12 @@
 //! The misses of a history.
 
-ghost use Rattle.std.specs.Prelude.{◌≡◌, ℕ, ◌<◌, ◌++◌, OnOk, Some, filter_map, length, option_map, option_to_list, slice_get};
+ghost use Rattle.std.specs.Prelude.{◌≡◌, ℕ, ◌<◌, ◌++◌, OnOk, Some, false, filter_map, length, option_map, option_to_list, slice_get, true};
 ghost use Rattle.pt_types.specs.declared.firing.Done.{Done};
 ghost use Rattle.pt_types.specs.Lookups.{slack_of};
 ghost use Rattle.pt_history.specs.Tasks.{mark_of};
-ghost use Rattle.pt_history.specs.Turns.{posted_in};
-ghost use Rattle.pt_monitors.specs.Misses.{AppendsMisses, IsLastReading, ListsMissed, miss_of_message, miss_of_result, miss_past, missed_at, missed_of};
+ghost use Rattle.pt_history.specs.Turns.{all_dated, posted_in};
+ghost use Rattle.pt_monitors.specs.InTime.{AreInTime, HasNoMiss};
+ghost use Rattle.pt_monitors.specs.Misses.{AppendsMisses, AppendsSent, IsLastReading, ListsMissed, miss_of_message, miss_of_result, miss_past, missed_at, missed_of};
 
 use pt_history::{History, Mark, Miss};
 use pt_tags::{Memory, Message, Tag};
@@ -14,13 +15,60 @@ use pt_types::{Graph, Kind, OnLink};
 /// Appends the misses of a platform's history: turn by turn, and in a turn the results before the messages.
 ///
 /// With tag time 50 and slack 10, a reading of 60 is in time and one of 61 is a miss. If memory runs out, some may be
-/// appended.
+/// appended. Mostly no result is a miss, and then only the messages are looked at turn by turn.
 pub fn missed_in(graph: &Graph, history: &History, misses: &mut Vec<Miss>) -> Result<(), Memory>
     ensures missed { OnOk result (misses.new.items ≡ misses.old.items ++ missed_of graph.now history.now.turns) }
     ensures all { ListsMissed graph.now history.now.turns (missed_of graph.now history.now.turns) }
 {
+    if are_in_time(graph, history) {
+        return missed_sent(graph, history, misses);
+    }
     for number in 0..history.turns() {
         missed_at(graph, history, number, misses)?;
+    }
+    Ok(())
+}
+
+/// Whether every result of an actuator was posted in time. The results of all turns are read one after another; when one was
+/// posted is looked up for an actuator's result alone, since most results are of other actors.
+fn are_in_time(graph: &Graph, history: &History) -> bool
+    ensures { result ≡ true → AreInTime graph.now history.now.turns }
+{
+    for number in 0..history.results() {
+        if is_late(graph, history, number) {
+            return false;
+        }
+    }
+    true
+}
+
+/// Whether a result of all turns, by its number, is an actuator's, posted past its limit.
+fn is_late(graph: &Graph, history: &History, number: usize) -> bool
+    requires { number < length (all_dated history.now.turns) }
+    ensures { result ≡ false → HasNoMiss graph.now (slice_get (all_dated history.now.turns) number) }
+{
+    let mark = history.result_mark(number);
+    let Some(actor) = graph.actors.as_slice().get(mark.actor as usize) else {
+        return false;
+    };
+    match &actor.kind {
+        Kind::Actuator { slack } => {
+            miss_past(history.posted_at(number), mark.actor, mark.tag, *slack).is_some()
+        }
+        _ => false,
+    }
+}
+
+/// Appends the misses of a history of which no result is a miss: those among its messages.
+fn missed_sent(graph: &Graph, history: &History, misses: &mut Vec<Miss>) -> Result<(), Memory>
+    requires in_time { AreInTime graph.now history.now.turns }
+    ensures { OnOk result (misses.new.items ≡ misses.old.items ++ missed_of graph.now history.now.turns) }
+{
+    if history.all_sent().is_empty() {
+        return Ok(());
+    }
+    for number in 0..history.turns() {
+        missed_after(graph, history, number, misses)?;
     }
     Ok(())
 }
@@ -35,19 +83,28 @@ fn missed_at(
     requires { number < length history.now.turns }
     ensures { OnOk result (option_map (λ turn. misses.old.items ++ missed_at graph.now turn) (slice_get history.now.turns number) ≡ Some misses.new.items) }
 {
-    let (posted, sent) = (history.posted(number), history.sent(number));
-    if posted == 0 && sent.is_empty() {
-        return Ok(());
-    }
-    missed_results(graph, history, number, posted, misses)?;
+    missed_results(graph, history, number, history.posted(number), misses)?;
+    missed_after(graph, history, number, misses)
+}
+
+/// Appends the misses among the messages that were sent after a recorded turn.
+fn missed_after(
+    graph: &Graph,
+    history: &History,
+    number: usize,
+    misses: &mut Vec<Miss>,
+) -> Result<(), Memory>
+    requires { number < length history.now.turns }
+    ensures { OnOk result (AppendsSent graph.now (slice_get history.now.turns number) misses.old.items misses.new.items) }
+{
+    let sent = history.sent(number);
     if sent.is_empty() {
         return Ok(());
     }
     missed_messages(graph, history.last(number), sent, misses)
 }
 
-/// Appends the misses among the results, `posted` in number, that a recorded turn posted. The turn's reading is looked up for
-/// an actuator's result alone: most results are of other actors.
+/// Appends the misses among the results, `posted` in number, that a recorded turn posted.
 fn missed_results(
     graph: &Graph,
     history: &History,

@@ -13,3 +13,6 @@ returns-in_err-missed_at-clause-all c = lists_missed c.args.graph.now c.args.his
 
 pub returns-clause-all : goal.returns-clause-all
 returns-clause-all c = lists_missed c.args.graph.now c.args.history.now.turns
+
+pub returns-then-are_in_time-clause-all : goal.returns-then-are_in_time-clause-all
+returns-then-are_in_time-clause-all c = lists_missed c.args.graph.now c.args.history.now.turns

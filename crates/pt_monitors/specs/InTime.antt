@@ -1,0 +1,19 @@
+-- Whether the results of recorded turns were posted in time.
+use Rattle.std.specs.Prelude.{◌≡◌, List, None, Option, Some}
+use Rattle.pt_types.specs.declared.graph.Graph.{Graph}
+use Rattle.pt_semantics.specs.Lists.{Each}
+use Rattle.pt_semantics.specs.Turn.{Turn}
+use Rattle.pt_history.specs.Turns.{Dated, all_dated}
+use Rattle.pt_monitors.specs.Misses.{miss_of_result}
+
+-- a result, posted at this reading, is no miss
+abbrev pub IsInTime : Graph → Dated → Type 0
+IsInTime g d = miss_of_result g d.reading d.done ≡ None
+
+-- if there is a result, it is no miss
+abbrev pub HasNoMiss : Graph → Option Dated → Type 0
+HasNoMiss g o = (d : Dated) → o ≡ Some d → IsInTime g d
+
+-- no result of these turns is a miss
+abbrev pub AreInTime : Graph → List Turn → Type 0
+AreInTime g turns = Each (IsInTime g) (all_dated turns)
