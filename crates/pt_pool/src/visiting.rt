@@ -53,7 +53,7 @@ pub(crate) fn visit_platform<R: Wait>(
         most,
     })?;
     take_all(rt, inlets, &mut given);
-    let _ = platform.turn(reading, done, given.as_slice(), most, tasks);
+    platform.turn(reading, done, given.as_slice(), most, tasks);
     put_all(rt, platform, outlets);
     Ok(())
 }

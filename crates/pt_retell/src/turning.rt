@@ -36,7 +36,7 @@ pub fn make_turn(
         taken: hints.taken.len(),
         most,
     })?;
-    let _ = platform.turn(hints.last, dones, hints.taken.as_slice(), most, tasks);
+    platform.turn(hints.last, dones, hints.taken.as_slice(), most, tasks);
     Ok(())
 }
 

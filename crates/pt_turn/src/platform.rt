@@ -71,7 +71,7 @@ impl Platform {
         &self.history
     }
 
-    /// The fault that a turn returned, whose cause the recorded turns show; `None` if no turn returned one.
+    /// The fault that the last turn had, whose cause the recorded turns show; `None` if it had none.
     pub fn fault(&self) -> Option<TurnFault>
         ensures fault { result ≡ self.now.fault }
         ensures shows { MatchOption result (Unit {0}) (Shows self.now.plan.graph self.now.turns (state_at self.now)) }

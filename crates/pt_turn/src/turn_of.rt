@@ -1,12 +1,11 @@
 //! A turn of a platform.
 
-ghost use Rattle.std.specs.Prelude.{◌≡◌, ◌≤◌, ◌++◌, MatchOption, MatchResult, None, Some, Err, length};
+ghost use Rattle.std.specs.Prelude.{◌≡◌, ◌≤◌, ◌++◌, MatchOption, None, Some, length};
 ghost use Rattle.pt_post.specs.Posted.{AreDone};
 ghost use Rattle.pt_turn.specs.Platforms.{level_at, state_at};
 ghost use Rattle.pt_turn.specs.declared.fault.TurnFault.{TurnFault};
 ghost use Rattle.pt_turn.specs.Turned.{IsEnough, IsTurned, MayCome, StaysThere};
 
-use crate::fault::TurnFault;
 use crate::kept_turn::raised_to;
 use crate::made_turn::make;
 use crate::platform::Platform;
@@ -18,8 +17,8 @@ impl Platform {
     /// of open claims, enters the rows that are seen, takes messages up to and including the first that is late, claims at
     /// most `most` units, whose tasks are appended to `tasks`, and closes if nothing is left to do.
     ///
-    /// If a message was late, or 200,000 claims were made before it and a unit is safe, it returns a fault. From then on
-    /// every turn returns this fault and changes nothing. Allocates nothing: `room` has reserved the memory.
+    /// If a message was late, or 200,000 claims were made before it and a unit is safe, the platform then has a `fault`. From
+    /// then on a turn changes nothing. Allocates nothing: `room` has reserved the memory.
     pub fn turn(
         &mut self,
         reading: u64,
@@ -27,18 +26,17 @@ impl Platform {
         taken: &[OnLink],
         most: usize,
         tasks: &mut Tasks,
-    ) -> Result<(), TurnFault>
+    )
         requires room { MatchOption self.old.room ⊥ (IsEnough reading (length done.now) (length taken.now) most) }
         requires most { (1 ≤ most) × (most ≤ 64) }
         requires tasks { most ≤ tasks.old.spare }
         requires done { AreDone self.old.plan.graph done.now }
         requires taken { MayCome self.old.plan.graph (level_at self.old) self.old.number (state_at self.old) taken.now }
         ensures turned { self.old.fault ≡ None → (made : IsTurned self.old self.new reading most done.now taken.now) × (tasks.new.tasks ≡ tasks.old.tasks ++ made.turn.claimed) × StaysThere self.old self.new }
-        ensures result { MatchResult result (λ _. self.new.fault ≡ None) (λ fault. self.new.fault ≡ Some fault) }
-        ensures stopped { (fault : TurnFault) → self.old.fault ≡ Some fault → (result ≡ Err fault) × (self.new ≡ self.old) × (tasks.new ≡ tasks.old) }
+        ensures stopped { (fault : TurnFault) → self.old.fault ≡ Some fault → (self.new ≡ self.old) × (tasks.new ≡ tasks.old) }
     {
-        if let Some(fault) = self.fault {
-            return Err(fault);
+        if let Some(_) = self.fault {
+            return;
         }
         let reading = raised_to(self.fields.reading, reading);
         let fault = make(
@@ -57,11 +55,8 @@ impl Platform {
         self.room = None;
         self.next = None;
         match fault {
-            None => Ok(()),
-            Some(fault) => {
-                self.fault = Some(fault);
-                Err(fault)
-            }
+            None => (),
+            Some(fault) => self.fault = Some(fault),
         }
     }
 }

@@ -80,7 +80,7 @@ pub fn visit(
         taken: desk.taken.len(),
         most,
     })?;
-    let _ = platform.turn(
+    platform.turn(
         reading,
         results.as_slice(),
         desk.taken.as_slice(),
