@@ -44,9 +44,9 @@ use std::thread::Threads;
 /// Runs the command of these words, those after the program's name: `run GRAPH`, `check GRAPH`, `meaning GRAPH`,
 /// `make NUMBER`, `migrate GRAPH`, `slacks GRAPH`, `audit GRAPH LOG` or `replay GRAPH AIR`.
 ///
-/// Files are read from the source by name; `make` reads none. The text goes to `out`, line by line. After a fault, one line
-/// on `notes` says why; after a run with misses, one line for each. In a run by the machine's clock platform i reads clock i of
-/// the 16 that are handed in; no other call reads them. `blocks` has the functions that actors may name.
+/// Files are read from the source by name; `make` reads none. The text goes to `out`, in blocks of whole lines. After a fault,
+/// one line on `notes` says why; after a run with misses, one line for each. In a run by the machine's clock platform i reads
+/// clock i of the 16 that are handed in; no other call reads them. `blocks` has the functions that actors may name.
 ///
 /// This call may wait. No clause says which commands end: the parts of `check`, `meaning`, `make`, `migrate`, `slacks`, `audit`,
 /// `replay` and a paced run that don't take `rt` do, and a run by a clock of its own, `--clock step:..` or `--clock machine`, may go
