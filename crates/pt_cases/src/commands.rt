@@ -34,7 +34,7 @@ pub struct CommandScript {
     blocks: Blocks,
     files: Files,
     fetch: Option<u64>,
-    put: Option<u64>,
+    put: Option<(u64, usize)>,
     clocks: Vec<Readings>,
 }
 
@@ -65,8 +65,8 @@ impl CommandScript {
             self.fetch = number.parse().ok();
             return Ok(String::new(alloc));
         }
-        if let Some(number) = line.strip_prefix("put ") {
-            self.put = number.parse().ok();
+        if let Some(put) = line.strip_prefix("put ") {
+            self.put = failing_put(put);
             return Ok(String::new(alloc));
         }
         if let Some(clock) = line.strip_prefix("clock ") {
@@ -133,10 +133,16 @@ impl CommandScript {
     }
 }
 
-fn page(alloc: Global, put: Option<u64>) -> Result<Page, AllocError> {
+/// The number of a put that fails, from 0, and how many bytes it takes, 0 if that isn't given.
+fn failing_put(text: &str) -> Option<(u64, usize)> {
+    let (number, bytes) = text.split_once(' ').unwrap_or((text, "0"));
+    Some((number.parse().ok()?, bytes.parse().ok()?))
+}
+
+fn page(alloc: Global, put: Option<(u64, usize)>) -> Result<Page, AllocError> {
     let mut failing = Vec::new(alloc);
-    if let Some(number) = put {
-        failing.push((number, 0))?;
+    if let Some(put) = put {
+        failing.push(put)?;
     }
     match Page::new(alloc, ROOM, failing) {
         Ok(page) => Ok(page),

@@ -64,7 +64,7 @@ pub fn make_turn(
     if !may_come(alloc, platform, messages)? {
         return Ok(None);
     }
-    let _ = platform.turn(reading, results.as_slice(), messages, MOST, &mut claimed);
+    platform.turn(reading, results.as_slice(), messages, MOST, &mut claimed);
     let claimed = Vec::from_slice(alloc, claimed.as_slice())?;
     Ok(Some(Made { results, claimed }))
 }
