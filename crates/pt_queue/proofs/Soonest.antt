@@ -9,12 +9,11 @@ use Rattle.pt_types.specs.declared.graph.Unit.{Unit as Part}
 use Rattle.pt_types.specs.Ports.{when}
 use Rattle.pt_semantics.specs.Lists.{Each, or_else}
 use Rattle.pt_semantics.specs.Units.{same_part}
-use Rattle.pt_semantics.proofs.Lookups.{none_some, same_some}
 use Rattle.pt_queue.specs.declared.groups.Groups.{Groups}
 use Rattle.pt_queue.specs.Groups.{group_in}
 use Rattle.pt_queue.specs.Events.{waiting_in}
 use Rattle.pt_queue.specs.Lines.{AreInLines, TagsRise, IsInLine, all_of, first, line_at, value_on}
-use Rattle.pt_queue.specs.Scans.{is_of, least_from, sooner, sooner_if, unit_in}
+use Rattle.pt_queue.specs.Scans.{is_of, least_from, sooner, sooner_first, sooner_if, unit_in}
 
 -- an event in the line of an input waits there
 pub at_input_of : (table : List Groups) (a p : ℕ) (e : Event) → p < 8 → IsInLine table (8 * a + p) e → (e.actor ≡ a) × (e.port ≡ p)
@@ -79,16 +78,11 @@ each_map P Q (x ∷ xs) f h = (f x h.0, each_map P Q xs f h.1)
 pub least_other : (table : List Groups) (u : Part) (p : ℕ) (best : Option Tag) (line : List Event) → p < 8 → Each (IsInLine table (8 * u.actor + p)) line → (group_in table u.actor p == u.group) ≡ false → best ≡ least_from table u best line
 least_other table u p best line l h ne = sym (least_none table u best line (each_map (IsInLine table (8 * u.actor + p)) (λ (e : Event). is_of table u e ≡ false) line (λ e k. of_line table u p e l k ∙ ne) h))
 
-pub least_empty : (table : List Groups) (u : Part) (best : Option Tag) (line : List Event) → None ≡ first line → best ≡ least_from table u best line
-least_empty table u best [] h = refl
-least_empty table u best (x ∷ line) h = absurd (none_some x h)
-
-pub least_line : (table : List Groups) (u : Part) (p : ℕ) (best : Option Tag) (line : List Event) (e : Event) → p < 8 → Each (IsInLine table (8 * u.actor + p)) line → TagsRise line → (group_in table u.actor p == u.group) ≡ true → Some e ≡ first line → sooner best e.tag ≡ least_from table u best line
-least_line table u p best [] e l h order eq is = absurd (none_some e (sym is))
-least_line table u p best (x ∷ line) e l h order eq is =
-    let here : e ≡ x = same_some e x is in
-    ap (λ (y : Event). sooner best y.tag) here
-    ∙ sym (ap (λ c. least_from table u (sooner_if c best x.tag) line) (of_line table u p x l h.0 ∙ eq) ∙ least_first table u best x line order)
+-- the lesser of the least tag so far and that of the first event is the least of all
+pub least_of_line : (table : List Groups) (u : Part) (p : ℕ) (best : Option Tag) (line : List Event) → p < 8 → Each (IsInLine table (8 * u.actor + p)) line → TagsRise line → (group_in table u.actor p == u.group) ≡ true → sooner_first best (first line) ≡ least_from table u best line
+least_of_line table u p best [] l h order eq = refl
+least_of_line table u p best (x ∷ line) l h order eq =
+    sym (ap (λ c. least_from table u (sooner_if c best x.tag) line) (of_line table u p x l h.0 ∙ eq) ∙ least_first table u best x line order)
 
 -- the lines one after another
 pub all_more : (lines : List (List Event)) (n : ℕ) → all_of (take (suc n) lines) ≡ all_of (take n lines) ++ line_at lines n

@@ -30,6 +30,11 @@ abbrev pub sooner : Option Tag → Tag → Option Tag
 sooner None t = Some t
 sooner (Some b) t = if tag_lt t b then Some t else Some b
 
+-- the lesser of the least tag so far and that of an event, if there is one
+abbrev pub sooner_first : Option Tag → Option Event → Option Tag
+sooner_first best None = best
+sooner_first best (Some e) = sooner best e.tag
+
 -- the lesser of the two if b is true, else the least tag so far
 abbrev pub sooner_if : Bool → Option Tag → Tag → Option Tag
 sooner_if b best t = if b then sooner best t else best

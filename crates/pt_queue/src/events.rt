@@ -64,21 +64,9 @@ fn is_one_for(actor: u32, events: &VecDeque<Event>) -> bool
     front.iter().chain(back).any(|event| is_for(actor, event))
 }
 
-/// Removes the events of a tag that wait for a unit.
-pub fn remove(events: &mut VecDeque<Event>, table: &[Groups], unit: Unit, tag: Tag)
-    ensures left { events.new.items ≡ filter (λ e. not (is_at table.now unit tag e)) events.old.items }
-    ensures len { deque_len events.new ≤ deque_len events.old }
-    ensures capacity { deque_capacity events.new ≡ deque_capacity events.old }
-{
-    if !has_events(events, unit.actor) {
-        return;
-    }
-    remove_some(events, table, unit, tag);
-}
-
-/// As `remove`, by a pass over all events.
+/// Removes the events of a tag that wait for a unit, by a pass over all events.
 #[inline(never)]
-fn remove_some(events: &mut VecDeque<Event>, table: &[Groups], unit: Unit, tag: Tag)
+pub fn remove_some(events: &mut VecDeque<Event>, table: &[Groups], unit: Unit, tag: Tag)
     ensures left { events.new.items ≡ filter (λ e. not (is_at table.now unit tag e)) events.old.items }
     ensures len { deque_len events.new ≤ deque_len events.old }
     ensures capacity { deque_capacity events.new ≡ deque_capacity events.old }
@@ -102,24 +90,9 @@ pub fn sooner(best: Option<Tag>, tag: Tag) -> Option<Tag>
     }
 }
 
-/// The least of `so_far` and the tags of the events that wait for a unit.
-pub fn least_tag(
-    table: &[Groups],
-    events: &VecDeque<Event>,
-    unit: Unit,
-    so_far: Option<Tag>,
-) -> Option<Tag>
-    ensures { result ≡ least_from table.now unit so_far events.now.items }
-{
-    if !has_events(events, unit.actor) {
-        return so_far;
-    }
-    least_among(table, events, unit, so_far)
-}
-
-/// As `least_tag`, by a pass over all events.
+/// The least of `so_far` and the tags of the events that wait for a unit, by a pass over all events.
 #[inline(never)]
-fn least_among(
+pub fn least_among(
     table: &[Groups],
     events: &VecDeque<Event>,
     unit: Unit,

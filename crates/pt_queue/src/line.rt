@@ -11,6 +11,15 @@ use std::alloc::Global;
 use std::collections::VecDeque;
 use std::marker::Model;
 
+/// What was taken from a line, and what comes next there.
+#[derive(Clone, Copy)]
+pub struct Taken {
+    /// The value of the event that was taken; `None` if there was none.
+    pub value: Option<i64>,
+    /// The first of the events that are left.
+    pub next: Option<Event>,
+}
+
 /// The events of one input. Contracts see them as a list.
 #[derive(Drop)]
 pub struct Line {
@@ -75,8 +84,24 @@ impl Line {
         let _ = self.events.reserve(1);
     }
 
-    /// Takes the event at a tag, if there is one, and returns its value.
-    pub fn take(&mut self, tag: Tag) -> Option<i64>
+    /// Takes the event at a tag, if there is one.
+    #[inline(always)]
+    pub fn take(&mut self, tag: Tag) -> Taken
+        ensures value { result.value ≡ value_on self.old tag }
+        ensures left { self.new ≡ filter (λ e. not (same_tag tag e.tag)) self.old }
+        ensures next { result.next ≡ first self.new }
+        ensures in_order { TagsRise self.new }
+    {
+        let value = self.take_value(tag);
+        Taken {
+            value,
+            next: self.first(),
+        }
+    }
+
+    /// As `take`, and returns only the value.
+    #[inline(always)]
+    fn take_value(&mut self, tag: Tag) -> Option<i64>
         ensures value { result ≡ value_on self.old tag }
         ensures left { self.new ≡ filter (λ e. not (same_tag tag e.tag)) self.old }
     {

@@ -4,7 +4,7 @@ ghost use Rattle.std.specs.Prelude.{◌≡◌, ℕ, ◌+◌, ◌*◌, ◌<◌, �
 ghost use Rattle.pt_tags.specs.Tags.{same_tag};
 ghost use Rattle.pt_queue.specs.Lines.{TagsRise, first, joined_by, line_at, line_of_event, value_on};
 
-use crate::line::Line;
+use crate::line::{Line, Taken};
 use pt_tags::Tag;
 use pt_types::Event;
 use std::alloc::{AllocError, Global};
@@ -122,13 +122,19 @@ impl Lines {
         }
     }
 
-    /// Takes the event at a tag from a line, if there is one, and returns its value.
-    pub fn take(&mut self, line: usize, tag: Tag) -> Option<i64>
-        ensures value { result ≡ value_on (line_at self.old line) tag }
+    /// Takes the event at a tag from a line, if there is one.
+    #[inline(always)]
+    pub fn take(&mut self, line: usize, tag: Tag) -> Taken
+        ensures value { result.value ≡ value_on (line_at self.old line) tag }
         ensures left { self.new ≡ slice_set self.old line (filter (λ e. not (same_tag tag e.tag)) (line_at self.old line)) }
+        ensures next { result.next ≡ first (line_at self.new line) }
+        ensures in_order { TagsRise (line_at self.new line) }
     {
         if line >= self.lines.len() {
-            return None;
+            return Taken {
+                value: None,
+                next: None,
+            };
         }
         self.lines[line].take(tag)
     }

@@ -13,14 +13,14 @@ ghost use Rattle.pt_queue.specs.Groups.{AreGroups};
 ghost use Rattle.pt_queue.specs.Events.{waiting_in, value_in, AreWaiting, IsPlaced, IsLeastTag, IsBlocked, IsClear};
 
 use crate::blocked::is_blocked;
-use crate::events::{least_tag, remove, unit_of};
+use crate::events::unit_of;
 use crate::groups::{Groups, all_groups};
 use crate::holders::Holders;
 use crate::least_tags::LeastTags;
 use crate::lines::{Lines, line_number};
 use crate::loose::settle;
 use crate::lowering::lower_both;
-use crate::taking::take_from_lines;
+use crate::taking::take_events;
 use crate::waiting::{Waiting, set};
 use pt_causality::Least;
 use pt_tags::{Memory, Tag};
@@ -187,13 +187,18 @@ impl Queue {
         ensures spare { self.new.spare ≡ self.old.spare }
         ensures groups { self.new.groups ≡ self.old.groups }
     {
-        let table = self.groups.as_slice();
-        let taken = take_from_lines(&mut self.lines, table, &self.loose, unit, tag);
-        remove(&mut self.loose, table, unit, tag);
-        let least = least_tag(table, &self.loose, unit, taken.least);
+        let mut inputs = Ports::new();
+        let least = take_events(
+            &mut self.lines,
+            &mut self.loose,
+            self.groups.as_slice(),
+            unit,
+            tag,
+            &mut inputs,
+        );
         set(&mut self.waiting, unit, least);
         self.tags.set(unit, least);
-        taken.inputs
+        inputs
     }
 
     /// Whether an event that waits for another unit can lead to this one at the tag or before.

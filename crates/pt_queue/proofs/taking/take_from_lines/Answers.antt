@@ -1,4 +1,4 @@
-use Rattle.std.proofs.Common.{◌≡◌, ℕ, ℤ, suc, ◌+◌, ◌*◌, ◌-◌, ◌<◌, ◌≤◌, ◌⊎◌, ◌==◌, ◌++◌, [], None, Option, not, map, filter, take, slice_set, List, refl, sym, subst, ap, ◌∙◌, ⊎_elim, arith, rules}
+use Rattle.std.proofs.Common.{◌≡◌, ℕ, ℤ, suc, ◌+◌, ◌*◌, ◌-◌, ◌<◌, ◌≤◌, ◌⊎◌, ◌==◌, ◌++◌, [], None, Option, not, map, filter, take, slice_set, List, refl, sym, subst, ap, ◌∙◌, ⊎_elim, arith}
 use Rattle.pt_types.specs.Ports.{at_port, when}
 use Rattle.pt_types.specs.declared.firing.Event.{Event}
 use Rattle.pt_queue.specs.Groups.{group_in}
@@ -27,12 +27,12 @@ loop-port-init c = record {
   same = refl;
   done = λ k l. absurd (omega (arith, l));
   later = λ k l. refl;
-  inputs = search rules;
+  inputs = c.requires.empty;
   least = least_before c.args.table.now c.args.lines.now c.args.unit (8 * c.args.unit.actor + 0) c.requires.in_lines (none (8 * c.args.unit.actor));
 }
 
-pub take_port-requires-clause-none : goal.take_port-requires-clause-none
-take_port-requires-clause-none c =
+pub take_port-least-requires-clause-none : goal.take_port-least-requires-clause-none
+take_port-least-requires-clause-none c =
     let f : ℕ → Option ℤ = λ p. when (group_in c.args.table.now c.args.unit.actor p == c.args.unit.group) (waiting_in (all_of c.args.lines.now ++ c.args.loose.now.items) c.args.unit.actor p c.args.tag) in
     ap (λ ports. at_port ports c.loop-port.port) c.loop-port.invariant.inputs
     ∙ next_none f c.loop-port.port (omega (arith, c.loop-port-test.true, c.end_of-port-end.ensures.few))
@@ -43,7 +43,7 @@ loop-port-preserved c =
     let unit = c.args.unit in
     let n = 8 * unit.actor + c.loop-port.port in
     let keep = λ (e : Event). not (is_at table unit c.args.tag e) in
-    let is = c.take_port.ensures.lines in
+    let is = c.take_port-least.ensures.lines in
     let f : ℕ → Option ℤ = λ p. when (group_in table unit.actor p == unit.group) (waiting_in (all_of c.args.lines.now ++ c.args.loose.now.items) unit.actor p c.args.tag) in
     record {
       in_lines = subst (AreInLines table) (sym is) (filtered_in_lines table keep c.loop-port.lines n c.loop-port.invariant.in_lines);
@@ -51,16 +51,16 @@ loop-port-preserved c =
       done = λ k l. subst (λ (ls : List (List Event)). filter keep (line_at ls (8 * unit.actor + k)) ≡ line_at ls (8 * unit.actor + k)) (sym is) (done_more keep c.loop-port.lines (8 * unit.actor) c.loop-port.port c.loop-port.invariant.done k l);
       later = λ k l. ap (λ ls. line_at ls (8 * unit.actor + k)) is ∙ filtered_later keep c.loop-port.lines n (8 * unit.actor + k) (omega (arith, l)) ∙ c.loop-port.invariant.later k (omega (arith, l));
       inputs =
-          c.take_port.ensures.inputs
-          ∙ ap (λ v. slice_set c.loop-port.taken.inputs c.loop-port.port (when (group_in table unit.actor c.loop-port.port == unit.group) v))
+          c.take_port-least.ensures.inputs
+          ∙ ap (λ v. slice_set c.loop-port.inputs c.loop-port.port (when (group_in table unit.actor c.loop-port.port == unit.group) v))
           (later_waits table c.loop-port.lines c.args.lines.now c.args.loose.now.items unit.actor c.loop-port.port c.args.tag c.loop-port.invariant.in_lines c.requires.in_lines (c.loop-port.invariant.later c.loop-port.port (omega arith)))
           ∙ ap (λ ports. slice_set ports c.loop-port.port (f c.loop-port.port)) c.loop-port.invariant.inputs
           ∙ next_put f c.loop-port.port (omega (arith, c.loop-port-test.true, c.end_of-port-end.ensures.few));
       least =
-          c.take_port.ensures.least
-          ∙ ap (λ best. least_from table unit best (line_at c.take_port.new.lines n)) (c.loop-port.invariant.least ∙ ap (λ ls. least_from table unit None (all_of ls)) (sym (ap (take n) is ∙ filtered_take keep c.loop-port.lines n)))
-          ∙ sym (least_step table c.take_port.new.lines unit n)
-          ∙ ap (λ m. least_from table unit None (all_of (take m c.take_port.new.lines))) (sym (more (8 * unit.actor) c.loop-port.port));
+          c.take_port-least.ensures.least
+          ∙ ap (λ best. least_from table unit best (line_at c.take_port-least.new.lines n)) (c.loop-port.invariant.least ∙ ap (λ ls. least_from table unit None (all_of ls)) (sym (ap (take n) is ∙ filtered_take keep c.loop-port.lines n)))
+          ∙ sym (least_step table c.take_port-least.new.lines unit n)
+          ∙ ap (λ m. least_from table unit None (all_of (take m c.take_port-least.new.lines))) (sym (more (8 * unit.actor) c.loop-port.port));
     }
 
 pub returns-clause-lines : goal.returns-clause-lines
@@ -80,7 +80,7 @@ returns-clause-inputs c =
     c.loop-port.invariant.inputs
     ∙ rest_none f c.loop-port.port (λ p le l.
     let none = c.end_of-port-end.ensures.none p (omega (arith, le, c.loop-port-test.false)) l in
-    no_value c.args.table.now c.args.lines.now c.args.loose.now.items c.args.unit.actor p c.args.tag (group_in c.args.table.now c.args.unit.actor p == c.args.unit.group) c.requires.in_lines none.0 (none.1 c.args.tag))
+    no_value c.args.table.now c.args.lines.now c.args.loose.now.items c.args.unit.actor p c.args.tag (group_in c.args.table.now c.args.unit.actor p == c.args.unit.group) c.requires.in_lines none.0 (c.requires.loose none.1 p c.args.tag))
 
 pub returns-clause-least : goal.returns-clause-least
 returns-clause-least c =

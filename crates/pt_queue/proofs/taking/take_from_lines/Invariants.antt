@@ -13,6 +13,6 @@ invariant-loop-port l = record {
   same : map (filter (λ (e : Event). not (is_at l.table l.unit l.tag e))) l.lines ≡ map (filter (λ (e : Event). not (is_at l.table l.unit l.tag e))) l.fn.lines;
   done : (k : ℕ) → k < l.port → filter (λ (e : Event). not (is_at l.table l.unit l.tag e)) (line_at l.lines (8 * l.unit.actor + k)) ≡ line_at l.lines (8 * l.unit.actor + k);
   later : (k : ℕ) → l.port ≤ k → line_at l.lines (8 * l.unit.actor + k) ≡ line_at l.fn.lines (8 * l.unit.actor + k);
-  inputs : l.taken.inputs ≡ eight (λ p. when (nat_lt p l.port) (when (group_in l.table l.unit.actor p == l.unit.group) (waiting_in (all_of l.fn.lines ++ l.loose.items) l.unit.actor p l.tag)));
-  least : l.taken.least ≡ least_from l.table l.unit None (all_of (take (8 * l.unit.actor + l.port) l.lines));
+  inputs : l.inputs ≡ eight (λ p. when (nat_lt p l.port) (when (group_in l.table l.unit.actor p == l.unit.group) (waiting_in (all_of l.fn.lines ++ l.loose.items) l.unit.actor p l.tag)));
+  least : l.least ≡ least_from l.table l.unit None (all_of (take (8 * l.unit.actor + l.port) l.lines));
 }

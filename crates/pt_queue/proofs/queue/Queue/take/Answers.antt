@@ -1,27 +1,15 @@
-use Rattle.std.proofs.Common.{◌≡◌, ◌++◌, ◌==◌, List, Option, None, vec_capacity, map, filter, not, if◌then◌else◌, length, ap, ap₂, ◌∙◌, subst, sym, arith}
+use Rattle.std.proofs.Common.{◌≡◌, ◌++◌, ◌==◌, None, vec_capacity, map, filter, not, if◌then◌else◌, length, ap, ap₂, ◌∙◌, subst, sym, arith}
 use Rattle.pt_types.specs.Ports.{eight, when}
 use Rattle.pt_types.specs.declared.firing.Event.{Event}
 use Rattle.pt_semantics.specs.Claiming.{without_unit}
 use Rattle.pt_semantics.specs.Units.{same_part, unit_inputs}
-use Rattle.pt_tags.specs.declared.tag.Tag.{Tag}
-use Rattle.pt_types.specs.declared.graph.Unit.{Unit as Part}
-use Rattle.pt_queue.specs.declared.groups.Groups.{Groups}
 use Rattle.pt_queue.specs.Groups.{AreGroups, group_in}
 use Rattle.pt_queue.specs.Events.{waiting_in, Queued}
 use Rattle.pt_queue.specs.Lines.{all_of, with_events}
 use Rattle.pt_queue.specs.Scans.{is_at, least_from}
 use Rattle.pt_queue.proofs.Changing.{known_fit, left_fits, left_kept, left_known, roomy}
-use Rattle.pt_queue.proofs.Soonest.{least_append}
 use Rattle.pt_queue.proofs.Views.{inputs_whole, removed_waits, view_waits}
 use Rattle.pt_queue.proofs.queue.Queue.take.Goals as goal
-
--- the least tag of what is left in lines and of what is left loose
-least_whole : (gs table : List Groups) (u : Part) (lines : List (List Event)) (loose : List Event) (o r : Option Tag) → gs ≡ table → o ≡ least_from gs u None (all_of lines) → r ≡ least_from gs u o loose → r ≡ least_from table u None (all_of lines ++ loose)
-least_whole gs table u lines loose o r same is end =
-    end
-    ∙ ap (λ best. least_from gs u best loose) is
-    ∙ sym (least_append gs u None (all_of lines) loose)
-    ∙ ap (λ g. least_from g u None (all_of lines ++ loose)) same
 
 pub set-requires-clause-room : goal.set-requires-clause-room
 set-requires-clause-room c = known_fit c.self.inside.groups.items c.self.inside.lines c.self.inside.loose.items c.self.inside.waiting.items (vec_capacity c.self.inside.waiting) c.self.invariant.0 c.self.invariant.2
@@ -30,35 +18,35 @@ pub set-requires-clause-unit : goal.set-requires-clause-unit
 set-requires-clause-unit c =
     let table = c.self.inside.groups.items in
     let keep = λ (e : Event). not (is_at table c.args.unit c.args.tag e) in
-    let lines : c.take_from_lines-taken.new.lines ≡ map (filter keep) c.self.inside.lines = c.take_from_lines-taken.ensures.lines ∙ ap (λ gs. map (filter (λ (e : Event). not (is_at gs c.args.unit c.args.tag e))) c.self.inside.lines) c.as_slice-table.ensures.value in
-    let loose : c.remove.new.events.items ≡ filter keep c.self.inside.loose.items = c.remove.ensures.left ∙ ap (λ gs. filter (λ (e : Event). not (is_at gs c.args.unit c.args.tag e)) c.self.inside.loose.items) c.as_slice-table.ensures.value in
-    let least : c.least_tag-least.result ≡ least_from table c.args.unit None (all_of c.take_from_lines-taken.new.lines ++ c.remove.new.events.items) = least_whole c.as_slice-table.result.now table c.args.unit c.take_from_lines-taken.new.lines c.remove.new.events.items c.take_from_lines-taken.result.least c.least_tag-least.result c.as_slice-table.ensures.value c.take_from_lines-taken.ensures.least c.least_tag-least.ensures in
-    left_fits table c.args.unit c.args.tag c.self.inside.lines c.take_from_lines-taken.new.lines c.self.inside.loose.items c.remove.new.events.items c.self.invariant.0 lines loose c.self.inside.waiting.items (vec_capacity c.self.inside.waiting) c.least_tag-least.result c.self.invariant.2 least
+    let lines : c.take_events-least.new.lines ≡ map (filter keep) c.self.inside.lines = c.take_events-least.ensures.lines ∙ ap (λ gs. map (filter (λ (e : Event). not (is_at gs c.args.unit c.args.tag e))) c.self.inside.lines) c.as_slice.ensures.value in
+    let loose : c.take_events-least.new.loose.items ≡ filter keep c.self.inside.loose.items = c.take_events-least.ensures.loose ∙ ap (λ gs. filter (λ (e : Event). not (is_at gs c.args.unit c.args.tag e)) c.self.inside.loose.items) c.as_slice.ensures.value in
+    let least : c.take_events-least.result ≡ least_from table c.args.unit None (all_of c.take_events-least.new.lines ++ c.take_events-least.new.loose.items) = c.take_events-least.ensures.least ∙ ap (λ gs. least_from gs c.args.unit None (all_of c.take_events-least.new.lines ++ c.take_events-least.new.loose.items)) c.as_slice.ensures.value in
+    left_fits table c.args.unit c.args.tag c.self.inside.lines c.take_events-least.new.lines c.self.inside.loose.items c.take_events-least.new.loose.items c.self.invariant.0 lines loose c.self.inside.waiting.items (vec_capacity c.self.inside.waiting) c.take_events-least.result c.self.invariant.2 least
 
 pub set-requires-2 : goal.set-requires-2
 set-requires-2 c =
     let table = c.self.inside.groups.items in
     let keep = λ (e : Event). not (is_at table c.args.unit c.args.tag e) in
-    let lines : c.take_from_lines-taken.new.lines ≡ map (filter keep) c.self.inside.lines = c.take_from_lines-taken.ensures.lines ∙ ap (λ gs. map (filter (λ (e : Event). not (is_at gs c.args.unit c.args.tag e))) c.self.inside.lines) c.as_slice-table.ensures.value in
-    let loose : c.remove.new.events.items ≡ filter keep c.self.inside.loose.items = c.remove.ensures.left ∙ ap (λ gs. filter (λ (e : Event). not (is_at gs c.args.unit c.args.tag e)) c.self.inside.loose.items) c.as_slice-table.ensures.value in
-    let least : c.least_tag-least.result ≡ least_from table c.args.unit None (all_of c.take_from_lines-taken.new.lines ++ c.remove.new.events.items) = least_whole c.as_slice-table.result.now table c.args.unit c.take_from_lines-taken.new.lines c.remove.new.events.items c.take_from_lines-taken.result.least c.least_tag-least.result c.as_slice-table.ensures.value c.take_from_lines-taken.ensures.least c.least_tag-least.ensures in
-    left_fits table c.args.unit c.args.tag c.self.inside.lines c.take_from_lines-taken.new.lines c.self.inside.loose.items c.remove.new.events.items c.self.invariant.0 lines loose c.self.inside.waiting.items (length c.self.inside.tags) c.least_tag-least.result
+    let lines : c.take_events-least.new.lines ≡ map (filter keep) c.self.inside.lines = c.take_events-least.ensures.lines ∙ ap (λ gs. map (filter (λ (e : Event). not (is_at gs c.args.unit c.args.tag e))) c.self.inside.lines) c.as_slice.ensures.value in
+    let loose : c.take_events-least.new.loose.items ≡ filter keep c.self.inside.loose.items = c.take_events-least.ensures.loose ∙ ap (λ gs. filter (λ (e : Event). not (is_at gs c.args.unit c.args.tag e)) c.self.inside.loose.items) c.as_slice.ensures.value in
+    let least : c.take_events-least.result ≡ least_from table c.args.unit None (all_of c.take_events-least.new.lines ++ c.take_events-least.new.loose.items) = c.take_events-least.ensures.least ∙ ap (λ gs. least_from gs c.args.unit None (all_of c.take_events-least.new.lines ++ c.take_events-least.new.loose.items)) c.as_slice.ensures.value in
+    left_fits table c.args.unit c.args.tag c.self.inside.lines c.take_events-least.new.lines c.self.inside.loose.items c.take_events-least.new.loose.items c.self.invariant.0 lines loose c.self.inside.waiting.items (length c.self.inside.tags) c.take_events-least.result
     (roomy table (all_of (with_events c.self.inside.lines c.self.inside.loose.items)) c.self.inside.waiting.items c.self.inside.tags (vec_capacity c.self.inside.waiting) c.self.invariant.2 c.self.invariant.3) least
 
 pub invariant_of-self : goal.invariant_of-self
 invariant_of-self c =
     let table = c.self.inside.groups.items in
     let keep = λ (e : Event). not (is_at table c.args.unit c.args.tag e) in
-    let lines : c.take_from_lines-taken.new.lines ≡ map (filter keep) c.self.inside.lines = c.take_from_lines-taken.ensures.lines ∙ ap (λ gs. map (filter (λ (e : Event). not (is_at gs c.args.unit c.args.tag e))) c.self.inside.lines) c.as_slice-table.ensures.value in
-    let loose : c.remove.new.events.items ≡ filter keep c.self.inside.loose.items = c.remove.ensures.left ∙ ap (λ gs. filter (λ (e : Event). not (is_at gs c.args.unit c.args.tag e)) c.self.inside.loose.items) c.as_slice-table.ensures.value in
-    let least : c.least_tag-least.result ≡ least_from table c.args.unit None (all_of c.take_from_lines-taken.new.lines ++ c.remove.new.events.items) = least_whole c.as_slice-table.result.now table c.args.unit c.take_from_lines-taken.new.lines c.remove.new.events.items c.take_from_lines-taken.result.least c.least_tag-least.result c.as_slice-table.ensures.value c.take_from_lines-taken.ensures.least c.least_tag-least.ensures in (
-      left_kept table c.args.unit c.args.tag c.self.inside.lines c.take_from_lines-taken.new.lines c.self.inside.loose.items c.remove.new.events.items c.self.invariant.0 lines loose,
-      omega (arith, c.remove.ensures.len, c.remove.ensures.capacity, c.self.invariant.1),
-      left_known table c.args.unit c.args.tag c.self.inside.lines c.take_from_lines-taken.new.lines c.self.inside.loose.items c.remove.new.events.items c.self.invariant.0 lines loose
-          c.self.inside.waiting.items c.set.new.listed.items (vec_capacity c.self.inside.waiting) (vec_capacity c.set.new.listed) c.least_tag-least.result c.self.invariant.2 c.set.ensures.rises least c.set.ensures.tags c.set.ensures.capacity,
+    let lines : c.take_events-least.new.lines ≡ map (filter keep) c.self.inside.lines = c.take_events-least.ensures.lines ∙ ap (λ gs. map (filter (λ (e : Event). not (is_at gs c.args.unit c.args.tag e))) c.self.inside.lines) c.as_slice.ensures.value in
+    let loose : c.take_events-least.new.loose.items ≡ filter keep c.self.inside.loose.items = c.take_events-least.ensures.loose ∙ ap (λ gs. filter (λ (e : Event). not (is_at gs c.args.unit c.args.tag e)) c.self.inside.loose.items) c.as_slice.ensures.value in
+    let least : c.take_events-least.result ≡ least_from table c.args.unit None (all_of c.take_events-least.new.lines ++ c.take_events-least.new.loose.items) = c.take_events-least.ensures.least ∙ ap (λ gs. least_from gs c.args.unit None (all_of c.take_events-least.new.lines ++ c.take_events-least.new.loose.items)) c.as_slice.ensures.value in (
+      left_kept table c.args.unit c.args.tag c.self.inside.lines c.take_events-least.new.lines c.self.inside.loose.items c.take_events-least.new.loose.items c.self.invariant.0 lines loose,
+      omega (arith, c.take_events-least.ensures.len, c.take_events-least.ensures.capacity, c.self.invariant.1),
+      left_known table c.args.unit c.args.tag c.self.inside.lines c.take_events-least.new.lines c.self.inside.loose.items c.take_events-least.new.loose.items c.self.invariant.0 lines loose
+          c.self.inside.waiting.items c.set.new.listed.items (vec_capacity c.self.inside.waiting) (vec_capacity c.set.new.listed) c.take_events-least.result c.self.invariant.2 c.set.ensures.rises least c.set.ensures.tags c.set.ensures.capacity,
       record {
         room = c.set-2.ensures.len ∙ c.self.invariant.3.room;
-        same = λ x. c.set-2.ensures.tags x ∙ ap (λ o. if same_part c.args.unit x then c.least_tag-least.result else o) (c.self.invariant.3.same x) ∙ sym (c.set.ensures.tags x);
+        same = λ x. c.set-2.ensures.tags x ∙ ap (λ o. if same_part c.args.unit x then c.take_events-least.result else o) (c.self.invariant.3.same x) ∙ sym (c.set.ensures.tags x);
       },
     )
 
@@ -68,8 +56,8 @@ returns-clause-inputs c = λ g are.
     let events = all_of c.self.inside.lines ++ c.self.inside.loose.items in
     let groups : table ≡ c.args.self.now.groups = ap (λ (v : Queued). v.groups) c.self.view_is in
     let waits = view_waits table c.self.inside.lines c.self.inside.loose.items c.args.self.now.events c.self.invariant.0 (ap (λ (v : Queued). v.events) c.self.view_is) in
-    c.take_from_lines-taken.ensures.inputs
-    ∙ ap (λ gs. eight (λ p. when (group_in gs c.args.unit.actor p == c.args.unit.group) (waiting_in events c.args.unit.actor p c.args.tag))) c.as_slice-table.ensures.value
+    c.take_events-least.ensures.inputs
+    ∙ ap (λ gs. eight (λ p. when (group_in gs c.args.unit.actor p == c.args.unit.group) (waiting_in events c.args.unit.actor p c.args.tag))) c.as_slice.ensures.value
     ∙ inputs_whole g table c.args.unit c.args.tag (waiting_in events) (subst (AreGroups g) (sym groups) are)
     ∙ ap (λ w. unit_inputs g w c.args.unit c.args.tag) (sym waits)
 
@@ -78,7 +66,7 @@ returns-clause-waits c = λ g are.
     let table = c.self.inside.groups.items in
     let groups : table ≡ c.args.self.now.groups = ap (λ (v : Queued). v.groups) c.self.view_is in
     ap₂ (λ lines loose. waiting_in (all_of (with_events lines loose)))
-    (c.take_from_lines-taken.ensures.lines ∙ ap (λ gs. map (filter (λ (e : Event). not (is_at gs c.args.unit c.args.tag e))) c.self.inside.lines) c.as_slice-table.ensures.value)
-    (c.remove.ensures.left ∙ ap (λ gs. filter (λ (e : Event). not (is_at gs c.args.unit c.args.tag e)) c.self.inside.loose.items) c.as_slice-table.ensures.value)
+    (c.take_events-least.ensures.lines ∙ ap (λ gs. map (filter (λ (e : Event). not (is_at gs c.args.unit c.args.tag e))) c.self.inside.lines) c.as_slice.ensures.value)
+    (c.take_events-least.ensures.loose ∙ ap (λ gs. filter (λ (e : Event). not (is_at gs c.args.unit c.args.tag e)) c.self.inside.loose.items) c.as_slice.ensures.value)
     ∙ removed_waits g table c.args.unit c.args.tag c.self.inside.lines c.self.inside.loose.items (subst (AreGroups g) (sym groups) are) c.self.invariant.0
     ∙ ap (λ (v : Queued). without_unit g (waiting_in v.events) c.args.unit c.args.tag) c.self.view_is

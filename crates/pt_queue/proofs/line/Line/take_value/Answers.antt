@@ -3,7 +3,7 @@ use Rattle.pt_tags.specs.Tags.{same_tag}
 use Rattle.pt_types.specs.declared.firing.Event.{Event}
 use Rattle.pt_queue.specs.Lines.{TagsRise}
 use Rattle.pt_queue.proofs.Rising.{ahead, first_taken, in_order_filter, no_value, none_taken}
-use Rattle.pt_queue.proofs.line.Line.take.Goals as goal
+use Rattle.pt_queue.proofs.line.Line.take_value.Goals as goal
 
 pub invariant_of-self-2 : goal.invariant_of-self-2
 invariant_of-self-2 c =
