@@ -45,3 +45,19 @@ fn settle_one(lines: &mut Lines, event: Event) -> bool
     lines.grow(line);
     lines.push(line, event)
 }
+
+/// Makes room for one more event in each of these lines, as far as there is memory.
+pub fn widen(lines: &mut Lines, short: &[usize])
+    ensures { lines.new ≡ lines.old }
+{
+    for line in short {
+        lines.widen(*line);
+    }
+}
+
+/// Appends the number of a line, if there is room for it.
+pub fn remember(short: &mut Vec<usize>, line: usize) {
+    if short.len() < short.capacity() {
+        short.push_reserved(line);
+    }
+}

@@ -18,7 +18,7 @@ use crate::groups::{Groups, all_groups};
 use crate::holders::Holders;
 use crate::least_tags::LeastTags;
 use crate::lines::{Lines, line_number};
-use crate::loose::settle;
+use crate::loose::{remember, settle, widen};
 use crate::lowering::lower_both;
 use crate::taking::take_events;
 use crate::waiting::{Waiting, set};
@@ -31,6 +31,9 @@ use std::marker::Model;
 
 /// How many events memory is reserved for beyond a request.
 const AHEAD: usize = 256;
+
+/// How many refused events are remembered from one `reserve` to the next, to grow their lines.
+const REFUSED: usize = 64;
 
 /// The pending events of a platform.
 ///
@@ -50,9 +53,9 @@ pub struct Queue {
     lines: Lines,
     loose: VecDeque<Event>,
     spare: usize,
-    /// The line that last refused an event, to grow at the next `reserve`; `usize::MAX` for none. It stays set if the event
-    /// is taken before it joins its line.
-    short: usize,
+    /// The lines that refused an event since the last `reserve`, to grow at the next one, as far as there is room here. A line
+    /// stays here if the event is taken before it joins its line.
+    short: Vec<usize>,
 }
 
 impl Model for Queue {
@@ -81,6 +84,7 @@ impl Queue {
         let waiting = Vec::with_capacity(alloc, 8 * groups.len())?;
         let tags = LeastTags::new(alloc, 8 * groups.len())?;
         let holders = Holders::new(alloc, 8 * groups.len())?;
+        let short = Vec::with_capacity(alloc, REFUSED)?;
         Ok(Queue {
             groups,
             waiting,
@@ -89,7 +93,7 @@ impl Queue {
             lines,
             loose: VecDeque::new(alloc),
             spare: 0,
-            short: usize::MAX,
+            short,
         })
     }
 
@@ -98,7 +102,7 @@ impl Queue {
     fn has_room(&self, count: usize) -> bool
         ensures { result ≡ true → count ≤ self.now.spare }
     {
-        self.spare >= count && self.short == usize::MAX && self.loose.is_empty()
+        self.spare >= count && self.short.is_empty() && self.loose.is_empty()
     }
 
     /// Reserves memory for at least `count` more events. An error leaves the events and `spare` as they were.
@@ -119,8 +123,8 @@ impl Queue {
         self.make_room(count)
     }
 
-    /// As `reserve`. Moves loose events into their lines, and makes room in the line that last refused an event. Memory for
-    /// `AHEAD` more events is reserved, so that most turns reserve none.
+    /// As `reserve`. Moves loose events into their lines, and makes room in the lines that refused events. Memory for `AHEAD`
+    /// more events is reserved, so that most turns reserve none.
     #[inline(never)]
     fn make_room(&mut self, count: usize) -> Result<(), Memory>
         ensures spare { OnOk result (count ≤ self.new.spare) }
@@ -131,8 +135,8 @@ impl Queue {
         ensures there { count ≤ self.old.spare → IsOk result }
     {
         settle(&mut self.lines, &mut self.loose);
-        self.lines.widen(self.short);
-        self.short = usize::MAX;
+        widen(&mut self.lines, self.short.as_slice());
+        self.short.clear();
         if self.spare >= count {
             return Ok(());
         }
@@ -158,7 +162,7 @@ impl Queue {
         lower_both(&mut self.waiting, &mut self.tags, unit, event.tag);
         let line = line_number(event.actor, event.port);
         if !self.lines.push(line, event) {
-            self.short = line;
+            remember(&mut self.short, line);
             match self.loose.push_back(event) {
                 Ok(()) => (),
                 Err(_) => unreachable!(),
