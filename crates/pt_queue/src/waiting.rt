@@ -34,8 +34,29 @@ fn is_before(a: Unit, b: Unit) -> bool
     a.actor < b.actor || a.actor == b.actor && a.group < b.group
 }
 
-/// How many of the listed units come before this one: its place.
+/// How many of the listed units come before this one: its place. It is compared with the last one first: mostly it comes
+/// behind that one or is that one itself, at least in a short list.
+#[inline(always)]
 fn place_of(listed: &[Waiting], unit: Unit) -> usize
+    requires { IsRising listed.now }
+    ensures { IsPlace unit listed.now result }
+{
+    let count = listed.len();
+    if count == 0 {
+        return 0;
+    }
+    let last = listed[count - 1].unit;
+    if is_before(last, unit) {
+        return count;
+    }
+    if last == unit {
+        return count - 1;
+    }
+    search(listed, unit)
+}
+
+/// As `place_of`, by a search of the whole list.
+fn search(listed: &[Waiting], unit: Unit) -> usize
     requires { IsRising listed.now }
     ensures { IsPlace unit listed.now result }
 {
