@@ -53,6 +53,20 @@ module _ (table : List Groups) (least : Part → Part → Option Delay) (u : Par
       (λ (no : holds n ≡ false). no)
       (cases_Bool (holds n))
 
+  -- nor where the word has no bit of a unit from which a path leads to u
+  pub word_clear : (before : List ℕ) → ((x : Part) → IsSome (least x u) → MayHave before x) → (n : ℕ) → n / 64 < length before → bit_and (slice_index_or marks (n / 64) 0) (slice_index_or before (n / 64) 0) ≡ 0 → holds n ≡ false
+  word_clear before all n l none = ⊎_elim
+      (λ (y : holds n ≡ true).
+      let has = holder_has table least u t (unit_with n) (tag_in tags (unit_with n)) y in
+      let place : 8 * (n / 8) + n % 8 ≡ n = omega arith in
+      let second : bit_of before n ≡ 1 = ap (bit_of before) (sym place) ∙ all (unit_with n) has.1 (omega arith) (omega (arith, l)) in
+      let first : bit_of marks n ≡ 1 = marked n y in
+      let zero : bit_at (bit_and (slice_index_or marks (n / 64) 0) (slice_index_or before (n / 64) 0)) (n % 64) ≡ 0 = ap (λ w. bit_at w (n % 64)) none ∙ bit_at-zero (n % 64) in
+      let both = bit_at_and (slice_index_or marks (n / 64) 0) (slice_index_or before (n / 64) 0) (n % 64) in
+      absurd (omega (arith, both, first, second, zero)))
+      (λ (no : holds n ≡ false). no)
+      (cases_Bool (holds n))
+
   module _ (before : List ℕ) (all : (x : Part) → IsSome (least x u) → MayHave before x) (index m b : ℕ) (own : m ≡ slice_index_or marks index 0)
       (other : (x : Part) → MayHave before x → x.group < 8 → (8 * x.actor + x.group) / 64 ≡ index → bit_at b ((8 * x.actor + x.group) % 64) ≡ 1) where
     in_both : (n i : ℕ) → i < 64 → n ≡ 64 * index + i → holds n ≡ true → bit_at (bit_and m b) i ≡ 1

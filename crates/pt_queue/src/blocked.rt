@@ -1,7 +1,8 @@
 //! Which of the units that have events hold up another unit.
 
-ghost use Rattle.std.specs.Prelude.{◌≡◌, ◌+◌, ◌*◌, ◌/◌, ◌%◌, ◌<◌, ◌≤◌, true, is_some};
+ghost use Rattle.std.specs.Prelude.{◌≡◌, ◌+◌, ◌*◌, ◌/◌, ◌%◌, ◌<◌, ◌≤◌, ℕ, true, is_some, length, slice_index_or};
 ghost use Rattle.std.specs.Int.{bit_at};
+ghost use Rattle.std.specs.Int.RustNames.{bit_and};
 ghost use Rattle.std.specs.List.{list_any};
 ghost use Rattle.pt_types.specs.declared.graph.Unit.{Unit as Part};
 ghost use Rattle.pt_semantics.specs.Lists.{Each};
@@ -206,6 +207,27 @@ fn word_before(before: &[u64], index: usize) -> u64
     }
 }
 
+/// The number of words up to the last one, of those from number `from` up to number `end`, without that, where a bit is set
+/// both in `marks` and in `before`; `from` if there is none. Words past the end of `before` are not looked at.
+///
+/// Most words share no bit, so this loop is apart, and short.
+fn shared_end(marks: &[u64], before: &[u64], from: usize, end: usize) -> usize
+    requires order { from ≤ end }
+    requires marks { end ≤ length marks.now }
+    ensures few { result ≤ end }
+    ensures none { (n : ℕ) → from ≤ n → result ≤ n → n < end → (n < length before.now) × (bit_and (slice_index_or marks.now n 0) (slice_index_or before.now n 0) ≡ 0) }
+{
+    if end > before.len() {
+        return end;
+    }
+    for index in (from..end).rev() {
+        if marks[index] & before[index] != 0 {
+            return index + 1;
+        }
+    }
+    from
+}
+
 /// A unit that holds up this one, of those with a bit in the words from number `from` up to number `end`, without that; the
 /// last words come first. `None` if none of these holds it up. `before` has all units from which a path leads here.
 fn holder_in_words(
@@ -223,16 +245,18 @@ fn holder_in_words(
 {
     let marks = tags.marks();
     let last = end.min(marks.len());
-    for behind in 0..last.saturating_sub(from) {
-        let index = last - behind - 1;
+    if last <= from {
+        return None;
+    }
+    let mut left = shared_end(marks, before, from, last);
+    while left > from {
+        let index = left - 1;
         let word = marks[index] & word_before(before, index);
-        if word == 0 {
-            continue;
-        }
         let found = holder_in_word(table, tags, unit, tag, least, index, word);
         if found.is_some() {
             return found;
         }
+        left = shared_end(marks, before, from, index);
     }
     None
 }

@@ -86,6 +86,7 @@ fn tag_at(listed: &[Waiting], place: usize, unit: Unit) -> Option<Tag>
 }
 
 /// Lists a unit at its place, with a tag. Allocates nothing.
+#[inline(always)]
 fn put(listed: &mut Vec<Waiting>, place: usize, unit: Unit, tag: Tag)
     requires rises { IsRising listed.old.items }
     requires place { IsPlace unit listed.old.items place }
@@ -122,6 +123,7 @@ fn insert_at(listed: &mut Vec<Waiting>, place: usize, next: Waiting)
 }
 
 /// Lists a unit with a tag. Allocates nothing.
+#[inline(always)]
 pub fn list(listed: &mut Vec<Waiting>, unit: Unit, tag: Tag)
     requires rises { IsRising listed.old.items }
     requires room { Each (λ w. FitsIn (vec_capacity listed.old) w.unit) listed.old.items }
