@@ -1,5 +1,5 @@
 -- The search for a unit that holds up another, word by word.
-use Rattle.std.proofs.Common.{◌≡◌, ℕ, ◌+◌, ◌-◌, ◌*◌, ◌/◌, ◌%◌, ◌^◌, ◌<◌, ◌≤◌, ◌⊎◌, Bool, true, false, IsSome, List, Option, None, Some, length, slice_index_or, refl, sym, ap, subst, ◌∙◌, ⊎_elim, arith}
+use Rattle.std.proofs.Common.{◌≡◌, ℕ, ◌+◌, ◌-◌, ◌*◌, ◌/◌, ◌%◌, ◌^◌, ◌<◌, ◌≤◌, ◌≢◌, ◌&&◌, ◌⊎◌, Bool, true, false, not, nat_lt, IsSome, List, Option, None, Some, length, slice_index_or, refl, sym, ap, subst, ◌∙◌, ⊎_elim, arith}
 use Rattle.std.specs.Int.{bit_at}
 use Rattle.std.specs.Option.{is_some}
 use Rattle.std.specs.List.{list_any}
@@ -10,11 +10,13 @@ use Rattle.pt_tags.specs.declared.tag.Tag.{Tag}
 use Rattle.pt_tags.specs.declared.tag.Delay.{Delay}
 use Rattle.pt_types.specs.declared.graph.Unit.{Unit as Part}
 use Rattle.pt_semantics.specs.Lists.{Each}
-use Rattle.pt_semantics.proofs.Lookups.{Each-in}
+use Rattle.pt_semantics.proofs.Lookups.{Each-in, same_part-refl}
 use Rattle.pt_causality.specs.Before.{MayHave, bit_of}
 use Rattle.pt_queue.specs.declared.groups.Groups.{Groups}
 use Rattle.pt_queue.specs.declared.waiting.Waiting.{Waiting}
 use Rattle.pt_queue.specs.Events.{IsRising}
+use Rattle.pt_queue.specs.Groups.{groups_at}
+use Rattle.pt_queue.specs.Scans.{reaches}
 use Rattle.pt_queue.specs.Listed.{AreTags, holds_up, tag_holds_up, tag_in, unit_holds_up}
 use Rattle.pt_queue.specs.Marks.{AreMarks, IsHolder, IsHolderAmong, IsHolderIn, one_if, unit_with}
 use Rattle.pt_queue.proofs.ByUnit.{no_place, tag_with, with_place}
@@ -53,19 +55,21 @@ module _ (table : List Groups) (least : Part → Part → Option Delay) (u : Par
       (λ (no : holds n ≡ false). no)
       (cases_Bool (holds n))
 
-  -- nor where the word has no bit of a unit from which a path leads to u
-  pub word_clear : (before : List ℕ) → ((x : Part) → IsSome (least x u) → MayHave before x) → (n : ℕ) → n / 64 < length before → bit_and (slice_index_or marks (n / 64) 0) (slice_index_or before (n / 64) 0) ≡ 0 → holds n ≡ false
-  word_clear before all n l none = ⊎_elim
+  -- nor where its bit is not set in both
+  pub bit_clear : (before : List ℕ) → ((x : Part) → IsSome (least x u) → MayHave before x) → (n : ℕ) → n / 64 < length before → bit_at (bit_and (slice_index_or marks (n / 64) 0) (slice_index_or before (n / 64) 0)) (n % 64) ≡ 0 → holds n ≡ false
+  bit_clear before all n l zero = ⊎_elim
       (λ (y : holds n ≡ true).
       let has = holder_has table least u t (unit_with n) (tag_in tags (unit_with n)) y in
       let place : 8 * (n / 8) + n % 8 ≡ n = omega arith in
       let second : bit_of before n ≡ 1 = ap (bit_of before) (sym place) ∙ all (unit_with n) has.1 (omega arith) (omega (arith, l)) in
       let first : bit_of marks n ≡ 1 = marked n y in
-      let zero : bit_at (bit_and (slice_index_or marks (n / 64) 0) (slice_index_or before (n / 64) 0)) (n % 64) ≡ 0 = ap (λ w. bit_at w (n % 64)) none ∙ bit_at-zero (n % 64) in
       let both = bit_at_and (slice_index_or marks (n / 64) 0) (slice_index_or before (n / 64) 0) (n % 64) in
       absurd (omega (arith, both, first, second, zero)))
       (λ (no : holds n ≡ false). no)
       (cases_Bool (holds n))
+
+  pub word_clear : (before : List ℕ) → ((x : Part) → IsSome (least x u) → MayHave before x) → (n : ℕ) → n / 64 < length before → bit_and (slice_index_or marks (n / 64) 0) (slice_index_or before (n / 64) 0) ≡ 0 → holds n ≡ false
+  word_clear before all n l none = bit_clear before all n l (ap (λ w. bit_at w (n % 64)) none ∙ bit_at-zero (n % 64))
 
   module _ (before : List ℕ) (all : (x : Part) → IsSome (least x u) → MayHave before x) (index m b : ℕ) (own : m ≡ slice_index_or marks index 0)
       (other : (x : Part) → MayHave before x → x.group < 8 → (8 * x.actor + x.group) / 64 ≡ index → bit_at b ((8 * x.actor + x.group) % 64) ≡ 1) where
@@ -145,3 +149,27 @@ found_among table least u t ws tags marks first middle o None are marked each fr
     (below_or (n / 64) (length marks)))
     (below_or (n / 64) middle))
     (below_or (n / 64) first))
+
+-- a unit does not hold up itself
+not_itself : (table : List Groups) (least : Part → Part → Option Delay) (u : Part) (t : Tag) (o : Option Tag) → tag_holds_up table least u t u o ≡ false
+not_itself table least u t None = refl
+not_itself table least u t (Some w) = ap (λ b. not b && (reaches (least u u) w t && nat_lt u.group (groups_at table u.actor).count)) (same_part-refl u)
+
+-- no unit holds up where the words share no bit but its own
+pub none_shared : (table : List Groups) (least : Part → Part → Option Delay) (u : Part) (t : Tag) (ws : List Waiting) (tags : List (Option Tag)) (marks before : List ℕ) (first : ℕ) → AreTags table ws tags → AreMarks tags marks
+    → Each (λ (w : Waiting). first ≤ w.unit.actor / 8) ws → ((x : Part) → IsSome (least x u) → MayHave before x) → u.group < 8
+    → ((n : ℕ) → first ≤ n / 64 → n / 64 < length marks → n ≢ 8 * u.actor + u.group → (n / 64 < length before) × (bit_at (bit_and (slice_index_or marks (n / 64) 0) (slice_index_or before (n / 64) 0)) (n % 64) ≡ 0))
+    → IsHolder table least u t tags None
+none_shared table least u t ws tags marks before first are marked each all group none = no_holder table least u t tags (λ n. ⊎_elim
+    (λ (low : n / 64 < first). none_low table least u t ws tags first n are each low)
+    (λ (high : first ≤ n / 64). ⊎_elim
+    (λ (l : n / 64 < length marks). ⊎_elim
+    (λ (e : n ≡ 8 * u.actor + u.group). ap (λ k. unit_holds_up table least u t tags (unit_with k)) e ∙ ap (unit_holds_up table least u t tags) (with_place u group) ∙ not_itself table least u t (tag_in tags u))
+    (λ (ne : n ≢ 8 * u.actor + u.group). let clear = none n high l ne in bit_clear table least u t tags marks marked before all n clear.0 clear.1)
+    (either n (8 * u.actor + u.group)))
+    (λ (past : length marks ≤ n / 64). past_marks table least u t tags marks marked n past)
+    (below_or (n / 64) (length marks)))
+    (below_or (n / 64) first))
+  where
+    either : (n m : ℕ) → (n ≡ m) ⊎ (n ≢ m)
+    either n m = grind arith

@@ -67,3 +67,23 @@ top_below word k i le less l =
 
 pub top_above : (word k i : ℕ) → word < 2 ^ (k + 1) → k < i → bit_at word i ≡ 0
 top_above word k i less l = bit_at_above word (k + 1) i less (omega (arith, l))
+
+-- words that share no bit before the word of a place and behind it, and none there but that of the place
+pub shares_none_at : (marks before : List ℕ) (from own end place : ℕ)
+    → ((n : ℕ) → from ≤ n → n < own → (n < length before) × (bit_and (slice_index_or marks n 0) (slice_index_or before n 0) ≡ 0))
+    → ((n : ℕ) → own + 1 ≤ n → n < end → (n < length before) × (bit_and (slice_index_or marks n 0) (slice_index_or before n 0) ≡ 0))
+    → own < length before → own ≡ place / 64 → ((i : ℕ) → i ≢ place % 64 → bit_at (bit_and (slice_index_or marks own 0) (slice_index_or before own 0)) i ≡ 0)
+    → (n : ℕ) → from ≤ n / 64 → n / 64 < end → n ≢ place → (n / 64 < length before) × (bit_at (bit_and (slice_index_or marks (n / 64) 0) (slice_index_or before (n / 64) 0)) (n % 64) ≡ 0)
+shares_none_at marks before from own end place low high few is mine n le up ne = ⊎_elim
+    (λ (l : n / 64 < own). let clear = low (n / 64) le l in (clear.0, ap (λ w. bit_at w (n % 64)) clear.1 ∙ bit_at-zero (n % 64)))
+    (λ (m : own ≤ n / 64). ⊎_elim
+    (λ (l : own < n / 64). let clear = high (n / 64) (omega (arith, l)) up in (clear.0, ap (λ w. bit_at w (n % 64)) clear.1 ∙ bit_at-zero (n % 64)))
+    (λ (o : n / 64 ≤ own).
+    let e : n / 64 ≡ own = omega (arith, m, o) in
+    let less : n / 64 < length before = omega (arith, e, few) in
+    (less, ap (λ k. bit_at (bit_and (slice_index_or marks k 0) (slice_index_or before k 0)) (n % 64)) e ∙ mine (n % 64) (apart e)))
+    (below_or own (n / 64)))
+    (below_or (n / 64) own)
+  where
+    apart : n / 64 ≡ own → n % 64 ≢ place % 64
+    apart e same = ne (omega (arith, e, is, same))

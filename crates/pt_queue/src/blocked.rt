@@ -1,6 +1,6 @@
 //! Which of the units that have events hold up another unit.
 
-ghost use Rattle.std.specs.Prelude.{◌≡◌, ◌+◌, ◌*◌, ◌/◌, ◌%◌, ◌<◌, ◌≤◌, ℕ, true, is_some, length, slice_index_or};
+ghost use Rattle.std.specs.Prelude.{◌≡◌, ◌≢◌, ◌+◌, ◌*◌, ◌/◌, ◌%◌, ◌<◌, ◌≤◌, ℕ, true, is_some, length, slice_index_or};
 ghost use Rattle.std.specs.Int.{bit_at};
 ghost use Rattle.std.specs.Int.RustNames.{bit_and};
 ghost use Rattle.std.specs.List.{list_any};
@@ -228,6 +228,37 @@ fn shared_end(marks: &[u64], before: &[u64], from: usize, end: usize) -> usize
     from
 }
 
+/// Whether the words from number `from` up to number `end`, without that, share no bit but that of this unit. If so, no other
+/// unit holds it up.
+fn shares_none(marks: &[u64], before: &[u64], from: usize, end: usize, unit: Unit) -> bool
+    requires { end ≤ length marks.now }
+    ensures group { result ≡ true → unit.group < 8 }
+    ensures none { result ≡ true → (n : ℕ) → from ≤ n / 64 → n / 64 < end → n ≢ 8 * unit.actor + unit.group → (n / 64 < length before.now) × (bit_at (bit_and (slice_index_or marks.now (n / 64) 0) (slice_index_or before.now (n / 64) 0)) (n % 64) ≡ 0) }
+{
+    let place = place_of(unit);
+    let own = place / 64;
+    if unit.group >= 8 {
+        return false;
+    }
+    if own < from || own >= end {
+        return false;
+    }
+    if end > before.len() {
+        return false;
+    }
+    if shared_end(marks, before, from, own) > from {
+        return false;
+    }
+    if shared_end(marks, before, own + 1, end) > own + 1 {
+        return false;
+    }
+    let shared = marks[own] & before[own];
+    if shared == 0 {
+        return true;
+    }
+    shared == 1 << (place % 64)
+}
+
 /// A unit that holds up this one, of those with a bit in the words from number `from` up to number `end`, without that; the
 /// last words come first. `None` if none of these holds it up. `before` has all units from which a path leads here.
 fn holder_in_words(
@@ -272,7 +303,8 @@ fn words_up_to(near: Option<Unit>, words: usize) -> usize {
 /// A unit that holds up this one, by the bits of all units that have events; `None` if there is none. `before` has all units
 /// from which a path leads here.
 ///
-/// It begins at the word of the unit `near`, where the next holder often is, and comes to the words behind that one last.
+/// Often there is none, which a first pass over the words finds. Else it begins at the word of the unit `near`, where the next holder
+/// often is, and comes to the words behind that one last.
 fn holder_marked(
     table: &[Groups],
     listed: &[Waiting],
@@ -288,8 +320,12 @@ fn holder_marked(
     requires before { HasAllBefore least.now unit before.now }
     ensures { IsHolder table.now (least_of least.now) unit tag tags.now result }
 {
-    let words = tags.marks().len();
+    let marks = tags.marks();
+    let words = marks.len();
     let none_before = words_before(listed);
+    if shares_none(marks, before, none_before, words, unit) {
+        return None;
+    }
     let middle = words_up_to(near, words).max(none_before);
     let found = holder_in_words(table, tags, unit, tag, least, before, none_before, middle);
     if found.is_some() {
@@ -300,7 +336,8 @@ fn holder_marked(
 
 /// A listed unit that holds up this one; `None` if there is none.
 ///
-/// Where fewer units are listed than the bits have words, to ask each of them takes less time than to look at each word.
+/// Where the listed units are at most half as many as the words of bits, to ask each of them takes less time than to look at
+/// each word.
 fn holder(
     table: &[Groups],
     listed: &[Waiting],
@@ -317,7 +354,7 @@ fn holder(
     let Some(before) = least.before(unit) else {
         return holder_listed(table, listed, unit, tag, least);
     };
-    if listed.len() <= tags.marks().len() {
+    if listed.len() <= tags.marks().len() / 2 {
         return holder_before(table, listed, unit, tag, least, before);
     }
     let near = holders.near(unit);
