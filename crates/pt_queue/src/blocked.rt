@@ -300,11 +300,27 @@ fn words_up_to(near: Option<Unit>, words: usize) -> usize {
     }
 }
 
+/// Whether the next holder may well be in the word of the unit `near`: a unit there has events and a path to this one. The
+/// word of this unit itself doesn't count.
+fn is_near(marks: &[u64], before: &[u64], unit: Unit, near: Option<Unit>) -> bool {
+    let Some(near) = near else {
+        return false;
+    };
+    let index = place_of(near) / 64;
+    if index == place_of(unit) / 64 {
+        return false;
+    }
+    match marks.get(index) {
+        None => false,
+        Some(word) => *word & word_before(before, index) != 0,
+    }
+}
+
 /// A unit that holds up this one, by the bits of all units that have events; `None` if there is none. `before` has all units
 /// from which a path leads here.
 ///
-/// Often there is none, which a first pass over the words finds. Else it begins at the word of the unit `near`, where the next holder
-/// often is, and comes to the words behind that one last.
+/// Often there is none, which a first pass over the words finds, unless there may well be one near. Else it begins at the
+/// word of the unit `near`, where the next holder often is, and comes to the words behind that one last.
 fn holder_marked(
     table: &[Groups],
     listed: &[Waiting],
@@ -323,7 +339,7 @@ fn holder_marked(
     let marks = tags.marks();
     let words = marks.len();
     let none_before = words_before(listed);
-    if shares_none(marks, before, none_before, words, unit) {
+    if !is_near(marks, before, unit, near) && shares_none(marks, before, none_before, words, unit) {
         return None;
     }
     let middle = words_up_to(near, words).max(none_before);
