@@ -1,7 +1,7 @@
 -- Indices in blocks: each by its number, and one more.
-use Rattle.std.proofs.Common.{◌≡◌, ◌⊎◌, ℕ, zero, suc, ◌+◌, ◌-◌, ◌*◌, ◌/◌, ◌%◌, ◌^◌, ◌<◌, ◌≤◌, List, [], ◌∷◌, ◌++◌, count_ones, length, get_or, refl, sym, ap, ap₂, ◌∙◌, arith, inl, inr}
+use Rattle.std.proofs.Common.{◌≡◌, ◌⊎◌, ℕ, zero, suc, ◌+◌, ◌-◌, ◌*◌, ◌/◌, ◌%◌, ◌^◌, ◌<◌, ◌≤◌, List, [], ◌∷◌, ◌++◌, count_ones, length, get_or, replicate, append-nil, refl, sym, ap, ap₂, subst, ◌∙◌, arith, inl, inr}
 use Rattle.std.proofs.lemmas.Bool.{cases_lt}
-use Rattle.std.proofs.lemmas.List.{get_or_append_left, get_or_push, length_push}
+use Rattle.std.proofs.lemmas.List.{append_assoc, get_or-append_right, get_or-replicate, get_or_append_left, get_or_push, length_push, replicate_more}
 use Rattle.std.proofs.lemmas.Nat.{mod-pow-add, ones_cat, pow-add, pow_pos, shl-shr}
 use Rattle.std.proofs.Math.Nat.{add-mul-mod_self_right, mod-eq_of_lt, mul-mod_left, pow-suc}
 use Rattle.pt_history.specs.declared.indices.Block.{Block}
@@ -170,3 +170,45 @@ pub last_pushed : (new es : List ℕ) (e : ℕ) → new ≡ es ++ e ∷ [] → g
 last_pushed new es e is =
     let many : length (es ++ e ∷ []) ≡ length es + 1 = length_push es e in
     ap (λ l. get_or l (length l - 1) 0) is ∙ get_or_push es e 0 (length (es ++ e ∷ []) - 1) (omega (arith, many))
+
+-- the last index many times more, in the newest block
+pub record Repeats (blocks : List Block) (b : Block) (count more x : ℕ) : Type 0 where
+  pub indices : indices_from (blocks ++ b ∷ []) 0 (count + more) ≡ indices_from (blocks ++ b ∷ []) 0 count ++ replicate more x
+  pub full : length blocks ≡ (count + more) / 64
+  pub bits : b.bits < 2 ^ ((count + more) % 64)
+
+pub repeats : (blocks : List Block) (b : Block) (x more count : ℕ) → length blocks ≡ count / 64 → b.bits < 2 ^ (count % 64) → x ≡ b.base + count_ones b.bits → more < 64 - count % 64 → Repeats blocks b count more x
+repeats blocks b x zero count full few is room =
+    let none : count + 0 ≡ count = omega arith in
+    let same : count ≡ count + 0 = omega arith in
+    record {
+      indices = ap (indices_from (blocks ++ b ∷ []) 0) none ∙ sym (append-nil (indices_from (blocks ++ b ∷ []) 0 count));
+      full = omega (arith, full);
+      bits = subst (λ k. b.bits < 2 ^ (k % 64)) same few;
+    }
+repeats blocks b x (suc m) count full few is room =
+    let adds : Adds blocks b b count x = adds_again blocks b count x full few is in
+    let place : count % 64 + 1 ≡ (count + 1) % 64 = omega (arith, room) in
+    let all : count + suc m ≡ (count + 1) + m = omega arith in
+    let rest : Repeats blocks b (count + 1) m x = repeats blocks b x m (count + 1) (omega (arith, full, room)) (subst (λ k. b.bits < 2 ^ k) place adds.bits) is (omega (arith, room)) in
+    record {
+      indices =
+          ap (indices_from (blocks ++ b ∷ []) 0) all
+          ∙ rest.indices
+          ∙ ap (λ l. l ++ replicate m x) adds.indices
+          ∙ append_assoc (indices_from (blocks ++ b ∷ []) 0 count) (x ∷ []) (replicate m x);
+      full = omega (arith, rest.full);
+      bits = subst (λ k. b.bits < 2 ^ (k % 64)) (sym all) rest.bits;
+    }
+
+pub last_repeated : (es : List ℕ) (x more : ℕ) → x ≡ get_or es (length es - 1) 0 → x ≡ get_or (es ++ replicate more x) (length es + more - 1) 0
+last_repeated es x zero is =
+    let last : length es - 1 ≡ length es + 0 - 1 = omega arith in
+    is ∙ ap₂ (λ l k. get_or l k 0) (sym (append-nil es)) last
+last_repeated es x (suc m) is =
+    sym (get_or-append_right es (replicate (suc m) x) (length es) (length es + suc m - 1) 0 refl (omega arith)
+    ∙ get_or-replicate (suc m) (length es + suc m - 1 - length es) x 0 (omega arith))
+
+-- once more after many times
+pub once_more : {X : Type 0} (es : List X) (x : X) (n : ℕ) → (es ++ replicate n x) ++ x ∷ [] ≡ es ++ replicate (n + 1) x
+once_more es x n = append_assoc es (replicate n x) (x ∷ []) ∙ ap (λ l. es ++ l) (replicate_more n x)

@@ -1,5 +1,5 @@
 -- Lists of lists, and a list cut into pieces.
-use Rattle.std.specs.Prelude.{◌≡◌, ℕ, ◌≤◌, List, [], ◌∷◌, ◌++◌, take, drop}
+use Rattle.std.specs.Prelude.{◌≡◌, ℕ, ◌≤◌, List, [], ◌∷◌, ◌++◌, take, drop, replicate}
 
 -- lists, and the room left for more items and lists
 pub record RoomyLists (X : Type 0) : Type 0 where
@@ -33,3 +33,7 @@ Rises from (e ∷ ends) n = (from ≤ e) × Rises e ends n
 abbrev pub ends_of : List ℕ → ℕ → List ℕ
 ends_of [] total = []
 ends_of (start ∷ starts) total = starts ++ total ∷ []
+
+-- where lists start: first those that are stored, and then those pending, which are empty and start after `total` items
+abbrev pub starts_of : List ℕ → ℕ → ℕ → List ℕ
+starts_of stored pending total = stored ++ replicate pending total

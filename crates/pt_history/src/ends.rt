@@ -1,6 +1,6 @@
 //! Where each of many lists ends that are stored one after another.
 
-ghost use Rattle.std.specs.Prelude.{◌≡◌, ◌+◌, ◌<◌, ◌≤◌, ◌-◌, ◌^◌, ◌++◌, ◌∷◌, [], IsOk, OnErr, OnOk, length, max, slice_index, slice_set, true};
+ghost use Rattle.std.specs.Prelude.{◌≡◌, ◌+◌, ◌<◌, ◌≤◌, ◌-◌, ◌^◌, ◌++◌, ◌∷◌, [], IsOk, OnErr, OnOk, length, max, replicate, slice_index, slice_set, true};
 
 use crate::repeats::Repeats;
 use pt_tags::Memory;
@@ -9,26 +9,26 @@ use std::marker::Model;
 
 /// Where each list starts and ends, and room reserved for more lists.
 ///
-/// Most lists are empty. A list after an empty one starts at the same index.
+/// Most lists are empty. Beginning a list only counts it, and where it starts is stored when a list grows.
 #[derive(Drop)]
 pub(crate) struct Ends {
-    /// The index at which each list starts.
+    /// The index at which each list starts, without the pending lists.
     starts: Repeats<u32>,
     /// The number of items in all lists: the end of the last list.
     total: usize,
-    /// Whether the last list is empty; `false` without lists.
-    empty: bool,
+    /// The number of lists at the end, all empty, of which no start is stored yet.
+    pending: usize,
 }
 
 impl Model for Ends {
-    ghost use Rattle.std.specs.Prelude.{◌≡◌, ◌-◌, ◌<◌, ◌^◌, ◌++◌, ◌∷◌, [], Some, true, length, slice_get, slice_index_or};
-    ghost use Rattle.pt_history.specs.Lists.{RoomyEnds, ends_of};
+    ghost use Rattle.std.specs.Prelude.{◌≡◌, ◌-◌, ◌<◌, ◌≤◌, ◌^◌, ◌++◌, ◌∷◌, [], slice_index_or};
+    ghost use Rattle.pt_history.specs.Lists.{RoomyEnds, ends_of, starts_of};
 
     ghost Value = { RoomyEnds };
 
-    ghost view = { λ e. record { ends = ends_of e.starts.items e.total; total = e.total; spare = e.starts.spare } };
+    ghost view = { λ e. record { ends = ends_of (starts_of e.starts.items e.pending e.total) e.total; total = e.total; spare = e.starts.spare - e.pending } };
 
-    ghost invariant = { λ e. (slice_index_or (e.starts.items ++ e.total ∷ []) 0 0 ≡ 0) × (e.total < 2 ^ 32) × (e.empty ≡ true → slice_get e.starts.items (length e.starts.items - 1) ≡ Some e.total) };
+    ghost invariant = { λ e. (slice_index_or (starts_of e.starts.items e.pending e.total ++ e.total ∷ []) 0 0 ≡ 0) × (e.total < 2 ^ 32) × (e.pending ≤ e.starts.spare) };
 }
 
 impl Ends {
@@ -39,7 +39,7 @@ impl Ends {
         Ends {
             starts: Repeats::new(alloc),
             total: 0,
-            empty: false,
+            pending: 0,
         }
     }
 
@@ -52,6 +52,8 @@ impl Ends {
         ensures unchanged { OnErr result (self.new ≡ self.old) }
         ensures there { lists ≤ self.old.spare → IsOk result × (self.new ≡ self.old) }
     {
+        begin_all(&mut self.starts, self.total as u32, self.pending);
+        self.pending = 0;
         self.starts.reserve(lists)
     }
 
@@ -63,23 +65,8 @@ impl Ends {
         ensures total { self.new.total ≡ self.old.total }
         ensures room { self.new.spare + 1 ≡ self.old.spare }
     {
-        if self.empty {
-            self.starts.again();
-        } else {
-            self.begin_anew();
-        }
-    }
-
-    /// Begins an empty list at the end. Not inlined, since most lists come after an empty one.
-    #[inline(never)]
-    fn begin_anew(&mut self)
-        requires { 0 < self.old.spare }
-        ensures ends { self.new.ends ≡ self.old.ends ++ self.old.total ∷ [] }
-        ensures total { self.new.total ≡ self.old.total }
-        ensures room { self.new.spare + 1 ≡ self.old.spare }
-    {
-        self.empty = true;
-        self.starts.push(self.total as u32);
+        let _limit = self.starts.limit();
+        self.pending += 1;
     }
 
     /// Makes the last list end `more` items later. Allocates nothing.
@@ -90,15 +77,17 @@ impl Ends {
         ensures total { self.new.total ≡ self.old.total + more }
         ensures room { self.new.spare ≡ self.old.spare }
     {
+        begin_all(&mut self.starts, self.total as u32, self.pending);
+        self.pending = 0;
         self.total += more;
-        self.empty = false;
     }
 
     /// The number of lists.
     pub fn len(&self) -> usize
         ensures { result ≡ length self.now.ends }
     {
-        self.starts.len()
+        let _limit = self.starts.limit();
+        self.starts.len() + self.pending
     }
 
     /// The number of items in all lists.
@@ -113,7 +102,11 @@ impl Ends {
         requires { number < length self.now.ends }
         ensures { result ≡ slice_index (0 ∷ self.now.ends) number }
     {
-        self.starts.get(number) as usize
+        if number < self.starts.len() {
+            self.starts.get(number) as usize
+        } else {
+            self.total
+        }
     }
 
     /// The index at which a list ends.
@@ -121,6 +114,9 @@ impl Ends {
         requires { number < length self.now.ends }
         ensures { result ≡ slice_index self.now.ends number }
     {
+        if number >= self.starts.len() {
+            return self.total;
+        }
         if self.starts.len() - number == 1 {
             self.total
         } else {
@@ -135,8 +131,9 @@ impl Ends {
         ensures starts { slice_index (0 ∷ self.now.ends) result ≤ item }
         ensures ends { item < slice_index self.now.ends result }
     {
+        let _ = &self.starts;
         let mut low = 0;
-        let mut high = self.starts.len();
+        let mut high = self.len();
         while high - low > 1 {
             let middle = low + (high - low) / 2;
             if self.start(middle) <= item {
@@ -154,9 +151,25 @@ impl Ends {
         requires { number < length self.now.ends }
         ensures { result ≡ true → slice_index (0 ∷ self.now.ends) number ≡ slice_index self.now.ends number }
     {
+        if number >= self.starts.len() {
+            return true;
+        }
         if self.starts.len() - number == 1 {
             return false;
         }
         self.starts.stays(number)
+    }
+}
+
+/// Stores that lists begin at an index. Allocates nothing.
+#[inline(never)]
+fn begin_all(starts: &mut Repeats<u32>, start: u32, lists: usize)
+    requires { lists ≤ starts.old.spare }
+    ensures items { starts.new.items ≡ starts.old.items ++ replicate lists start }
+    ensures room { starts.new.spare + lists ≡ starts.old.spare }
+{
+    if lists > 0 {
+        starts.push(start);
+        starts.repeat(lists - 1);
     }
 }

@@ -1,6 +1,6 @@
 //! Indices that rise by at most 1 from each to the next.
 
-ghost use Rattle.std.specs.Prelude.{◌≡◌, ◌+◌, ◌-◌, ◌^◌, ◌<◌, ◌≤◌, ◌++◌, ◌∷◌, [], OnErr, OnOk, length, max, slice_index_or, true, vec_len, vec_capacity};
+ghost use Rattle.std.specs.Prelude.{◌≡◌, ◌+◌, ◌-◌, ◌^◌, ◌<◌, ◌≤◌, ◌++◌, ◌∷◌, [], OnErr, OnOk, length, max, replicate, slice_index_or, true, vec_len, vec_capacity};
 ghost use Rattle.pt_history.specs.Indices.{index_in, no_block};
 
 use crate::pieces::widened;
@@ -106,6 +106,32 @@ impl Indices {
         }
     }
 
+    /// Appends the last index this many times more, or 0. Allocates nothing.
+    #[inline(always)]
+    pub fn repeat(&mut self, more: usize)
+        requires { more ≤ self.old.spare }
+        ensures indices { self.new.indices ≡ self.old.indices ++ replicate more (slice_index_or self.old.indices (length self.old.indices - 1) 0) }
+        ensures room { self.new.spare + more ≡ self.old.spare }
+    {
+        if more < PER_BLOCK - self.count % PER_BLOCK {
+            self.count += more;
+        } else {
+            self.repeat_across(more);
+        }
+    }
+
+    /// Does the same as `repeat`, past the end of the newest block. Not inlined, since this is rare.
+    #[inline(never)]
+    fn repeat_across(&mut self, more: usize)
+        requires { more ≤ self.old.spare }
+        ensures indices { self.new.indices ≡ self.old.indices ++ replicate more (slice_index_or self.old.indices (length self.old.indices - 1) 0) }
+        ensures room { self.new.spare + more ≡ self.old.spare }
+    {
+        for _time in 0..more {
+            self.again();
+        }
+    }
+
     /// Appends the index after the last one, or 1. Allocates nothing.
     fn next(&mut self)
         requires room { 0 < self.old.spare }
@@ -133,6 +159,13 @@ impl Indices {
         ensures { result ≡ self.now.spare }
     {
         self.limit - self.count
+    }
+
+    /// How many indices there can be without another reservation.
+    pub fn limit(&self) -> usize
+        ensures { result ≡ length self.now.indices + self.now.spare }
+    {
+        self.limit
     }
 
     /// Index `number`, counted from 0.

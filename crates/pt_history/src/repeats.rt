@@ -1,6 +1,6 @@
 //! A list in which neighbours are often equal.
 
-ghost use Rattle.std.specs.Prelude.{◌≡◌, ◌+◌, ◌-◌, ◌<◌, ◌≤◌, ◌++◌, ◌∷◌, [], IsOk, OnErr, OnOk, Some, length, max, slice_get, true};
+ghost use Rattle.std.specs.Prelude.{◌≡◌, ◌+◌, ◌-◌, ◌<◌, ◌≤◌, ◌++◌, ◌∷◌, [], IsOk, OnErr, OnOk, Some, length, max, replicate, slice_get, true};
 
 use crate::indices::Indices;
 use crate::pieces::{MOST_ITEMS, widened};
@@ -80,6 +80,24 @@ impl<T: Drop> Repeats<T> {
         ensures room { self.new.spare + 1 ≡ self.old.spare }
     {
         self.indices.again();
+    }
+
+    /// Appends the last item this many times more. Allocates nothing.
+    #[inline(always)]
+    pub fn repeat(&mut self, more: usize)
+        requires room { more ≤ self.old.spare }
+        requires begun { 0 < length self.old.items }
+        ensures items { (x : T) → slice_get self.old.items (length self.old.items - 1) ≡ Some x → self.new.items ≡ self.old.items ++ replicate more x }
+        ensures room { self.new.spare + more ≡ self.old.spare }
+    {
+        self.indices.repeat(more);
+    }
+
+    /// How many items there can be without another reservation.
+    pub fn limit(&self) -> usize
+        ensures { result ≡ length self.now.items + self.now.spare }
+    {
+        self.indices.limit()
     }
 
     /// The number of items.
