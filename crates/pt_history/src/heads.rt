@@ -89,8 +89,8 @@ impl Heads {
             Recent::Empty => self.recent = Recent::One(head),
             Recent::One(first) => self.recent = Recent::Two(first, head),
             Recent::Two(first, second) => {
-                store(&mut self.past, &mut self.newest, first);
                 self.recent = Recent::Two(second, head);
+                store(&mut self.past, &mut self.newest, first);
             }
         }
     }
@@ -152,8 +152,8 @@ fn store(past: &mut Repeats<Head>, newest: &mut Option<Head>, head: Head)
             return;
         }
     }
-    past.push(head);
     *newest = Some(head);
+    past.push(head);
 }
 
 /// Whether two heads are equal.

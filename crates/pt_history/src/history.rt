@@ -151,7 +151,6 @@ impl History {
         ensures turns { self.new.turns ≡ self.old.turns ++ fresh reading ∷ [] }
         ensures room { self.new.room ≡ record self.old.room { turns = self.old.room.turns - 1 } }
     {
-        self.heads.push(Head::single(reading));
         self.room.turns -= 1;
         self.work.begin();
         self.rows.begin();
@@ -159,6 +158,7 @@ impl History {
         self.sent.begin();
         self.before_quiet = self.last_quiet;
         self.last_quiet = true;
+        self.heads.push(Head::single(reading));
     }
 
     /// Replaces the last two turns, which are quiet, by their joined run and a new quiet turn.
