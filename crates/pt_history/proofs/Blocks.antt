@@ -1,7 +1,7 @@
 -- Indices in blocks: each by its number, and one more.
 use Rattle.std.proofs.Common.{◌≡◌, ◌⊎◌, ℕ, zero, suc, ◌+◌, ◌-◌, ◌*◌, ◌/◌, ◌%◌, ◌^◌, ◌<◌, ◌≤◌, List, [], ◌∷◌, ◌++◌, count_ones, length, get_or, replicate, append-nil, refl, sym, ap, ap₂, subst, ◌∙◌, arith, inl, inr}
 use Rattle.std.proofs.lemmas.Bool.{cases_lt}
-use Rattle.std.proofs.lemmas.List.{append_assoc, get_or-append_right, get_or-replicate, get_or_append_left, get_or_push, length_push, replicate_more}
+use Rattle.std.proofs.lemmas.List.{append_assoc, get_or-append_right, get_or-replicate, get_or_append_left, get_or_push, length-append, length-replicate, length_push}
 use Rattle.std.proofs.lemmas.Nat.{mod-pow-add, ones_cat, pow-add, pow_pos, shl-shr}
 use Rattle.std.proofs.Math.Nat.{add-mul-mod_self_right, mod-eq_of_lt, mul-mod_left, pow-suc}
 use Rattle.pt_history.specs.declared.indices.Block.{Block}
@@ -201,14 +201,37 @@ repeats blocks b x (suc m) count full few is room =
       bits = subst (λ k. b.bits < 2 ^ (k % 64)) (sym all) rest.bits;
     }
 
-pub last_repeated : (es : List ℕ) (x more : ℕ) → x ≡ get_or es (length es - 1) 0 → x ≡ get_or (es ++ replicate more x) (length es + more - 1) 0
-last_repeated es x zero is =
-    let last : length es - 1 ≡ length es + 0 - 1 = omega arith in
-    is ∙ ap₂ (λ l k. get_or l k 0) (sym (append-nil es)) last
-last_repeated es x (suc m) is =
-    sym (get_or-append_right es (replicate (suc m) x) (length es) (length es + suc m - 1) 0 refl (omega arith)
-    ∙ get_or-replicate (suc m) (length es + suc m - 1 - length es) x 0 (omega arith))
+-- the next index many times, in the newest block
+pub record Rises (blocks : List Block) (old new : Block) (count times x : ℕ) : Type 0 where
+  pub indices : indices_from (blocks ++ new ∷ []) 0 (count + times) ≡ indices_from (blocks ++ old ∷ []) 0 count ++ replicate times x
+  pub full : length blocks ≡ (count + times) / 64
+  pub bits : new.bits < 2 ^ ((count + times) % 64)
+  pub rises : x ≡ new.base + count_ones new.bits
 
--- once more after many times
-pub once_more : {X : Type 0} (es : List X) (x : X) (n : ℕ) → (es ++ replicate n x) ++ x ∷ [] ≡ es ++ replicate (n + 1) x
-once_more es x n = append_assoc es (replicate n x) (x ∷ []) ∙ ap (λ l. es ++ l) (replicate_more n x)
+pub rises : (blocks : List Block) (b : Block) (x times count : ℕ) → length blocks ≡ count / 64 → b.bits < 2 ^ (count % 64) → x ≡ b.base + count_ones b.bits → 0 < times → times < 64 - count % 64
+    → Rises blocks b (record b { bits = b.bits + 2 ^ (count % 64) }) count times (x + 1)
+rises blocks b x zero count full few is some room = absurd (omega (arith, some))
+rises blocks b x (suc m) count full few is some room =
+    let new : Block = record b { bits = b.bits + 2 ^ (count % 64) } in
+    let adds : Adds blocks b new count (x + 1) = adds_next blocks b count x full few is in
+    let place : count % 64 + 1 ≡ (count + 1) % 64 = omega (arith, room) in
+    let all : count + suc m ≡ (count + 1) + m = omega arith in
+    let rest : Repeats blocks new (count + 1) m (x + 1) = repeats blocks new (x + 1) m (count + 1) (omega (arith, full, room)) (subst (λ k. new.bits < 2 ^ k) place adds.bits) adds.rises (omega (arith, room)) in
+    record {
+      indices =
+          ap (indices_from (blocks ++ new ∷ []) 0) all
+          ∙ rest.indices
+          ∙ ap (λ l. l ++ replicate m (x + 1)) adds.indices
+          ∙ append_assoc (indices_from (blocks ++ b ∷ []) 0 count) ((x + 1) ∷ []) (replicate m (x + 1));
+      full = omega (arith, rest.full);
+      bits = subst (λ k. new.bits < 2 ^ (k % 64)) (sym all) rest.bits;
+      rises = adds.rises;
+    }
+
+pub last_repeated : (es : List ℕ) (x times n : ℕ) → 0 < times → n ≡ length es + times → x ≡ get_or (es ++ replicate times x) (n - 1) 0
+last_repeated es x times n some is =
+    sym (get_or-append_right es (replicate times x) (length es) (n - 1) 0 refl (omega (arith, some, is))
+    ∙ get_or-replicate times (n - 1 - length es) x 0 (omega (arith, some, is)))
+
+pub length_repeated : {X : Type 0} (es : List X) (x : X) (times : ℕ) → length (es ++ replicate times x) ≡ length es + times
+length_repeated es x times = length-append es (replicate times x) ∙ ap (λ k. length es + k) (length-replicate times x)

@@ -34,7 +34,7 @@ one_at [] i x at = absurd (none_some x at)
 one_at (v ∷ values) zero x at = ap (λ z. z ∷ []) (same_some v x at)
 one_at (v ∷ values) (suc i) x at = one_at values i x at
 
-pub newest : {X : Type 0} (values : List X) (x : X) → slice_get (values ++ x ∷ []) (length values) ≡ Some x
+newest : {X : Type 0} (values : List X) (x : X) → slice_get (values ++ x ∷ []) (length values) ≡ Some x
 newest [] x = refl
 newest (v ∷ values) x = newest values x
 
@@ -86,7 +86,7 @@ repeated values x (i ∷ is) n last h at =
     ap (slice_get values) last ∙ sym (values_get values (i ∷ is) (length (i ∷ is) - 1) h (omega arith)) ∙ sym (ap (slice_get (values_at values (i ∷ is))) many) ∙ at in
     values_push values (i ∷ is) n ∙ ap (λ l. values_at values (i ∷ is) ++ l) (one_at values n x is_last)
 
--- the last value many times more
+-- a value many times
 below_each : (n i m : ℕ) → i < n → AreBelow n (replicate m i)
 below_each n i zero lt = tt
 below_each n i (suc m) lt = (lt, below_each n i m lt)
@@ -103,14 +103,11 @@ values_each : {X : Type 0} (values : List X) (x : X) (n m : ℕ) → take 1 (dro
 values_each values x n zero one = refl
 values_each values x n (suc m) one = ap₂ (λ a b. a ++ b) one (values_each values x n m one)
 
-pub repeated_all : {X : Type 0} (values : List X) (x : X) (is : List ℕ) (n m : ℕ) → n ≡ get_or is (length is - 1) 0 → AreBelow (length values) is → slice_get (values_at values is) (length (values_at values is) - 1) ≡ Some x
-    → values_at values (is ++ replicate m n) ≡ values_at values is ++ replicate m x
-repeated_all values x [] n m last h at = absurd (none_some x at)
-repeated_all values x (i ∷ is) n m last h at =
-    let many : length (values_at values (i ∷ is)) - 1 ≡ length (i ∷ is) - 1 = ap (λ k. k - 1) (length-values values (i ∷ is) h) in
-    let is_last : slice_get values n ≡ Some x =
-    ap (slice_get values) last ∙ sym (values_get values (i ∷ is) (length (i ∷ is) - 1) h (omega arith)) ∙ sym (ap (slice_get (values_at values (i ∷ is))) many) ∙ at in
-    values_append values (i ∷ is) (replicate m n) ∙ ap (λ l. values_at values (i ∷ is) ++ l) (values_each values x n m (one_at values n x is_last))
+-- a new value many times
+pub pushed_all : {X : Type 0} (values : List X) (x : X) (is : List ℕ) (n m : ℕ) → n ≡ length values → AreBelow (length values) is → values_at (values ++ x ∷ []) (is ++ replicate m n) ≡ values_at values is ++ replicate m x
+pushed_all values x is n m last h =
+    values_append (values ++ x ∷ []) is (replicate m n)
+    ∙ ap₂ (λ a b. a ++ b) (values_more values x is h) (values_each (values ++ x ∷ []) x n m (ap (λ k. take 1 (drop k (values ++ x ∷ []))) last ∙ one_at (values ++ x ∷ []) (length values) x (newest values x)))
 
 -- what is read at an index
 pub read_at : {X : Type 0} (values : List X) (k : ℕ) (x : X) → k < length values → x ≡ get_or values k x → slice_get values k ≡ Some x

@@ -169,7 +169,6 @@ fn begin_all(starts: &mut Repeats<u32>, start: u32, lists: usize)
     ensures room { starts.new.spare + lists ≡ starts.old.spare }
 {
     if lists > 0 {
-        starts.push(start);
-        starts.repeat(lists - 1);
+        starts.push_all(start, lists);
     }
 }

@@ -106,23 +106,42 @@ impl Indices {
         }
     }
 
-    /// Appends the last index this many times more, or 0. Allocates nothing.
+    /// Appends an index this many times: the last one again, or the next. Allocates nothing.
     #[inline(always)]
-    pub fn repeat(&mut self, more: usize)
-        requires { more ≤ self.old.spare }
-        ensures indices { self.new.indices ≡ self.old.indices ++ replicate more (slice_index_or self.old.indices (length self.old.indices - 1) 0) }
-        ensures room { self.new.spare + more ≡ self.old.spare }
+    pub fn push_all(&mut self, index: u32, times: usize)
+        requires some { 0 < times }
+        requires room { times ≤ self.old.spare }
+        requires low { slice_index_or self.old.indices (length self.old.indices - 1) 0 ≤ index }
+        requires high { index ≤ slice_index_or self.old.indices (length self.old.indices - 1) 0 + 1 }
+        ensures indices { self.new.indices ≡ self.old.indices ++ replicate times index }
+        ensures room { self.new.spare + times ≡ self.old.spare }
     {
-        if more < PER_BLOCK - self.count % PER_BLOCK {
-            self.count += more;
+        let place = self.count % PER_BLOCK;
+        if times < PER_BLOCK - place && index != self.last {
+            self.newest = raised(self.newest, place);
+            self.last = index;
+            self.count += times;
         } else {
-            self.repeat_across(more);
+            self.push_across(index, times);
         }
     }
 
-    /// Does the same as `repeat`, past the end of the newest block. Not inlined, since this is rare.
+    /// Does the same as `push_all`, also past the end of the newest block. Not inlined, since this is rare.
     #[inline(never)]
-    fn repeat_across(&mut self, more: usize)
+    fn push_across(&mut self, index: u32, times: usize)
+        requires some { 0 < times }
+        requires room { times ≤ self.old.spare }
+        requires low { slice_index_or self.old.indices (length self.old.indices - 1) 0 ≤ index }
+        requires high { index ≤ slice_index_or self.old.indices (length self.old.indices - 1) 0 + 1 }
+        ensures indices { self.new.indices ≡ self.old.indices ++ replicate times index }
+        ensures room { self.new.spare + times ≡ self.old.spare }
+    {
+        self.push(index);
+        self.repeat(times - 1);
+    }
+
+    /// Appends the last index this many times more, or 0. Allocates nothing.
+    fn repeat(&mut self, more: usize)
         requires { more ≤ self.old.spare }
         ensures indices { self.new.indices ≡ self.old.indices ++ replicate more (slice_index_or self.old.indices (length self.old.indices - 1) 0) }
         ensures room { self.new.spare + more ≡ self.old.spare }

@@ -82,15 +82,17 @@ impl<T: Drop> Repeats<T> {
         self.indices.again();
     }
 
-    /// Appends the last item this many times more. Allocates nothing.
+    /// Appends an item this many times. Allocates nothing.
     #[inline(always)]
-    pub fn repeat(&mut self, more: usize)
-        requires room { more ≤ self.old.spare }
-        requires begun { 0 < length self.old.items }
-        ensures items { (x : T) → slice_get self.old.items (length self.old.items - 1) ≡ Some x → self.new.items ≡ self.old.items ++ replicate more x }
-        ensures room { self.new.spare + more ≡ self.old.spare }
+    pub fn push_all(&mut self, item: T, times: usize)
+        requires some { 0 < times }
+        requires room { times ≤ self.old.spare }
+        ensures items { self.new.items ≡ self.old.items ++ replicate times item }
+        ensures room { self.new.spare + times ≡ self.old.spare }
     {
-        self.indices.repeat(more);
+        let index = self.values.len() as u32;
+        self.values.push_reserved(item);
+        self.indices.push_all(index, times);
     }
 
     /// How many items there can be without another reservation.

@@ -1,5 +1,5 @@
 use Rattle.std.proofs.Common.{◌≡◌, ◌+◌, ◌-◌, ◌++◌, length, get_or, replicate}
-use Rattle.pt_history.proofs.indices.Indices.repeat_across.Given as goal
+use Rattle.pt_history.proofs.indices.Indices.repeat.Given as goal
 
 abbrev pub invariant-loop-time : goal.invariant-loop-time
 invariant-loop-time l = record {
