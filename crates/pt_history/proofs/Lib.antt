@@ -9,6 +9,7 @@ pub mod Dated
 pub mod LastMember
 pub mod Filling
 pub mod CellLists
+pub mod MarkLists
 pub mod TaskLists
 pub mod DoneLists
 pub mod Ended

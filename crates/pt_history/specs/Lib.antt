@@ -4,6 +4,8 @@ pub mod Whole
 pub mod Lists
 pub mod Cells
 pub mod CellsWhole
+pub mod Marks
+pub mod MarksWhole
 pub mod Tasks
 pub mod Works
 pub mod WorkWhole

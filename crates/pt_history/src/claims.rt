@@ -4,7 +4,7 @@ ghost use Rattle.std.specs.Prelude.{◌≡◌, ◌+◌, ◌<◌, ◌≤◌, ◌+
 ghost use Rattle.pt_history.specs.Tasks.{mark_of, task_of_cells};
 
 use crate::cells::{Cells, parts_of};
-use crate::pieces::widened;
+use crate::marks::Marks;
 use pt_tags::{Memory, Tag};
 use pt_types::Task;
 use std::alloc::Global;
@@ -22,21 +22,21 @@ pub struct Mark {
 /// A compact list of claims, and room reserved for more. Contracts see `tasks` and `spare`.
 #[derive(Drop)]
 pub(crate) struct Claims {
-    marks: Vec<Mark>,
+    marks: Marks,
     /// The inputs and the state of each.
     cells: Cells,
     spare: usize,
 }
 
 impl Model for Claims {
-    ghost use Rattle.std.specs.Prelude.{◌≡◌, ◌+◌, ◌≤◌, length, vec_len, vec_capacity};
+    ghost use Rattle.std.specs.Prelude.{◌≡◌, ◌≤◌, length};
     ghost use Rattle.pt_history.specs.Tasks.{RoomyTasks, tasks_of_cells};
 
     ghost Value = { RoomyTasks };
 
     ghost view = { λ c. record { tasks = tasks_of_cells c.marks.items c.cells.cells; spare = c.spare } };
 
-    ghost invariant = { λ c. (length c.marks.items ≡ length c.cells.cells) × (vec_len c.marks + c.spare ≤ vec_capacity c.marks) × (c.spare ≤ c.cells.spare) };
+    ghost invariant = { λ c. (length c.marks.items ≡ length c.cells.cells) × (c.spare ≤ c.marks.spare) × (c.spare ≤ c.cells.spare) };
 }
 
 impl Claims {
@@ -45,7 +45,7 @@ impl Claims {
         ensures { result ≡ record { tasks = []; spare = 0 } }
     {
         Claims {
-            marks: Vec::new(alloc),
+            marks: Marks::new(alloc),
             cells: Cells::new(alloc),
             spare: 0,
         }
@@ -58,7 +58,7 @@ impl Claims {
         ensures bound { self.new.spare ≤ max self.old.spare claims }
         ensures room { OnOk result (claims ≤ self.new.spare) }
     {
-        widened(&mut self.marks, self.spare, claims)?;
+        self.marks.reserve(claims)?;
         self.cells.reserve(claims)?;
         self.spare = self.spare.max(claims);
         Ok(())
@@ -71,7 +71,7 @@ impl Claims {
         ensures room { self.new.spare + 1 ≡ self.old.spare }
     {
         self.cells.push(&task.inputs, task.state);
-        self.marks.push_reserved(mark_of(task));
+        self.marks.add(mark_of(task));
         self.spare -= 1;
     }
 
@@ -87,7 +87,7 @@ impl Claims {
         requires { number < length self.now.tasks }
         ensures { slice_get self.now.tasks number ≡ Some result }
     {
-        task_of(self.marks[number], &self.cells.get(number))
+        task_of(self.marks.at(number), &self.cells.get(number))
     }
 
     /// Whether claim `number` is this task. Nothing is read that isn't compared.
@@ -95,7 +95,7 @@ impl Claims {
         requires { number < length self.now.tasks }
         ensures { result ≡ true → slice_get self.now.tasks number ≡ Some task.now }
     {
-        same_mark(self.marks[number], mark_of(task))
+        same_mark(self.marks.at(number), mark_of(task))
             && self.cells.is(number, &task.inputs, task.state)
     }
 
@@ -104,7 +104,7 @@ impl Claims {
         requires { number < length self.now.tasks }
         ensures { option_map mark_of (slice_get self.now.tasks number) ≡ Some result }
     {
-        self.marks[number]
+        self.marks.at(number)
     }
 }
 

@@ -16,6 +16,7 @@ mod head;
 mod heads;
 mod history;
 mod indices;
+mod marks;
 mod miss;
 mod pieces;
 mod repeats;

@@ -7,6 +7,6 @@ use Rattle.pt_history.proofs.claims.Claims.push.Goals as goal
 pub returns-clause-tasks : goal.returns-clause-tasks
 returns-clause-tasks c =
     let cells : c.push.new.self.cells ≡ c.self.inside.cells.cells ++ cells_of c.args.task.now.inputs c.args.task.now.state ∷ [] = search rules in
-    tasks_push c.self.inside.marks.items c.push_reserved.new.self.items c.self.inside.cells.cells c.push.new.self.cells c.mark_of.result c.args.task.now
-    c.self.invariant.0 c.mark_of.ensures c.push.ensures.eight c.push_reserved.ensures.items cells
+    tasks_push c.self.inside.marks.items c.add.new.self.items c.self.inside.cells.cells c.push.new.self.cells c.mark_of.result c.args.task.now
+    c.self.invariant.0 c.mark_of.ensures c.push.ensures.eight c.add.ensures.items cells
     ∙ ap (λ (v : RoomyTasks). v.tasks ++ c.args.task.now ∷ []) c.self.view_is

@@ -1,0 +1,125 @@
+//! Claims without their inputs and their states, stored flat.
+
+ghost use Rattle.std.specs.Prelude.{◌≡◌, ◌+◌, ◌<◌, ◌≤◌, ◌++◌, ◌∷◌, [], OnOk, Some, length, slice_get, slice_index_or, vec_len, vec_capacity};
+ghost use Rattle.pt_history.specs.Marks.{numbers_of};
+
+use crate::claims::Mark;
+use crate::pieces::widened;
+use pt_tags::{Memory, Tag};
+use std::alloc::Global;
+use std::marker::Model;
+
+/// A list of marks, and room reserved for more. Contracts see `items` and `spare`.
+///
+/// The number of a claim is its index, in each history that a platform makes. So numbers are stored only from the first
+/// one on that is another: the numbers 0, 1, 7 and 8 are stored as 7 and 8. A mark takes 20 bytes.
+#[derive(Drop)]
+pub(crate) struct Marks {
+    tags: Vec<Tag>,
+    actors: Vec<u32>,
+    /// The numbers of the last marks.
+    numbers: Vec<u64>,
+    spare: usize,
+}
+
+impl Model for Marks {
+    ghost use Rattle.std.specs.Prelude.{length};
+    ghost use Rattle.pt_history.specs.declared.claims.Mark.{Mark};
+    ghost use Rattle.pt_history.specs.Indices.{RoomyItems};
+    ghost use Rattle.pt_history.specs.Marks.{marks_of, numbers_of};
+    ghost use Rattle.pt_history.specs.MarksWhole.{AreFlatMarks};
+
+    ghost Value = { RoomyItems Mark };
+
+    ghost view = { λ m. record { items = marks_of m.tags.items m.actors.items (numbers_of (length m.tags.items) m.numbers.items); spare = m.spare } };
+
+    ghost invariant = { AreFlatMarks };
+}
+
+impl Marks {
+    /// No marks and no room.
+    pub fn new(alloc: Global) -> Marks
+        ensures items { result.items ≡ [] }
+        ensures spare { result.spare ≡ 0 }
+    {
+        Marks {
+            tags: Vec::new(alloc),
+            actors: Vec::new(alloc),
+            numbers: Vec::new(alloc),
+            spare: 0,
+        }
+    }
+
+    /// Reserves room for at least `marks` more marks. It fails if memory runs out.
+    pub fn reserve(&mut self, marks: usize) -> Result<(), Memory>
+        ensures items { self.new.items ≡ self.old.items }
+        ensures kept { self.old.spare ≤ self.new.spare }
+        ensures room { OnOk result (marks ≤ self.new.spare) }
+    {
+        widened(&mut self.tags, self.spare, marks)?;
+        widened(&mut self.actors, self.spare, marks)?;
+        widened(&mut self.numbers, self.spare, marks)?;
+        self.spare = self.spare.max(marks);
+        Ok(())
+    }
+
+    /// Appends a mark. Allocates nothing.
+    pub fn add(&mut self, mark: Mark)
+        requires { 0 < self.old.spare }
+        ensures items { self.new.items ≡ self.old.items ++ mark ∷ [] }
+        ensures room { self.new.spare + 1 ≡ self.old.spare }
+    {
+        store_number(&mut self.numbers, self.tags.len(), mark.number);
+        self.tags.push_reserved(mark.tag);
+        self.actors.push_reserved(mark.actor);
+        self.spare -= 1;
+    }
+
+    /// The number of marks.
+    pub fn len(&self) -> usize
+        ensures { result ≡ length self.now.items }
+    {
+        self.tags.len()
+    }
+
+    /// Mark `index`, counted from 0.
+    pub fn at(&self, index: usize) -> Mark
+        requires { index < length self.now.items }
+        ensures { slice_get self.now.items index ≡ Some result }
+    {
+        Mark {
+            tag: self.tags[index],
+            number: number_at(self.numbers.as_slice(), self.tags.len(), index),
+            actor: self.actors[index],
+        }
+    }
+}
+
+/// Appends the number of a mark before which there are `count`, unless it is its index and so are all before it.
+fn store_number(numbers: &mut Vec<u64>, count: usize, number: u64)
+    requires room { vec_len numbers.old < vec_capacity numbers.old }
+    requires few { length numbers.old.items ≤ count }
+    ensures numbers { numbers_of (count + 1) numbers.new.items ≡ numbers_of count numbers.old.items ++ number ∷ [] }
+    ensures few { length numbers.new.items ≤ count + 1 }
+    ensures one { vec_len numbers.new ≤ vec_len numbers.old + 1 }
+    ensures room { vec_capacity numbers.old ≤ vec_capacity numbers.new }
+{
+    if numbers.is_empty() && number == count as u64 {
+        return;
+    }
+    numbers.push_reserved(number);
+}
+
+/// The number of mark `index` of `count` marks, of which the last numbers are stored.
+fn number_at(numbers: &[u64], count: usize, index: usize) -> u64
+    requires few { length numbers.now ≤ count }
+    requires inside { index < count }
+    ensures { result ≡ slice_index_or (numbers_of count numbers.now) index 0 }
+{
+    let in_order = count - numbers.len();
+    if index < in_order {
+        index as u64
+    } else {
+        numbers[index - in_order]
+    }
+}
