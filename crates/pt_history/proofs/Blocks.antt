@@ -202,16 +202,16 @@ repeats blocks b x (suc m) count full few is room =
     }
 
 -- the next index many times, in the newest block
-pub record Rises (blocks : List Block) (old new : Block) (count times x : ℕ) : Type 0 where
+pub record Raises (blocks : List Block) (old new : Block) (count times x : ℕ) : Type 0 where
   pub indices : indices_from (blocks ++ new ∷ []) 0 (count + times) ≡ indices_from (blocks ++ old ∷ []) 0 count ++ replicate times x
   pub full : length blocks ≡ (count + times) / 64
   pub bits : new.bits < 2 ^ ((count + times) % 64)
   pub rises : x ≡ new.base + count_ones new.bits
 
-pub rises : (blocks : List Block) (b : Block) (x times count : ℕ) → length blocks ≡ count / 64 → b.bits < 2 ^ (count % 64) → x ≡ b.base + count_ones b.bits → 0 < times → times < 64 - count % 64
-    → Rises blocks b (record b { bits = b.bits + 2 ^ (count % 64) }) count times (x + 1)
-rises blocks b x zero count full few is some room = absurd (omega (arith, some))
-rises blocks b x (suc m) count full few is some room =
+pub raises : (blocks : List Block) (b : Block) (x times count : ℕ) → length blocks ≡ count / 64 → b.bits < 2 ^ (count % 64) → x ≡ b.base + count_ones b.bits → 0 < times → times < 64 - count % 64
+    → Raises blocks b (record b { bits = b.bits + 2 ^ (count % 64) }) count times (x + 1)
+raises blocks b x zero count full few is some room = absurd (omega (arith, some))
+raises blocks b x (suc m) count full few is some room =
     let new : Block = record b { bits = b.bits + 2 ^ (count % 64) } in
     let adds : Adds blocks b new count (x + 1) = adds_next blocks b count x full few is in
     let place : count % 64 + 1 ≡ (count + 1) % 64 = omega (arith, room) in

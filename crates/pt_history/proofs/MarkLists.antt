@@ -4,7 +4,7 @@ use Rattle.std.specs.Prelude.{slice_get}
 use Rattle.std.proofs.lemmas.List.{append_assoc, get_or-append_right, get_or_append_left, length_push}
 use Rattle.pt_tags.specs.declared.tag.Tag.{Tag}
 use Rattle.pt_history.specs.declared.claims.Mark.{Mark}
-use Rattle.pt_history.specs.Marks.{marks_of, numbers_from, numbers_of}
+use Rattle.pt_history.specs.Marks.{marks_of, numbers_from, mark_numbers}
 
 -- numbers in a row
 length-from : (k n : ℕ) → length (numbers_from k n) ≡ n
@@ -26,12 +26,12 @@ from_get k (suc n) zero lt = omega arith
 from_get k (suc n) (suc i) lt = from_get (k + 1) n i (omega arith) ∙ omega arith
 
 -- the numbers of marks
-pub length-numbers : (count : ℕ) (stored : List ℕ) → length stored ≤ count → length (numbers_of count stored) ≡ count
+pub length-numbers : (count : ℕ) (stored : List ℕ) → length stored ≤ count → length (mark_numbers count stored) ≡ count
 length-numbers count stored few =
     let first : length (numbers_from 0 (count - length stored)) ≡ count - length stored = length-from 0 (count - length stored) in
     length-append (numbers_from 0 (count - length stored)) stored ∙ omega (arith, first, few)
 
-pub number_left : (count n : ℕ) (stored : List ℕ) → length stored ≡ 0 → n ≡ count → numbers_of (count + 1) stored ≡ numbers_of count stored ++ n ∷ []
+pub number_left : (count n : ℕ) (stored : List ℕ) → length stored ≡ 0 → n ≡ count → mark_numbers (count + 1) stored ≡ mark_numbers count stored ++ n ∷ []
 number_left count n [] none is =
     let all : (count + 1) - 0 ≡ count + 1 = omega arith in
     let before : count ≡ count - 0 = omega arith in
@@ -42,19 +42,19 @@ number_left count n [] none is =
     ∙ ap₂ (λ l i. l ++ i ∷ []) (sym (append-nil (numbers_from 0 count)) ∙ ap (λ k. numbers_from 0 k ++ []) before) last
 number_left count n (s ∷ stored) none is = absurd (omega (arith, none))
 
-pub number_stored : (count n : ℕ) (stored : List ℕ) → length stored ≤ count → numbers_of (count + 1) (stored ++ n ∷ []) ≡ numbers_of count stored ++ n ∷ []
+pub number_stored : (count n : ℕ) (stored : List ℕ) → length stored ≤ count → mark_numbers (count + 1) (stored ++ n ∷ []) ≡ mark_numbers count stored ++ n ∷ []
 number_stored count n stored few =
     let many : length (stored ++ n ∷ []) ≡ length stored + 1 = length_push stored n in
     let same : (count + 1) - length (stored ++ n ∷ []) ≡ count - length stored = omega (arith, many) in
     ap (λ k. numbers_from 0 k ++ (stored ++ n ∷ [])) same ∙ sym (append_assoc (numbers_from 0 (count - length stored)) stored (n ∷ []))
 
-pub number_first : (count i : ℕ) (stored : List ℕ) → i < count - length stored → get_or (numbers_of count stored) i 0 ≡ i
+pub number_first : (count i : ℕ) (stored : List ℕ) → i < count - length stored → get_or (mark_numbers count stored) i 0 ≡ i
 number_first count i stored lt =
     let same : 0 + i ≡ i = omega arith in
     let first : length (numbers_from 0 (count - length stored)) ≡ count - length stored = length-from 0 (count - length stored) in
     get_or_append_left (numbers_from 0 (count - length stored)) stored 0 i (omega (arith, first, lt)) ∙ from_get 0 (count - length stored) i lt ∙ same
 
-pub number_last : (count i : ℕ) (stored : List ℕ) → count - length stored ≤ i → get_or (numbers_of count stored) i 0 ≡ get_or stored (i - (count - length stored)) 0
+pub number_last : (count i : ℕ) (stored : List ℕ) → count - length stored ≤ i → get_or (mark_numbers count stored) i 0 ≡ get_or stored (i - (count - length stored)) 0
 number_last count i stored past = get_or-append_right (numbers_from 0 (count - length stored)) stored (count - length stored) i 0 (length-from 0 (count - length stored)) past
 
 -- marks

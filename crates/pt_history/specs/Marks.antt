@@ -9,8 +9,8 @@ numbers_from k zero = []
 numbers_from k (suc n) = k ∷ numbers_from (k + 1) n
 
 -- the numbers of `count` marks: the last are stored, and each one before them is its index
-abbrev pub numbers_of : ℕ → List ℕ → List ℕ
-numbers_of count stored = numbers_from 0 (count - length stored) ++ stored
+abbrev pub mark_numbers : ℕ → List ℕ → List ℕ
+mark_numbers count stored = numbers_from 0 (count - length stored) ++ stored
 
 -- the marks with these tags, actors and numbers
 abbrev pub marks_of : List Tag → List ℕ → List ℕ → List Mark

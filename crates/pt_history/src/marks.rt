@@ -1,7 +1,7 @@
 //! Claims without their inputs and their states, stored flat.
 
 ghost use Rattle.std.specs.Prelude.{◌≡◌, ◌+◌, ◌<◌, ◌≤◌, ◌++◌, ◌∷◌, [], OnOk, Some, length, slice_get, slice_index_or, vec_len, vec_capacity};
-ghost use Rattle.pt_history.specs.Marks.{numbers_of};
+ghost use Rattle.pt_history.specs.Marks.{mark_numbers};
 
 use crate::claims::Mark;
 use crate::pieces::widened;
@@ -26,12 +26,12 @@ impl Model for Marks {
     ghost use Rattle.std.specs.Prelude.{length};
     ghost use Rattle.pt_history.specs.declared.claims.Mark.{Mark};
     ghost use Rattle.pt_history.specs.Indices.{RoomyItems};
-    ghost use Rattle.pt_history.specs.Marks.{marks_of, numbers_of};
+    ghost use Rattle.pt_history.specs.Marks.{marks_of, mark_numbers};
     ghost use Rattle.pt_history.specs.MarksWhole.{AreFlatMarks};
 
     ghost Value = { RoomyItems Mark };
 
-    ghost view = { λ m. record { items = marks_of m.tags.items m.actors.items (numbers_of (length m.tags.items) m.numbers.items); spare = m.spare } };
+    ghost view = { λ m. record { items = marks_of m.tags.items m.actors.items (mark_numbers (length m.tags.items) m.numbers.items); spare = m.spare } };
 
     ghost invariant = { AreFlatMarks };
 }
@@ -99,7 +99,7 @@ impl Marks {
 fn store_number(numbers: &mut Vec<u64>, count: usize, number: u64)
     requires room { vec_len numbers.old < vec_capacity numbers.old }
     requires few { length numbers.old.items ≤ count }
-    ensures numbers { numbers_of (count + 1) numbers.new.items ≡ numbers_of count numbers.old.items ++ number ∷ [] }
+    ensures numbers { mark_numbers (count + 1) numbers.new.items ≡ mark_numbers count numbers.old.items ++ number ∷ [] }
     ensures few { length numbers.new.items ≤ count + 1 }
     ensures one { vec_len numbers.new ≤ vec_len numbers.old + 1 }
     ensures room { vec_capacity numbers.old ≤ vec_capacity numbers.new }
@@ -114,7 +114,7 @@ fn store_number(numbers: &mut Vec<u64>, count: usize, number: u64)
 fn number_at(numbers: &[u64], count: usize, index: usize) -> u64
     requires few { length numbers.now ≤ count }
     requires inside { index < count }
-    ensures { result ≡ slice_index_or (numbers_of count numbers.now) index 0 }
+    ensures { result ≡ slice_index_or (mark_numbers count numbers.now) index 0 }
 {
     let in_order = count - numbers.len();
     if index < in_order {

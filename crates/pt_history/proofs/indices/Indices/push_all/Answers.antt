@@ -1,7 +1,7 @@
 use Rattle.std.proofs.Common.{◌≡◌, ℕ, ◌+◌, ◌-◌, ◌%◌, ◌^◌, ◌++◌, ◌∷◌, [], length, get_or, replicate, ap, sym, subst, ◌∙◌, arith}
 use Rattle.pt_history.specs.declared.indices.Block.{Block}
 use Rattle.pt_history.specs.Indices.{RoomyIndices, indices_from}
-use Rattle.pt_history.proofs.Blocks.{Rises, last_repeated, last_seen, length-indices, rises}
+use Rattle.pt_history.proofs.Blocks.{Raises, last_repeated, last_seen, length-indices, raises}
 use Rattle.pt_history.proofs.indices.Indices.push_all.Goals as goal
 
 pub invariant_of-self : goal.invariant_of-self
@@ -16,8 +16,8 @@ invariant_of-self c =
     let view : es ≡ c.args.self.now.indices = ap (λ (v : RoomyIndices). v.indices) c.self.view_is in
     let seen : x ≡ get_or c.args.self.now.indices (length c.args.self.now.indices - 1) 0 = last_seen (blocks ++ b ∷ []) c.args.self.now.indices x count view c.self.invariant.last in
     let next : x + 1 ≡ index = omega (arith, seen, c.requires.low, c.requires.high, c.if-index-self.true) in
-    let adds : Rises blocks b c.raised-self-inside.result count times index =
-    subst (λ (d : Block). Rises blocks b d count times index) (sym c.raised-self-inside.ensures) (subst (λ (y : ℕ). Rises blocks b (record b { bits = b.bits + 2 ^ (count % 64) }) count times y) next (rises blocks b x times count c.self.invariant.blocks c.self.invariant.bits c.self.invariant.rises c.requires.some c.if-times-place.true)) in
+    let adds : Raises blocks b c.raised-self-inside.result count times index =
+    subst (λ (d : Block). Raises blocks b d count times index) (sym c.raised-self-inside.ensures) (subst (λ (y : ℕ). Raises blocks b (record b { bits = b.bits + 2 ^ (count % 64) }) count times y) next (raises blocks b x times count c.self.invariant.blocks c.self.invariant.bits c.self.invariant.rises c.requires.some c.if-times-place.true)) in
     let many : length es ≡ count = length-indices (blocks ++ b ∷ []) 0 count in
     let all : count + times ≡ length es + times = omega (arith, many) in
     let spare : c.args.self.now.spare ≡ c.self.inside.limit - count = ap (λ (v : RoomyIndices). v.spare) (sym c.self.view_is) in
@@ -42,6 +42,6 @@ returns-then-index-self-clause-indices c =
     let view : es ≡ c.args.self.now.indices = ap (λ (v : RoomyIndices). v.indices) c.self.view_is in
     let seen : x ≡ get_or c.args.self.now.indices (length c.args.self.now.indices - 1) 0 = last_seen (blocks ++ b ∷ []) c.args.self.now.indices x count view c.self.invariant.last in
     let next : x + 1 ≡ index = omega (arith, seen, c.requires.low, c.requires.high, c.if-index-self.true) in
-    let adds : Rises blocks b c.raised-self-inside.result count times index =
-    subst (λ (d : Block). Rises blocks b d count times index) (sym c.raised-self-inside.ensures) (subst (λ (y : ℕ). Rises blocks b (record b { bits = b.bits + 2 ^ (count % 64) }) count times y) next (rises blocks b x times count c.self.invariant.blocks c.self.invariant.bits c.self.invariant.rises c.requires.some c.if-times-place.true)) in
+    let adds : Raises blocks b c.raised-self-inside.result count times index =
+    subst (λ (d : Block). Raises blocks b d count times index) (sym c.raised-self-inside.ensures) (subst (λ (y : ℕ). Raises blocks b (record b { bits = b.bits + 2 ^ (count % 64) }) count times y) next (raises blocks b x times count c.self.invariant.blocks c.self.invariant.bits c.self.invariant.rises c.requires.some c.if-times-place.true)) in
     adds.indices ∙ ap (λ l. l ++ replicate times index) view
