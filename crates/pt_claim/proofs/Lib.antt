@@ -8,3 +8,4 @@ pub mod Least
 pub mod Bounds
 pub mod Units
 pub mod Candidates
+pub mod Free

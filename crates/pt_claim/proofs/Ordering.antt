@@ -1,11 +1,12 @@
 -- The order of tag, actor and group, and a unit put at its place.
-use Rattle.std.proofs.Common.{◌≡◌, ℕ, zero, suc, ◌+◌, ◌<◌, ◌≤◌, ◌==◌, ◌⊎◌, false, List, [], ◌∷◌, length, get_or, take, drop, refl, sym, ap, subst, inl, inr, ⊎_elim, arith}
+use Rattle.std.proofs.Common.{◌≡◌, ℕ, zero, suc, ◌+◌, ◌<◌, ◌≤◌, ◌==◌, ◌⊎◌, false, List, [], ◌∷◌, ◌++◌, length, get_or, take, drop, refl, sym, ap, subst, ◌∙◌, inl, inr, ⊎_elim, arith}
 use Rattle.std.specs.List.{insert}
-use Rattle.std.proofs.lemmas.List.{get_or_default, drop_more}
+use Rattle.std.proofs.lemmas.List.{drop_all, get_or_default, drop_more, take_all}
+use Rattle.std.proofs.lemmas.List.Edits.{length-insert}
 use Rattle.pt_semantics.specs.Lists.{Each, IsIn}
 use Rattle.pt_semantics.proofs.Lookups.{Each-append, Each-in, IsIn-append_right}
 use Rattle.pt_queue.specs.declared.waiting.Waiting.{Waiting}
-use Rattle.pt_claim.specs.Fronts.{IsAhead, IsInOrder}
+use Rattle.pt_claim.specs.Fronts.{IsAhead, IsInOrder, IsInserted}
 
 pub ahead_trans : (c d e : Waiting) → IsAhead c d → IsAhead d e → IsAhead c e
 ahead_trans c d e h k = plain c.tag.time c.tag.step c.unit.actor c.unit.group d.tag.time d.tag.step d.unit.actor d.unit.group e.tag.time e.tag.step e.unit.actor e.unit.group h k
@@ -129,3 +130,24 @@ more_behind cs n c d l k h = subst (Each (λ (x : Waiting). IsAhead x c → ⊥)
 
 pub not_full : (n : ℕ) → n ≤ 64 → (n == 64) ≡ false → n < 64
 not_full n l h = grind arith
+
+-- one that all come before is inserted at the end
+pub inserted_last : (cs new : List Waiting) (c : Waiting) → length cs < 64 → Each (λ (d : Waiting). IsAhead d c) cs → new ≡ cs ++ c ∷ [] → IsInserted c cs new
+inserted_last cs new c less before is = record {
+  place = length cs;
+  is_place = record {
+    within = omega arith;
+    before = subst (Each (λ (d : Waiting). IsAhead d c)) (sym whole) before;
+    behind = subst (Each (λ (d : Waiting). IsAhead d c → ⊥)) (sym none) tt;
+  };
+  is = is ∙ sym at_end ∙ sym (take_all 64 (insert cs (length cs) c) (omega (arith, less, length-insert cs (length cs) c (omega arith))));
+}
+  where
+    whole : take (length cs) cs ≡ cs
+    whole = take_all (length cs) cs (omega arith)
+
+    none : drop (length cs) cs ≡ []
+    none = drop_all (length cs) cs (omega arith)
+
+    at_end : insert cs (length cs) c ≡ cs ++ c ∷ []
+    at_end = ap (λ (xs : List Waiting). xs ++ c ∷ drop (length cs) cs) whole ∙ ap (λ (ys : List Waiting). cs ++ c ∷ ys) none

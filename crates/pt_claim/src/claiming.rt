@@ -129,10 +129,7 @@ fn claim_alone(
         return;
     }
     let task = claim(fields, graph, next);
-    match tasks.push(task) {
-        Ok(()) => (),
-        Err(_) => unreachable!(),
-    }
+    tasks.push_reserved(task);
 }
 
 /// Claims safe units in order, as `claims` does, however many they are.
@@ -166,10 +163,7 @@ fn claim_several(
             None => return,
             Some(next) => {
                 let task = claim(fields, graph, next);
-                match tasks.push(task) {
-                    Ok(()) => (),
-                    Err(_) => unreachable!(),
-                }
+                tasks.push_reserved(task);
             }
         }
     }

@@ -10,7 +10,7 @@ ghost use Rattle.pt_state.specs.State.{busy_in, IsSound};
 ghost use Rattle.pt_claim.specs.Fronts.{AreFirst, AreFront, IsNextSafe, IsTaken, one_of};
 
 use crate::order::{is_past_all, put};
-use crate::safe::{is_refused, is_safe};
+use crate::safe::{is_behind, is_due, is_free, is_safe};
 use arrayvec::ArrayVec;
 use pt_causality::Least;
 use pt_offsets::Offsets;
@@ -39,7 +39,8 @@ fn holder_of(fields: &Fields, graph: &Graph, unit: Unit) -> Option<Waiting>
 
 /// Adds a unit that has events, if it is safe, to those to claim next. A unit that 64 of these come before isn't asked.
 ///
-/// `ahead` is a unit with events that may hold up this one, and so is the result for the next unit.
+/// `ahead` is a unit with events that may hold up this one, and so is the result for the next unit: the one that was last found
+/// to hold up any. A safe unit mostly holds up none of the next ones.
 fn add_unit(
     fields: &Fields,
     graph: &Graph,
@@ -65,14 +66,17 @@ fn add_unit(
         return ahead;
     }
     let Waiting { unit, tag } = waiting;
-    if is_refused(fields, graph, least, offsets, reading, unit, tag, ahead) {
+    if !is_due(graph, offsets, reading, unit, tag) {
         return ahead;
     }
-    if !is_safe(fields, graph, least, offsets, reading, unit, tag) {
+    if is_behind(fields, graph, least, unit, tag, ahead) {
+        return ahead;
+    }
+    if !is_free(fields, graph, least, reading, unit, tag) {
         return holder_of(fields, graph, unit);
     }
-    put(units, Waiting { unit, tag });
-    Some(Waiting { unit, tag })
+    put(units, waiting);
+    ahead
 }
 
 /// Replaces the list by the first safe units in order, at most 64. Searches the units that have events.
@@ -168,7 +172,8 @@ impl Front {
         }
     }
 
-    /// Searches again, if all units found are taken and there may be more.
+    /// Searches again. Not inlined, so that a unit that was found already is taken without a call.
+    #[inline(never)]
     fn refill(
         &mut self,
         fields: &Fields,
@@ -181,16 +186,9 @@ impl Front {
         requires sound { IsSound graph.now fields.now }
         requires least { AreLeast graph.now (least_of least.now) }
         requires offsets { AreOffsets graph.now offsets.now }
-        requires front { AreFront graph.now (waiting_in fields.now.queue.events) (busy_in fields.now.open_claims.items) reading self.old.more (drop self.old.taken self.old.units.items) }
         ensures front { AreFront graph.now (waiting_in fields.now.queue.events) (busy_in fields.now.open_claims.items) reading self.new.more (drop self.new.taken self.new.units.items) }
         ensures some { (self.new.taken < length self.new.units.items) ⊎ (self.new.more ≡ false) }
     {
-        if self.taken < self.units.len() {
-            return;
-        }
-        if !self.more {
-            return;
-        }
         fill(fields, graph, least, offsets, reading, &mut self.units);
         self.taken = 0;
         self.more = self.units.is_full();
@@ -213,7 +211,9 @@ impl Front {
         requires front { AreFront graph.now (waiting_in fields.now.queue.events) (busy_in fields.now.open_claims.items) reading self.old.more (drop self.old.taken self.old.units.items) }
         ensures { IsTaken graph.now (waiting_in fields.now.queue.events) (busy_in fields.now.open_claims.items) reading self.new.more (drop self.new.taken self.new.units.items) result }
     {
-        self.refill(fields, graph, least, offsets, reading);
+        if self.taken >= self.units.len() && self.more {
+            self.refill(fields, graph, least, offsets, reading);
+        }
         if self.taken >= self.units.len() {
             return None;
         }

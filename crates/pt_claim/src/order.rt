@@ -1,6 +1,7 @@
 //! Safe units, in the order in which they are claimed.
 
 ghost use Rattle.std.specs.Prelude.{◌≡◌, ◌↔◌, true};
+ghost use Rattle.pt_semantics.specs.Lists.{Each};
 ghost use Rattle.pt_claim.specs.Fronts.{AreAllAhead, IsAhead, IsInOrder, IsFrontPlace, IsInserted};
 
 use arrayvec::ArrayVec;
@@ -36,8 +37,20 @@ fn place_of(units: &[Waiting], next: Waiting) -> usize
     0
 }
 
-/// Inserts a unit in order, and keeps the first 64.
-pub fn put(units: &mut ArrayVec<Waiting, 64>, next: Waiting)
+/// Whether all of these units come before another one: it is enough to ask the last.
+fn all_come_before(units: &[Waiting], next: Waiting) -> bool
+    requires { IsInOrder units.now }
+    ensures { result ≡ true → Each (λ d. IsAhead d next) units.now }
+{
+    if units.is_empty() {
+        return true;
+    }
+    is_before(units[units.len() - 1], next)
+}
+
+/// Inserts a unit at its place, and keeps the first 64.
+#[inline(never)]
+fn put_between(units: &mut ArrayVec<Waiting, 64>, next: Waiting)
     requires { IsInOrder units.old.items }
     ensures { IsInserted next units.old.items units.new.items }
 {
@@ -52,14 +65,22 @@ pub fn put(units: &mut ArrayVec<Waiting, 64>, next: Waiting)
     }
 }
 
+/// Inserts a unit in order, and keeps the first 64. Mostly it comes behind all of them.
+pub fn put(units: &mut ArrayVec<Waiting, 64>, next: Waiting)
+    requires { IsInOrder units.old.items }
+    ensures { IsInserted next units.old.items units.new.items }
+{
+    if !units.is_full() && all_come_before(units.as_slice(), next) {
+        units.push(next);
+        return;
+    }
+    put_between(units, next);
+}
+
 /// Whether 64 units come before another one, so that `put` wouldn't keep it.
 pub fn is_past_all(units: &ArrayVec<Waiting, 64>, next: Waiting) -> bool
     requires { IsInOrder units.now.items }
     ensures { result ≡ true → AreAllAhead next units.now.items }
 {
-    if !units.is_full() {
-        return false;
-    }
-    let listed = units.as_slice();
-    is_before(listed[listed.len() - 1], next)
+    units.is_full() && all_come_before(units.as_slice(), next)
 }

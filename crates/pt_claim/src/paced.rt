@@ -1,7 +1,7 @@
 //! The paced readings of units.
 
-ghost use Rattle.std.specs.Prelude.{◌≡◌, Some, min};
-ghost use Rattle.pt_semantics.specs.Paced.{paced_by};
+ghost use Rattle.std.specs.Prelude.{◌≡◌, ◌+ℤ◌, ◌-◌, ◌^◌, Some, min, pos};
+ghost use Rattle.pt_semantics.specs.Paced.{at_least_zero, paced_by};
 ghost use Rattle.pt_queue.specs.Events.{waiting_in, IsLeastTag};
 ghost use Rattle.pt_state.specs.State.{busy_in, IsSound};
 ghost use Rattle.pt_claim.specs.Least.{AtOrIn, IsLeastAmong};
@@ -12,6 +12,16 @@ use pt_queue::Waiting;
 use pt_state::Fields;
 use pt_tags::Tag;
 
+/// The reading just past a time and an offset: time + offset + 1, but at least 0 and at most `u64::MAX`. All are microseconds.
+fn just_past(time: u64, offset: i64) -> u64
+    ensures { result ≡ min (2 ^ 64 - 1) (at_least_zero ((pos time +ℤ offset) +ℤ pos 1)) }
+{
+    if offset < 0 {
+        return time.saturating_sub(offset.unsigned_abs() - 1);
+    }
+    time.saturating_add(offset as u64 + 1)
+}
+
 /// The lesser of `so_far` and the paced reading of a tag at a unit with this offset: time + offset + 1, but at least 0, and 0
 /// without an offset. All are microseconds.
 fn sooner_paced(offset: Option<i64>, tag: Tag, so_far: u64) -> u64
@@ -19,10 +29,7 @@ fn sooner_paced(offset: Option<i64>, tag: Tag, so_far: u64) -> u64
 {
     match offset {
         None => 0,
-        Some(offset) => {
-            let paced = tag.time as i128 + offset as i128 + 1;
-            paced.clamp(0, so_far as i128) as u64
-        }
+        Some(offset) => so_far.min(just_past(tag.time, offset)),
     }
 }
 

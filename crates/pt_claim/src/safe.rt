@@ -26,13 +26,23 @@ use pt_types::{Graph, Unit};
 
 /// Whether the reading has reached the paced reading of a tag at a unit with this offset. All are microseconds.
 /// With offset 10, a tag of time 50 has paced reading 61.
-fn is_due(offset: Option<i64>, tag: Tag, reading: u64) -> bool
+fn has_reached(offset: Option<i64>, tag: Tag, reading: u64) -> bool
     ensures { (result ≡ true) ↔ (paced_by offset tag ≤ reading) }
 {
     match offset {
         None => true,
         Some(offset) => tag.time as i128 + offset as i128 + 1 <= reading as i128,
     }
+}
+
+/// Whether a unit is due at a reading (in microseconds): no row and no message can still lead to an event there at the tag or
+/// before.
+#[inline(always)]
+pub fn is_due(graph: &Graph, offsets: &Offsets, reading: u64, unit: Unit, tag: Tag) -> bool
+    requires offsets { AreOffsets graph.now offsets.now }
+    ensures { (result ≡ true) ↔ ((x b : ℕ) (path : Sequence Edge) → Feeds graph.now x b path unit → tag.time + b < reading + (sum_along path).time) }
+{
+    has_reached(offsets.of_unit(unit), tag, reading)
 }
 
 /// Whether an open claim can lead to a unit at the tag or before.
@@ -46,9 +56,6 @@ fn leads_to(least: &Least, unit: Unit, tag: Tag, claim: &OpenClaim) -> bool
 fn is_held_up(claims: &OpenClaims, least: &Least, unit: Unit, tag: Tag) -> bool
     ensures { result ≡ list_any (may_lead_to (least_of least.now) unit tag) claims.now.items }
 {
-    if claims.is_empty() {
-        return false;
-    }
     let (front, back) = claims.as_slices();
     front
         .iter()
@@ -68,7 +75,9 @@ fn may_lead_from(least: &Least, from: Unit, to: Unit) -> bool {
 
 /// Whether an event of the unit `ahead`, at its tag, leads to another unit at the tag or before. It may
 /// say `false` of one that does: then a search finds it.
-fn is_behind(
+///
+/// Of many units that wait behind one, only the first is asked what held it up last.
+pub fn is_behind(
     fields: &Fields,
     graph: &Graph,
     least: &Least,
@@ -91,36 +100,9 @@ fn is_behind(
     reaches(least.get(other.unit, unit), other.tag, tag)
 }
 
-/// Whether a unit is refused at once: it isn't due at the reading (in microseconds), or the unit `ahead`, which has an event
-/// at its tag, holds it up.
-///
-/// Of many units that wait behind one, only the first is asked what held it up last.
-pub fn is_refused(
-    fields: &Fields,
-    graph: &Graph,
-    least: &Least,
-    offsets: &Offsets,
-    reading: u64,
-    unit: Unit,
-    tag: Tag,
-    ahead: Option<Waiting>,
-) -> bool
-    requires sound { IsSound graph.now fields.now }
-    requires least { AreLeast graph.now (least_of least.now) }
-    requires offsets { AreOffsets graph.now offsets.now }
-    requires unit { IsUnit graph.now unit }
-    requires ahead { IfSome ahead (λ w. HasEvent graph.now (waiting_in fields.now.queue.events) w.unit w.tag) }
-    ensures { result ≡ true → IsSafe graph.now (waiting_in fields.now.queue.events) (busy_in fields.now.open_claims.items) reading unit tag → ⊥ }
-{
-    if is_due(offsets.of_unit(unit), tag, reading) {
-        return is_behind(fields, graph, least, unit, tag, ahead);
-    }
-    true
-}
-
-/// Whether a unit that is due is safe: it has no open claim, and no event and no open claim leads to it in time.
+/// As `is_free`, where claims may be open. Not inlined, since mostly none is open where units are asked.
 #[inline(never)]
-fn is_free(
+fn is_free_of_claims(
     fields: &Fields,
     graph: &Graph,
     least: &Least,
@@ -145,9 +127,38 @@ fn is_free(
     !is_held_up(&fields.open_claims, least, unit, tag)
 }
 
+/// Whether a unit that is due is safe: it has no open claim, and no event and no open claim leads to it in time.
+///
+/// Inlined up to the test whether it is the only unit that has events: nothing else can lead to it then.
+#[inline(always)]
+pub fn is_free(
+    fields: &Fields,
+    graph: &Graph,
+    least: &Least,
+    reading: u64,
+    unit: Unit,
+    tag: Tag,
+) -> bool
+    requires lawful { IsLawful graph.now }
+    requires sound { IsSound graph.now fields.now }
+    requires least { AreLeast graph.now (least_of least.now) }
+    requires unit { IsUnit graph.now unit }
+    requires tag { IsLeastTag graph.now (waiting_in fields.now.queue.events) unit (Some tag) }
+    requires due { (x b : ℕ) (path : Sequence Edge) → Feeds graph.now x b path unit → tag.time + b < reading + (sum_along path).time }
+    ensures { (result ≡ true) ↔ IsSafe graph.now (waiting_in fields.now.queue.events) (busy_in fields.now.open_claims.items) reading unit tag }
+{
+    if !fields.open_claims.is_empty() {
+        return is_free_of_claims(fields, graph, least, reading, unit, tag);
+    }
+    if fields.queue.waiting().len() == 1 {
+        return true;
+    }
+    !fields.queue.blocked(unit, tag, least)
+}
+
 /// Whether a unit is safe to process at a reading (in microseconds), where `tag` is the least tag of its events.
 ///
-/// Inlined up to the test whether the unit is due: often it isn't.
+/// Inlined up to the tests whether the unit is due, which often it isn't, and whether it is the only one that has events.
 ///
 /// (That a unit waits for its offset is from RTAS 2009, and that it waits for what leads to it from RTAS 2007; that it waits
 /// for an equal tag too is this project's own choice.)
@@ -169,7 +180,7 @@ pub fn is_safe(
     requires tag { IsLeastTag graph.now (waiting_in fields.now.queue.events) unit (Some tag) }
     ensures { (result ≡ true) ↔ IsSafe graph.now (waiting_in fields.now.queue.events) (busy_in fields.now.open_claims.items) reading unit tag }
 {
-    if !is_due(offsets.of_unit(unit), tag, reading) {
+    if !is_due(graph, offsets, reading, unit, tag) {
         return false;
     }
     is_free(fields, graph, least, reading, unit, tag)

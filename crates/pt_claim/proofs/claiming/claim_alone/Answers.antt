@@ -27,7 +27,7 @@ returns-then-most-eq0-clause-claimed c = record {
 
 pub returns-clause-claimed : goal.returns-clause-claimed
 returns-clause-claimed c =
-    let items : c.push.new.self.items ≡ c.args.tasks.now.items ++ c.claim-task.result ∷ [] = search rules in
+    let items : c.push_reserved.new.self.items ≡ c.args.tasks.now.items ++ c.claim-task.result ∷ [] = search rules in
     let front : AreFront c.args.graph.now (waiting_in c.args.fields.now.queue.events) (busy_in c.args.fields.now.open_claims.items) c.args.reading false (c.args.next ∷ []) = c.requires.front in
     let left : AreFront c.args.graph.now (waiting_in c.claim-task.new.fields.queue.events) (busy_in c.claim-task.new.fields.open_claims.items) c.args.reading false [] =
     subst (λ (new : State). AreFront c.args.graph.now new.waits new.busy c.args.reading false []) (sym (c.claim-task.ensures.after []))

@@ -10,14 +10,14 @@ use Rattle.pt_claim.proofs.claiming.claim_several.Goals as goal
 
 pub loop-preserved : goal.loop-preserved
 loop-preserved c =
-    let items : c.push.new.self.items ≡ c.loop.tasks.items ++ c.claim-task.result ∷ [] = search rules in
+    let items : c.push_reserved.new.self.items ≡ c.loop.tasks.items ++ c.claim-task.result ∷ [] = search rules in
     let s : SoFar c.args.graph.now c.args.fields.now c.loop.fields c.args.reading c.loop.counter c.args.tasks.now.items c.loop.tasks.items = c.loop.invariant.so_far in
     let front : AreFront c.args.graph.now (waiting_in c.loop.fields.queue.events) (busy_in c.loop.fields.open_claims.items) c.args.reading c.take.new.self.more (c.in-Some.next ∷ drop c.take.new.self.taken c.take.new.self.units.items) = c.in-Some.ensures in
     record {
       sound = c.claim-task.ensures.sound;
       opens = omega (arith, c.claim-task.ensures.open_claims, c.loop.invariant.opens);
-      tasks = omega (arith, c.push.ensures.upper_bound, c.loop.invariant.tasks);
-      tasks_room = omega (arith, c.push.ensures.capacity, c.loop.invariant.tasks_room);
+      tasks = omega (arith, c.push_reserved.ensures.len, c.loop.invariant.tasks);
+      tasks_room = omega (arith, c.push_reserved.ensures.capacity, c.loop.invariant.tasks_room);
       bound = omega (arith, c.claim-task.ensures.claims, c.if-fields-ge-MOST_CLAIMS.false);
       others = others_on c.args.fields.now c.loop.fields c.claim-task.new.fields c.loop.invariant.others c.claim-task.ensures.others;
       count = omega (arith, c.claim-task.ensures.claims, c.loop.invariant.count);

@@ -12,18 +12,27 @@ returns-then-is_past_all-clause-first c = first_past c.args.graph.now (waiting_i
     (c.is_past_all.ensures c.if-is_past_all.true)
     (λ t safe. only_tag c.args.graph.now (waiting_in c.args.fields.now.queue.events) (busy_in c.args.fields.now.open_claims.items) c.args.reading c.args.waiting.unit t c.args.waiting.tag safe c.requires.tag)
 
-pub returns-then-is_refused-clause-first : goal.returns-then-is_refused-clause-first
-returns-then-is_refused-clause-first c = first_skip c.args.graph.now (waiting_in c.args.fields.now.queue.events) (busy_in c.args.fields.now.open_claims.items) c.args.reading c.args.waiting.unit.actor c.args.waiting.unit.group c.args.units.now.items c.requires.first
+pub returns-then-not-is_due-clause-first : goal.returns-then-not-is_due-clause-first
+returns-then-not-is_due-clause-first c = first_skip c.args.graph.now (waiting_in c.args.fields.now.queue.events) (busy_in c.args.fields.now.open_claims.items) c.args.reading c.args.waiting.unit.actor c.args.waiting.unit.group c.args.units.now.items c.requires.first
     (λ t safe.
     let same = only_tag c.args.graph.now (waiting_in c.args.fields.now.queue.events) (busy_in c.args.fields.now.open_claims.items) c.args.reading c.args.waiting.unit t c.args.waiting.tag safe c.requires.tag in
-    c.is_refused.ensures c.if-is_refused.true (subst (IsSafe c.args.graph.now (waiting_in c.args.fields.now.queue.events) (busy_in c.args.fields.now.open_claims.items) c.args.reading c.args.waiting.unit) same safe))
+    false≢true (sym c.if-not-is_due.true ∙ c.is_due.ensures.1 (subst (IsSafe c.args.graph.now (waiting_in c.args.fields.now.queue.events) (busy_in c.args.fields.now.open_claims.items) c.args.reading c.args.waiting.unit) same safe).bounds))
 
-pub returns-then-not-is_safe-clause-first : goal.returns-then-not-is_safe-clause-first
-returns-then-not-is_safe-clause-first c = first_skip c.args.graph.now (waiting_in c.args.fields.now.queue.events) (busy_in c.args.fields.now.open_claims.items) c.args.reading c.args.waiting.unit.actor c.args.waiting.unit.group c.args.units.now.items c.requires.first
+pub returns-then-is_behind-clause-first : goal.returns-then-is_behind-clause-first
+returns-then-is_behind-clause-first c = first_skip c.args.graph.now (waiting_in c.args.fields.now.queue.events) (busy_in c.args.fields.now.open_claims.items) c.args.reading c.args.waiting.unit.actor c.args.waiting.unit.group c.args.units.now.items c.requires.first
     (λ t safe.
     let same = only_tag c.args.graph.now (waiting_in c.args.fields.now.queue.events) (busy_in c.args.fields.now.open_claims.items) c.args.reading c.args.waiting.unit t c.args.waiting.tag safe c.requires.tag in
-    false≢true (sym c.if-not-is_safe.true ∙ c.is_safe.ensures.1 (subst (IsSafe c.args.graph.now (waiting_in c.args.fields.now.queue.events) (busy_in c.args.fields.now.open_claims.items) c.args.reading c.args.waiting.unit) same safe)))
+    c.is_behind.ensures (busy_in c.args.fields.now.open_claims.items) c.args.reading c.if-is_behind.true (subst (IsSafe c.args.graph.now (waiting_in c.args.fields.now.queue.events) (busy_in c.args.fields.now.open_claims.items) c.args.reading c.args.waiting.unit) same safe))
+
+pub is_free-requires-clause-due : goal.is_free-requires-clause-due
+is_free-requires-clause-due c = c.is_due.ensures.0 c.if-not-is_due.false
+
+pub returns-then-not-is_free-clause-first : goal.returns-then-not-is_free-clause-first
+returns-then-not-is_free-clause-first c = first_skip c.args.graph.now (waiting_in c.args.fields.now.queue.events) (busy_in c.args.fields.now.open_claims.items) c.args.reading c.args.waiting.unit.actor c.args.waiting.unit.group c.args.units.now.items c.requires.first
+    (λ t safe.
+    let same = only_tag c.args.graph.now (waiting_in c.args.fields.now.queue.events) (busy_in c.args.fields.now.open_claims.items) c.args.reading c.args.waiting.unit t c.args.waiting.tag safe c.requires.tag in
+    false≢true (sym c.if-not-is_free.true ∙ c.is_free.ensures.1 (subst (IsSafe c.args.graph.now (waiting_in c.args.fields.now.queue.events) (busy_in c.args.fields.now.open_claims.items) c.args.reading c.args.waiting.unit) same safe)))
 
 pub returns-clause-first : goal.returns-clause-first
 returns-clause-first c = first_put c.args.graph.now (waiting_in c.args.fields.now.queue.events) (busy_in c.args.fields.now.open_claims.items) c.args.reading c.args.waiting.unit.actor c.args.waiting.unit.group c.args.waiting.tag c.args.units.now.items c.put.new.units.items
-    c.requires.first c.requires.unit (c.is_safe.ensures.0 c.if-not-is_safe.false) c.put.ensures
+    c.requires.first c.requires.unit (c.is_free.ensures.0 c.if-not-is_free.false) c.put.ensures

@@ -1,24 +1,20 @@
-use Rattle.std.proofs.Common.{◌≡◌, Bool, true, false, not, refl, sym, ap, ◌∙◌}
-use Rattle.std.proofs.lemmas.Bool.{false≢true}
-use Rattle.pt_causality.specs.Delays.{least_of}
-use Rattle.pt_state.specs.State.{busy_in}
-use Rattle.pt_claim.proofs.SafeTags.{open_clear, not_some}
+use Rattle.std.proofs.Common.{not, refl, sym, ap, ◌∙◌, arith}
+use Rattle.pt_queue.specs.Events.{waiting_in}
+use Rattle.pt_claim.proofs.Free.{free_alone, no_claims, not_true, only_clear}
 use Rattle.pt_claim.proofs.safe.is_free.Goals as goal
 
-not_true : (b : Bool) → not b ≡ true → b ≡ false
-not_true true h = absurd (false≢true h)
-not_true false h = refl
+pub returns-then-waiting-eq1 : goal.returns-then-waiting-eq1
+returns-then-waiting-eq1 c = (
+  λ h. free_alone c.args.graph.now (waiting_in c.args.fields.now.queue.events) c.args.fields.now.open_claims.items c.args.reading c.args.unit c.args.tag
+      (no_claims c.args.fields.now.open_claims.items (sym c.is_empty.ensures ∙ c.if-not-is_empty.false)) c.requires.tag c.requires.due
+      (only_clear c.args.graph.now (waiting_in c.args.fields.now.queue.events) c.waiting.result.now c.args.unit c.args.tag (c.waiting.ensures c.args.graph.now c.requires.sound.groups) (omega (arith, c.if-waiting-eq1.true)) c.requires.tag.0),
+  λ safe. refl,
+)
 
 pub returns : goal.returns
-returns c =
-    let claims = open_clear c.args.graph.now (least_of c.args.least.now) c.args.fields.now.open_claims.items c.args.unit c.args.tag c.requires.least c.requires.unit c.requires.sound.open_claims in (
-      λ h. record {
-        event = c.requires.tag.0;
-        least = c.requires.tag.1;
-        free = not_some (busy_in c.args.fields.now.open_claims.items c.args.unit) (sym c.has.ensures ∙ c.if-has.false);
-        bounds = c.requires.due;
-        events = (c.blocked.ensures.clear c.args.graph.now c.requires.lawful c.requires.sound.groups c.requires.least c.requires.unit).0 c.if-blocked.false;
-        claims = claims.0 (sym c.is_held_up.ensures ∙ not_true c.is_held_up.result h);
-      },
-      λ safe. ap not (c.is_held_up.ensures ∙ claims.1 safe.claims),
-    )
+returns c = (
+  λ h. free_alone c.args.graph.now (waiting_in c.args.fields.now.queue.events) c.args.fields.now.open_claims.items c.args.reading c.args.unit c.args.tag
+      (no_claims c.args.fields.now.open_claims.items (sym c.is_empty.ensures ∙ c.if-not-is_empty.false)) c.requires.tag c.requires.due
+      ((c.blocked.ensures.clear c.args.graph.now c.requires.lawful c.requires.sound.groups c.requires.least c.requires.unit).0 (not_true c.blocked.result h)),
+  λ safe. ap not ((c.blocked.ensures.clear c.args.graph.now c.requires.lawful c.requires.sound.groups c.requires.least c.requires.unit).1 safe.events),
+)

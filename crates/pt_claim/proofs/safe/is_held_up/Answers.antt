@@ -1,19 +1,11 @@
-use Rattle.std.proofs.Common.{◌≡◌, ◌==◌, true, List, [], ◌∷◌, length, eqb-true, refl, rules, tests, sym, ap, ◌∙◌, arith}
+use Rattle.std.proofs.Common.{rules, tests, ap, ◌∙◌}
 use Rattle.std.specs.List.{list_any}
 use Rattle.std.proofs.lemmas.Iterator.{YieldsList-from_slice}
 use Rattle.std.proofs.lemmas.Iterator.Consumers.{YieldsList-from_chain}
 use Rattle.std.proofs.lemmas.Iterator.Search.{any_from_yields_List}
 use Rattle.pt_causality.specs.Delays.{least_of}
-use Rattle.pt_state.specs.declared.fields.OpenClaim.{OpenClaim}
 use Rattle.pt_claim.specs.Safe.{may_lead_to}
 use Rattle.pt_claim.proofs.safe.is_held_up.Goals as goal
-
-no_claims : (xs : List OpenClaim) → (length xs == 0) ≡ true → xs ≡ []
-no_claims [] h = refl
-no_claims (x ∷ xs) h = let none : length (x ∷ xs) ≡ 0 = eqb-true (length (x ∷ xs)) 0 h in absurd (omega (arith, none))
-
-pub returns-then-is_empty : goal.returns-then-is_empty
-returns-then-is_empty c = sym (ap (list_any (may_lead_to (least_of c.args.least.now) c.args.unit c.args.tag)) (no_claims c.args.claims.now.items (sym c.is_empty.ensures ∙ c.if-is_empty.true)))
 
 pub returns : goal.returns
 returns c =
