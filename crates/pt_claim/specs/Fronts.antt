@@ -38,6 +38,10 @@ pub record IsSafeUnit (g : Graph) (waits : Values) (busy : Part → Option Task)
   pub is_unit : IsUnit g c.unit
   pub safe : IsSafe g waits busy r c.unit c.tag
 
+-- a unit is safe at some tag
+abbrev pub IsSafeSomewhen : Graph → Values → (Part → Option Task) → ℕ → Part → Type 0
+IsSafeSomewhen g waits busy r u = (t : Tag) × IsSafe g waits busy r u t
+
 -- at least 64 units, all of which come before c
 abbrev pub AreAllAhead : Waiting → List Waiting → Type 0
 AreAllAhead c cs = (64 ≤ length cs) × Each (λ (d : Waiting). IsAhead d c) cs

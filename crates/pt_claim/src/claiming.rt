@@ -1,6 +1,6 @@
 //! Claiming one unit, and all the claims of a turn.
 
-ghost use Rattle.std.specs.Prelude.{◌≡◌, ◌+◌, ◌<◌, ◌≤◌, ◌∷◌, [], None, false, List as Sequence, length, vec_len, vec_capacity};
+ghost use Rattle.std.specs.Prelude.{IfSome, ◌≡◌, ◌+◌, ◌<◌, ◌≤◌, ◌∷◌, [], None, false, List as Sequence, length, vec_len, vec_capacity};
 ghost use Rattle.pt_types.specs.declared.firing.OnLink.{OnLink};
 ghost use Rattle.pt_types.specs.Lawful.{IsLawful};
 ghost use Rattle.pt_semantics.specs.Claiming.{after_claim};
@@ -10,7 +10,7 @@ ghost use Rattle.pt_offsets.specs.Plans.{AreOffsets};
 ghost use Rattle.pt_queue.specs.Events.{waiting_in};
 ghost use Rattle.pt_state.specs.State.{busy_in, state_of, states_in, IsSound};
 ghost use Rattle.pt_claim.specs.Claimed.{AreClaimed, IsTaskOf, OthersStay};
-ghost use Rattle.pt_claim.specs.Fronts.{AreFront};
+ghost use Rattle.pt_claim.specs.Fronts.{AreFront, IsSafeSomewhen};
 ghost use Rattle.pt_types.specs.Limits.{most_claims};
 
 use crate::front::{Front, Several, alone};
@@ -96,13 +96,22 @@ pub fn claims(
         return;
     }
     if fields.queue.waiting().len() > FEW {
-        claim_several(fields, graph, least, offsets, reading, most, tasks);
+        claim_several(fields, graph, least, offsets, reading, most, None, tasks);
         return;
     }
     match alone(fields, graph, least, offsets, reading) {
         Ok(None) => (),
         Ok(Some(next)) => claim_alone(fields, graph, reading, most, next, tasks),
-        Err(Several) => claim_several(fields, graph, least, offsets, reading, most, tasks),
+        Err(several) => claim_several(
+            fields,
+            graph,
+            least,
+            offsets,
+            reading,
+            most,
+            Some(several),
+            tasks,
+        ),
     }
 }
 
@@ -132,7 +141,7 @@ fn claim_alone(
     tasks.push_reserved(task);
 }
 
-/// Claims safe units in order, as `claims` does, however many they are.
+/// Claims safe units in order, as `claims` does, however many they are. Two of them may be `known` already.
 fn claim_several(
     fields: &mut Fields,
     graph: &Graph,
@@ -140,6 +149,7 @@ fn claim_several(
     offsets: &Offsets,
     reading: u64,
     most: usize,
+    known: Option<Several>,
     tasks: &mut Vec<Task>,
 )
     requires lawful { IsLawful graph.now }
@@ -149,12 +159,14 @@ fn claim_several(
     requires claims { fields.old.claims ≤ most_claims }
     requires room { most ≤ fields.old.open_claims.spare }
     requires tasks { vec_len tasks.old + most ≤ vec_capacity tasks.old }
+    requires known { IfSome known (λ s. IsSafeSomewhen graph.now (waiting_in fields.old.queue.events) (busy_in fields.old.open_claims.items) reading s.first × IsSafeSomewhen graph.now (waiting_in fields.old.queue.events) (busy_in fields.old.open_claims.items) reading s.second) }
     ensures claimed { AreClaimed graph.now reading most fields.old fields.new tasks.old.items tasks.new.items }
     ensures sound { IsSound graph.now fields.new }
     ensures others { OthersStay fields.old fields.new }
     ensures tasks { vec_capacity tasks.old ≤ vec_capacity tasks.new }
 {
     let mut front = Front::new();
+    front.refill(fields, graph, least, offsets, reading, known);
     for _ in 0..most {
         if fields.claims >= MOST_CLAIMS {
             return;

@@ -1,13 +1,17 @@
 //! The safe units to claim next.
 
-ghost use Rattle.std.specs.Prelude.{◌≡◌, ◌<◌, ◌+◌, ◌⊎◌, [], Some, IfOk, IfSome, true, false, drop, length};
+ghost use Rattle.std.specs.Prelude.{◌≡◌, ◌<◌, ◌+◌, ◌⊎◌, ◌↔◌, ℕ, List as Sequence, [], Some, IfErr, IfOk, IfSome, true, false, drop, length};
 ghost use Rattle.pt_types.specs.Lawful.{IsLawful};
+ghost use Rattle.pt_semantics.specs.Bounds.{Feeds};
+ghost use Rattle.pt_semantics.specs.Edges.{Edge};
+ghost use Rattle.pt_semantics.specs.Ranks.{sum_along};
+ghost use Rattle.pt_semantics.specs.Safe.{IsSafe};
 ghost use Rattle.pt_semantics.specs.Units.{HasEvent};
 ghost use Rattle.pt_causality.specs.Delays.{AreLeast, IsUnit, least_of};
 ghost use Rattle.pt_offsets.specs.Plans.{AreOffsets};
 ghost use Rattle.pt_queue.specs.Events.{waiting_in, IsLeastTag};
 ghost use Rattle.pt_state.specs.State.{busy_in, IsSound};
-ghost use Rattle.pt_claim.specs.Fronts.{AreFirst, AreFront, IsNextSafe, IsTaken, one_of};
+ghost use Rattle.pt_claim.specs.Fronts.{AreFirst, AreFront, IsNextSafe, IsSafeSomewhen, IsTaken, one_of};
 
 use crate::order::{is_past_all, put};
 use crate::safe::{is_behind, is_due, is_free, is_safe};
@@ -16,6 +20,7 @@ use pt_causality::Least;
 use pt_offsets::Offsets;
 use pt_queue::Waiting;
 use pt_state::Fields;
+use pt_tags::Tag;
 use pt_types::{Graph, Unit};
 
 /// The safe units to claim next, in order, at most 64, and how many of them are taken.
@@ -37,10 +42,51 @@ fn holder_of(fields: &Fields, graph: &Graph, unit: Unit) -> Option<Waiting>
     Some(Waiting { unit: holder, tag })
 }
 
+/// The first two safe units that a search met.
+#[derive(Clone, Copy)]
+pub struct Several {
+    first: Unit,
+    second: Unit,
+}
+
+/// Whether a unit is one of the two.
+fn is_one_of(several: Several, unit: Unit) -> bool
+    ensures { result ≡ true → (several.first ≡ unit) ⊎ (several.second ≡ unit) }
+{
+    several.first == unit || several.second == unit
+}
+
+/// Whether a unit that is due is safe. Of two units that are `known` to be safe this isn't searched again.
+fn is_free_or_known(
+    fields: &Fields,
+    graph: &Graph,
+    least: &Least,
+    reading: u64,
+    unit: Unit,
+    tag: Tag,
+    known: Option<Several>,
+) -> bool
+    requires lawful { IsLawful graph.now }
+    requires sound { IsSound graph.now fields.now }
+    requires least { AreLeast graph.now (least_of least.now) }
+    requires unit { IsUnit graph.now unit }
+    requires tag { IsLeastTag graph.now (waiting_in fields.now.queue.events) unit (Some tag) }
+    requires due { (x b : ℕ) (path : Sequence Edge) → Feeds graph.now x b path unit → tag.time + b < reading + (sum_along path).time }
+    requires known { IfSome known (λ s. IsSafeSomewhen graph.now (waiting_in fields.now.queue.events) (busy_in fields.now.open_claims.items) reading s.first × IsSafeSomewhen graph.now (waiting_in fields.now.queue.events) (busy_in fields.now.open_claims.items) reading s.second) }
+    ensures { (result ≡ true) ↔ IsSafe graph.now (waiting_in fields.now.queue.events) (busy_in fields.now.open_claims.items) reading unit tag }
+{
+    if let Some(several) = known {
+        if is_one_of(several, unit) {
+            return true;
+        }
+    }
+    is_free(fields, graph, least, reading, unit, tag)
+}
+
 /// Adds a unit that has events, if it is safe, to those to claim next. A unit that 64 of these come before isn't asked.
 ///
 /// `ahead` is a unit with events that may hold up this one, and so is the result for the next unit: the one that was last found
-/// to hold up any. A safe unit mostly holds up none of the next ones.
+/// to hold up any. A safe unit mostly holds up none of the next ones. Units that are `known` to be safe aren't searched again.
 fn add_unit(
     fields: &Fields,
     graph: &Graph,
@@ -49,6 +95,7 @@ fn add_unit(
     reading: u64,
     waiting: Waiting,
     ahead: Option<Waiting>,
+    known: Option<Several>,
     units: &mut ArrayVec<Waiting, 64>,
 ) -> Option<Waiting>
     requires lawful { IsLawful graph.now }
@@ -58,6 +105,7 @@ fn add_unit(
     requires unit { IsUnit graph.now waiting.unit }
     requires tag { IsLeastTag graph.now (waiting_in fields.now.queue.events) waiting.unit (Some waiting.tag) }
     requires ahead { IfSome ahead (λ w. HasEvent graph.now (waiting_in fields.now.queue.events) w.unit w.tag) }
+    requires known { IfSome known (λ s. IsSafeSomewhen graph.now (waiting_in fields.now.queue.events) (busy_in fields.now.open_claims.items) reading s.first × IsSafeSomewhen graph.now (waiting_in fields.now.queue.events) (busy_in fields.now.open_claims.items) reading s.second) }
     requires first { AreFirst graph.now (waiting_in fields.now.queue.events) (busy_in fields.now.open_claims.items) reading waiting.unit.actor waiting.unit.group units.old.items }
     ensures first { AreFirst graph.now (waiting_in fields.now.queue.events) (busy_in fields.now.open_claims.items) reading waiting.unit.actor (waiting.unit.group + 1) units.new.items }
     ensures ahead { IfSome result (λ w. HasEvent graph.now (waiting_in fields.now.queue.events) w.unit w.tag) }
@@ -72,7 +120,7 @@ fn add_unit(
     if is_behind(fields, graph, least, unit, tag, ahead) {
         return ahead;
     }
-    if !is_free(fields, graph, least, reading, unit, tag) {
+    if !is_free_or_known(fields, graph, least, reading, unit, tag, known) {
         return holder_of(fields, graph, unit);
     }
     put(units, waiting);
@@ -86,26 +134,24 @@ fn fill(
     least: &Least,
     offsets: &Offsets,
     reading: u64,
+    known: Option<Several>,
     units: &mut ArrayVec<Waiting, 64>,
 )
     requires lawful { IsLawful graph.now }
     requires sound { IsSound graph.now fields.now }
     requires least { AreLeast graph.now (least_of least.now) }
     requires offsets { AreOffsets graph.now offsets.now }
+    requires known { IfSome known (λ s. IsSafeSomewhen graph.now (waiting_in fields.now.queue.events) (busy_in fields.now.open_claims.items) reading s.first × IsSafeSomewhen graph.now (waiting_in fields.now.queue.events) (busy_in fields.now.open_claims.items) reading s.second) }
     ensures { AreFirst graph.now (waiting_in fields.now.queue.events) (busy_in fields.now.open_claims.items) reading (length graph.now.actors) 0 units.new.items }
 {
     units.clear();
     let mut ahead = None;
     for waiting in fields.queue.waiting() {
         ahead = add_unit(
-            fields, graph, least, offsets, reading, *waiting, ahead, units,
+            fields, graph, least, offsets, reading, *waiting, ahead, known, units,
         );
     }
 }
-
-/// Says that at least two units are safe.
-#[derive(Clone, Copy, Debug, PartialEq, Eq)]
-pub struct Several;
 
 /// The safe unit so far, after one more unit that has events.
 fn alone_with(
@@ -124,7 +170,8 @@ fn alone_with(
     requires unit { IsUnit graph.now waiting.unit }
     requires tag { IsLeastTag graph.now (waiting_in fields.now.queue.events) waiting.unit (Some waiting.tag) }
     requires first { AreFirst graph.now (waiting_in fields.now.queue.events) (busy_in fields.now.open_claims.items) reading waiting.unit.actor waiting.unit.group (one_of alone) }
-    ensures { IfOk result (λ alone. AreFirst graph.now (waiting_in fields.now.queue.events) (busy_in fields.now.open_claims.items) reading waiting.unit.actor (waiting.unit.group + 1) (one_of alone)) }
+    ensures alone { IfOk result (λ alone. AreFirst graph.now (waiting_in fields.now.queue.events) (busy_in fields.now.open_claims.items) reading waiting.unit.actor (waiting.unit.group + 1) (one_of alone)) }
+    ensures several { IfErr result (λ s. IsSafeSomewhen graph.now (waiting_in fields.now.queue.events) (busy_in fields.now.open_claims.items) reading s.first × IsSafeSomewhen graph.now (waiting_in fields.now.queue.events) (busy_in fields.now.open_claims.items) reading s.second) }
 {
     let Waiting { unit, tag } = waiting;
     if !is_safe(fields, graph, least, offsets, reading, unit, tag) {
@@ -132,7 +179,10 @@ fn alone_with(
     }
     match alone {
         None => Ok(Some(Waiting { unit, tag })),
-        Some(_) => Err(Several),
+        Some(first) => Err(Several {
+            first: first.unit,
+            second: unit,
+        }),
     }
 }
 
@@ -150,7 +200,8 @@ pub fn alone(
     requires sound { IsSound graph.now fields.now }
     requires least { AreLeast graph.now (least_of least.now) }
     requires offsets { AreOffsets graph.now offsets.now }
-    ensures { IfOk result (λ alone. AreFront graph.now (waiting_in fields.now.queue.events) (busy_in fields.now.open_claims.items) reading false (one_of alone)) }
+    ensures alone { IfOk result (λ alone. AreFront graph.now (waiting_in fields.now.queue.events) (busy_in fields.now.open_claims.items) reading false (one_of alone)) }
+    ensures several { IfErr result (λ s. IsSafeSomewhen graph.now (waiting_in fields.now.queue.events) (busy_in fields.now.open_claims.items) reading s.first × IsSafeSomewhen graph.now (waiting_in fields.now.queue.events) (busy_in fields.now.open_claims.items) reading s.second) }
 {
     let mut alone = None;
     for waiting in fields.queue.waiting() {
@@ -174,22 +225,32 @@ impl Front {
 
     /// Searches again. Not inlined, so that a unit that was found already is taken without a call.
     #[inline(never)]
-    fn refill(
+    pub fn refill(
         &mut self,
         fields: &Fields,
         graph: &Graph,
         least: &Least,
         offsets: &Offsets,
         reading: u64,
+        known: Option<Several>,
     )
         requires lawful { IsLawful graph.now }
         requires sound { IsSound graph.now fields.now }
         requires least { AreLeast graph.now (least_of least.now) }
         requires offsets { AreOffsets graph.now offsets.now }
+        requires known { IfSome known (λ s. IsSafeSomewhen graph.now (waiting_in fields.now.queue.events) (busy_in fields.now.open_claims.items) reading s.first × IsSafeSomewhen graph.now (waiting_in fields.now.queue.events) (busy_in fields.now.open_claims.items) reading s.second) }
         ensures front { AreFront graph.now (waiting_in fields.now.queue.events) (busy_in fields.now.open_claims.items) reading self.new.more (drop self.new.taken self.new.units.items) }
         ensures some { (self.new.taken < length self.new.units.items) ⊎ (self.new.more ≡ false) }
     {
-        fill(fields, graph, least, offsets, reading, &mut self.units);
+        fill(
+            fields,
+            graph,
+            least,
+            offsets,
+            reading,
+            known,
+            &mut self.units,
+        );
         self.taken = 0;
         self.more = self.units.is_full();
     }
@@ -212,7 +273,7 @@ impl Front {
         ensures { IsTaken graph.now (waiting_in fields.now.queue.events) (busy_in fields.now.open_claims.items) reading self.new.more (drop self.new.taken self.new.units.items) result }
     {
         if self.taken >= self.units.len() && self.more {
-            self.refill(fields, graph, least, offsets, reading);
+            self.refill(fields, graph, least, offsets, reading, None);
         }
         if self.taken >= self.units.len() {
             return None;

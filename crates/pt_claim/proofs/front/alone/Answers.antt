@@ -24,10 +24,10 @@ alone_with-requires-clause-first c = up_to_next c.args.graph.now (waiting_in c.a
 
 pub loop-waiting-preserved : goal.loop-waiting-preserved
 loop-waiting-preserved c = subst (λ n. AreFirst c.args.graph.now (waiting_in c.args.fields.now.queue.events) (busy_in c.args.fields.now.open_claims.items) c.args.reading (stop_at c.waiting-waiting-items.result.now n).actor (stop_at c.waiting-waiting-items.result.now n).group (one_of c.in_ok-alone.alone))
-    (sym (add-one c.loop-waiting.waiting-index)) c.in_ok-alone.ensures
+    (sym (add-one c.loop-waiting.waiting-index)) c.in_ok-alone.ensures.alone
 
-pub returns : goal.returns
-returns c =
+pub returns-clause-alone : goal.returns-clause-alone
+returns-clause-alone c =
     let end : c.loop-waiting.waiting-index ≡ length c.waiting-waiting-items.result.now = omega (arith, c.loop-waiting-test.false, c.loop-waiting.auto.waiting-index-end) in
     front_alone c.args.graph.now c.args.fields.now c.args.reading c.loop-waiting.alone c.requires.sound
     (up_to_end c.args.graph.now (waiting_in c.args.fields.now.queue.events) (busy_in c.args.fields.now.open_claims.items) c.args.reading c.loop-waiting.waiting-index c.waiting-waiting-items.result.now (one_of c.loop-waiting.alone) (c.waiting-waiting-items.ensures c.args.graph.now c.requires.sound.groups) end c.loop-waiting.invariant)
