@@ -1,25 +1,18 @@
 -- The paced reading of a unit.
-use Rattle.std.proofs.Common.{◌≡◌, ℕ, ◌≤◌, Option, Some, None, ℤ, pos, negsuc, min, refl, subst, arith}
-use Rattle.std.specs.Int.{int_max, int_min}
-use Rattle.std.proofs.lemmas.Int.{ints, clamps}
+use Rattle.std.proofs.Common.{◌≡◌, ℕ, ◌≤◌, Option, Some, None, ℤ, min, refl, subst, arith}
 use Rattle.pt_tags.specs.declared.tag.Tag.{Tag}
 use Rattle.pt_types.specs.declared.firing.Task.{Task}
 use Rattle.pt_types.specs.declared.graph.Graph.{Graph}
 use Rattle.pt_types.specs.declared.graph.Unit.{Unit as Part}
 use Rattle.pt_semantics.specs.Meaning.{Values}
 use Rattle.pt_semantics.specs.Offsets.{HasOffset}
-use Rattle.pt_semantics.specs.Paced.{at_least_zero, paced_by}
+use Rattle.pt_semantics.specs.Paced.{paced_by}
 use Rattle.pt_semantics.proofs.Least.{paced_meets}
 use Rattle.pt_queue.specs.Events.{IsLeastTag}
 use Rattle.pt_claim.proofs.SafeTags.{same_tags, bounds_paced}
 use Rattle.pt_claim.specs.Least.{AtOrIn, IsLeastAmong}
 use Rattle.pt_claim.specs.Next.{IsPacedNext}
 use Rattle.pt_claim.proofs.Least.{least_one}
-
--- a number, brought between 0 and b
-pub clamped : (p : ℤ) (b : ℕ) → int_max (pos 0) (int_min p (pos b)) ≡ pos (min b (at_least_zero p))
-clamped (pos n) b = omega (arith, ints, clamps)
-clamped (negsuc n) b = omega (arith, ints, clamps)
 
 -- a unit has no open claim, and t is the least tag of its events
 pub paced_one : (g : Graph) (waits : Values) (busy : Part → Option Task) (u : Part) (t : Tag) (o : Option ℤ) (b r : ℕ) → busy u ≡ None → IsLeastTag g waits u (Some t) → HasOffset g u o → r ≡ min b (paced_by o t) → IsLeastAmong (AtOrIn b (IsPacedNext g waits busy u)) r

@@ -11,6 +11,7 @@ use Rattle.pt_semantics.specs.Safe.{IsSafe, NothingSafe}
 use Rattle.pt_semantics.specs.Claiming.{NoLater}
 use Rattle.pt_causality.specs.Delays.{IsUnit}
 use Rattle.pt_queue.specs.declared.waiting.Waiting.{Waiting}
+use Rattle.pt_claim.specs.declared.front.Several.{Several}
 
 -- c comes before d by tag, actor and group
 abbrev pub IsAhead : Waiting → Waiting → Type 0
@@ -41,6 +42,10 @@ pub record IsSafeUnit (g : Graph) (waits : Values) (busy : Part → Option Task)
 -- a unit is safe at some tag
 abbrev pub IsSafeSomewhen : Graph → Values → (Part → Option Task) → ℕ → Part → Type 0
 IsSafeSomewhen g waits busy r u = (t : Tag) × IsSafe g waits busy r u t
+
+-- both units are safe, each at some tag
+abbrev pub AreBothSafe : Graph → Values → (Part → Option Task) → ℕ → Several → Type 0
+AreBothSafe g waits busy r s = IsSafeSomewhen g waits busy r s.first × IsSafeSomewhen g waits busy r s.second
 
 -- at least 64 units, all of which come before c
 abbrev pub AreAllAhead : Waiting → List Waiting → Type 0

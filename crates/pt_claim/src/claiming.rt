@@ -10,7 +10,7 @@ ghost use Rattle.pt_offsets.specs.Plans.{AreOffsets};
 ghost use Rattle.pt_queue.specs.Events.{waiting_in};
 ghost use Rattle.pt_state.specs.State.{busy_in, state_of, states_in, IsSound};
 ghost use Rattle.pt_claim.specs.Claimed.{AreClaimed, IsTaskOf, OthersStay};
-ghost use Rattle.pt_claim.specs.Fronts.{AreFront, IsSafeSomewhen};
+ghost use Rattle.pt_claim.specs.Fronts.{AreBothSafe, AreFront};
 ghost use Rattle.pt_types.specs.Limits.{most_claims};
 
 use crate::front::{Front, Several, alone};
@@ -159,7 +159,7 @@ fn claim_several(
     requires claims { fields.old.claims ≤ most_claims }
     requires room { most ≤ fields.old.open_claims.spare }
     requires tasks { vec_len tasks.old + most ≤ vec_capacity tasks.old }
-    requires known { IfSome known (λ s. IsSafeSomewhen graph.now (waiting_in fields.old.queue.events) (busy_in fields.old.open_claims.items) reading s.first × IsSafeSomewhen graph.now (waiting_in fields.old.queue.events) (busy_in fields.old.open_claims.items) reading s.second) }
+    requires known { IfSome known (AreBothSafe graph.now (waiting_in fields.old.queue.events) (busy_in fields.old.open_claims.items) reading) }
     ensures claimed { AreClaimed graph.now reading most fields.old fields.new tasks.old.items tasks.new.items }
     ensures sound { IsSound graph.now fields.new }
     ensures others { OthersStay fields.old fields.new }

@@ -11,7 +11,7 @@ ghost use Rattle.pt_causality.specs.Delays.{AreLeast, IsUnit, least_of};
 ghost use Rattle.pt_offsets.specs.Plans.{AreOffsets};
 ghost use Rattle.pt_queue.specs.Events.{waiting_in, IsLeastTag};
 ghost use Rattle.pt_state.specs.State.{busy_in, IsSound};
-ghost use Rattle.pt_claim.specs.Fronts.{AreFirst, AreFront, IsNextSafe, IsSafeSomewhen, IsTaken, one_of};
+ghost use Rattle.pt_claim.specs.Fronts.{AreBothSafe, AreFirst, AreFront, IsNextSafe, IsTaken, one_of};
 
 use crate::order::{is_past_all, put};
 use crate::safe::{is_behind, is_due, is_free, is_safe};
@@ -72,7 +72,7 @@ fn is_free_or_known(
     requires unit { IsUnit graph.now unit }
     requires tag { IsLeastTag graph.now (waiting_in fields.now.queue.events) unit (Some tag) }
     requires due { (x b : ℕ) (path : Sequence Edge) → Feeds graph.now x b path unit → tag.time + b < reading + (sum_along path).time }
-    requires known { IfSome known (λ s. IsSafeSomewhen graph.now (waiting_in fields.now.queue.events) (busy_in fields.now.open_claims.items) reading s.first × IsSafeSomewhen graph.now (waiting_in fields.now.queue.events) (busy_in fields.now.open_claims.items) reading s.second) }
+    requires known { IfSome known (AreBothSafe graph.now (waiting_in fields.now.queue.events) (busy_in fields.now.open_claims.items) reading) }
     ensures { (result ≡ true) ↔ IsSafe graph.now (waiting_in fields.now.queue.events) (busy_in fields.now.open_claims.items) reading unit tag }
 {
     if let Some(several) = known {
@@ -105,7 +105,7 @@ fn add_unit(
     requires unit { IsUnit graph.now waiting.unit }
     requires tag { IsLeastTag graph.now (waiting_in fields.now.queue.events) waiting.unit (Some waiting.tag) }
     requires ahead { IfSome ahead (λ w. HasEvent graph.now (waiting_in fields.now.queue.events) w.unit w.tag) }
-    requires known { IfSome known (λ s. IsSafeSomewhen graph.now (waiting_in fields.now.queue.events) (busy_in fields.now.open_claims.items) reading s.first × IsSafeSomewhen graph.now (waiting_in fields.now.queue.events) (busy_in fields.now.open_claims.items) reading s.second) }
+    requires known { IfSome known (AreBothSafe graph.now (waiting_in fields.now.queue.events) (busy_in fields.now.open_claims.items) reading) }
     requires first { AreFirst graph.now (waiting_in fields.now.queue.events) (busy_in fields.now.open_claims.items) reading waiting.unit.actor waiting.unit.group units.old.items }
     ensures first { AreFirst graph.now (waiting_in fields.now.queue.events) (busy_in fields.now.open_claims.items) reading waiting.unit.actor (waiting.unit.group + 1) units.new.items }
     ensures ahead { IfSome result (λ w. HasEvent graph.now (waiting_in fields.now.queue.events) w.unit w.tag) }
@@ -141,7 +141,7 @@ fn fill(
     requires sound { IsSound graph.now fields.now }
     requires least { AreLeast graph.now (least_of least.now) }
     requires offsets { AreOffsets graph.now offsets.now }
-    requires known { IfSome known (λ s. IsSafeSomewhen graph.now (waiting_in fields.now.queue.events) (busy_in fields.now.open_claims.items) reading s.first × IsSafeSomewhen graph.now (waiting_in fields.now.queue.events) (busy_in fields.now.open_claims.items) reading s.second) }
+    requires known { IfSome known (AreBothSafe graph.now (waiting_in fields.now.queue.events) (busy_in fields.now.open_claims.items) reading) }
     ensures { AreFirst graph.now (waiting_in fields.now.queue.events) (busy_in fields.now.open_claims.items) reading (length graph.now.actors) 0 units.new.items }
 {
     units.clear();
@@ -171,7 +171,7 @@ fn alone_with(
     requires tag { IsLeastTag graph.now (waiting_in fields.now.queue.events) waiting.unit (Some waiting.tag) }
     requires first { AreFirst graph.now (waiting_in fields.now.queue.events) (busy_in fields.now.open_claims.items) reading waiting.unit.actor waiting.unit.group (one_of alone) }
     ensures alone { IfOk result (λ alone. AreFirst graph.now (waiting_in fields.now.queue.events) (busy_in fields.now.open_claims.items) reading waiting.unit.actor (waiting.unit.group + 1) (one_of alone)) }
-    ensures several { IfErr result (λ s. IsSafeSomewhen graph.now (waiting_in fields.now.queue.events) (busy_in fields.now.open_claims.items) reading s.first × IsSafeSomewhen graph.now (waiting_in fields.now.queue.events) (busy_in fields.now.open_claims.items) reading s.second) }
+    ensures several { IfErr result (AreBothSafe graph.now (waiting_in fields.now.queue.events) (busy_in fields.now.open_claims.items) reading) }
 {
     let Waiting { unit, tag } = waiting;
     if !is_safe(fields, graph, least, offsets, reading, unit, tag) {
@@ -201,7 +201,7 @@ pub fn alone(
     requires least { AreLeast graph.now (least_of least.now) }
     requires offsets { AreOffsets graph.now offsets.now }
     ensures alone { IfOk result (λ alone. AreFront graph.now (waiting_in fields.now.queue.events) (busy_in fields.now.open_claims.items) reading false (one_of alone)) }
-    ensures several { IfErr result (λ s. IsSafeSomewhen graph.now (waiting_in fields.now.queue.events) (busy_in fields.now.open_claims.items) reading s.first × IsSafeSomewhen graph.now (waiting_in fields.now.queue.events) (busy_in fields.now.open_claims.items) reading s.second) }
+    ensures several { IfErr result (AreBothSafe graph.now (waiting_in fields.now.queue.events) (busy_in fields.now.open_claims.items) reading) }
 {
     let mut alone = None;
     for waiting in fields.queue.waiting() {
@@ -238,7 +238,7 @@ impl Front {
         requires sound { IsSound graph.now fields.now }
         requires least { AreLeast graph.now (least_of least.now) }
         requires offsets { AreOffsets graph.now offsets.now }
-        requires known { IfSome known (λ s. IsSafeSomewhen graph.now (waiting_in fields.now.queue.events) (busy_in fields.now.open_claims.items) reading s.first × IsSafeSomewhen graph.now (waiting_in fields.now.queue.events) (busy_in fields.now.open_claims.items) reading s.second) }
+        requires known { IfSome known (AreBothSafe graph.now (waiting_in fields.now.queue.events) (busy_in fields.now.open_claims.items) reading) }
         ensures front { AreFront graph.now (waiting_in fields.now.queue.events) (busy_in fields.now.open_claims.items) reading self.new.more (drop self.new.taken self.new.units.items) }
         ensures some { (self.new.taken < length self.new.units.items) ⊎ (self.new.more ≡ false) }
     {

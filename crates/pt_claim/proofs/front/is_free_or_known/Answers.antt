@@ -1,10 +1,9 @@
 use Rattle.std.proofs.Common.{◌≡◌, Option, IfSome, refl, subst, ⊎_elim}
-use Rattle.pt_types.specs.declared.graph.Unit.{Unit as Part}
 use Rattle.pt_semantics.specs.Safe.{IsSafe}
 use Rattle.pt_queue.specs.Events.{waiting_in}
 use Rattle.pt_state.specs.State.{busy_in}
 use Rattle.pt_claim.specs.declared.front.Several.{Several}
-use Rattle.pt_claim.specs.Fronts.{IsSafeSomewhen}
+use Rattle.pt_claim.specs.Fronts.{AreBothSafe, IsSafeSomewhen}
 use Rattle.pt_claim.proofs.SafeTags.{only_tag}
 use Rattle.pt_claim.proofs.front.is_free_or_known.Goals as goal
 
@@ -16,8 +15,8 @@ returns-then-is_one_of c =
     let r = c.args.reading in
     let u = c.args.unit in
     let s = c.in-Some.several in
-    let known : IsSafeSomewhen g waits busy r s.first × IsSafeSomewhen g waits busy r s.second =
-    subst (λ (o : Option Several). IfSome o (λ z. IsSafeSomewhen g waits busy r z.first × IsSafeSomewhen g waits busy r z.second)) c.in-Some.is c.requires.known in
+    let known : AreBothSafe g waits busy r s =
+    subst (λ (o : Option Several). IfSome o (AreBothSafe g waits busy r)) c.in-Some.is c.requires.known in
     let here : IsSafeSomewhen g waits busy r u = ⊎_elim
     (λ (e : s.first ≡ u). subst (IsSafeSomewhen g waits busy r) e known.0)
     (λ (e : s.second ≡ u). subst (IsSafeSomewhen g waits busy r) e known.1)
