@@ -1,5 +1,7 @@
 -- One result more.
-use Rattle.std.proofs.Common.{◌≡◌, ℕ, ◌<◌, List, [], ◌∷◌, ◌++◌, Some, None, length, get_or, zero, suc, refl, sym, ap, subst, ◌∙◌, inl, inr, ⊎_elim, arith, append_assoc}
+use Rattle.std.proofs.Common.{◌≡◌, ℕ, ◌<◌, List, [], ◌∷◌, ◌++◌, Some, None, length, get_or, zero, suc, refl, sym, ap, subst, ◌∙◌, inl, inr, ⊎_elim, arith, append_assoc, slice_get}
+use Rattle.std.specs.List.{cons_option}
+use Rattle.std.proofs.lemmas.List.Elements.{filter_map-append}
 use Rattle.pt_types.specs.declared.graph.Graph.{Graph}
 use Rattle.pt_types.specs.declared.firing.Task.{Task}
 use Rattle.pt_types.specs.declared.firing.Done.{Done}
@@ -18,7 +20,7 @@ use Rattle.pt_state.specs.declared.fields.OpenClaim.{OpenClaim}
 use Rattle.pt_state.specs.declared.fields.Fields.{Fields}
 use Rattle.pt_state.specs.State.{busy_in, IsOpen, state_of}
 use Rattle.pt_post.specs.Sent.{SumsFit}
-use Rattle.pt_post.specs.Posted.{ClaimsFit, ArePosted, Posted, IsDone}
+use Rattle.pt_post.specs.Posted.{ClaimsFit, ArePlaces, ArePosted, Posted, IsDone, picked}
 
 pub posts_push : (g : Graph) (s mid : State) (ds : List Done) (d : Done) → Posts g s ds mid → mid.busy (unit_of g d.task) ≡ Some d.task → d.fired ≡ fired (kind_of g d.task.actor) d.task.state d.task.inputs → Posts g s (ds ++ d ∷ []) (after_post g mid d)
 posts_push g s mid [] d h busy result = subst (λ z. (z.busy (unit_of g d.task) ≡ Some d.task) × (d.fired ≡ fired (kind_of g d.task.actor) d.task.state d.task.inputs) × (after_post g mid d ≡ after_post g z d)) h (busy, result, refl)
@@ -85,3 +87,11 @@ posted_same g old mid new dones before kept after d so items free is = record {
   posts = λ taken. subst (λ (f : Fields). Posts g (state_of old taken) so.posted (state_of f taken)) (sym is) (so.posts taken);
   fit = subst (λ (f : Fields). ClaimsFit g f.open_claims.items) (sym is) so.fit;
 }
+
+-- one place more
+pub picked_more : (dones : List Done) (places : List ℕ) (i : ℕ) (d : Done) → slice_get dones i ≡ Some d → picked dones (places ++ i ∷ []) ≡ picked dones places ++ d ∷ []
+picked_more dones places i d at = filter_map-append (slice_get dones) places (i ∷ []) ∙ ap (λ o. picked dones places ++ cons_option o []) at
+
+pub places_more : (dones : List Done) (places : List ℕ) (i : ℕ) → ArePlaces dones places → i < length dones → ArePlaces dones (places ++ i ∷ [])
+places_more dones [] i h lt = (lt, tt)
+places_more dones (p ∷ places) i h lt = (h.0, places_more dones places i h.1 lt)

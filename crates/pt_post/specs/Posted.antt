@@ -1,5 +1,5 @@
 -- Several results.
-use Rattle.std.specs.Prelude.{◌≡◌, ◌⊎◌, ℕ, List, [], ◌∷◌, ◌++◌, Option, Some, None}
+use Rattle.std.specs.Prelude.{◌≡◌, ◌⊎◌, ◌<◌, ℕ, List, [], ◌∷◌, ◌++◌, Option, Some, None, filter_map, length, slice_get}
 use Rattle.pt_types.specs.declared.graph.Graph.{Graph}
 use Rattle.pt_types.specs.declared.graph.Unit.{Unit as Part}
 use Rattle.pt_types.specs.declared.firing.Done.{Done}
@@ -49,6 +49,14 @@ ArePosted g busy [] posted = posted ≡ []
 ArePosted g busy (d ∷ ds) posted =
     ((busy (unit_of g d.task) ≡ Some d.task) × (rest : List Done) × (posted ≡ d ∷ rest) × ArePosted g (put_busy busy (unit_of g d.task) None) ds rest)
     ⊎ ((busy (unit_of g d.task) ≡ Some d.task → ⊥) × ArePosted g busy ds posted)
+
+-- each of these places is that of a result, counted from 0
+abbrev pub ArePlaces : List Done → List ℕ → Type 0
+ArePlaces dones places = Each (λ (place : ℕ). place < length dones) places
+
+-- the results at these places
+abbrev pub picked : List Done → List ℕ → List Done
+picked dones places = filter_map (slice_get dones) places
 
 -- the posted results are appended to the earlier ones and change the state, and the open claims left still fit
 pub record Posted (g : Graph) (old new : Fields) (dones before after : List Done) : Type 0 where
