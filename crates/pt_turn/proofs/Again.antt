@@ -91,7 +91,7 @@ taken_is p history turn is = ap messages_of is ∙ messages_more p.history.turns
 pub is_again : (p : Inside) (r most : ℕ) (dones : List Done) (messages : List OnLink) (new : Fields) (history : History) (lists : Lists) (fault : Option TurnFault) (next : Option ℕ) (handed now : List Task) → IsPlatform p → p.fault ≡ None → IsDone p r most dones messages new history lists fault handed now → MatchOption next (Unit {0}) (IsNextReading (platform_graph p) p.number (state_of new (messages_of history.turns))) → IsPlatform (after p new history lists fault next)
 is_again p r most dones messages new history lists fault next handed now is on d is_next =
     let k = d.kept in
-    let turn : Turn = turn_of r k.lists in
+    let turn : Turn = turn_of r dones k.lists in
     let rows : rows_at_sensors new.sensors.items ≡ rows_at_sensors p.fields.sensors.items = λ i a. d.all_rows a i in
     let ran : Ran (platform_graph p) (level_of (arc_value p.plan).ranks) p.number (rows_at_sensors p.fields.sensors.items) (kept_with p.history.turns turn) (state_of new (messages_of p.history.turns ++ k.lists.taken.items)) fault =
     ran_on (platform_graph p) (level_of (arc_value p.plan).ranks) p.number (rows_at_sensors p.fields.sensors.items) p.history.turns turn (state_of p.fields (messages_of p.history.turns)) (state_of new (messages_of p.history.turns ++ k.lists.taken.items)) k.ending fault (still_runs p is on)
@@ -126,7 +126,7 @@ is_turned p r reading most dones messages new history lists fault handed now rai
     let g : Graph = platform_graph p in
     let level : ℕ → ℕ = level_of (arc_value p.plan).ranks in
     let s : State = state_of p.fields (messages_of p.history.turns) in
-    let turn : Turn = turn_of r k.lists in
+    let turn : Turn = turn_of r dones k.lists in
     let late : is_late fault ≡ ends_late k.ending = late_as g p.fields.reading k.lists.taken.items k.ending fault k.names in
     let first : TurnPart g level p.number s turn most fault (ends_late k.ending) (state_of new (messages_of p.history.turns ++ k.lists.taken.items)) = record {
       is = k.made.turn;

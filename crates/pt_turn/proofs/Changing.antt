@@ -1,5 +1,5 @@
 -- The last turn of a history, changed again and again.
-use Rattle.std.proofs.Common.{◌≡◌, ◌+◌, ◌<◌, List, [], ◌∷◌, ◌++◌, length, refl, sym, ap, ◌∙◌, append-nil, arith, length-append}
+use Rattle.std.proofs.Common.{◌≡◌, ◌+◌, ◌<◌, List, [], ◌∷◌, ◌++◌, length, refl, sym, ap, ◌∙◌, append-nil, append_assoc, arith, length-append}
 use Rattle.pt_types.specs.declared.firing.Done.{Done}
 use Rattle.pt_types.specs.declared.firing.OnLink.{OnLink}
 use Rattle.pt_types.specs.declared.firing.Task.{Task}
@@ -36,3 +36,13 @@ takes_none messages turns none = sym (ap (λ (ms : List OnLink). on_last (taking
 
 pub claims_none : (tasks : List Task) (turns : List Turn) → tasks ≡ [] → turns ≡ on_last (claiming tasks) turns
 claims_none tasks turns none = sym (ap (λ (ts : List Task). on_last (claiming ts) turns) none ∙ unchanged (claiming []) turns (λ turn. ap (λ (ts : List Task). record turn { claimed = ts }) (append-nil turn.claimed)))
+
+-- two changes
+twice : (f h : Turn → Turn) (turns : List Turn) → on_last h (on_last f turns) ≡ on_last (λ (turn : Turn). h (f turn)) turns
+twice f h [] = refl
+twice f h (x ∷ []) = refl
+twice f h (x ∷ y ∷ []) = refl
+twice f h (x ∷ y ∷ z ∷ turns) = ap (λ (rest : List Turn). x ∷ rest) (twice f h (y ∷ z ∷ turns))
+
+pub posts_more : (dones more : List Done) (turns : List Turn) → on_last (posting more) (on_last (posting dones) turns) ≡ on_last (posting (dones ++ more)) turns
+posts_more dones more turns = twice (posting dones) (posting more) turns ∙ (λ i. on_last (λ (turn : Turn). record turn { posted = append_assoc turn.posted dones more i }) turns)

@@ -31,6 +31,7 @@ use Rattle.pt_state.specs.State.{state_of}
 use Rattle.pt_turn.specs.declared.claim_step.Ending.TheVariants.{On}
 use Rattle.pt_turn.specs.declared.steps.Lists.{Lists}
 use Rattle.pt_turn.specs.Steps.{AreEmpty, IsMade, turn_of}
+use Rattle.pt_post.specs.Posted.{picked}
 use Rattle.pt_turn.specs.declared.room.Room.{Room}
 use Rattle.pt_turn.specs.declared.platform.Platform.TheInside.{Inside}
 use Rattle.pt_turn.specs.Platforms.{IsPlatform, IsRoomy, platform_graph, messages_of}
@@ -85,8 +86,8 @@ quiet_turn g level i s r rises few idle = record {
   ready = refl;
 }
 
-turn_is : (r : ℕ) (lists : Lists) → AreEmpty lists → turn_of r lists ≡ fresh r
-turn_is r lists e = λ i. record { first = r; last = r; count = 1; posted = e.posted i; rows = e.rows i; taken = e.taken i; claimed = e.claimed i; sent = [] }
+turn_is : (r : ℕ) (lists : Lists) → AreEmpty lists → turn_of r [] lists ≡ fresh r
+turn_is r lists e = λ i. record { first = r; last = r; count = 1; posted = picked [] (e.posted i); rows = e.rows i; taken = e.taken i; claimed = e.claimed i; sent = [] }
 
 nothing_taken : (lists : Lists) (taken : List OnLink) → AreEmpty lists → taken ++ lists.taken.items ≡ taken
 nothing_taken lists taken e = ap (λ ms. taken ++ ms) e.taken ∙ append-nil taken
@@ -97,13 +98,13 @@ is_made p r most is rises idle =
     let level : ℕ → ℕ = level_of (arc_value p.plan).ranks in
     let s : State = state_of p.fields (messages_of p.history.turns) in
     let new : Fields = record p.fields { reading = Some r } in
-    let same : turn_of r p.lists ≡ fresh r = turn_is r p.lists is.empty in
-    let quiet : IsQuietTurn g level p.number s (turn_of r p.lists) (state_of new (messages_of p.history.turns)) = subst (λ (t : Turn). IsQuietTurn g level p.number s t (state_of new (messages_of p.history.turns))) (sym same) (quiet_turn g level p.number s r rises is.claims idle) in
-    let part : IsQuietTurn g level p.number s (turn_of r p.lists) (state_of new (messages_of p.history.turns ++ p.lists.taken.items)) = subst (λ (ms : List OnLink). IsQuietTurn g level p.number s (turn_of r p.lists) (state_of new ms)) (sym (nothing_taken p.lists (messages_of p.history.turns) is.empty)) quiet in
+    let same : turn_of r [] p.lists ≡ fresh r = turn_is r p.lists is.empty in
+    let quiet : IsQuietTurn g level p.number s (turn_of r [] p.lists) (state_of new (messages_of p.history.turns)) = subst (λ (t : Turn). IsQuietTurn g level p.number s t (state_of new (messages_of p.history.turns))) (sym same) (quiet_turn g level p.number s r rises is.claims idle) in
+    let part : IsQuietTurn g level p.number s (turn_of r [] p.lists) (state_of new (messages_of p.history.turns ++ p.lists.taken.items)) = subst (λ (ms : List OnLink). IsQuietTurn g level p.number s (turn_of r [] p.lists) (state_of new ms)) (sym (nothing_taken p.lists (messages_of p.history.turns) is.empty)) quiet in
     let safe : NothingSafe g part.is.ready.waits part.is.ready.busy r = subst (λ (z : State). NothingSafe g z.waits z.busy r) (sym part.ready) idle.safe in
     record {
       turn = part.is;
-      posted = is.empty.posted;
+      posted = ap (picked []) is.empty.posted;
       taken = record { rest = []; front = sym (append-nil p.lists.taken.items ∙ is.empty.taken); all = λ late. refl };
       few = subst (λ (ts : List Task). length ts ≤ most) (sym is.empty.claimed) (omega arith);
       all_or = λ late. inl safe;

@@ -18,7 +18,7 @@ use Rattle.pt_semantics.specs.Turn.{IsTurn, IsLast}
 use Rattle.pt_state.specs.declared.fields.Fields.{Fields}
 use Rattle.pt_state.specs.State.{busy_in, left_in, state_of}
 use Rattle.pt_claim.specs.Claimed.{AreClaimed}
-use Rattle.pt_post.specs.Posted.{ArePosted, NeverPosts}
+use Rattle.pt_post.specs.Posted.{ArePosted, NeverPosts, picked}
 use Rattle.pt_turn.specs.declared.claim_step.Ending.{Ending}
 use Rattle.pt_turn.specs.declared.claim_step.Ending.TheVariants.{On, Late, Long}
 use Rattle.pt_turn.specs.Claiming.{EndsIn, HasClaimed, IsIdle}
@@ -120,8 +120,8 @@ whole g level i r s posted got ready new ps rs ts cs late rises posts rows takes
 pub record AreSteps (g : Graph) (w : Basis) (r most : ℕ) (dones : List Done) (messages : List OnLink) (old before after new : Fields) (lists : Lists) (late : Bool) (ending : Ending) : Type 0 where
   pub rises : (p : ℕ) → old.reading ≡ Some p → p ≤ r
   pub posted : State
-  pub posts : Posts g (state_of old w.taken) lists.posted.items posted
-  pub are : ArePosted g (busy_in old.open_claims.items) dones lists.posted.items
+  pub posts : Posts g (state_of old w.taken) (picked dones lists.posted.items) posted
+  pub are : ArePosted g (busy_in old.open_claims.items) dones (picked dones lists.posted.items)
   pub rows : lists.rows.items ≡ all_due g r (left_in old.sensors.items)
   pub got : State
   pub takes : Takes g w.level w.platform (after_rows posted r) lists.taken.items late got
@@ -139,7 +139,7 @@ unfolding whole
 is_made g w r most dones messages old before after new lists late ending few s =
     let all : List OnLink = w.taken ++ lists.taken.items in
     record {
-      turn = whole g w.level w.platform r (state_of old w.taken) s.posted s.got (state_of after all) (state_of new all) lists.posted.items lists.rows.items lists.taken.items lists.claimed.items (took_late ending) s.rises s.posts s.rows
+      turn = whole g w.level w.platform r (state_of old w.taken) s.posted s.got (state_of after all) (state_of new all) (picked dones lists.posted.items) lists.rows.items lists.taken.items lists.claimed.items (took_late ending) s.rises s.posts s.rows
           (subst (λ l. Takes g w.level w.platform (after_rows s.posted r) lists.taken.items l s.got) (sym s.is_late) s.takes)
           (subst (λ z. Claims g r z lists.claimed.items (state_of after all)) (sym s.reading) s.claims.claims)
           s.claims.idle

@@ -50,5 +50,5 @@ pub record IsRecordedTurn (plan : Parts) (w : Basis) (r most : ℕ) (dones : Lis
   pub made : IsMade plan.graph w r most dones messages old new lists ending
   pub full : ShowsEnd plan.graph r new ending
   pub names : IsFaultOf plan.graph old.reading lists.taken.items ending fault
-  pub turns : after ≡ kept_with before (turn_of r lists)
+  pub turns : after ≡ kept_with before (turn_of r dones lists)
   pub tasks : now ≡ handed ++ lists.claimed.items

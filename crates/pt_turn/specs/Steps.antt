@@ -9,7 +9,7 @@ use Rattle.pt_semantics.specs.Safe.{NothingSafe}
 use Rattle.pt_semantics.specs.Turn.{Turn, IsTurn, IsLast}
 use Rattle.pt_state.specs.declared.fields.Fields.{Fields}
 use Rattle.pt_state.specs.State.{busy_in, left_in, state_of}
-use Rattle.pt_post.specs.Posted.{ArePosted, ClaimsFit}
+use Rattle.pt_post.specs.Posted.{ArePlaces, ArePosted, ClaimsFit, picked}
 use Rattle.pt_post.specs.Room.{leaving_open}
 use Rattle.pt_take.specs.Taken.{Basis}
 use Rattle.pt_turn.specs.declared.claim_step.Ending.{Ending}
@@ -44,9 +44,10 @@ pub record HasRoom (g : Graph) (f : Fields) (lists : Lists) (r dones messages mo
   pub taken : vec_len lists.taken + messages ≤ vec_capacity lists.taken
   pub claimed : vec_len lists.claimed + most ≤ vec_capacity lists.claimed
 
--- the lists have no more than was given, was due, and could be claimed
+-- the lists have no more than was given, was due, and could be claimed; what was posted is among the results
 pub record FitIn (dones : List Done) (messages : List OnLink) (most : ℕ) (g : Graph) (r : ℕ) (old : Fields) (lists : Lists) : Type 0 where
   pub posted : length lists.posted.items ≤ length dones
+  pub places : ArePlaces dones lists.posted.items
   pub rows : length lists.rows.items ≡ count_due g r old
   pub taken : length lists.taken.items ≤ length messages
   pub claimed : length lists.claimed.items ≤ most
@@ -57,9 +58,9 @@ ShowsEnd g r new On = Unit {0}
 ShowsEnd g r new Late = Unit {0}
 ShowsEnd g r new Long = (most_claims ≤ new.claims) × (IsIdle g new r → ⊥)
 
--- the turn at a reading with these lists
-abbrev pub turn_of : ℕ → Lists → Turn
-turn_of r lists = record { first = r; last = r; count = 1; posted = lists.posted.items; rows = lists.rows.items; taken = lists.taken.items; claimed = lists.claimed.items; sent = [] }
+-- the turn at a reading with these lists, given the results that came
+abbrev pub turn_of : ℕ → List Done → Lists → Turn
+turn_of r dones lists = record { first = r; last = r; count = 1; posted = picked dones lists.posted.items; rows = lists.rows.items; taken = lists.taken.items; claimed = lists.claimed.items; sent = [] }
 
 -- whether the last message taken was late
 abbrev pub took_late : Ending → Bool
@@ -82,8 +83,8 @@ EndsAsLast g Long last = last
 -- a turn from the old fields to the new ones: it posts those of the results that are of open claims, takes the messages or
 -- the first of them, and claims the greedy list or its first tasks
 pub record IsMade (g : Graph) (w : Basis) (r most : ℕ) (dones : List Done) (messages : List OnLink) (old new : Fields) (lists : Lists) (ending : Ending) : Type 0 where
-  pub turn : IsTurn g w.level w.platform (state_of old w.taken) (turn_of r lists) (took_late ending) (state_of new (w.taken ++ lists.taken.items))
-  pub posted : ArePosted g (busy_in old.open_claims.items) dones lists.posted.items
+  pub turn : IsTurn g w.level w.platform (state_of old w.taken) (turn_of r dones lists) (took_late ending) (state_of new (w.taken ++ lists.taken.items))
+  pub posted : ArePosted g (busy_in old.open_claims.items) dones (picked dones lists.posted.items)
   pub taken : IsFront messages lists.taken.items (took_late ending)
   pub few : length lists.claimed.items ≤ most
   pub all_or : took_late ending ≡ false → NothingSafe g turn.ready.waits turn.ready.busy r ⊎ ((most ≤ length lists.claimed.items) ⊎ (most_claims ≤ turn.ready.claims))

@@ -4,13 +4,14 @@ ghost use Rattle.std.specs.Prelude.{◌≡◌, ◌<◌, ◌≤◌, ◌++◌, [],
 ghost use Rattle.pt_history.specs.Lists.{on_last};
 ghost use Rattle.pt_history.specs.Turns.{claiming, entering, posting, taking};
 ghost use Rattle.pt_semantics.specs.Kept.{kept_with};
+ghost use Rattle.pt_post.specs.Posted.{ArePlaces, picked};
 ghost use Rattle.pt_turn.specs.Steps.{AreEmpty, turn_of};
 ghost use Rattle.pt_turn.specs.Platforms.{raised_to};
 
 use crate::Lists;
-use pt_actors::Tasks;
+use pt_actors::{Done, Tasks};
 use pt_history::History;
-use pt_types::{Done, OnLink, RowAt, Task};
+use pt_types::{OnLink, RowAt, Task};
 
 /// The given reading, or the last one if that is greater, in microseconds.
 pub fn raised_to(last: Option<u64>, reading: u64) -> u64
@@ -22,47 +23,55 @@ pub fn raised_to(last: Option<u64>, reading: u64) -> u64
     }
 }
 
-/// Records a turn at a reading, in microseconds, appends its claims to `tasks`, and empties the lists. Allocates nothing.
+/// Records a turn at a reading, in microseconds, to which these results came, appends its claims to `tasks`, and empties the
+/// lists. Allocates nothing.
 #[inline(always)]
-pub fn keep(history: &mut History, reading: u64, lists: &mut Lists, tasks: &mut Tasks)
+pub fn keep(
+    history: &mut History,
+    reading: u64,
+    dones: &[Done],
+    lists: &mut Lists,
+    tasks: &mut Tasks,
+)
     requires turns { 0 < history.old.room.turns }
     requires posted { length lists.old.posted.items ≤ history.old.room.posted }
+    requires places { ArePlaces dones.now lists.old.posted.items }
     requires rows { length lists.old.rows.items ≤ history.old.room.rows }
     requires taken { length lists.old.taken.items ≤ history.old.room.taken }
     requires claimed { length lists.old.claimed.items ≤ history.old.room.claimed }
     requires tasks { length lists.old.claimed.items ≤ tasks.old.spare }
-    ensures turns { history.new.turns ≡ kept_with history.old.turns (turn_of reading lists.old) }
+    ensures turns { history.new.turns ≡ kept_with history.old.turns (turn_of reading dones.now lists.old) }
     ensures sent { history.new.room.sent ≡ history.old.room.sent }
     ensures tasks { tasks.new.tasks ≡ tasks.old.tasks ++ lists.old.claimed.items }
     ensures empty { AreEmpty lists.new }
 {
     history.begin(reading);
-    keep_posted(history, &mut lists.posted);
+    keep_posted(history, dones, &mut lists.posted);
     keep_rows(history, &mut lists.rows);
     keep_taken(history, &mut lists.taken);
     keep_claimed(history, &mut lists.claimed, tasks);
 }
 
-/// Records results posted in the last turn, and empties their list. Mostly a list is empty, so each is looked at first.
+/// Records the results at these places as posted in the last turn, and empties the list of places.
 #[inline(always)]
-fn keep_posted(history: &mut History, posted: &mut Vec<Done>)
+fn keep_posted(history: &mut History, dones: &[Done], posted: &mut Vec<usize>)
     requires room { length posted.old.items ≤ history.old.room.posted }
+    requires places { ArePlaces dones.now posted.old.items }
     requires begun { 0 < length history.old.turns }
-    ensures turns { history.new.turns ≡ on_last (posting posted.old.items) history.old.turns }
+    ensures turns { history.new.turns ≡ on_last (posting (picked dones.now posted.old.items)) history.old.turns }
     ensures rows { history.new.room.rows ≡ history.old.room.rows }
     ensures taken { history.new.room.taken ≡ history.old.room.taken }
     ensures claimed { history.new.room.claimed ≡ history.old.room.claimed }
     ensures sent { history.new.room.sent ≡ history.old.room.sent }
     ensures empty { posted.new.items ≡ [] }
 {
-    if posted.as_slice().is_empty() {
-        return;
+    for place in posted.as_slice() {
+        history.post(std::slice::from_ref(dones[*place].as_record()));
     }
-    history.post(posted.as_slice());
     posted.clear();
 }
 
-/// Records rows entered in the last turn, and empties their list.
+/// Records rows entered in the last turn, and empties their list. Mostly a list is empty, so each is looked at first.
 #[inline(always)]
 fn keep_rows(history: &mut History, rows: &mut Vec<RowAt>)
     requires room { length rows.old.items ≤ history.old.room.rows }

@@ -4,6 +4,7 @@ ghost use Rattle.std.specs.Prelude.{◌≡◌, ◌+◌, ◌*◌, ◌<◌, ◌≤
 ghost use Rattle.pt_semantics.specs.Kept.{kept_with};
 ghost use Rattle.pt_state.specs.State.{rows_at_sensors, IsSound};
 ghost use Rattle.pt_state.specs.Sensors.{AreSensors};
+ghost use Rattle.pt_post.specs.Posted.{ArePlaces};
 ghost use Rattle.pt_take.specs.Taken.{Basis};
 ghost use Rattle.pt_turn.specs.declared.claim_step.Ending.TheVariants.{Late};
 ghost use Rattle.pt_turn.specs.Faults.{IsFaultOf, SomeIsLate};
@@ -56,14 +57,14 @@ pub fn make(
     );
     match ending {
         Ending::On => {
-            keep(history, reading, lists, tasks);
+            keep(history, reading, dones, lists, tasks);
             None
         }
-        _ => keep_last(plan, ending, last, history, reading, lists, tasks),
+        _ => keep_last(plan, ending, last, history, reading, dones, lists, tasks),
     }
 }
 
-/// Records the last turn of a platform, as `keep`, and returns its fault: its ending is not `On`. Not inlined, since it is
+/// Records the last turn of a platform, as `keep` does, and returns its fault: its ending is not `On`. Not inlined, since it is
 /// called once at most.
 #[inline(never)]
 fn keep_last(
@@ -72,23 +73,25 @@ fn keep_last(
     last: Option<u64>,
     history: &mut History,
     reading: u64,
+    dones: &[Done],
     lists: &mut Lists,
     tasks: &mut Tasks,
 ) -> Option<TurnFault>
     requires late { ending ≡ Late → SomeIsLate plan.now.graph last lists.old.taken.items }
     requires turns { 0 < history.old.room.turns }
     requires posted { length lists.old.posted.items ≤ history.old.room.posted }
+    requires places { ArePlaces dones.now lists.old.posted.items }
     requires rows { length lists.old.rows.items ≤ history.old.room.rows }
     requires taken { length lists.old.taken.items ≤ history.old.room.taken }
     requires claimed { length lists.old.claimed.items ≤ history.old.room.claimed }
     requires tasks { length lists.old.claimed.items ≤ tasks.old.spare }
     ensures fault { IsFaultOf plan.now.graph last lists.old.taken.items ending result }
-    ensures turns { history.new.turns ≡ kept_with history.old.turns (turn_of reading lists.old) }
+    ensures turns { history.new.turns ≡ kept_with history.old.turns (turn_of reading dones.now lists.old) }
     ensures sent { history.new.room.sent ≡ history.old.room.sent }
     ensures tasks { tasks.new.tasks ≡ tasks.old.tasks ++ lists.old.claimed.items }
     ensures empty { AreEmpty lists.new }
 {
     let fault = fault_of(plan, ending, last, lists.taken.as_slice());
-    keep(history, reading, lists, tasks);
+    keep(history, reading, dones, lists, tasks);
     fault
 }

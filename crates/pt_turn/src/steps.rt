@@ -17,12 +17,13 @@ use pt_offsets::Plan;
 use pt_post::posts;
 use pt_state::Fields;
 use pt_take::takes;
-use pt_types::{Done as Record, OnLink, RowAt, Task};
+use pt_types::{OnLink, RowAt, Task};
 
 /// What a turn did: the results posted, the rows entered, the messages taken, and the tasks claimed.
 #[derive(Drop)]
 pub struct Lists {
-    pub posted: Vec<Record>,
+    /// The places of the posted results among those of the turn, counted from 0.
+    pub posted: Vec<usize>,
     pub rows: Vec<RowAt>,
     pub taken: Vec<OnLink>,
     pub claimed: Vec<Task>,

@@ -10,7 +10,7 @@ use Rattle.pt_turn.proofs.made_turn.make.Goals as goal
 pub keep_last-requires-clause-late : goal.keep_last-requires-clause-late
 keep_last-requires-clause-late g c =
     let made = c.turn-ending.ensures.made in
-    λ e. turn_late c.args.plan.now.graph g.basis.level g.basis.platform (state_of c.args.fields.now g.basis.taken) (state_of c.turn-ending.new.fields (g.basis.taken ++ c.turn-ending.new.lists.taken.items)) (turn_of c.args.reading c.turn-ending.new.lists) (took_late c.turn-ending.result) (ap took_late e) made.turn
+    λ e. turn_late c.args.plan.now.graph g.basis.level g.basis.platform (state_of c.args.fields.now g.basis.taken) (state_of c.turn-ending.new.fields (g.basis.taken ++ c.turn-ending.new.lists.taken.items)) (turn_of c.args.reading c.args.dones.now c.turn-ending.new.lists) (took_late c.turn-ending.result) (ap took_late e) made.turn
 
 pub returns-in-On-clause-kept : goal.returns-in-On-clause-kept
 returns-in-On-clause-kept g c = record {

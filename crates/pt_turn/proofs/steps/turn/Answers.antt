@@ -11,7 +11,7 @@ use Rattle.pt_semantics.specs.Wired.{IsWired}
 use Rattle.pt_offsets.specs.Plans.{AreOffsets}
 use Rattle.pt_state.specs.declared.fields.Fields.{Fields}
 use Rattle.pt_state.specs.State.{busy_in, left_in, state_of}
-use Rattle.pt_post.specs.Posted.{ArePosted}
+use Rattle.pt_post.specs.Posted.{ArePlaces, ArePosted, picked}
 use Rattle.pt_take.specs.Taken.{Arrive, NeverTakes}
 use Rattle.pt_turn.specs.declared.claim_step.Ending.{Ending}
 use Rattle.pt_turn.specs.declared.steps.Lists.{Lists}
@@ -78,7 +78,7 @@ returns-clause-made g c =
     let lists : Lists = record { posted = c.posts.new.kept; rows = c.enter.new.kept; taken = c.takes-late.new.kept; claimed = c.claim_unless-ending.new.tasks } in
     let same : before.claims ≡ c.args.fields.now.claims = c.takes-late.ensures.frame.6 ∙ c.enter.ensures.frame.5 ∙ c.posts.ensures.frame.3 in
     let claimed : HasClaimed gr c.args.reading c.args.most before after c.args.lists.now.claimed.items lists.claimed.items c.takes-late.result ending = subst (λ z. HasClaimed z c.args.reading c.args.most before after c.args.lists.now.claimed.items lists.claimed.items c.takes-late.result ending) (sym value) c.claim_unless-ending.ensures.claimed in
-    let posted : lists.posted.items ≡ c.posts.ensures.posted.posted = c.posts.ensures.posted.appended ∙ ap (λ xs. xs ++ c.posts.ensures.posted.posted) empty.posted in
+    let posted : picked c.args.dones.now lists.posted.items ≡ c.posts.ensures.posted.posted = c.posts.ensures.posted.appended ∙ ap (λ xs. picked c.args.dones.now xs ++ c.posts.ensures.posted.posted) empty.posted in
     let taken : lists.taken.items ≡ took.taken = took.appended ∙ ap (λ xs. xs ++ took.taken) empty.taken in
     let steps : AreSteps gr g.basis c.args.reading c.args.most c.args.dones.now c.args.messages.now c.args.fields.now before after c.close.new.fields lists c.takes-late.result ending = record {
       rises = rises;
