@@ -67,15 +67,14 @@ is_done p plan room r most dones messages new history lists fault handed now sam
       fits = fits;
     }
 
--- the same where memory was reserved, with the fault by another name
-pub is_done_as : (p : Inside) (v : PlatformView) (plan : Parts) (reading r most : ℕ) (dones : List Done) (messages : List OnLink) (new : Fields) (history : History) (lists : Lists) (fault named : Option TurnFault) (handed now : List Task) → view_of p ≡ v → IsPlatform p → MatchOption v.room ⊥ (IsEnough reading (length dones) (length messages) most) → fault ≡ named → plan ≡ arc_value p.plan
+-- the same where memory was reserved
+pub is_done_as : (p : Inside) (v : PlatformView) (plan : Parts) (reading r most : ℕ) (dones : List Done) (messages : List OnLink) (new : Fields) (history : History) (lists : Lists) (fault : Option TurnFault) (handed now : List Task) → view_of p ≡ v → IsPlatform p → MatchOption v.room ⊥ (IsEnough reading (length dones) (length messages) most) → plan ≡ arc_value p.plan
     → IsRecordedTurn plan (record { level = level_of plan.ranks; platform = p.number; taken = messages_of p.history.turns }) r most dones messages p.fields new p.history.turns history.turns handed now fault
     → IsSound plan.graph new → AreSensors plan.graph new.sensors.items → ((a : ℕ) → rows_at_sensors new.sensors.items a ≡ rows_at_sensors p.fields.sensors.items a) → new.reading ≡ Some r → new.claims ≤ most_claims → AreEmpty lists
-    → length new.outbox.items ≤ length p.fields.outbox.items + length dones * length plan.graph.links + length plan.graph.links → history.room.sent ≡ p.history.room.sent → r < 2 ^ 64 → IsDone p r most dones messages new history lists named handed now
-is_done_as p v plan reading r most dones messages new history lists fault named handed now view is room name same kept sound sensors all_rows read claims empty outbox sent fits =
+    → length new.outbox.items ≤ length p.fields.outbox.items + length dones * length plan.graph.links + length plan.graph.links → history.room.sent ≡ p.history.room.sent → r < 2 ^ 64 → IsDone p r most dones messages new history lists fault handed now
+is_done_as p v plan reading r most dones messages new history lists fault handed now view is room same kept sound sensors all_rows read claims empty outbox sent fits =
     let both : (room : Room) × IsRoomy p room × IsEnough reading (length dones) (length messages) most room = both_rooms p p.room (IsEnough reading (length dones) (length messages) most) is.room (subst (λ (w : PlatformView). MatchOption w.room ⊥ (IsEnough reading (length dones) (length messages) most)) (sym view) room) in
-    subst (λ (f : Option TurnFault). IsDone p r most dones messages new history lists f handed now) name
-    (is_done p plan both.0 r most dones messages new history lists fault handed now same both.1 both.2.done kept sound sensors all_rows read claims empty outbox sent fits)
+    is_done p plan both.0 r most dones messages new history lists fault handed now same both.1 both.2.done kept sound sensors all_rows read claims empty outbox sent fits
 
 abbrev pub after : Inside → Fields → History → Lists → Option TurnFault → Option ℕ → Inside
 after p fields history lists fault next = record { plan = p.plan; number = p.number; closing = p.closing; fields = fields; history = history; lists = lists; fault = fault; room = None; next = next }

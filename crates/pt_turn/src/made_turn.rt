@@ -1,6 +1,6 @@
 //! A turn, run and recorded.
 
-ghost use Rattle.std.specs.Prelude.{◌≡◌, ◌+◌, ◌*◌, ◌<◌, ◌≤◌, ◌++◌, ℕ, Some, length};
+ghost use Rattle.std.specs.Prelude.{◌≡◌, ◌+◌, ◌*◌, ◌<◌, ◌≤◌, ◌++◌, ℕ, None, Some, length};
 ghost use Rattle.pt_semantics.specs.Kept.{kept_with};
 ghost use Rattle.pt_state.specs.State.{rows_at_sensors, IsSound};
 ghost use Rattle.pt_state.specs.Sensors.{AreSensors};
@@ -23,7 +23,7 @@ use pt_state::Fields;
 use pt_types::OnLink;
 
 /// Makes a turn at a reading (in microseconds) that is not before the last, records it, and appends its claims to `tasks`.
-/// Returns the fault of the turn, if it has one. Allocates nothing.
+/// If the turn has a fault, writes it to `fault`, where there is none yet. Allocates nothing.
 pub fn make(
     fields: &mut Fields,
     plan: &Plan,
@@ -36,12 +36,14 @@ pub fn make(
     lists: &mut Lists,
     history: &mut History,
     tasks: &mut Tasks,
-) -> Option<TurnFault>
+    fault: &mut Option<TurnFault>,
+)
     ghost basis: { Basis }
     requires ready { IsReady plan.now basis number closing reading most dones.now messages.now fields.old lists.old }
     requires keep { CanKeep plan.now reading (length dones.now) (length messages.now) most fields.old history.old.room }
     requires tasks { most ≤ tasks.old.spare }
-    ensures kept { IsRecordedTurn plan.now basis reading most dones.now messages.now fields.old fields.new history.old.turns history.new.turns tasks.old.tasks tasks.new.tasks result }
+    requires no_fault { fault.old ≡ None }
+    ensures kept { IsRecordedTurn plan.now basis reading most dones.now messages.now fields.old fields.new history.old.turns history.new.turns tasks.old.tasks tasks.new.tasks fault.new }
     ensures sound { IsSound plan.now.graph fields.new }
     ensures sensors { AreSensors plan.now.graph fields.new.sensors.items }
     ensures all_rows { (a : ℕ) → rows_at_sensors fields.new.sensors.items a ≡ rows_at_sensors fields.old.sensors.items a }
@@ -56,11 +58,8 @@ pub fn make(
         fields, plan, number, closing, reading, dones, messages, most, lists,
     );
     match ending {
-        Ending::On => {
-            keep(history, reading, dones, lists, tasks);
-            None
-        }
-        _ => keep_last(plan, ending, last, history, reading, dones, lists, tasks),
+        Ending::On => keep(history, reading, dones, lists, tasks),
+        _ => *fault = keep_last(plan, ending, last, history, reading, dones, lists, tasks),
     }
 }
 

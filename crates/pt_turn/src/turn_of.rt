@@ -39,7 +39,7 @@ impl Platform {
             return;
         }
         let reading = raised_to(self.fields.reading, reading);
-        let fault = make(
+        make(
             &mut self.fields,
             &self.plan,
             self.number,
@@ -51,12 +51,9 @@ impl Platform {
             &mut self.lists,
             &mut self.history,
             tasks,
+            &mut self.fault,
         );
         self.room = None;
         self.next = None;
-        match fault {
-            None => (),
-            Some(fault) => self.fault = Some(fault),
-        }
     }
 }

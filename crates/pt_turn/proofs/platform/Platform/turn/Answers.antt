@@ -14,53 +14,33 @@ use Rattle.pt_turn.proofs.Again.{IsDone, after, is_again, is_done_as, is_turned}
 use Rattle.pt_turn.proofs.Readiness.{basis_of, both_rooms, can_keep, is_ready}
 use Rattle.pt_turn.proofs.platform.Platform.turn.Goals as goal
 
-pub make-fault-requires : goal.make-fault-requires
-make-fault-requires c =
+pub make-requires : goal.make-requires
+make-requires c =
     let p : Inside = c.self.inside in
     let room : (r : Room) × IsRoomy p r × IsEnough c.args.reading (length c.args.done.now) (length c.args.taken.now) c.args.most r = both_rooms p p.room (IsEnough c.args.reading (length c.args.done.now) (length c.args.taken.now) c.args.most) c.self.invariant.room
     (subst (λ (v : PlatformView). MatchOption v.room ⊥ (IsEnough c.args.reading (length c.args.done.now) (length c.args.taken.now) c.args.most)) (sym c.self.view_is) c.requires.room) in
     let done : AreDone (platform_graph p) c.args.done.now = subst (λ (v : PlatformView). AreDone v.plan.graph c.args.done.now) (sym c.self.view_is) c.requires.done in
     let may : MayCome (platform_graph p) (level_of (arc_value p.plan).ranks) p.number (state_at (view_of p)) c.args.taken.now = subst (λ (v : PlatformView). MayCome v.plan.graph (level_at v) v.number (state_at v) c.args.taken.now) (sym c.self.view_is) c.requires.taken in
-    subst (λ (plan : Parts). IsReady plan (record { level = level_of plan.ranks; platform = p.number; taken = messages_of p.history.turns }) p.number p.closing c.raised_to-reading.result c.args.most c.args.done.now c.args.taken.now p.fields p.lists × (CanKeep plan c.raised_to-reading.result (length c.args.done.now) (length c.args.taken.now) c.args.most p.fields p.history.room × (c.args.most ≤ c.args.tasks.now.spare))) (sym c.deref.ensures)
-    (subst (λ r. IsReady (arc_value p.plan) (basis_of p) p.number p.closing r c.args.most c.args.done.now c.args.taken.now p.fields p.lists × (CanKeep (arc_value p.plan) r (length c.args.done.now) (length c.args.taken.now) c.args.most p.fields p.history.room × (c.args.most ≤ c.args.tasks.now.spare))) (sym c.raised_to-reading.ensures)
-    (is_ready p room.0 c.args.reading c.args.most c.args.done.now c.args.taken.now c.self.invariant c.in_default.is room.1 room.2 c.requires.most done may, (can_keep p room.0 c.args.reading c.args.most (length c.args.done.now) (length c.args.taken.now) room.1 room.2, c.requires.tasks)))
+    subst (λ (plan : Parts). IsReady plan (record { level = level_of plan.ranks; platform = p.number; taken = messages_of p.history.turns }) p.number p.closing c.raised_to-reading.result c.args.most c.args.done.now c.args.taken.now p.fields p.lists × (CanKeep plan c.raised_to-reading.result (length c.args.done.now) (length c.args.taken.now) c.args.most p.fields p.history.room × ((c.args.most ≤ c.args.tasks.now.spare) × (p.fault ≡ None)))) (sym c.deref.ensures)
+    (subst (λ r. IsReady (arc_value p.plan) (basis_of p) p.number p.closing r c.args.most c.args.done.now c.args.taken.now p.fields p.lists × (CanKeep (arc_value p.plan) r (length c.args.done.now) (length c.args.taken.now) c.args.most p.fields p.history.room × ((c.args.most ≤ c.args.tasks.now.spare) × (p.fault ≡ None)))) (sym c.raised_to-reading.ensures)
+    (is_ready p room.0 c.args.reading c.args.most c.args.done.now c.args.taken.now c.self.invariant c.in_default.is room.1 room.2 c.requires.most done may, (can_keep p room.0 c.args.reading c.args.most (length c.args.done.now) (length c.args.taken.now) room.1 room.2, (c.requires.tasks, c.in_default.is))))
 
 pub invariant_of-self : goal.invariant_of-self
 invariant_of-self c =
     let p : Inside = c.self.inside in
-    let m = c.make-fault.ensures in
-    let done : IsDone p c.raised_to-reading.result c.args.most c.args.done.now c.args.taken.now c.make-fault.new.fields c.make-fault.new.history c.make-fault.new.lists None c.args.tasks.now.tasks c.make-fault.new.tasks.tasks =
-    is_done_as p c.args.self.now c.deref.result.now c.args.reading c.raised_to-reading.result c.args.most c.args.done.now c.args.taken.now c.make-fault.new.fields c.make-fault.new.history c.make-fault.new.lists c.make-fault.result None c.args.tasks.now.tasks c.make-fault.new.tasks.tasks c.self.view_is c.self.invariant c.requires.room c.in-None.is c.deref.ensures
+    let m = c.make.ensures in
+    let done : IsDone p c.raised_to-reading.result c.args.most c.args.done.now c.args.taken.now c.make.new.fields c.make.new.history c.make.new.lists c.make.new.fault c.args.tasks.now.tasks c.make.new.tasks.tasks =
+    is_done_as p c.args.self.now c.deref.result.now c.args.reading c.raised_to-reading.result c.args.most c.args.done.now c.args.taken.now c.make.new.fields c.make.new.history c.make.new.lists c.make.new.fault c.args.tasks.now.tasks c.make.new.tasks.tasks c.self.view_is c.self.invariant c.requires.room c.deref.ensures
     m.kept m.sound m.sensors m.all_rows m.reading m.claims m.empty m.outbox m.sent c.raised_to-reading.type_inv in
-    subst (λ (fault : Option TurnFault). IsPlatform (after p c.make-fault.new.fields c.make-fault.new.history c.make-fault.new.lists fault None)) (sym c.in_default.is) (is_again p c.raised_to-reading.result c.args.most c.args.done.now c.args.taken.now c.make-fault.new.fields c.make-fault.new.history c.make-fault.new.lists None None c.args.tasks.now.tasks c.make-fault.new.tasks.tasks c.self.invariant c.in_default.is done tt)
+    is_again p c.raised_to-reading.result c.args.most c.args.done.now c.args.taken.now c.make.new.fields c.make.new.history c.make.new.lists c.make.new.fault None c.args.tasks.now.tasks c.make.new.tasks.tasks c.self.invariant c.in_default.is done tt
 
-pub returns-in-None-clause-turned : goal.returns-in-None-clause-turned
-returns-in-None-clause-turned c =
+pub returns-clause-turned : goal.returns-clause-turned
+returns-clause-turned c =
     let p : Inside = c.self.inside in
-    let m = c.make-fault.ensures in
-    let done : IsDone p c.raised_to-reading.result c.args.most c.args.done.now c.args.taken.now c.make-fault.new.fields c.make-fault.new.history c.make-fault.new.lists None c.args.tasks.now.tasks c.make-fault.new.tasks.tasks =
-    is_done_as p c.args.self.now c.deref.result.now c.args.reading c.raised_to-reading.result c.args.most c.args.done.now c.args.taken.now c.make-fault.new.fields c.make-fault.new.history c.make-fault.new.lists c.make-fault.result None c.args.tasks.now.tasks c.make-fault.new.tasks.tasks c.self.view_is c.self.invariant c.requires.room c.in-None.is c.deref.ensures
-    m.kept m.sound m.sensors m.all_rows m.reading m.claims m.empty m.outbox m.sent c.raised_to-reading.type_inv in
-    λ none. subst (λ (fault : Option TurnFault). (made : IsTurned c.args.self.now (view_of (after p c.make-fault.new.fields c.make-fault.new.history c.make-fault.new.lists fault None)) c.args.reading c.args.most c.args.done.now c.args.taken.now) × (c.make-fault.new.tasks.tasks ≡ c.args.tasks.now.tasks ++ made.turn.claimed) × StaysThere c.args.self.now (view_of (after p c.make-fault.new.fields c.make-fault.new.history c.make-fault.new.lists fault None))) (sym c.in_default.is)
-    (subst (λ (v : PlatformView). (made : IsTurned v (view_of (after p c.make-fault.new.fields c.make-fault.new.history c.make-fault.new.lists None None)) c.args.reading c.args.most c.args.done.now c.args.taken.now) × (c.make-fault.new.tasks.tasks ≡ c.args.tasks.now.tasks ++ made.turn.claimed) × StaysThere v (view_of (after p c.make-fault.new.fields c.make-fault.new.history c.make-fault.new.lists None None))) c.self.view_is
-    (is_turned p c.raised_to-reading.result c.args.reading c.args.most c.args.done.now c.args.taken.now c.make-fault.new.fields c.make-fault.new.history c.make-fault.new.lists None c.args.tasks.now.tasks c.make-fault.new.tasks.tasks c.raised_to-reading.ensures done))
-
-pub invariant_of-self-in-Some-fault : goal.invariant_of-self-in-Some-fault
-invariant_of-self-in-Some-fault c =
-    let p : Inside = c.self.inside in
-    let m = c.make-fault.ensures in
-    let done : IsDone p c.raised_to-reading.result c.args.most c.args.done.now c.args.taken.now c.make-fault.new.fields c.make-fault.new.history c.make-fault.new.lists (Some c.in-Some-fault.fault) c.args.tasks.now.tasks c.make-fault.new.tasks.tasks =
-    is_done_as p c.args.self.now c.deref.result.now c.args.reading c.raised_to-reading.result c.args.most c.args.done.now c.args.taken.now c.make-fault.new.fields c.make-fault.new.history c.make-fault.new.lists c.make-fault.result (Some c.in-Some-fault.fault) c.args.tasks.now.tasks c.make-fault.new.tasks.tasks c.self.view_is c.self.invariant c.requires.room c.in-Some-fault.is c.deref.ensures
-    m.kept m.sound m.sensors m.all_rows m.reading m.claims m.empty m.outbox m.sent c.raised_to-reading.type_inv in
-    is_again p c.raised_to-reading.result c.args.most c.args.done.now c.args.taken.now c.make-fault.new.fields c.make-fault.new.history c.make-fault.new.lists (Some c.in-Some-fault.fault) None c.args.tasks.now.tasks c.make-fault.new.tasks.tasks c.self.invariant c.in_default.is done tt
-
-pub returns-in-Some-fault-clause-turned : goal.returns-in-Some-fault-clause-turned
-returns-in-Some-fault-clause-turned c =
-    let p : Inside = c.self.inside in
-    let m = c.make-fault.ensures in
-    let done : IsDone p c.raised_to-reading.result c.args.most c.args.done.now c.args.taken.now c.make-fault.new.fields c.make-fault.new.history c.make-fault.new.lists (Some c.in-Some-fault.fault) c.args.tasks.now.tasks c.make-fault.new.tasks.tasks =
-    is_done_as p c.args.self.now c.deref.result.now c.args.reading c.raised_to-reading.result c.args.most c.args.done.now c.args.taken.now c.make-fault.new.fields c.make-fault.new.history c.make-fault.new.lists c.make-fault.result (Some c.in-Some-fault.fault) c.args.tasks.now.tasks c.make-fault.new.tasks.tasks c.self.view_is c.self.invariant c.requires.room c.in-Some-fault.is c.deref.ensures
+    let m = c.make.ensures in
+    let done : IsDone p c.raised_to-reading.result c.args.most c.args.done.now c.args.taken.now c.make.new.fields c.make.new.history c.make.new.lists c.make.new.fault c.args.tasks.now.tasks c.make.new.tasks.tasks =
+    is_done_as p c.args.self.now c.deref.result.now c.args.reading c.raised_to-reading.result c.args.most c.args.done.now c.args.taken.now c.make.new.fields c.make.new.history c.make.new.lists c.make.new.fault c.args.tasks.now.tasks c.make.new.tasks.tasks c.self.view_is c.self.invariant c.requires.room c.deref.ensures
     m.kept m.sound m.sensors m.all_rows m.reading m.claims m.empty m.outbox m.sent c.raised_to-reading.type_inv in
     λ none.
-    (subst (λ (v : PlatformView). (made : IsTurned v (view_of (after p c.make-fault.new.fields c.make-fault.new.history c.make-fault.new.lists (Some c.in-Some-fault.fault) None)) c.args.reading c.args.most c.args.done.now c.args.taken.now) × (c.make-fault.new.tasks.tasks ≡ c.args.tasks.now.tasks ++ made.turn.claimed) × StaysThere v (view_of (after p c.make-fault.new.fields c.make-fault.new.history c.make-fault.new.lists (Some c.in-Some-fault.fault) None))) c.self.view_is
-    (is_turned p c.raised_to-reading.result c.args.reading c.args.most c.args.done.now c.args.taken.now c.make-fault.new.fields c.make-fault.new.history c.make-fault.new.lists (Some c.in-Some-fault.fault) c.args.tasks.now.tasks c.make-fault.new.tasks.tasks c.raised_to-reading.ensures done))
+    (subst (λ (v : PlatformView). (made : IsTurned v (view_of (after p c.make.new.fields c.make.new.history c.make.new.lists c.make.new.fault None)) c.args.reading c.args.most c.args.done.now c.args.taken.now) × (c.make.new.tasks.tasks ≡ c.args.tasks.now.tasks ++ made.turn.claimed) × StaysThere v (view_of (after p c.make.new.fields c.make.new.history c.make.new.lists c.make.new.fault None))) c.self.view_is
+    (is_turned p c.raised_to-reading.result c.args.reading c.args.most c.args.done.now c.args.taken.now c.make.new.fields c.make.new.history c.make.new.lists c.make.new.fault c.args.tasks.now.tasks c.make.new.tasks.tasks c.raised_to-reading.ensures done))
