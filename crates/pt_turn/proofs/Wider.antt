@@ -8,6 +8,8 @@ use Rattle.pt_types.specs.declared.firing.OnLink.{OnLink}
 use Rattle.pt_semantics.specs.Closing.{on_link}
 use Rattle.pt_semantics.specs.Entering.{all_due}
 use Rattle.pt_semantics.specs.Lists.{Each}
+use Rattle.pt_semantics.specs.Paced.{IsNextReading}
+use Rattle.pt_semantics.specs.Platform.{State}
 use Rattle.pt_semantics.specs.Rows.{FitRows}
 use Rattle.pt_causality.specs.Ranked.{level_of}
 use Rattle.pt_state.specs.Sensors.{AreSensors}
@@ -28,7 +30,7 @@ use Rattle.pt_turn.specs.Running.{Ran}
 use Rattle.pt_types.specs.Limits.{most_claims}
 
 abbrev pub wider : Inside → Fields → History → Lists → Option Room → Inside
-wider p fields history lists room = record { plan = p.plan; number = p.number; closing = p.closing; fields = fields; history = history; lists = lists; fault = p.fault; room = room; next = None }
+wider p fields history lists room = record { plan = p.plan; number = p.number; closing = p.closing; fields = fields; history = history; lists = lists; fault = p.fault; room = room; next = p.next }
 
 same_state : (old new : Fields) (taken : List OnLink) → AreWider old new → state_of new taken ≡ state_of old taken
 same_state old new taken w = λ i. record {
@@ -74,7 +76,7 @@ is_wider p fields history lists room is f h l roomy = record {
   };
   sent = omega (arith, ap length f.outbox.items, h.sent, is.sent);
   room = roomy;
-  next = tt;
+  next = subst (λ (s : State). MatchOption p.next (Unit {0}) (IsNextReading (platform_graph p) p.number s)) (sym (ap (λ ts. state_of fields (messages_of ts)) h.turns ∙ same_state p.fields fields (messages_of p.history.turns) f)) is.next;
 }
 
 -- what there was room for there still is

@@ -1,7 +1,8 @@
 //! The memory of a turn: how much it needs, and reserving it, in the history also for later turns.
 
-ghost use Rattle.std.specs.Prelude.{◌+◌, ◌≤◌, OnOk, vec_len, vec_capacity, ◌≡◌, ◌⊎◌, IsOk, OnErr};
+ghost use Rattle.std.specs.Prelude.{◌+◌, ◌≤◌, OnOk, vec_len, vec_capacity, ◌≡◌, ◌⊎◌, [], IsOk, OnErr};
 ghost use Rattle.pt_turn.specs.Growing.{AreWider, FieldsMeet, HistoryIsWider, HistoryMeets, IsWider, ListsAreWider, ListsMeet, ahead_of, more_than};
+ghost use Rattle.pt_turn.specs.Steps.{AreEmpty};
 ghost use Rattle.pt_history.specs.Turns.{larger};
 
 use crate::Lists;
@@ -24,7 +25,8 @@ pub struct Needs {
     pub claimed: usize,
 }
 
-/// Reserves the memory of a turn. If memory runs out, some may be reserved, and nothing else changes.
+/// Reserves the memory of a turn, whose lists are still empty. If memory runs out, some may be reserved, and nothing else
+/// changes.
 #[inline(always)]
 pub fn make_room(
     fields: &mut Fields,
@@ -32,6 +34,7 @@ pub fn make_room(
     history: &mut History,
     needs: Needs,
 ) -> Result<(), Memory>
+    requires empty { AreEmpty lists.old }
     ensures fields { AreWider fields.old fields.new }
     ensures lists { ListsAreWider lists.old lists.new }
     ensures history { HistoryIsWider history.old history.new }
@@ -52,8 +55,9 @@ fn widen_fields(fields: &mut Fields, needs: Needs) -> Result<(), Memory>
     fields.outbox.reserve(needs.messages)
 }
 
-/// Reserves the memory needed by the lists of a turn.
+/// Reserves the memory needed by the lists of a turn, which are empty.
 fn widen_lists(lists: &mut Lists, needs: Needs) -> Result<(), Memory>
+    requires { AreEmpty lists.old }
     ensures lists { ListsAreWider lists.old lists.new }
     ensures met { OnOk result (ListsMeet needs lists.new) }
 {
@@ -68,25 +72,38 @@ fn widen_history(history: &mut History, needs: Needs) -> Result<(), Memory>
     ensures history { HistoryIsWider history.old history.new }
     ensures met { OnOk result (HistoryMeets needs history.new.room) }
 {
-    keep_room(
-        history,
-        Room {
-            turns: 1,
-            posted: needs.posted,
-            rows: needs.rows,
-            taken: needs.taken,
-            claimed: needs.claimed,
-            sent: needs.sent,
-        },
-    )
+    if history.has_room(room_of(needs)) {
+        return Ok(());
+    }
+    widen_ahead(history, room_of(needs))
 }
 
-/// Reserves memory for `more` more items.
-fn widen<T>(list: &mut Vec<T>, more: usize) -> Result<(), Memory>
-    ensures wider { IsWider list.old list.new }
-    ensures room { OnOk result (vec_len list.new + more ≤ vec_capacity list.new) }
+/// The room of a history that a turn needs. It is made anew where it is used, since a comparison needs no memory for it.
+#[inline(always)]
+fn room_of(needs: Needs) -> Room
+    ensures { HistoryMeets needs result }
 {
-    list.reserve(more)?;
+    Room {
+        turns: 1,
+        posted: needs.posted,
+        rows: needs.rows,
+        taken: needs.taken,
+        claimed: needs.claimed,
+        sent: needs.sent,
+    }
+}
+
+/// Reserves memory for this many items in an empty list. Mostly it is there, which its capacity alone shows.
+#[inline(always)]
+fn widen<T>(list: &mut Vec<T>, items: usize) -> Result<(), Memory>
+    requires empty { list.old.items ≡ [] }
+    ensures wider { IsWider list.old list.new }
+    ensures room { OnOk result (vec_len list.new + items ≤ vec_capacity list.new) }
+{
+    if items <= list.capacity() {
+        return Ok(());
+    }
+    list.reserve(items)?;
     Ok(())
 }
 

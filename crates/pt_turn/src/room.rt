@@ -55,7 +55,6 @@ impl Platform {
         let Some(needs) = needs_of(&self.plan, &self.fields, reading, room) else {
             return Err(Memory);
         };
-        self.next = None;
         make_room(&mut self.fields, &mut self.lists, &mut self.history, needs)?;
         self.room = Some(room);
         Ok(())

@@ -1,5 +1,4 @@
-use Rattle.std.proofs.Common.{◌++◌, List, None, refl, sym, ap, subst, ◌∙◌}
-use Rattle.pt_types.specs.declared.firing.Task.{Task}
+use Rattle.std.proofs.Common.{◌++◌, sym, ap, subst}
 use Rattle.pt_turn.specs.declared.claim_step.Ending.{Ending}
 use Rattle.pt_turn.specs.Steps.{took_late, turn_of}
 use Rattle.pt_state.specs.State.{state_of}

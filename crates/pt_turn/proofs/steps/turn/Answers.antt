@@ -11,7 +11,7 @@ use Rattle.pt_semantics.specs.Wired.{IsWired}
 use Rattle.pt_offsets.specs.Plans.{AreOffsets}
 use Rattle.pt_state.specs.declared.fields.Fields.{Fields}
 use Rattle.pt_state.specs.State.{busy_in, left_in, state_of}
-use Rattle.pt_post.specs.Posted.{ArePlaces, ArePosted, picked}
+use Rattle.pt_post.specs.Posted.{ArePosted, picked}
 use Rattle.pt_take.specs.Taken.{Arrive, NeverTakes}
 use Rattle.pt_turn.specs.declared.claim_step.Ending.{Ending}
 use Rattle.pt_turn.specs.declared.steps.Lists.{Lists}

@@ -22,3 +22,6 @@ invariant_of-self-2 c =
     (subst (λ (plan : Parts). AreEnough plan.graph p.fields c.raised_to-reading.result c.args.room c.in-Some.needs) c.deref.ensures c.in-Some.ensures) in
     is_wider p c.make_room.new.fields c.make_room.new.history c.make_room.new.lists (Some c.args.room) c.self.invariant m.fields m.history m.lists
     (is_roomy p c.make_room.new.fields c.make_room.new.history c.make_room.new.lists (Some c.args.room) c.args.room c.in-Some.needs m.fields enough c.in_ok-make_room.ensures.met.0 c.in_ok-make_room.ensures.met.1 c.in_ok-make_room.ensures.met.2)
+
+pub make_room-requires : goal.make_room-requires
+make_room-requires c = record { empty = c.self.invariant.empty }
