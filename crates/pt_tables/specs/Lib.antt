@@ -5,3 +5,4 @@ pub mod Names
 pub mod Platforms
 pub mod Margins
 pub mod Gathered
+pub mod TurnLine

@@ -19,6 +19,7 @@ mod names;
 mod platforms;
 mod table;
 mod text;
+mod turn_line;
 mod turns;
 
 pub use actor_tables::{ActorTables, has_table};

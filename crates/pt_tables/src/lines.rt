@@ -6,7 +6,7 @@ ghost use Rattle.pt_types.specs.declared.firing.Task.{Task};
 ghost use Rattle.pt_history.specs.Tasks.{mark_of};
 ghost use Rattle.pt_tables.specs.Log.{claim_line, message_line, post_line, row_line, sent_line, take_line, turn_line};
 
-use crate::fields::{push_end, push_name, push_number};
+use crate::fields::{push_bare, push_both, push_end, push_name, push_number, push_value};
 use crate::names::{receiver_name, sender_name};
 use pt_history::Mark;
 use pt_tags::{Message, Tag};
@@ -23,10 +23,9 @@ pub fn push_turn_line(
 ) -> Result<(), AllocError>
     ensures { OnOk result (string_bytes text.new ≡ string_bytes text.old ++ turn_line platform.now first last count) }
 {
-    text.push_str("turn")?;
-    push_name(text, platform)?;
-    push_number(text, first)?;
-    push_number(text, last)?;
+    text.push_str("turn,")?;
+    text.push_str(platform)?;
+    push_both(text, first, last)?;
     push_number(text, count)?;
     push_end(text)
 }
@@ -35,8 +34,8 @@ pub fn push_turn_line(
 pub(crate) fn push_post(text: &mut String, task: Mark) -> Result<(), AllocError>
     ensures { (done : Done) → mark_of done.task ≡ task → OnOk result (string_bytes text.new ≡ string_bytes text.old ++ post_line done) }
 {
-    text.push_str("post")?;
-    push_number(text, task.number)?;
+    text.push_str("post,")?;
+    push_bare(text, task.number)?;
     push_end(text)
 }
 
@@ -46,11 +45,11 @@ pub(crate) fn push_row(text: &mut String, graph: &Graph, at: &RowAt) -> Result<(
 {
     let RowAt { sensor, row } = *at;
     let Row { time, seen, value } = row;
-    text.push_str("row")?;
-    push_name(text, graph.actor_name(sensor))?;
+    text.push_str("row,")?;
+    text.push_str(graph.actor_name(sensor))?;
     push_number(text, time)?;
     push_number(text, seen)?;
-    push_number(text, value)?;
+    push_value(text, value)?;
     push_end(text)
 }
 
@@ -70,8 +69,8 @@ pub(crate) fn push_taken(text: &mut String, graph: &Graph, taken: &OnLink) -> Re
 pub(crate) fn push_claim(text: &mut String, graph: &Graph, claim: Mark) -> Result<(), AllocError>
     ensures { (task : Task) → mark_of task ≡ claim → OnOk result (string_bytes text.new ≡ string_bytes text.old ++ claim_line graph.now task) }
 {
-    text.push_str("claim")?;
-    push_number(text, claim.number)?;
+    text.push_str("claim,")?;
+    push_bare(text, claim.number)?;
     push_name(text, graph.actor_name(claim.actor))?;
     push_number(text, claim.tag.time)?;
     push_number(text, claim.tag.step)?;
@@ -114,7 +113,7 @@ fn push_event(
     push_name(text, name)?;
     push_number(text, tag.time)?;
     push_number(text, tag.step)?;
-    push_number(text, value)?;
+    push_value(text, value)?;
     push_end(text)
 }
 

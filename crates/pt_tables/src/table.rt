@@ -3,7 +3,7 @@
 ghost use Rattle.std.specs.Prelude.{◌≡◌, ◌++◌, OnOk, []};
 ghost use Rattle.pt_semantics.specs.Tables.{line};
 
-use crate::fields::{push_end, push_number};
+use crate::fields::{push_end, push_number, push_value};
 use pt_tags::Tag;
 use std::alloc::{AllocError, Global};
 use std::marker::Model;
@@ -39,7 +39,7 @@ impl Table {
         self.text.push_str(name)?;
         push_number(&mut self.text, tag.time)?;
         push_number(&mut self.text, tag.step)?;
-        push_number(&mut self.text, value)?;
+        push_value(&mut self.text, value)?;
         push_end(&mut self.text)
     }
 

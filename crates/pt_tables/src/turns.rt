@@ -7,9 +7,12 @@ ghost use Rattle.pt_semantics.specs.Turn.{Turn};
 ghost use Rattle.pt_history.specs.Turns.{claimed_in, posted_in};
 ghost use Rattle.pt_tables.specs.Held.{HasHeldLists, IsHeldMessage, IsHeldResult, IsHeldTurn};
 ghost use Rattle.pt_tables.specs.Log.{claim_line, history_lines, list_lines, log_head, log_text, post_line, row_line, sent_line, take_line, turn_lines};
+ghost use Rattle.pt_tables.specs.TurnLine.{IsLineOf};
+ghost use Rattle.pt_types.specs.Lookups.{platform_name};
 
 use crate::held::holds;
 use crate::lines::{push_claim, push_post, push_row, push_sent, push_taken, push_turn_line};
+use crate::turn_line::TurnLine;
 use pt_history::History;
 use pt_types::{Graph, OnLink, RowAt};
 use std::alloc::AllocError;
@@ -34,10 +37,36 @@ pub fn push_history(
     ensures log { OnOk result ((before : List (List Turn)) → length before ≡ platform → string_bytes text.old ≡ log_text graph.now before → string_bytes text.new ≡ log_text graph.now (before ++ history.now.turns ∷ [])) }
     ensures held { OnOk result (Each IsHeldTurn history.now.turns) }
 {
+    let mut line = TurnLine::new(*text.allocator(), graph.platform_name(platform))?;
     for number in 0..history.turns() {
-        push_turn(text, graph, platform, history, number)?;
+        push_next(text, &mut line, graph, platform, history, number)?;
     }
     Ok(())
+}
+
+/// Appends the lines of one recorded turn of a platform, where `line` is the line of some turn of it.
+fn push_next(
+    text: &mut String,
+    line: &mut TurnLine,
+    graph: &Graph,
+    platform: u32,
+    history: &History,
+    number: usize,
+) -> Result<(), AllocError>
+    requires number { number < length history.now.turns }
+    requires line { IsLineOf (platform_name graph.now platform) line.old }
+    ensures line { OnOk result (IsLineOf (platform_name graph.now platform) line.new) }
+    ensures lines { OnOk result (option_map (λ turn. string_bytes text.old ++ turn_lines graph.now platform turn) (slice_get history.now.turns number) ≡ Some (string_bytes text.new)) }
+    ensures held { OnOk result ((turn : Turn) → slice_get history.now.turns number ≡ Some turn → IsHeldTurn turn) }
+{
+    line.push(
+        text,
+        graph.platform_name(platform),
+        history.first(number),
+        history.last(number),
+        history.count(number),
+    )?;
+    push_lists(text, graph, history, number)
 }
 
 /// Appends the lines of one recorded turn of a platform.

@@ -11,10 +11,11 @@ use Rattle.pt_tables.proofs.turns.push_history.Goals as goal
 
 pub loop-number-preserved : goal.loop-number-preserved
 loop-number-preserved c = record {
+  line = c.in_ok-push_next.ensures.line;
   lines =
-      grows (turn_lines c.args.graph.now c.args.platform) c.args.history.now.turns c.loop-number.number (string_bytes c.args.text.now) (string_bytes c.loop-number.text) (string_bytes c.push_turn.new.text)
-      c.loop-number.invariant.lines c.in_ok-push_turn.ensures.lines;
-  held = one_more_at IsHeldTurn c.args.history.now.turns c.loop-number.number c.in_ok-push_turn.ensures.held c.loop-number.invariant.held;
+      grows (turn_lines c.args.graph.now c.args.platform) c.args.history.now.turns c.loop-number.number (string_bytes c.args.text.now) (string_bytes c.loop-number.text) (string_bytes c.push_next.new.text)
+      c.loop-number.invariant.lines c.in_ok-push_next.ensures.lines;
+  held = one_more_at IsHeldTurn c.args.history.now.turns c.loop-number.number c.in_ok-push_next.ensures.held c.loop-number.invariant.held;
 }
 
 pub returns-clause-log : goal.returns-clause-log
