@@ -87,7 +87,8 @@ fn missed_at(
     missed_after(graph, history, number, misses)
 }
 
-/// Appends the misses among the messages that were sent after a recorded turn.
+/// Appends the misses among the messages that were sent after a recorded turn. Inlined, since mostly none were.
+#[inline(always)]
 fn missed_after(
     graph: &Graph,
     history: &History,
@@ -123,7 +124,8 @@ fn missed_results(
     Ok(())
 }
 
-/// Appends the misses among messages sent at a reading.
+/// Appends the misses among messages sent at a reading. Not inlined, since it is called after few turns.
+#[inline(never)]
 fn missed_messages(
     graph: &Graph,
     reading: u64,
