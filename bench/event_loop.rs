@@ -63,7 +63,7 @@ fn run() -> Outcome<u8> {
             }
         });
     }
-    print!("{}", tables.text(&program));
+    program::write(&tables.text());
     Ok(0)
 }
 

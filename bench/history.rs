@@ -1,120 +1,213 @@
-//! What a plain paced engine keeps of each turn, and the log of it.
+//! What a plain paced engine stores of its turns, in little memory, and the log of it.
+use crate::plan::NEVER;
 use crate::program::{Program, Row, Tag};
-use std::fmt::Write;
+use std::io::{Result, Write};
+use std::ops::Range;
+use std::slice::Iter;
 
+/// What is sent over a link. The last message of a link has the tag NEVER and says that no more comes.
 #[derive(Clone, Copy)]
-pub enum Message {
-    Event(Tag, i64),
-    End,
-}
-
-#[derive(Clone, Copy)]
-pub struct Claim {
-    pub actor: usize,
+pub struct Message {
     pub tag: Tag,
+    pub value: i64,
 }
 
-/// What a history keeps of a claim and of a result where all is kept.
-#[allow(dead_code)]
-pub struct Task {
-    pub number: u64,
-    pub claim: Claim,
-    pub inputs: [Option<i64>; 8],
-    pub state: i64,
+/// A claim with its result: which inputs and outputs have a value. The values are those of `History::values`, one claim after another:
+/// of the inputs, the state before, of the outputs, and the state after, as far as there are such.
+pub struct Claim {
+    pub tag: Tag,
+    pub actor: u16,
+    pub inputs: u8,
+    pub outputs: u8,
 }
 
-#[allow(dead_code)]
-pub struct Result {
-    pub task: Task,
-    pub state: i64,
-    pub outputs: [Option<i64>; 8],
+/// How many results a turn posts, rows it enters, messages it takes, claims it makes and messages it sends.
+pub type Lengths = [usize; 5];
+
+/// A turn in which something happened, or a run of quiet turns. `later` is the first reading less the last one of the turn before it.
+#[derive(Clone, Copy)]
+enum Turn {
+    Busy { later: u16, lengths: [u8; 5] },
+    Quiet { later: u16, lasts: u16, count: u16 },
+    /// One whose numbers are too large for this stands in a list of its own.
+    Large(u32),
 }
 
-/// How much of each list of a history stands before the end of a turn.
-#[derive(Clone, Copy, Default, PartialEq)]
-pub struct Ends {
-    posts: usize,
-    rows: usize,
-    takes: usize,
-    claims: usize,
-    sent: usize,
-}
-
-struct Turn {
+#[derive(Clone, Copy, Default)]
+struct LargeTurn {
     first: u64,
     last: u64,
     count: u64,
-    quiet: bool,
-    ends: Ends,
+    lengths: Lengths,
 }
 
 #[derive(Default)]
 pub struct History {
     turns: Vec<Turn>,
-    pub posts: Vec<usize>,
-    pub rows: Vec<(usize, Row)>,
-    pub takes: Vec<(usize, Message)>,
+    large: Vec<LargeTurn>,
+    /// The reading of the last stored turn.
+    last: u64,
+    /// Quiet turns that aren't stored yet: the run that they are, and the last reading but one.
+    quiet: LargeTurn,
+    before_last: u64,
+    /// The actors whose rows were entered, one for each row.
+    pub rows: Vec<u16>,
+    /// The links from which messages were taken, and over which they were sent, one for each message.
+    pub takes: Vec<u16>,
+    pub sent: Vec<u16>,
     pub claims: Vec<Claim>,
-    pub sent: Vec<(usize, Message)>,
-    pub tasks: Vec<Task>,
-    pub results: Vec<Result>,
+    pub values: Vec<i64>,
 }
 
 impl History {
-    pub fn ends(&self) -> Ends {
-        Ends {
-            posts: self.posts.len(),
-            rows: self.rows.len(),
-            takes: self.takes.len(),
-            claims: self.claims.len(),
-            sent: self.sent.len(),
+    /// Stores a turn in which something happened.
+    pub fn keep(&mut self, reading: u64, lengths: Lengths) {
+        if self.quiet.count > 0 {
+            self.keep_quiet(self.quiet);
+            self.quiet.count = 0;
+        }
+        let later = reading - self.last;
+        if later <= u64::from(u16::MAX) && lengths.iter().all(|length| *length <= usize::from(u8::MAX)) {
+            self.turns.push(Turn::Busy { later: later as u16, lengths: lengths.map(|length| length as u8) });
+            self.last = reading;
+        } else {
+            self.keep_large(LargeTurn { first: reading, last: reading, count: 1, lengths });
         }
     }
 
-    /// Keeps a turn. The one before it joins a run of quiet turns where both are quiet.
-    pub fn keep(&mut self, reading: u64, before: Ends) {
-        let ends = self.ends();
-        let turn = Turn { first: reading, last: reading, count: 1, quiet: ends == before, ends };
-        if let [.., run, last] = &mut self.turns[..] {
-            if run.quiet && last.quiet {
-                run.last = last.last;
-                run.count += last.count;
-                *last = turn;
-                return;
-            }
+    /// Stores a turn in which nothing happened.
+    pub fn rest(&mut self, reading: u64) {
+        if self.quiet.count == 0 {
+            self.quiet.first = reading;
         }
-        self.turns.push(turn);
+        self.before_last = self.quiet.last;
+        self.quiet.last = reading;
+        self.quiet.count += 1;
     }
 
-    pub fn push_log(&self, text: &mut String, program: &Program, platform: &str) -> std::fmt::Result {
-        let name = |actor: usize| &program.actors[actor].name;
-        let mut from = Ends::default();
-        for Turn { first, last, count, ends, .. } in &self.turns {
-            writeln!(text, "turn,{platform},{first},{last},{count}")?;
-            for number in &self.posts[from.posts..ends.posts] {
-                writeln!(text, "post,{number}")?;
-            }
-            for (sensor, row) in &self.rows[from.rows..ends.rows] {
-                writeln!(text, "row,{},{},{},{}", name(*sensor), row.time, row.seen, row.value)?;
-            }
-            for (receiver, message) in &self.takes[from.takes..ends.takes] {
-                push_message(text, "take", name(*receiver), message)?;
-            }
-            for (number, claim) in (from.claims..ends.claims).zip(&self.claims[from.claims..]) {
-                writeln!(text, "claim,{number},{},{},{}", name(claim.actor), claim.tag.time, claim.tag.step)?;
-            }
-            for (sender, message) in &self.sent[from.sent..ends.sent] {
-                push_message(text, "sent", name(*sender), message)?;
-            }
-            from = *ends;
+    /// Stores the quiet turns at the end of a run. The last one of them stays apart.
+    pub fn end(&mut self) {
+        let LargeTurn { first, last, count, .. } = self.quiet;
+        if count > 1 {
+            self.keep_quiet(LargeTurn { last: self.before_last, count: count - 1, ..self.quiet });
         }
-        Ok(())
+        if count > 0 {
+            self.keep_quiet(LargeTurn { first: if count > 1 { last } else { first }, count: 1, ..self.quiet });
+        }
+    }
+
+    fn keep_quiet(&mut self, run: LargeTurn) {
+        let (later, lasts) = (run.first - self.last, run.last - run.first);
+        if later.max(lasts).max(run.count) <= u64::from(u16::MAX) {
+            self.turns.push(Turn::Quiet { later: later as u16, lasts: lasts as u16, count: run.count as u16 });
+            self.last = run.last;
+        } else {
+            self.keep_large(run);
+        }
+    }
+
+    fn keep_large(&mut self, turn: LargeTurn) {
+        self.turns.push(Turn::Large(self.large.len() as u32));
+        self.large.push(turn);
+        self.last = turn.last;
+    }
+
+    /// A stored turn with all its numbers; the one before it had this last reading.
+    fn whole(&self, turn: Turn, before: u64) -> LargeTurn {
+        match turn {
+            Turn::Busy { later, lengths } => {
+                let first = before + u64::from(later);
+                LargeTurn { first, last: first, count: 1, lengths: lengths.map(usize::from) }
+            }
+            Turn::Quiet { later, lasts, count } => {
+                let first = before + u64::from(later);
+                LargeTurn { first, last: first + u64::from(lasts), count: count.into(), lengths: Lengths::default() }
+            }
+            Turn::Large(number) => self.large[number as usize],
+        }
     }
 }
 
-fn push_message(text: &mut String, what: &str, actor: &str, message: &Message) -> std::fmt::Result {
-    match message {
-        Message::Event(tag, value) => writeln!(text, "{what},{actor},{},{},{value}", tag.time, tag.step),
-        Message::End => writeln!(text, "{what},{actor},end"),
+/// Writes the log of one platform after another.
+pub struct Log<'a> {
+    pub text: Vec<u8>,
+    program: &'a Program,
+    /// The rows of each actor that aren't written yet, and so the messages of each link.
+    rows: Vec<Iter<'a, Row>>,
+    taken: Vec<Iter<'a, Message>>,
+    sent: Vec<Iter<'a, Message>>,
+}
+
+impl<'a> Log<'a> {
+    pub fn new(program: &'a Program, rows: Vec<Iter<'a, Row>>, messages: Vec<Iter<'a, Message>>) -> Log<'a> {
+        Log { text: b"log\n".to_vec(), program, rows, taken: messages.clone(), sent: messages }
+    }
+
+    pub fn add(&mut self, platform: usize, history: &History) -> Result<()> {
+        let (mut last, mut from) = (0, Lengths::default());
+        for turn in &history.turns {
+            let LargeTurn { first, last: to_last, count, lengths } = history.whole(*turn, last);
+            let to: Lengths = std::array::from_fn(|list| from[list] + lengths[list]);
+            writeln!(self.text, "turn,{},{first},{to_last},{count}", self.program.platforms[platform])?;
+            self.add_posts(from[0]..to[0])?;
+            self.add_rows(&history.rows[from[1]..to[1]])?;
+            self.add_takes(&history.takes[from[2]..to[2]])?;
+            self.add_claims(&history.claims, from[3]..to[3])?;
+            self.add_sent(&history.sent[from[4]..to[4]])?;
+            (last, from) = (to_last, to);
+        }
+        Ok(())
+    }
+
+    fn name(&self, actor: usize) -> &'a str {
+        &self.program.actors[actor].name
+    }
+
+    fn add_posts(&mut self, numbers: Range<usize>) -> Result<()> {
+        for number in numbers {
+            writeln!(self.text, "post,{number}")?;
+        }
+        Ok(())
+    }
+
+    fn add_rows(&mut self, sensors: &[u16]) -> Result<()> {
+        for &sensor in sensors {
+            let row = self.rows[usize::from(sensor)].next().unwrap();
+            writeln!(self.text, "row,{},{},{},{}", self.name(sensor.into()), row.time, row.seen, row.value)?;
+        }
+        Ok(())
+    }
+
+    fn add_takes(&mut self, links: &[u16]) -> Result<()> {
+        for &link in links {
+            let message = self.taken[usize::from(link)].next().unwrap();
+            self.add_message("take", self.program.links[usize::from(link)].edge.to, message)?;
+        }
+        Ok(())
+    }
+
+    fn add_claims(&mut self, claims: &[Claim], numbers: Range<usize>) -> Result<()> {
+        for number in numbers {
+            let Claim { tag, actor, .. } = claims[number];
+            writeln!(self.text, "claim,{number},{},{},{}", self.name(actor.into()), tag.time, tag.step)?;
+        }
+        Ok(())
+    }
+
+    fn add_sent(&mut self, links: &[u16]) -> Result<()> {
+        for &link in links {
+            let message = self.sent[usize::from(link)].next().unwrap();
+            self.add_message("sent", self.program.links[usize::from(link)].edge.from, message)?;
+        }
+        Ok(())
+    }
+
+    fn add_message(&mut self, what: &str, actor: usize, message: &Message) -> Result<()> {
+        let (name, Message { tag, value }) = (self.name(actor), message);
+        if *tag == NEVER {
+            writeln!(self.text, "{what},{name},end")
+        } else {
+            writeln!(self.text, "{what},{name},{},{},{value}", tag.time, tag.step)
+        }
     }
 }

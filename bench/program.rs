@@ -1,6 +1,8 @@
 //! What the plain programs share: a graph of version 1 without faults, its rows, what its actors do, and its tables.
 use crate::json::Json;
+use std::cmp::Ordering;
 use std::collections::HashMap;
+use std::io::Write;
 
 /// Why a plain program doesn't run a graph, as one line, and the status with which it then ends: those of `ptides` where it refuses
 /// the same, and 1 for what only the plain program doesn't take.
@@ -26,7 +28,7 @@ fn not_taken<T>(what: impl std::fmt::Display) -> Outcome<T> {
 }
 
 /// A time in microseconds and a step.
-#[derive(Clone, Copy, PartialEq, Eq, PartialOrd, Ord)]
+#[derive(Clone, Copy, PartialEq, Eq)]
 pub struct Tag {
     pub time: u64,
     pub step: u64,
@@ -39,6 +41,23 @@ impl Tag {
 
     pub fn plus(self, delay: Tag) -> Tag {
         Tag { time: self.time + delay.time, step: self.step + delay.step }
+    }
+
+    /// Time and step as one number, which takes fewer instructions to compare.
+    fn joined(self) -> u128 {
+        u128::from(self.time) << 64 | u128::from(self.step)
+    }
+}
+
+impl Ord for Tag {
+    fn cmp(&self, other: &Tag) -> Ordering {
+        self.joined().cmp(&other.joined())
+    }
+}
+
+impl PartialOrd for Tag {
+    fn partial_cmp(&self, other: &Tag) -> Option<Ordering> {
+        Some(self.cmp(other))
     }
 }
 
@@ -124,6 +143,11 @@ impl Inputs {
 
     pub fn first(&self) -> i64 {
         self.values[0]
+    }
+
+    /// A bit for each input that has a value.
+    pub fn present(&self) -> u8 {
+        self.present
     }
 
     pub fn get(&self, input: usize) -> Option<i64> {
@@ -223,7 +247,11 @@ impl Kind {
         }
     }
 
-    fn start(&self) -> i64 {
+    pub fn has_state(&self) -> bool {
+        matches!(self, Kind::Count | Kind::Sum | Kind::Latch | Kind::Machine { .. } | Kind::Every { .. })
+    }
+
+    pub fn start(&self) -> i64 {
         match self {
             Kind::Machine { start, .. } => *start,
             _ => 0,
@@ -275,21 +303,38 @@ fn kind(actor: &Json) -> Outcome<(Kind, usize, usize)> {
     })
 }
 
-/// A whole number of decimal digits. Fields in quotes, which few files have, are none.
-fn number(field: &[u8]) -> Option<i64> {
-    let (digits, sign) = field.strip_prefix(b"-").map_or((field, 1), |digits| (digits, -1));
-    let with_digit = |number: i64, digit: &u8| match digit {
-        b'0'..=b'9' => number.checked_mul(10)?.checked_add(sign * i64::from(digit - b'0')),
-        _ => None,
-    };
-    digits.iter().try_fold(0, with_digit).filter(|_| !digits.is_empty())
+/// Takes a whole number of decimal digits from the front of a text. Fields in quotes, which few files have, are none.
+fn take_number(text: &mut &[u8]) -> Option<i64> {
+    let (digits, sign) = text.strip_prefix(b"-").map_or((*text, 1), |digits| (digits, -1));
+    let (mut rest, mut number) = (digits, 0i64);
+    while let [digit @ b'0'..=b'9', behind @ ..] = rest {
+        number = number.checked_mul(10)?.checked_add(sign * i64::from(digit - b'0'))?;
+        rest = behind;
+    }
+    *text = rest;
+    (rest.len() < digits.len()).then_some(number)
 }
 
-fn row(line: &[u8]) -> Option<Row> {
-    let mut fields = line.split(|byte| *byte == b',').map(number);
-    let mut next = || fields.next().flatten();
-    let row = Row { time: next()?.try_into().ok()?, seen: next()?.try_into().ok()?, value: next()? };
-    fields.next().is_none().then_some(row)
+fn take_comma(text: &mut &[u8]) -> Option<()> {
+    *text = text.strip_prefix(b",")?;
+    Some(())
+}
+
+/// Takes a row from the front of a text, up to the end of its line.
+fn take_row(text: &mut &[u8]) -> Option<Row> {
+    let time = take_number(text)?.try_into().ok()?;
+    take_comma(text)?;
+    let seen = take_number(text)?.try_into().ok()?;
+    take_comma(text)?;
+    let value = take_number(text)?;
+    matches!(text, [] | [b'\n' | b'\r', ..]).then_some(Row { time, seen, value })
+}
+
+/// Takes ends of lines from the front of a text.
+fn take_ends(text: &mut &[u8]) {
+    while let [b'\n' | b'\r', rest @ ..] = text {
+        *text = rest;
+    }
 }
 
 impl Program {
@@ -387,41 +432,72 @@ impl Program {
     pub fn rows(&self, actor: usize) -> Outcome<Vec<Row>> {
         let Kind::Sensor { file, .. } = &self.actors[actor].kind else { return Ok(Vec::new()) };
         let text = std::fs::read(file).unwrap();
-        let lines = text.split(|byte| matches!(byte, b'\n' | b'\r')).filter(|line| !line.is_empty());
-        let mut rows = Vec::new();
-        for (line, number) in lines.skip(1).zip(1..) {
-            match row(line) {
-                Some(row) if row.time <= self.until => rows.push(row),
-                Some(_) => {}
-                None => return not_taken(format_args!("row {number} of sensor {}", self.actors[actor].name)),
+        let mut rest = &text[..];
+        take_ends(&mut rest);
+        let head = rest.iter().position(|byte| matches!(byte, b'\n' | b'\r')).unwrap_or(rest.len());
+        rest = &rest[head..];
+        take_ends(&mut rest);
+        let (mut rows, mut number) = (Vec::new(), 0);
+        while !rest.is_empty() {
+            number += 1;
+            let Some(row) = take_row(&mut rest) else {
+                return not_taken(format_args!("row {number} of sensor {}", self.actors[actor].name));
+            };
+            if row.time <= self.until {
+                rows.push(row);
             }
+            take_ends(&mut rest);
         }
         Ok(rows)
     }
 }
 
-/// The events of each actor that acts.
-pub struct Tables {
-    lines: Vec<Vec<(Tag, i64)>>,
+/// Adds the decimal digits of a number to a text.
+pub fn push_number(text: &mut Vec<u8>, number: u64) {
+    let (mut digits, mut first, mut left) = ([0; 20], 20, number);
+    while left > 0 || first == 20 {
+        first -= 1;
+        digits[first] = b'0' + (left % 10) as u8;
+        left /= 10;
+    }
+    text.extend_from_slice(&digits[first..]);
 }
 
-impl Tables {
-    pub fn new(program: &Program) -> Tables {
-        Tables { lines: program.actors.iter().map(|_| Vec::new()).collect() }
+/// Adds a tag and a value to a text, as `,time,step,value`.
+pub fn push_event(text: &mut Vec<u8>, tag: Tag, value: i64) {
+    text.push(b',');
+    push_number(text, tag.time);
+    text.push(b',');
+    push_number(text, tag.step);
+    text.extend_from_slice(if value < 0 { b",-" } else { b"," });
+    push_number(text, value.unsigned_abs());
+}
+
+/// The lines of each actor that acts.
+pub struct Tables<'a> {
+    program: &'a Program,
+    texts: Vec<Vec<u8>>,
+}
+
+impl Tables<'_> {
+    pub fn new(program: &Program) -> Tables<'_> {
+        Tables { program, texts: vec![Vec::new(); program.actors.len()] }
     }
 
     pub fn add(&mut self, actor: usize, tag: Tag, value: i64) {
-        self.lines[actor].push((tag, value));
+        let text = &mut self.texts[actor];
+        text.extend_from_slice(self.program.actors[actor].name.as_bytes());
+        push_event(text, tag, value);
+        text.push(b'\n');
     }
 
-    pub fn text(&self, program: &Program) -> String {
-        use std::fmt::Write;
-        let mut text = String::from("actuator,time,step,value\n");
-        for (actor, lines) in program.actors.iter().zip(&self.lines) {
-            for (tag, value) in lines {
-                writeln!(text, "{},{},{},{value}", actor.name, tag.time, tag.step).unwrap();
-            }
-        }
-        text
+    pub fn text(&self) -> Vec<u8> {
+        let head: &[u8] = b"actuator,time,step,value\n";
+        [head].into_iter().chain(self.texts.iter().map(|text| &text[..])).collect::<Vec<_>>().concat()
     }
+}
+
+/// Writes a text to the standard output.
+pub fn write(text: &[u8]) {
+    std::io::stdout().lock().write_all(text).unwrap();
 }

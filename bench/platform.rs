@@ -1,0 +1,358 @@
+//! A platform of a plain paced engine: what waits on it, and what it does in a turn.
+//!
+//! A unit that waits is either a candidate, which is looked at in each turn, or it is held up by another unit, and is a candidate again
+//! when that one is claimed or when an earlier event comes. A claim is fired at once, and its result is posted in the next turn.
+use crate::history::{Claim, History, Message};
+use crate::places::Places;
+use crate::plan::{Parts, Plan, NEVER};
+use crate::program::{Inputs, Kind, Outcome, Refusal, Row, Tables, Tag};
+use crate::records::{Records, Task};
+use crate::unit::{Input, Role, Sensor, Unit};
+
+/// How many units a turn claims, and how many messages a link holds.
+const MOST: usize = 64;
+/// How many units a platform claims.
+const LIMIT: usize = 200_000;
+
+/// All messages of a link, in the order of their tags, and how many of them were sent and taken.
+#[derive(Default)]
+pub struct Traffic {
+    pub messages: Vec<Message>,
+    sent: usize,
+    taken: usize,
+}
+
+/// What the platforms share: the traffic of links, the tables, and for each platform the reading from which on it may have something to
+/// do.
+pub struct Shared<'a> {
+    pub links: Vec<Traffic>,
+    pub tables: Tables<'a>,
+    pub wakes: Vec<u64>,
+}
+
+/// A result that isn't posted yet: its outputs, and where their values begin.
+#[derive(Clone, Copy)]
+struct Done {
+    tag: Tag,
+    place: usize,
+    outputs: u8,
+    values: usize,
+}
+
+pub struct Platform<'a, const WORDS: usize> {
+    plan: &'a Plan<'a>,
+    parts: &'a Parts,
+    number: usize,
+    units: Vec<Unit<'a, WORDS>>,
+    sensors: Vec<Sensor>,
+    /// The units that have events, and those of them that have to be looked at.
+    waiting: Places<WORDS>,
+    candidates: Places<WORDS>,
+    safe: Vec<(Tag, usize, usize)>,
+    results: Vec<Done>,
+    /// When the next row is seen, and when the first candidate that isn't due yet is due.
+    next_row: u64,
+    next_due: u64,
+    is_closed: bool,
+    unsent: usize,
+    ends_taken: usize,
+    pub missed: u64,
+    pub history: History,
+    records: Option<Records>,
+}
+
+impl<'a, const WORDS: usize> Platform<'a, WORDS> {
+    pub fn new(plan: &'a Plan<'a>, number: usize, rows: &mut [Vec<Row>], records: bool) -> Platform<'a, WORDS> {
+        let parts = &plan.platforms[number];
+        let sensor = |place: &usize| Sensor::new(*place, std::mem::take(&mut rows[parts.units[*place].actor]));
+        let mut platform = Platform {
+            plan,
+            parts,
+            number,
+            units: (0..parts.units.len()).map(|place| Unit::new(plan, parts, place)).collect(),
+            sensors: parts.sensors.iter().map(sensor).collect(),
+            waiting: Places::NONE,
+            candidates: Places::NONE,
+            safe: Vec::new(),
+            results: Vec::new(),
+            next_row: 0,
+            next_due: u64::MAX,
+            is_closed: false,
+            unsent: 0,
+            ends_taken: 0,
+            missed: 0,
+            history: History::default(),
+            records: records.then(Records::default),
+        };
+        for place in 0..parts.units.len() {
+            if let Some(start) = plan.program.starts_at(parts.units[place].actor) {
+                platform.insert(place, 0, Tag::at(start), 0);
+                platform.next_due = platform.next_due.min(platform.units[place].due());
+            }
+        }
+        platform.next_row = platform.sensors.iter().map(Sensor::next_seen).min().unwrap_or(u64::MAX);
+        platform
+    }
+
+    pub fn rows(&self) -> impl Iterator<Item = (usize, &[Row])> {
+        self.sensors.iter().map(|sensor| (self.units[sensor.place].actor, &sensor.rows[..]))
+    }
+
+    pub fn is_finished(&self) -> bool {
+        self.is_closed && self.unsent == 0 && self.ends_taken == self.parts.incoming.len()
+    }
+
+    /// The reading from which on it has something to do, if no message comes before.
+    pub fn wakes(&self) -> u64 {
+        if !self.results.is_empty() || self.unsent > 0 {
+            0
+        } else if self.is_closed {
+            u64::MAX
+        } else {
+            self.parts.closing.min(self.next_row).min(self.next_due)
+        }
+    }
+
+    /// Makes a turn, and says whether anything happened.
+    pub fn turn(&mut self, reading: u64, shared: &mut Shared) -> Outcome<bool> {
+        let posts = self.post(reading, shared);
+        let rows = self.enter(reading);
+        let takes = self.take(shared);
+        let claims = self.claim(reading, shared)?;
+        let closes = self.close(reading, shared);
+        let sent = self.send(reading, shared);
+        shared.wakes[self.number] = self.wakes();
+        if posts + rows + takes + claims + sent > 0 {
+            self.history.keep(reading, [posts, rows, takes, claims, sent]);
+            return Ok(true);
+        }
+        self.history.rest(reading);
+        Ok(closes)
+    }
+
+    fn insert(&mut self, place: usize, input: usize, tag: Tag, value: i64) {
+        self.units[place].inputs[input].push(tag, value);
+        self.come(place, tag);
+    }
+
+    /// An event of this tag now waits for a unit.
+    fn come(&mut self, place: usize, tag: Tag) {
+        let unit = &mut self.units[place];
+        if tag < unit.first {
+            unit.first = tag;
+            self.waiting.put(place);
+            self.candidates.put(place);
+        }
+    }
+
+    fn post(&mut self, reading: u64, shared: &mut Shared) -> usize {
+        let count = self.results.len();
+        for number in 0..count {
+            let done = self.results[number];
+            match self.units[done.place].role {
+                Role::Sender { link } => {
+                    self.unsent += 1;
+                    shared.links[link].messages.push(Message { tag: done.tag, value: self.history.values[done.values] });
+                }
+                Role::Actuator { slack } => self.missed += u64::from(reading > done.tag.time + slack),
+                Role::Sensor { .. } | Role::Other => self.give(done),
+            }
+        }
+        self.results.clear();
+        count
+    }
+
+    /// Puts the outputs of a result where they lead.
+    fn give(&mut self, done: Done) {
+        let (mut outputs, mut values) = (done.outputs, done.values);
+        while outputs != 0 {
+            self.give_one(done.place, outputs.trailing_zeros() as usize, done.tag, self.history.values[values]);
+            outputs &= outputs - 1;
+            values += 1;
+        }
+    }
+
+    fn give_one(&mut self, place: usize, output: usize, tag: Tag, value: i64) {
+        let output = &self.parts.units[place].outputs[output];
+        let tag = tag.plus(output.delay);
+        if tag.time <= self.plan.program.until {
+            for target in &output.targets {
+                self.insert(target.place, target.input, tag, value);
+            }
+        }
+    }
+
+    /// Enters the rows that are seen by now.
+    fn enter(&mut self, reading: u64) -> usize {
+        if reading < self.next_row {
+            return 0;
+        }
+        let before = self.history.rows.len();
+        self.next_row = u64::MAX;
+        for number in 0..self.sensors.len() {
+            let sensor = &mut self.sensors[number];
+            let place = sensor.place;
+            let count = sensor.enter(reading);
+            self.next_row = self.next_row.min(sensor.next_seen());
+            let first = sensor.first();
+            let actor = self.units[place].actor as u16;
+            self.history.rows.extend(std::iter::repeat_n(actor, count));
+            self.come(place, first);
+        }
+        self.history.rows.len() - before
+    }
+
+    fn take(&mut self, shared: &mut Shared) -> usize {
+        let before = self.history.takes.len();
+        for &link in &self.parts.incoming {
+            let traffic = &mut shared.links[link];
+            if traffic.taken < traffic.sent {
+                self.take_all(link, traffic);
+            }
+        }
+        self.history.takes.len() - before
+    }
+
+    fn take_all(&mut self, link: usize, traffic: &mut Traffic) {
+        let place = self.plan.places[self.plan.program.links[link].edge.to];
+        for message in &traffic.messages[traffic.taken..traffic.sent] {
+            self.history.takes.push(link as u16);
+            if message.tag == NEVER {
+                self.ends_taken += 1;
+            } else {
+                self.insert(place, 0, message.tag, message.value);
+            }
+        }
+        traffic.taken = traffic.sent;
+    }
+
+    /// The last unit that holds up this one: whose first event may cause one that belongs before its first event, or with it.
+    fn holder(&self, place: usize) -> Option<usize> {
+        let unit = &self.units[place];
+        let delays = &self.parts.units[place].delays;
+        let mut others = self.waiting.meet(&unit.before);
+        while let Some(other) = others.take_last() {
+            if self.units[other].first.plus(delays[other]) <= unit.first {
+                return Some(other);
+            }
+        }
+        None
+    }
+
+    /// Finds all safe units.
+    fn find_safe(&mut self, reading: u64) {
+        self.safe.clear();
+        self.next_due = u64::MAX;
+        self.candidates = self.candidates.meet(&self.waiting);
+        let mut left = self.candidates;
+        while let Some(place) = left.take_first() {
+            let unit = &self.units[place];
+            if unit.due() > reading {
+                self.next_due = self.next_due.min(unit.due());
+            } else if let Some(holder) = self.holder(place) {
+                self.units[holder].held.put(place);
+                self.candidates.remove(place);
+            } else {
+                self.safe.push((unit.first, unit.actor, place));
+            }
+        }
+    }
+
+    /// Claims safe units in the order of tag and actor, and fires them.
+    fn claim(&mut self, reading: u64, shared: &mut Shared) -> Outcome<usize> {
+        self.find_safe(reading);
+        if self.safe.len() > 1 {
+            self.safe.sort_unstable();
+        }
+        let left = LIMIT - self.history.claims.len();
+        if left == 0 && !self.safe.is_empty() {
+            return Err(Refusal { status: 6, line: format!("long {}", self.plan.program.platforms[self.number]) });
+        }
+        let count = self.safe.len().min(MOST).min(left);
+        for number in 0..count {
+            self.fire(self.safe[number].2, &mut shared.tables);
+        }
+        Ok(count)
+    }
+
+    /// Claims a unit, which frees those that it holds up, and fires it.
+    fn fire(&mut self, place: usize, tables: &mut Tables) {
+        let unit = &mut self.units[place];
+        let values = &mut self.history.values;
+        let tag = unit.first;
+        let inputs = match unit.role {
+            Role::Sensor { number } => self.sensors[number].claim(&mut unit.first, values),
+            _ => unit.take(values),
+        };
+        self.candidates.join(&unit.held);
+        unit.held = Places::NONE;
+        if unit.first == NEVER {
+            self.waiting.remove(place);
+        }
+        if let Role::Actuator { .. } = unit.role {
+            tables.add(unit.actor, tag, inputs.first());
+        }
+        let has_state = unit.kind.has_state();
+        let before = unit.state;
+        if has_state {
+            values.push(before);
+        }
+        let (first, mut outputs) = (values.len(), 0);
+        unit.kind.fire(&mut unit.state, &inputs, |output, value| {
+            outputs |= 1 << output;
+            values.push(value);
+        });
+        if let Some(records) = &mut self.records {
+            let number = self.history.claims.len() as u64;
+            let inputs = std::array::from_fn(|input| inputs.get(input));
+            records.add(Task { number, actor: unit.actor, tag, inputs, state: before }, unit.state, outputs, &values[first..]);
+        }
+        if has_state {
+            values.push(unit.state);
+        }
+        self.history.claims.push(Claim { tag, actor: unit.actor as u16, inputs: inputs.present(), outputs });
+        self.results.push(Done { tag, place, outputs, values: first });
+    }
+
+    /// Closes the platform, if nothing waits on it and no row or message can come any more.
+    fn close(&mut self, reading: u64, shared: &mut Shared) -> bool {
+        let is_idle = self.waiting.is_empty() && self.results.is_empty() && self.unsent == 0;
+        if self.is_closed || !is_idle || reading < self.parts.closing {
+            return false;
+        }
+        self.is_closed = true;
+        self.unsent = self.parts.outgoing.len();
+        for &link in &self.parts.outgoing {
+            shared.links[link].messages.push(Message { tag: NEVER, value: 0 });
+        }
+        true
+    }
+
+    fn send(&mut self, reading: u64, shared: &mut Shared) -> usize {
+        if self.unsent == 0 {
+            return 0;
+        }
+        let before = self.unsent;
+        for &link in &self.parts.outgoing {
+            self.send_over(link, reading, shared);
+        }
+        before - self.unsent
+    }
+
+    fn send_over(&mut self, link: usize, reading: u64, shared: &mut Shared) {
+        let edge = self.plan.program.links[link].edge;
+        let actors = &self.plan.program.actors;
+        let slack = actors[edge.from].kind.slack();
+        let traffic = &mut shared.links[link];
+        let count = (MOST - (traffic.sent - traffic.taken)).min(traffic.messages.len() - traffic.sent);
+        for message in &traffic.messages[traffic.sent..traffic.sent + count] {
+            self.history.sent.push(link as u16);
+            self.missed += u64::from(message.tag != NEVER && reading > message.tag.time + slack);
+        }
+        traffic.sent += count;
+        self.unsent -= count;
+        if count > 0 {
+            shared.wakes[actors[edge.to].platform] = 0;
+        }
+    }
+}

@@ -1,0 +1,153 @@
+//! A unit of a plain paced engine, which is an actor on its platform, with the events that wait for it.
+use crate::places::Places;
+use crate::plan::{Parts, Plan, NEVER};
+use crate::program::{Actor, Inputs, Kind, Row, Tag};
+use std::collections::VecDeque;
+
+/// The events that wait at an input. The first one stands apart; without one its tag is NEVER.
+pub struct Input {
+    tag: Tag,
+    value: i64,
+    later: VecDeque<(Tag, i64)>,
+}
+
+impl Input {
+    fn empty() -> Input {
+        Input { tag: NEVER, value: 0, later: VecDeque::new() }
+    }
+
+    pub fn push(&mut self, tag: Tag, value: i64) {
+        if self.tag == NEVER {
+            (self.tag, self.value) = (tag, value);
+        } else {
+            self.later.push_back((tag, value));
+        }
+    }
+
+    /// Takes the first event.
+    pub fn pop(&mut self) -> i64 {
+        let value = self.value;
+        match self.later.pop_front() {
+            Some(event) => (self.tag, self.value) = event,
+            None => self.tag = NEVER,
+        }
+        value
+    }
+}
+
+/// What makes some actors different to others.
+pub enum Role {
+    Sensor { number: usize },
+    Sender { link: usize },
+    Actuator { slack: u64 },
+    Other,
+}
+
+pub struct Unit<'a, const WORDS: usize> {
+    /// The tag of its first event.
+    pub first: Tag,
+    /// How long after the time of its first event it may fire.
+    pub pace: i64,
+    pub inputs: Vec<Input>,
+    pub state: i64,
+    pub kind: &'a Kind,
+    pub role: Role,
+    pub actor: usize,
+    /// From which units a path leads to this one, and which units this one holds up.
+    pub before: Places<WORDS>,
+    pub held: Places<WORDS>,
+}
+
+impl<'a, const WORDS: usize> Unit<'a, WORDS> {
+    pub fn new(plan: &'a Plan<'a>, parts: &'a Parts, place: usize) -> Self {
+        let unit = &parts.units[place];
+        let Actor { kind, inputs, .. } = &plan.program.actors[unit.actor];
+        let mut before = Places::NONE;
+        for other in (0..parts.units.len()).filter(|other| *other != place && unit.delays[*other] != NEVER) {
+            before.put(other);
+        }
+        let role = match kind {
+            Kind::Sensor { .. } => Role::Sensor { number: parts.sensors.iter().position(|sensor| *sensor == place).unwrap() },
+            Kind::Send { .. } => {
+                Role::Sender { link: plan.program.links.iter().position(|link| link.edge.from == unit.actor).unwrap() }
+            }
+            Kind::Actuator { slack } => Role::Actuator { slack: *slack },
+            _ => Role::Other,
+        };
+        Unit {
+            first: NEVER,
+            // Without a sensor or receiver that leads to it, it may fire at once.
+            pace: unit.offset.map_or(i64::MIN / 2, |offset| offset + 1),
+            inputs: (0..*inputs).map(|_| Input::empty()).collect(),
+            state: kind.start(),
+            kind,
+            role,
+            actor: unit.actor,
+            before,
+            held: Places::NONE,
+        }
+    }
+
+    /// The reading from which on it may fire.
+    pub fn due(&self) -> u64 {
+        (self.first.time as i64 + self.pace).max(0) as u64
+    }
+
+    /// Takes all events of the first tag, and adds their values to a list.
+    pub fn take(&mut self, values: &mut Vec<i64>) -> Inputs {
+        let mut inputs = Inputs::default();
+        let mut first = NEVER;
+        for (number, input) in self.inputs.iter_mut().enumerate() {
+            if input.tag == self.first {
+                let value = input.pop();
+                inputs.set(number, value);
+                values.push(value);
+            }
+            first = first.min(input.tag);
+        }
+        self.first = first;
+        inputs
+    }
+}
+
+/// A sensor: its rows, and how many of them were entered and claimed.
+pub struct Sensor {
+    pub place: usize,
+    pub rows: Vec<Row>,
+    entered: usize,
+    claimed: usize,
+}
+
+impl Sensor {
+    pub fn new(place: usize, rows: Vec<Row>) -> Sensor {
+        Sensor { place, rows, entered: 0, claimed: 0 }
+    }
+
+    /// When the next row is seen.
+    pub fn next_seen(&self) -> u64 {
+        self.rows.get(self.entered).map_or(u64::MAX, |row| row.seen)
+    }
+
+    /// Enters the rows that are seen by now, and gives how many they are.
+    pub fn enter(&mut self, reading: u64) -> usize {
+        let count = self.rows[self.entered..].iter().take_while(|row| row.seen <= reading).count();
+        self.entered += count;
+        count
+    }
+
+    /// The tag of the first row that waits.
+    pub fn first(&self) -> Tag {
+        self.rows[self.claimed..self.entered].first().map_or(NEVER, |row| Tag::at(row.time))
+    }
+
+    /// Takes the first row that waits, adds its value to a list, and sets the tag of the next one.
+    pub fn claim(&mut self, next: &mut Tag, values: &mut Vec<i64>) -> Inputs {
+        let mut inputs = Inputs::default();
+        let value = self.rows[self.claimed].value;
+        inputs.set(0, value);
+        values.push(value);
+        self.claimed += 1;
+        *next = self.first();
+        inputs
+    }
+}
