@@ -14,12 +14,16 @@ pub struct Message {
 
 /// A claim with its result: which inputs and outputs have a value. The values are those of `History::values`, one claim after another:
 /// of the inputs, the state before, of the outputs, and the state after, as far as there are such.
+#[derive(Clone, Copy)]
 pub struct Claim {
-    pub tag: Tag,
+    /// The time of the tag less the reading, if the step is 0. FAR if the tag stands in `History::tags`.
+    pub ahead: i32,
     pub actor: u16,
     pub inputs: u8,
     pub outputs: u8,
 }
+
+const FAR: i32 = i32::MAX;
 
 /// How many results a turn posts, rows it enters, messages it takes, claims it makes and messages it sends.
 pub type Lengths = [usize; 5];
@@ -56,6 +60,7 @@ pub struct History {
     pub takes: Vec<u16>,
     pub sent: Vec<u16>,
     pub claims: Vec<Claim>,
+    tags: Vec<Tag>,
     pub values: Vec<i64>,
 }
 
@@ -67,12 +72,23 @@ impl History {
             self.quiet.count = 0;
         }
         let later = reading - self.last;
-        if later <= u64::from(u16::MAX) && lengths.iter().all(|length| *length <= usize::from(u8::MAX)) {
+        let bits = lengths.iter().fold(0, |bits, length| bits | length);
+        if later <= u64::from(u16::MAX) && bits <= usize::from(u8::MAX) {
             self.turns.push(Turn::Busy { later: later as u16, lengths: lengths.map(|length| length as u8) });
             self.last = reading;
         } else {
             self.keep_large(LargeTurn { first: reading, last: reading, count: 1, lengths });
         }
+    }
+
+    /// Stores a claim, made at a reading.
+    pub fn keep_claim(&mut self, reading: u64, tag: Tag, mut claim: Claim) {
+        let ahead = tag.time as i64 - reading as i64;
+        claim.ahead = i32::try_from(ahead).ok().filter(|_| tag.step == 0).unwrap_or(FAR);
+        if claim.ahead == FAR {
+            self.tags.push(tag);
+        }
+        self.claims.push(claim);
     }
 
     /// Stores a turn in which nothing happened.
@@ -136,15 +152,18 @@ pub struct Log<'a> {
     rows: Vec<Iter<'a, Row>>,
     taken: Vec<Iter<'a, Message>>,
     sent: Vec<Iter<'a, Message>>,
+    /// How many tags of the platform's list were used.
+    tags: usize,
 }
 
 impl<'a> Log<'a> {
     pub fn new(program: &'a Program, rows: Vec<Iter<'a, Row>>, messages: Vec<Iter<'a, Message>>) -> Log<'a> {
-        Log { text: b"log\n".to_vec(), program, rows, taken: messages.clone(), sent: messages }
+        Log { text: b"log\n".to_vec(), program, rows, taken: messages.clone(), sent: messages, tags: 0 }
     }
 
     pub fn add(&mut self, platform: usize, history: &History) -> Result<()> {
         let (mut last, mut from) = (0, Lengths::default());
+        self.tags = 0;
         for turn in &history.turns {
             let LargeTurn { first, last: to_last, count, lengths } = history.whole(*turn, last);
             let to: Lengths = std::array::from_fn(|list| from[list] + lengths[list]);
@@ -152,7 +171,7 @@ impl<'a> Log<'a> {
             self.add_posts(from[0]..to[0])?;
             self.add_rows(&history.rows[from[1]..to[1]])?;
             self.add_takes(&history.takes[from[2]..to[2]])?;
-            self.add_claims(&history.claims, from[3]..to[3])?;
+            self.add_claims(history, from[3]..to[3], first)?;
             self.add_sent(&history.sent[from[4]..to[4]])?;
             (last, from) = (to_last, to);
         }
@@ -186,9 +205,15 @@ impl<'a> Log<'a> {
         Ok(())
     }
 
-    fn add_claims(&mut self, claims: &[Claim], numbers: Range<usize>) -> Result<()> {
+    fn add_claims(&mut self, history: &History, numbers: Range<usize>, reading: u64) -> Result<()> {
         for number in numbers {
-            let Claim { tag, actor, .. } = claims[number];
+            let Claim { ahead, actor, .. } = history.claims[number];
+            let tag = if ahead == FAR {
+                self.tags += 1;
+                history.tags[self.tags - 1]
+            } else {
+                Tag::at(reading.wrapping_add_signed(ahead.into()))
+            };
             writeln!(self.text, "claim,{number},{},{},{}", self.name(actor.into()), tag.time, tag.step)?;
         }
         Ok(())

@@ -1,5 +1,6 @@
 //! What a plain paced engine knows of a graph before it runs: bounds, offsets, least delays and the parts of each platform.
-use crate::program::{Edge, Kind, Outcome, Program, Refusal, Tag};
+use crate::program::{Actor, Edge, Kind, Outcome, Program, Refusal, Tag};
+use std::ops::Range;
 
 /// A tag after all others.
 pub const NEVER: Tag = Tag { time: u64::MAX, step: u64::MAX };
@@ -14,32 +15,31 @@ impl Tag {
     }
 }
 
-/// The end of a wire: an input of the unit at a place.
-pub struct Target {
-    pub place: usize,
-    pub input: usize,
-}
-
-/// What an output adds to a tag, and where it leads on its platform.
-pub struct Output {
+/// Where a wire leads and what it adds to a tag. Inputs and outputs are numbered over all units of a platform.
+pub struct Wire {
     pub delay: Tag,
-    pub targets: Vec<Target>,
+    pub place: u32,
+    pub input: u32,
 }
 
 /// An actor on its platform.
 pub struct Unit {
     pub actor: usize,
-    pub outputs: Vec<Output>,
-    /// For each place the least delay over all paths of wires from there to this unit, or NEVER.
-    pub delays: Vec<Tag>,
-    /// The greatest bound less delay of all sensors and receivers that lead to the unit.
+    /// The numbers of its inputs, and that of its first output.
+    pub inputs: Range<usize>,
+    pub first_output: usize,
+    /// The greatest bound less delay of all sensors and receivers that lead to it.
     pub offset: Option<i64>,
 }
 
-/// The units and link ends of a platform, and the reading from which on it may close.
+/// The units, wires and link ends of a platform, and the reading from which on it may close.
 pub struct Parts {
     /// The place of a unit is its number in this list. Each comes after those that feed it without delay.
     pub units: Vec<Unit>,
+    /// The wires of each output.
+    pub outputs: Vec<Vec<Wire>>,
+    /// For each unit and each other one the least delay over all paths of wires from the other one, or NEVER.
+    pub delays: Vec<Tag>,
     /// The places of the sensors, in the order of the graph.
     pub sensors: Vec<usize>,
     pub incoming: Vec<usize>,
@@ -125,41 +125,55 @@ impl Plan<'_> {
 }
 
 impl Parts {
-    /// The parts of the platform with these actors, which are listed by their places.
+    /// The parts of the platform with these actors, which are in the order of their places.
     fn new(program: &Program, places: &[usize], bounds: &[Option<u64>], actors: &[usize]) -> Parts {
         let is_here = |actor: usize| actors.get(places[actor]) == Some(&actor);
-        let mut feeds: Vec<Feeds> = vec![Vec::new(); actors.len()];
-        for wire in program.wires.iter().filter(|wire| is_here(wire.to)) {
-            feeds[places[wire.to]].push((places[wire.from], program.delay(wire.from, wire.output)));
-        }
-        let unit = |place| Unit::new(program, places, bounds, actors, least_delays(&feeds, place), place);
         let links = |end: fn(&Edge) -> usize| -> Vec<usize> {
             (0..program.links.len()).filter(|link| is_here(end(&program.links[*link].edge))).collect()
         };
         let is_sensor = |place: &usize| matches!(program.actors[actors[*place]].kind, Kind::Sensor { .. });
         let mut sensors: Vec<usize> = (0..actors.len()).filter(is_sensor).collect();
         sensors.sort_by_key(|place| actors[*place]);
-        Parts {
-            units: (0..actors.len()).map(unit).collect(),
+        let mut parts = Parts {
+            units: Vec::new(),
+            outputs: Vec::new(),
+            delays: Vec::new(),
             sensors,
             incoming: links(|edge| edge.to),
             outgoing: links(|edge| edge.from),
             closing: actors.iter().filter_map(|actor| bounds[*actor]).map(|bound| program.until + bound + 1).max().unwrap_or(0),
+        };
+        let wires: Vec<&Edge> = program.wires.iter().filter(|wire| is_here(wire.to)).collect();
+        let mut feeds: Vec<Feeds> = vec![Vec::new(); actors.len()];
+        for wire in &wires {
+            feeds[places[wire.to]].push((places[wire.from], program.delay(wire.from, wire.output)));
         }
+        parts.add_units(program, actors, bounds, &feeds);
+        parts.add_wires(program, places, &wires);
+        parts
     }
-}
 
-impl Unit {
-    fn new(program: &Program, places: &[usize], bounds: &[Option<u64>], actors: &[usize], delays: Vec<Tag>, place: usize) -> Unit {
-        let actor = actors[place];
-        let mut outputs: Vec<Output> = (0..program.actors[actor].outputs)
-            .map(|output| Output { delay: program.delay(actor, output), targets: Vec::new() })
-            .collect();
-        for wire in program.wires.iter().filter(|wire| wire.from == actor) {
-            outputs[wire.output].targets.push(Target { place: places[wire.to], input: wire.input });
+    fn add_units(&mut self, program: &Program, actors: &[usize], bounds: &[Option<u64>], feeds: &[Feeds]) {
+        let (mut first_input, mut first_output) = (0, 0);
+        for (place, &actor) in actors.iter().enumerate() {
+            let Actor { inputs, outputs, .. } = program.actors[actor];
+            let delays = least_delays(feeds, place);
+            let reach = actors.iter().zip(&delays).filter(|(_, delay)| **delay != NEVER);
+            let offset = reach.filter_map(|(from, delay)| bounds[*from].map(|bound| bound as i64 - delay.time as i64)).max();
+            self.units.push(Unit { actor, inputs: first_input..first_input + inputs, first_output, offset });
+            self.delays.extend(delays);
+            first_input += inputs;
+            first_output += outputs;
         }
-        let reach = actors.iter().zip(&delays).filter(|(_, delay)| **delay != NEVER);
-        let offset = reach.filter_map(|(from, delay)| bounds[*from].map(|bound| bound as i64 - delay.time as i64)).max();
-        Unit { actor, outputs, delays, offset }
+        self.outputs.resize_with(first_output, Vec::new);
+    }
+
+    fn add_wires(&mut self, program: &Program, places: &[usize], wires: &[&Edge]) {
+        for wire in wires {
+            let (from, place) = (&self.units[places[wire.from]], places[wire.to]);
+            let input = self.units[place].inputs.start + wire.input;
+            let delay = program.delay(wire.from, wire.output);
+            self.outputs[from.first_output + wire.output].push(Wire { delay, place: place as u32, input: input as u32 });
+        }
     }
 }

@@ -34,22 +34,27 @@ pub struct Shared<'a> {
 #[derive(Clone, Copy)]
 struct Done {
     tag: Tag,
-    place: usize,
+    place: u32,
     outputs: u8,
-    values: usize,
+    values: u32,
 }
 
 pub struct Platform<'a, const WORDS: usize> {
     plan: &'a Plan<'a>,
     parts: &'a Parts,
     number: usize,
-    units: Vec<Unit<'a, WORDS>>,
+    units: Vec<Unit<WORDS>>,
+    /// The inputs of all units.
+    inputs: Vec<Input>,
     sensors: Vec<Sensor>,
     /// The units that have events, and those of them that have to be looked at.
     waiting: Places<WORDS>,
     candidates: Places<WORDS>,
-    safe: Vec<(Tag, usize, usize)>,
+    /// The safe units, each with its tag, actor and place.
+    safe: Vec<(Tag, u16, u16)>,
     results: Vec<Done>,
+    /// Room for the values at the inputs of a firing.
+    taken: Inputs,
     /// When the next row is seen, and when the first candidate that isn't due yet is due.
     next_row: u64,
     next_due: u64,
@@ -70,11 +75,13 @@ impl<'a, const WORDS: usize> Platform<'a, WORDS> {
             parts,
             number,
             units: (0..parts.units.len()).map(|place| Unit::new(plan, parts, place)).collect(),
+            inputs: parts.units.iter().flat_map(|unit| unit.inputs.clone()).map(|_| Input::empty()).collect(),
             sensors: parts.sensors.iter().map(sensor).collect(),
             waiting: Places::NONE,
             candidates: Places::NONE,
             safe: Vec::new(),
             results: Vec::new(),
+            taken: Inputs::default(),
             next_row: 0,
             next_due: u64::MAX,
             is_closed: false,
@@ -86,7 +93,7 @@ impl<'a, const WORDS: usize> Platform<'a, WORDS> {
         };
         for place in 0..parts.units.len() {
             if let Some(start) = plan.program.starts_at(parts.units[place].actor) {
-                platform.insert(place, 0, Tag::at(start), 0);
+                platform.insert(place, parts.units[place].inputs.start, Tag::at(start), 0);
                 platform.next_due = platform.next_due.min(platform.units[place].due());
             }
         }
@@ -95,7 +102,7 @@ impl<'a, const WORDS: usize> Platform<'a, WORDS> {
     }
 
     pub fn rows(&self) -> impl Iterator<Item = (usize, &[Row])> {
-        self.sensors.iter().map(|sensor| (self.units[sensor.place].actor, &sensor.rows[..]))
+        self.sensors.iter().map(|sensor| (self.parts.units[sensor.place].actor, &sensor.rows[..]))
     }
 
     pub fn is_finished(&self) -> bool {
@@ -131,7 +138,7 @@ impl<'a, const WORDS: usize> Platform<'a, WORDS> {
     }
 
     fn insert(&mut self, place: usize, input: usize, tag: Tag, value: i64) {
-        self.units[place].inputs[input].push(tag, value);
+        self.inputs[input].push(tag, value);
         self.come(place, tag);
     }
 
@@ -149,13 +156,14 @@ impl<'a, const WORDS: usize> Platform<'a, WORDS> {
         let count = self.results.len();
         for number in 0..count {
             let done = self.results[number];
-            match self.units[done.place].role {
+            let unit = &self.units[done.place as usize];
+            match unit.role {
                 Role::Sender { link } => {
                     self.unsent += 1;
-                    shared.links[link].messages.push(Message { tag: done.tag, value: self.history.values[done.values] });
+                    shared.links[link].messages.push(Message { tag: done.tag, value: self.history.values[done.values as usize] });
                 }
                 Role::Actuator { slack } => self.missed += u64::from(reading > done.tag.time + slack),
-                Role::Sensor { .. } | Role::Other => self.give(done),
+                Role::Sensor { .. } | Role::Other => self.give(done, unit.first_output as usize),
             }
         }
         self.results.clear();
@@ -163,21 +171,20 @@ impl<'a, const WORDS: usize> Platform<'a, WORDS> {
     }
 
     /// Puts the outputs of a result where they lead.
-    fn give(&mut self, done: Done) {
-        let (mut outputs, mut values) = (done.outputs, done.values);
-        while outputs != 0 {
-            self.give_one(done.place, outputs.trailing_zeros() as usize, done.tag, self.history.values[values]);
-            outputs &= outputs - 1;
+    fn give(&mut self, done: Done, first_output: usize) {
+        let (mut left, mut values) = (done.outputs, done.values as usize);
+        while left != 0 {
+            self.give_one(first_output + left.trailing_zeros() as usize, done.tag, self.history.values[values]);
+            left &= left - 1;
             values += 1;
         }
     }
 
-    fn give_one(&mut self, place: usize, output: usize, tag: Tag, value: i64) {
-        let output = &self.parts.units[place].outputs[output];
-        let tag = tag.plus(output.delay);
-        if tag.time <= self.plan.program.until {
-            for target in &output.targets {
-                self.insert(target.place, target.input, tag, value);
+    fn give_one(&mut self, output: usize, tag: Tag, value: i64) {
+        for wire in &self.parts.outputs[output] {
+            let tag = tag.plus(wire.delay);
+            if tag.time <= self.plan.program.until {
+                self.insert(wire.place as usize, wire.input as usize, tag, value);
             }
         }
     }
@@ -195,7 +202,7 @@ impl<'a, const WORDS: usize> Platform<'a, WORDS> {
             let count = sensor.enter(reading);
             self.next_row = self.next_row.min(sensor.next_seen());
             let first = sensor.first();
-            let actor = self.units[place].actor as u16;
+            let actor = self.units[place].actor;
             self.history.rows.extend(std::iter::repeat_n(actor, count));
             self.come(place, first);
         }
@@ -215,12 +222,13 @@ impl<'a, const WORDS: usize> Platform<'a, WORDS> {
 
     fn take_all(&mut self, link: usize, traffic: &mut Traffic) {
         let place = self.plan.places[self.plan.program.links[link].edge.to];
+        let input = self.parts.units[place].inputs.start;
         for message in &traffic.messages[traffic.taken..traffic.sent] {
             self.history.takes.push(link as u16);
             if message.tag == NEVER {
                 self.ends_taken += 1;
             } else {
-                self.insert(place, 0, message.tag, message.value);
+                self.insert(place, input, message.tag, message.value);
             }
         }
         traffic.taken = traffic.sent;
@@ -229,10 +237,10 @@ impl<'a, const WORDS: usize> Platform<'a, WORDS> {
     /// The last unit that holds up this one: whose first event may cause one that belongs before its first event, or with it.
     fn holder(&self, place: usize) -> Option<usize> {
         let unit = &self.units[place];
-        let delays = &self.parts.units[place].delays;
+        let first_delay = place * self.units.len();
         let mut others = self.waiting.meet(&unit.before);
         while let Some(other) = others.take_last() {
-            if self.units[other].first.plus(delays[other]) <= unit.first {
+            if self.units[other].first.plus(self.parts.delays[first_delay + other]) <= unit.first {
                 return Some(other);
             }
         }
@@ -253,7 +261,7 @@ impl<'a, const WORDS: usize> Platform<'a, WORDS> {
                 self.units[holder].held.put(place);
                 self.candidates.remove(place);
             } else {
-                self.safe.push((unit.first, unit.actor, place));
+                self.safe.push((unit.first, unit.actor, place as u16));
             }
         }
     }
@@ -270,54 +278,55 @@ impl<'a, const WORDS: usize> Platform<'a, WORDS> {
         }
         let count = self.safe.len().min(MOST).min(left);
         for number in 0..count {
-            self.fire(self.safe[number].2, &mut shared.tables);
+            self.fire(self.safe[number].2.into(), reading, &mut shared.tables);
         }
         Ok(count)
     }
 
     /// Claims a unit, which frees those that it holds up, and fires it.
-    fn fire(&mut self, place: usize, tables: &mut Tables) {
+    fn fire(&mut self, place: usize, reading: u64, tables: &mut Tables) {
         let unit = &mut self.units[place];
         let values = &mut self.history.values;
         let tag = unit.first;
-        let inputs = match unit.role {
-            Role::Sensor { number } => self.sensors[number].claim(&mut unit.first, values),
-            _ => unit.take(values),
-        };
+        let taken = &mut self.taken;
+        taken.clear();
+        match unit.role {
+            Role::Sensor { number } => unit.first = self.sensors[number].take(taken, values),
+            _ => unit.take(&mut self.inputs, taken, values),
+        }
         self.candidates.join(&unit.held);
         unit.held = Places::NONE;
         if unit.first == NEVER {
             self.waiting.remove(place);
         }
         if let Role::Actuator { .. } = unit.role {
-            tables.add(unit.actor, tag, inputs.first());
+            tables.add(unit.actor.into(), tag, taken.first());
         }
-        let has_state = unit.kind.has_state();
         let before = unit.state;
-        if has_state {
+        if unit.has_state {
             values.push(before);
         }
         let (first, mut outputs) = (values.len(), 0);
-        unit.kind.fire(&mut unit.state, &inputs, |output, value| {
+        unit.kind.fire(&mut unit.state, taken, |output, value| {
             outputs |= 1 << output;
             values.push(value);
         });
         if let Some(records) = &mut self.records {
             let number = self.history.claims.len() as u64;
-            let inputs = std::array::from_fn(|input| inputs.get(input));
-            records.add(Task { number, actor: unit.actor, tag, inputs, state: before }, unit.state, outputs, &values[first..]);
+            let inputs = std::array::from_fn(|input| taken.get(input));
+            records.add(Task { number, actor: unit.actor.into(), tag, inputs, state: before }, unit.state, outputs, &values[first..]);
         }
-        if has_state {
+        if unit.has_state {
             values.push(unit.state);
         }
-        self.history.claims.push(Claim { tag, actor: unit.actor as u16, inputs: inputs.present(), outputs });
-        self.results.push(Done { tag, place, outputs, values: first });
+        self.history.keep_claim(reading, tag, Claim { ahead: 0, actor: unit.actor, inputs: taken.present(), outputs });
+        self.results.push(Done { tag, place: place as u32, outputs, values: first as u32 });
     }
 
     /// Closes the platform, if nothing waits on it and no row or message can come any more.
     fn close(&mut self, reading: u64, shared: &mut Shared) -> bool {
-        let is_idle = self.waiting.is_empty() && self.results.is_empty() && self.unsent == 0;
-        if self.is_closed || !is_idle || reading < self.parts.closing {
+        let may_close = reading >= self.parts.closing && !self.is_closed;
+        if !may_close || !self.waiting.is_empty() || !self.results.is_empty() || self.unsent > 0 {
             return false;
         }
         self.is_closed = true;

@@ -61,6 +61,7 @@ impl PartialOrd for Tag {
     }
 }
 
+#[derive(Clone)]
 pub struct MachineRow {
     state: i64,
     low: i64,
@@ -69,6 +70,7 @@ pub struct MachineRow {
     emit: Option<(usize, i64)>,
 }
 
+#[derive(Clone)]
 pub enum Kind {
     Sensor { file: String, bound: u64 },
     Receive,
@@ -136,6 +138,10 @@ pub struct Inputs {
 }
 
 impl Inputs {
+    pub fn clear(&mut self) {
+        self.present = 0;
+    }
+
     pub fn set(&mut self, input: usize, value: i64) {
         self.values[input] = value;
         self.present |= 1 << input;

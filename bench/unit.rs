@@ -1,7 +1,7 @@
 //! A unit of a plain paced engine, which is an actor on its platform, with the events that wait for it.
 use crate::places::Places;
 use crate::plan::{Parts, Plan, NEVER};
-use crate::program::{Actor, Inputs, Kind, Row, Tag};
+use crate::program::{Inputs, Kind, Row, Tag};
 use std::collections::VecDeque;
 
 /// The events that wait at an input. The first one stands apart; without one its tag is NEVER.
@@ -12,7 +12,7 @@ pub struct Input {
 }
 
 impl Input {
-    fn empty() -> Input {
+    pub fn empty() -> Input {
         Input { tag: NEVER, value: 0, later: VecDeque::new() }
     }
 
@@ -43,28 +43,33 @@ pub enum Role {
     Other,
 }
 
-pub struct Unit<'a, const WORDS: usize> {
+pub struct Unit<const WORDS: usize> {
     /// The tag of its first event.
     pub first: Tag,
     /// How long after the time of its first event it may fire.
     pub pace: i64,
-    pub inputs: Vec<Input>,
     pub state: i64,
-    pub kind: &'a Kind,
+    pub kind: Kind,
     pub role: Role,
-    pub actor: usize,
+    pub has_state: bool,
+    pub actor: u16,
+    /// The number of its first output, and those of its inputs.
+    pub first_output: u32,
+    inputs: (u32, u32),
     /// From which units a path leads to this one, and which units this one holds up.
     pub before: Places<WORDS>,
     pub held: Places<WORDS>,
 }
 
-impl<'a, const WORDS: usize> Unit<'a, WORDS> {
-    pub fn new(plan: &'a Plan<'a>, parts: &'a Parts, place: usize) -> Self {
+impl<const WORDS: usize> Unit<WORDS> {
+    pub fn new(plan: &Plan, parts: &Parts, place: usize) -> Self {
         let unit = &parts.units[place];
-        let Actor { kind, inputs, .. } = &plan.program.actors[unit.actor];
+        let kind = &plan.program.actors[unit.actor].kind;
         let mut before = Places::NONE;
-        for other in (0..parts.units.len()).filter(|other| *other != place && unit.delays[*other] != NEVER) {
-            before.put(other);
+        for (other, delay) in parts.delays[place * parts.units.len()..].iter().take(parts.units.len()).enumerate() {
+            if other != place && *delay != NEVER {
+                before.put(other);
+            }
         }
         let role = match kind {
             Kind::Sensor { .. } => Role::Sensor { number: parts.sensors.iter().position(|sensor| *sensor == place).unwrap() },
@@ -78,11 +83,13 @@ impl<'a, const WORDS: usize> Unit<'a, WORDS> {
             first: NEVER,
             // Without a sensor or receiver that leads to it, it may fire at once.
             pace: unit.offset.map_or(i64::MIN / 2, |offset| offset + 1),
-            inputs: (0..*inputs).map(|_| Input::empty()).collect(),
             state: kind.start(),
-            kind,
+            kind: kind.clone(),
             role,
-            actor: unit.actor,
+            has_state: kind.has_state(),
+            actor: unit.actor as u16,
+            first_output: unit.first_output as u32,
+            inputs: (unit.inputs.start as u32, unit.inputs.end as u32),
             before,
             held: Places::NONE,
         }
@@ -94,19 +101,17 @@ impl<'a, const WORDS: usize> Unit<'a, WORDS> {
     }
 
     /// Takes all events of the first tag, and adds their values to a list.
-    pub fn take(&mut self, values: &mut Vec<i64>) -> Inputs {
-        let mut inputs = Inputs::default();
+    pub fn take(&mut self, inputs: &mut [Input], taken: &mut Inputs, values: &mut Vec<i64>) {
         let mut first = NEVER;
-        for (number, input) in self.inputs.iter_mut().enumerate() {
+        for (number, input) in inputs[self.inputs.0 as usize..self.inputs.1 as usize].iter_mut().enumerate() {
             if input.tag == self.first {
                 let value = input.pop();
-                inputs.set(number, value);
+                taken.set(number, value);
                 values.push(value);
             }
             first = first.min(input.tag);
         }
         self.first = first;
-        inputs
     }
 }
 
@@ -140,14 +145,12 @@ impl Sensor {
         self.rows[self.claimed..self.entered].first().map_or(NEVER, |row| Tag::at(row.time))
     }
 
-    /// Takes the first row that waits, adds its value to a list, and sets the tag of the next one.
-    pub fn claim(&mut self, next: &mut Tag, values: &mut Vec<i64>) -> Inputs {
-        let mut inputs = Inputs::default();
+    /// Takes the first row that waits, adds its value to a list, and gives the tag of the next one.
+    pub fn take(&mut self, taken: &mut Inputs, values: &mut Vec<i64>) -> Tag {
         let value = self.rows[self.claimed].value;
-        inputs.set(0, value);
+        taken.set(0, value);
         values.push(value);
         self.claimed += 1;
-        *next = self.first();
-        inputs
+        self.first()
     }
 }
