@@ -66,6 +66,7 @@ pub struct History {
 
 impl History {
     /// Stores a turn in which something happened.
+    #[inline(always)]
     pub fn keep(&mut self, reading: u64, lengths: Lengths) {
         if self.quiet.count > 0 {
             self.keep_quiet(self.quiet);

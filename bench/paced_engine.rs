@@ -62,7 +62,7 @@ impl<'a, const WORDS: usize> Engine<'a, WORDS> {
         let mut moved = false;
         for (number, platform) in self.platforms.iter_mut().enumerate() {
             if self.shared.wakes[number] <= reading {
-                moved |= platform.turn(reading, &mut self.shared)?;
+                moved |= platform.turn(reading, &mut self.shared).ok_or_else(|| long(self.program, number))?;
                 self.running -= usize::from(platform.is_finished());
             } else if !platform.is_finished() {
                 platform.history.rest(reading);
@@ -86,6 +86,11 @@ impl<'a, const WORDS: usize> Engine<'a, WORDS> {
         }
         log.text
     }
+}
+
+/// Says that a platform claims too much.
+fn long(program: &Program, platform: usize) -> Refusal {
+    Refusal { status: 6, line: format!("long {}", program.platforms[platform]) }
 }
 
 /// The rows of an actor, if each is seen within the bound.

@@ -1,4 +1,4 @@
-//! Sets of places, that is, of the numbers of units of one platform, as bits.
+//! Sets of places, that is, of the numbers of units of one platform, as bits. They are gone through word by word.
 
 #[derive(Clone, Copy, PartialEq)]
 pub struct Places<const WORDS: usize>([u64; WORDS]);
@@ -7,7 +7,7 @@ impl<const WORDS: usize> Places<WORDS> {
     pub const NONE: Self = Places([0; WORDS]);
 
     pub fn is_empty(&self) -> bool {
-        *self == Places::NONE
+        self.0.iter().all(|word| *word == 0)
     }
 
     pub fn put(&mut self, place: usize) {
@@ -25,24 +25,32 @@ impl<const WORDS: usize> Places<WORDS> {
         }
     }
 
-    /// The places that another set has too.
-    pub fn meet(&self, other: &Self) -> Self {
-        Places(std::array::from_fn(|word| self.0[word] & other.0[word]))
+    /// The places of one word that another set has too.
+    pub fn meet(&self, other: &Self, word: usize) -> Word {
+        Word { first: 64 * word, bits: self.0[word] & other.0[word] }
     }
+}
 
+/// The places of one word of a set.
+pub struct Word {
+    first: usize,
+    bits: u64,
+}
+
+impl Word {
     /// Takes out the least place.
     pub fn take_first(&mut self) -> Option<usize> {
-        let word = self.0.iter().position(|word| *word != 0)?;
-        let bit = self.0[word].trailing_zeros();
-        self.0[word] &= self.0[word] - 1;
-        Some(word * 64 + bit as usize)
+        let bit = self.bits.trailing_zeros();
+        (bit < 64).then(|| {
+            self.bits &= self.bits - 1;
+            self.first + bit as usize
+        })
     }
 
     /// Takes out the greatest place.
     pub fn take_last(&mut self) -> Option<usize> {
-        let word = self.0.iter().rposition(|word| *word != 0)?;
-        let bit = 63 - self.0[word].leading_zeros();
-        self.0[word] &= !(1 << bit);
-        Some(word * 64 + bit as usize)
+        let bit = self.bits.checked_ilog2()?;
+        self.bits &= !(1 << bit);
+        Some(self.first + bit as usize)
     }
 }

@@ -5,9 +5,9 @@
 use crate::history::{Claim, History, Message};
 use crate::places::Places;
 use crate::plan::{Parts, Plan, NEVER};
-use crate::program::{Inputs, Kind, Outcome, Refusal, Row, Tables, Tag};
+use crate::program::{Inputs, Row, Tables, Tag};
 use crate::records::{Records, Task};
-use crate::unit::{Input, Role, Sensor, Unit};
+use crate::unit::{Input, Open, Role, Sensor, Unit};
 
 /// How many units a turn claims, and how many messages a link holds.
 const MOST: usize = 64;
@@ -30,15 +30,6 @@ pub struct Shared<'a> {
     pub wakes: Vec<u64>,
 }
 
-/// A result that isn't posted yet: its outputs, and where their values begin.
-#[derive(Clone, Copy)]
-struct Done {
-    tag: Tag,
-    place: u32,
-    outputs: u8,
-    values: u32,
-}
-
 pub struct Platform<'a, const WORDS: usize> {
     plan: &'a Plan<'a>,
     parts: &'a Parts,
@@ -50,9 +41,8 @@ pub struct Platform<'a, const WORDS: usize> {
     /// The units that have events, and those of them that have to be looked at.
     waiting: Places<WORDS>,
     candidates: Places<WORDS>,
-    /// The safe units, each with its tag, actor and place.
-    safe: Vec<(Tag, u16, u16)>,
-    results: Vec<Done>,
+    /// The places of the units that the last turn claimed, in the order of tag and actor.
+    claimed: Vec<u16>,
     /// Room for the values at the inputs of a firing.
     taken: Inputs,
     /// When the next row is seen, and when the first candidate that isn't due yet is due.
@@ -79,8 +69,7 @@ impl<'a, const WORDS: usize> Platform<'a, WORDS> {
             sensors: parts.sensors.iter().map(sensor).collect(),
             waiting: Places::NONE,
             candidates: Places::NONE,
-            safe: Vec::new(),
-            results: Vec::new(),
+            claimed: Vec::new(),
             taken: Inputs::default(),
             next_row: 0,
             next_due: u64::MAX,
@@ -111,7 +100,7 @@ impl<'a, const WORDS: usize> Platform<'a, WORDS> {
 
     /// The reading from which on it has something to do, if no message comes before.
     pub fn wakes(&self) -> u64 {
-        if !self.results.is_empty() || self.unsent > 0 {
+        if !self.claimed.is_empty() || self.unsent > 0 {
             0
         } else if self.is_closed {
             u64::MAX
@@ -120,8 +109,9 @@ impl<'a, const WORDS: usize> Platform<'a, WORDS> {
         }
     }
 
-    /// Makes a turn, and says whether anything happened.
-    pub fn turn(&mut self, reading: u64, shared: &mut Shared) -> Outcome<bool> {
+    /// Makes a turn, and says whether anything happened. Gives nothing if the platform claims too much.
+    #[inline(never)]
+    pub fn turn(&mut self, reading: u64, shared: &mut Shared) -> Option<bool> {
         let posts = self.post(reading, shared);
         let rows = self.enter(reading);
         let takes = self.take(shared);
@@ -131,10 +121,10 @@ impl<'a, const WORDS: usize> Platform<'a, WORDS> {
         shared.wakes[self.number] = self.wakes();
         if posts + rows + takes + claims + sent > 0 {
             self.history.keep(reading, [posts, rows, takes, claims, sent]);
-            return Ok(true);
+            return Some(true);
         }
         self.history.rest(reading);
-        Ok(closes)
+        Some(closes)
     }
 
     fn insert(&mut self, place: usize, input: usize, tag: Tag, value: i64) {
@@ -153,29 +143,26 @@ impl<'a, const WORDS: usize> Platform<'a, WORDS> {
     }
 
     fn post(&mut self, reading: u64, shared: &mut Shared) -> usize {
-        let count = self.results.len();
-        for number in 0..count {
-            let done = self.results[number];
-            let unit = &self.units[done.place as usize];
+        for number in 0..self.claimed.len() {
+            let unit = &self.units[usize::from(self.claimed[number])];
+            let Open { tag, outputs, values } = unit.open;
             match unit.role {
                 Role::Sender { link } => {
                     self.unsent += 1;
-                    shared.links[link].messages.push(Message { tag: done.tag, value: self.history.values[done.values as usize] });
+                    shared.links[link].messages.push(Message { tag, value: self.history.values[values as usize] });
                 }
-                Role::Actuator { slack } => self.missed += u64::from(reading > done.tag.time + slack),
-                Role::Sensor { .. } | Role::Other => self.give(done, unit.first_output as usize),
+                Role::Actuator { slack } => self.missed += u64::from(reading > tag.time + slack),
+                Role::Sensor { .. } | Role::Other => self.give(unit.first_output as usize, outputs, tag, values as usize),
             }
         }
-        self.results.clear();
-        count
+        self.claimed.len()
     }
 
     /// Puts the outputs of a result where they lead.
-    fn give(&mut self, done: Done, first_output: usize) {
-        let (mut left, mut values) = (done.outputs, done.values as usize);
-        while left != 0 {
-            self.give_one(first_output + left.trailing_zeros() as usize, done.tag, self.history.values[values]);
-            left &= left - 1;
+    fn give(&mut self, first_output: usize, mut outputs: u8, tag: Tag, mut values: usize) {
+        while outputs != 0 {
+            self.give_one(first_output + outputs.trailing_zeros() as usize, tag, self.history.values[values]);
+            outputs &= outputs - 1;
             values += 1;
         }
     }
@@ -236,9 +223,13 @@ impl<'a, const WORDS: usize> Platform<'a, WORDS> {
 
     /// The last unit that holds up this one: whose first event may cause one that belongs before its first event, or with it.
     fn holder(&self, place: usize) -> Option<usize> {
+        (0..WORDS).rev().find_map(|word| self.holder_in(word, place))
+    }
+
+    fn holder_in(&self, word: usize, place: usize) -> Option<usize> {
         let unit = &self.units[place];
         let first_delay = place * self.units.len();
-        let mut others = self.waiting.meet(&unit.before);
+        let mut others = self.waiting.meet(&unit.before, word);
         while let Some(other) = others.take_last() {
             if self.units[other].first.plus(self.parts.delays[first_delay + other]) <= unit.first {
                 return Some(other);
@@ -247,12 +238,17 @@ impl<'a, const WORDS: usize> Platform<'a, WORDS> {
         None
     }
 
-    /// Finds all safe units.
+    /// Lists all safe units.
     fn find_safe(&mut self, reading: u64) {
-        self.safe.clear();
+        self.claimed.clear();
         self.next_due = u64::MAX;
-        self.candidates = self.candidates.meet(&self.waiting);
-        let mut left = self.candidates;
+        for word in 0..WORDS {
+            self.find_safe_in(word, reading);
+        }
+    }
+
+    fn find_safe_in(&mut self, word: usize, reading: u64) {
+        let mut left = self.candidates.meet(&self.waiting, word);
         while let Some(place) = left.take_first() {
             let unit = &self.units[place];
             if unit.due() > reading {
@@ -261,26 +257,30 @@ impl<'a, const WORDS: usize> Platform<'a, WORDS> {
                 self.units[holder].held.put(place);
                 self.candidates.remove(place);
             } else {
-                self.safe.push((unit.first, unit.actor, place as u16));
+                self.claimed.push(place as u16);
             }
         }
     }
 
     /// Claims safe units in the order of tag and actor, and fires them.
-    fn claim(&mut self, reading: u64, shared: &mut Shared) -> Outcome<usize> {
+    fn claim(&mut self, reading: u64, shared: &mut Shared) -> Option<usize> {
         self.find_safe(reading);
-        if self.safe.len() > 1 {
-            self.safe.sort_unstable();
+        if self.claimed.is_empty() {
+            return Some(0);
         }
         let left = LIMIT - self.history.claims.len();
-        if left == 0 && !self.safe.is_empty() {
-            return Err(Refusal { status: 6, line: format!("long {}", self.plan.program.platforms[self.number]) });
+        if left == 0 {
+            return None;
         }
-        let count = self.safe.len().min(MOST).min(left);
-        for number in 0..count {
-            self.fire(self.safe[number].2.into(), reading, &mut shared.tables);
+        if self.claimed.len() > 1 {
+            let units = &self.units;
+            self.claimed.sort_unstable_by_key(|place| (units[usize::from(*place)].first, units[usize::from(*place)].actor));
+            self.claimed.truncate(MOST.min(left));
         }
-        Ok(count)
+        for number in 0..self.claimed.len() {
+            self.fire(self.claimed[number].into(), reading, &mut shared.tables);
+        }
+        Some(self.claimed.len())
     }
 
     /// Claims a unit, which frees those that it holds up, and fires it.
@@ -294,10 +294,13 @@ impl<'a, const WORDS: usize> Platform<'a, WORDS> {
             Role::Sensor { number } => unit.first = self.sensors[number].take(taken, values),
             _ => unit.take(&mut self.inputs, taken, values),
         }
-        self.candidates.join(&unit.held);
-        unit.held = Places::NONE;
+        if !unit.held.is_empty() {
+            self.candidates.join(&unit.held);
+            unit.held = Places::NONE;
+        }
         if unit.first == NEVER {
             self.waiting.remove(place);
+            self.candidates.remove(place);
         }
         if let Role::Actuator { .. } = unit.role {
             tables.add(unit.actor.into(), tag, taken.first());
@@ -320,13 +323,13 @@ impl<'a, const WORDS: usize> Platform<'a, WORDS> {
             values.push(unit.state);
         }
         self.history.keep_claim(reading, tag, Claim { ahead: 0, actor: unit.actor, inputs: taken.present(), outputs });
-        self.results.push(Done { tag, place: place as u32, outputs, values: first as u32 });
+        unit.open = Open { tag, outputs, values: first as u32 };
     }
 
     /// Closes the platform, if nothing waits on it and no row or message can come any more.
     fn close(&mut self, reading: u64, shared: &mut Shared) -> bool {
         let may_close = reading >= self.parts.closing && !self.is_closed;
-        if !may_close || !self.waiting.is_empty() || !self.results.is_empty() || self.unsent > 0 {
+        if !may_close || !self.waiting.is_empty() || !self.claimed.is_empty() || self.unsent > 0 {
             return false;
         }
         self.is_closed = true;

@@ -314,11 +314,17 @@ fn take_number(text: &mut &[u8]) -> Option<i64> {
     let (digits, sign) = text.strip_prefix(b"-").map_or((*text, 1), |digits| (digits, -1));
     let (mut rest, mut number) = (digits, 0i64);
     while let [digit @ b'0'..=b'9', behind @ ..] = rest {
-        number = number.checked_mul(10)?.checked_add(sign * i64::from(digit - b'0'))?;
+        number = number.wrapping_mul(10).wrapping_add(i64::from(digit - b'0'));
         rest = behind;
     }
+    let whole = &text[..text.len() - rest.len()];
     *text = rest;
-    (rest.len() < digits.len()).then_some(number)
+    match digits.len() - rest.len() {
+        0 => None,
+        1..=18 => Some(sign * number),
+        // These may not fit.
+        _ => std::str::from_utf8(whole).ok()?.parse().ok(),
+    }
 }
 
 fn take_comma(text: &mut &[u8]) -> Option<()> {

@@ -43,6 +43,13 @@ pub enum Role {
     Other,
 }
 
+/// The open claim of a unit with its result: which outputs have a value, and where the values of these begin.
+pub struct Open {
+    pub tag: Tag,
+    pub outputs: u8,
+    pub values: u32,
+}
+
 pub struct Unit<const WORDS: usize> {
     /// The tag of its first event.
     pub first: Tag,
@@ -56,6 +63,7 @@ pub struct Unit<const WORDS: usize> {
     /// The number of its first output, and those of its inputs.
     pub first_output: u32,
     inputs: (u32, u32),
+    pub open: Open,
     /// From which units a path leads to this one, and which units this one holds up.
     pub before: Places<WORDS>,
     pub held: Places<WORDS>,
@@ -90,6 +98,7 @@ impl<const WORDS: usize> Unit<WORDS> {
             actor: unit.actor as u16,
             first_output: unit.first_output as u32,
             inputs: (unit.inputs.start as u32, unit.inputs.end as u32),
+            open: Open { tag: NEVER, outputs: 0, values: 0 },
             before,
             held: Places::NONE,
         }
