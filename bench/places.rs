@@ -18,16 +18,21 @@ impl<const WORDS: usize> Places<WORDS> {
         self.0[place / 64] &= !(1 << (place % 64));
     }
 
-    /// Puts in all places of another set.
-    pub fn join(&mut self, other: &Self) {
-        for (word, more) in self.0.iter_mut().zip(&other.0) {
-            *word |= more;
+    /// Removes all places of another set.
+    pub fn remove_all(&mut self, other: &Self) {
+        for (word, gone) in self.0.iter_mut().zip(&other.0) {
+            *word &= !gone;
         }
     }
 
     /// The places of one word that another set has too.
-    pub fn meet(&self, other: &Self, word: usize) -> Word {
+    pub fn with(&self, other: &Self, word: usize) -> Word {
         Word { first: 64 * word, bits: self.0[word] & other.0[word] }
+    }
+
+    /// The places of one word that another set doesn't have.
+    pub fn without(&self, other: &Self, word: usize) -> Word {
+        Word { first: 64 * word, bits: self.0[word] & !other.0[word] }
     }
 }
 

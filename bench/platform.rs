@@ -38,9 +38,9 @@ pub struct Platform<'a, const WORDS: usize> {
     /// The inputs of all units.
     inputs: Vec<Input>,
     sensors: Vec<Sensor>,
-    /// The units that have events, and those of them that have to be looked at.
+    /// The units that have events, and those of them that are known to be held up.
     waiting: Places<WORDS>,
-    candidates: Places<WORDS>,
+    held_up: Places<WORDS>,
     /// The places of the units that the last turn claimed, in the order of tag and actor.
     claimed: Vec<u16>,
     /// Room for the values at the inputs of a firing.
@@ -68,7 +68,7 @@ impl<'a, const WORDS: usize> Platform<'a, WORDS> {
             inputs: parts.units.iter().flat_map(|unit| unit.inputs.clone()).map(|_| Input::empty()).collect(),
             sensors: parts.sensors.iter().map(sensor).collect(),
             waiting: Places::NONE,
-            candidates: Places::NONE,
+            held_up: Places::NONE,
             claimed: Vec::new(),
             taken: Inputs::default(),
             next_row: 0,
@@ -138,7 +138,7 @@ impl<'a, const WORDS: usize> Platform<'a, WORDS> {
         if tag < unit.first {
             unit.first = tag;
             self.waiting.put(place);
-            self.candidates.put(place);
+            self.held_up.remove(place);
         }
     }
 
@@ -147,12 +147,12 @@ impl<'a, const WORDS: usize> Platform<'a, WORDS> {
             let unit = &self.units[usize::from(self.claimed[number])];
             let Open { tag, outputs, values } = unit.open;
             match unit.role {
+                Role::Other => self.give(unit.first_output as usize, outputs, tag, values as usize),
+                Role::Actuator { slack } => self.missed += u64::from(reading > tag.time + slack),
                 Role::Sender { link } => {
                     self.unsent += 1;
                     shared.links[link].messages.push(Message { tag, value: self.history.values[values as usize] });
                 }
-                Role::Actuator { slack } => self.missed += u64::from(reading > tag.time + slack),
-                Role::Sensor { .. } | Role::Other => self.give(unit.first_output as usize, outputs, tag, values as usize),
             }
         }
         self.claimed.len()
@@ -229,7 +229,7 @@ impl<'a, const WORDS: usize> Platform<'a, WORDS> {
     fn holder_in(&self, word: usize, place: usize) -> Option<usize> {
         let unit = &self.units[place];
         let first_delay = place * self.units.len();
-        let mut others = self.waiting.meet(&unit.before, word);
+        let mut others = self.waiting.with(&unit.before, word);
         while let Some(other) = others.take_last() {
             if self.units[other].first.plus(self.parts.delays[first_delay + other]) <= unit.first {
                 return Some(other);
@@ -248,14 +248,14 @@ impl<'a, const WORDS: usize> Platform<'a, WORDS> {
     }
 
     fn find_safe_in(&mut self, word: usize, reading: u64) {
-        let mut left = self.candidates.meet(&self.waiting, word);
+        let mut left = self.waiting.without(&self.held_up, word);
         while let Some(place) = left.take_first() {
             let unit = &self.units[place];
             if unit.due() > reading {
                 self.next_due = self.next_due.min(unit.due());
             } else if let Some(holder) = self.holder(place) {
-                self.units[holder].held.put(place);
-                self.candidates.remove(place);
+                self.units[holder].holds.put(place);
+                self.held_up.put(place);
             } else {
                 self.claimed.push(place as u16);
             }
@@ -290,17 +290,16 @@ impl<'a, const WORDS: usize> Platform<'a, WORDS> {
         let tag = unit.first;
         let taken = &mut self.taken;
         taken.clear();
-        match unit.role {
-            Role::Sensor { number } => unit.first = self.sensors[number].take(taken, values),
-            _ => unit.take(&mut self.inputs, taken, values),
+        match unit.sensor {
+            Some(number) => unit.first = self.sensors[usize::from(number)].take(taken, values),
+            None => unit.take(&mut self.inputs, taken, values),
         }
-        if !unit.held.is_empty() {
-            self.candidates.join(&unit.held);
-            unit.held = Places::NONE;
+        if !unit.holds.is_empty() {
+            self.held_up.remove_all(&unit.holds);
+            unit.holds = Places::NONE;
         }
         if unit.first == NEVER {
             self.waiting.remove(place);
-            self.candidates.remove(place);
         }
         if let Role::Actuator { .. } = unit.role {
             tables.add(unit.actor.into(), tag, taken.first());

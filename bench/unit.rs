@@ -37,7 +37,6 @@ impl Input {
 
 /// What makes some actors different to others.
 pub enum Role {
-    Sensor { number: usize },
     Sender { link: usize },
     Actuator { slack: u64 },
     Other,
@@ -58,6 +57,8 @@ pub struct Unit<const WORDS: usize> {
     pub state: i64,
     pub kind: Kind,
     pub role: Role,
+    /// The number of the sensor that it is.
+    pub sensor: Option<u16>,
     pub has_state: bool,
     pub actor: u16,
     /// The number of its first output, and those of its inputs.
@@ -66,7 +67,7 @@ pub struct Unit<const WORDS: usize> {
     pub open: Open,
     /// From which units a path leads to this one, and which units this one holds up.
     pub before: Places<WORDS>,
-    pub held: Places<WORDS>,
+    pub holds: Places<WORDS>,
 }
 
 impl<const WORDS: usize> Unit<WORDS> {
@@ -80,7 +81,6 @@ impl<const WORDS: usize> Unit<WORDS> {
             }
         }
         let role = match kind {
-            Kind::Sensor { .. } => Role::Sensor { number: parts.sensors.iter().position(|sensor| *sensor == place).unwrap() },
             Kind::Send { .. } => {
                 Role::Sender { link: plan.program.links.iter().position(|link| link.edge.from == unit.actor).unwrap() }
             }
@@ -94,13 +94,14 @@ impl<const WORDS: usize> Unit<WORDS> {
             state: kind.start(),
             kind: kind.clone(),
             role,
+            sensor: parts.sensors.iter().position(|sensor| *sensor == place).map(|number| number as u16),
             has_state: kind.has_state(),
             actor: unit.actor as u16,
             first_output: unit.first_output as u32,
             inputs: (unit.inputs.start as u32, unit.inputs.end as u32),
             open: Open { tag: NEVER, outputs: 0, values: 0 },
             before,
-            held: Places::NONE,
+            holds: Places::NONE,
         }
     }
 
