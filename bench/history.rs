@@ -25,13 +25,14 @@ pub struct Claim {
 
 const FAR: i32 = i32::MAX;
 
-/// How many results a turn posts, rows it enters, messages it takes, claims it makes and messages it sends.
-pub type Lengths = [usize; 5];
+/// How many rows a turn enters, messages it takes, claims it makes and messages it sends. It posts the results of all claims of the turn
+/// before it.
+pub type Lengths = [usize; 4];
 
 /// A turn in which something happened, or a run of quiet turns. `later` is the first reading less the last one of the turn before it.
 #[derive(Clone, Copy)]
 enum Turn {
-    Busy { later: u16, lengths: [u8; 5] },
+    Busy { later: u16, lengths: [u8; 4] },
     Quiet { later: u16, lasts: u16, count: u16 },
     /// One whose numbers are too large for this stands in a list of its own.
     Large(u32),
@@ -163,18 +164,18 @@ impl<'a> Log<'a> {
     }
 
     pub fn add(&mut self, platform: usize, history: &History) -> Result<()> {
-        let (mut last, mut from) = (0, Lengths::default());
+        let (mut last, mut posted, mut from) = (0, 0, Lengths::default());
         self.tags = 0;
         for turn in &history.turns {
             let LargeTurn { first, last: to_last, count, lengths } = history.whole(*turn, last);
             let to: Lengths = std::array::from_fn(|list| from[list] + lengths[list]);
             writeln!(self.text, "turn,{},{first},{to_last},{count}", self.program.platforms[platform])?;
-            self.add_posts(from[0]..to[0])?;
-            self.add_rows(&history.rows[from[1]..to[1]])?;
-            self.add_takes(&history.takes[from[2]..to[2]])?;
-            self.add_claims(history, from[3]..to[3], first)?;
-            self.add_sent(&history.sent[from[4]..to[4]])?;
-            (last, from) = (to_last, to);
+            self.add_posts(posted..from[2])?;
+            self.add_rows(&history.rows[from[0]..to[0]])?;
+            self.add_takes(&history.takes[from[1]..to[1]])?;
+            self.add_claims(history, from[2]..to[2], first)?;
+            self.add_sent(&history.sent[from[3]..to[3]])?;
+            (last, posted, from) = (to_last, from[2], to);
         }
         Ok(())
     }

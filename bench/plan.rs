@@ -1,43 +1,42 @@
 //! What a plain paced engine knows of a graph before it runs: bounds, offsets, least delays and the parts of each platform.
-use crate::program::{Actor, Edge, Kind, Outcome, Program, Refusal, Tag};
+use crate::program::{Edge, Kind, Outcome, Program, Refusal, Tag};
 use std::ops::Range;
 
 /// A tag after all others.
 pub const NEVER: Tag = Tag { time: u64::MAX, step: u64::MAX };
 
 impl Tag {
-    pub fn plus_or_never(self, delay: Tag) -> Tag {
-        if self == NEVER || delay == NEVER {
-            NEVER
-        } else {
-            self.plus(delay)
-        }
+    pub fn is_never(self) -> bool {
+        self.time == NEVER.time
     }
 }
 
-/// Where a wire leads and what it adds to a tag. Inputs and outputs are numbered over all units of a platform.
+/// From which output of its unit a wire leads to which place and input, and what it adds to a tag. Inputs are numbered over all units of
+/// a platform.
+#[derive(Clone, Copy)]
 pub struct Wire {
     pub delay: Tag,
     pub place: u32,
     pub input: u32,
+    pub output: u8,
 }
 
 /// An actor on its platform.
 pub struct Unit {
     pub actor: usize,
-    /// The numbers of its inputs, and that of its first output.
+    /// The numbers of its inputs and wires.
     pub inputs: Range<usize>,
-    pub first_output: usize,
+    pub wires: Range<usize>,
     /// The greatest bound less delay of all sensors and receivers that lead to it.
     pub offset: Option<i64>,
 }
 
 /// The units, wires and link ends of a platform, and the reading from which on it may close.
 pub struct Parts {
-    /// The place of a unit is its number in this list. Each comes after those that feed it without delay.
+    /// In the order of the graph. The place of a unit is its number in this list.
     pub units: Vec<Unit>,
-    /// The wires of each output.
-    pub outputs: Vec<Vec<Wire>>,
+    /// The wires of one unit after another, in the order of their outputs.
+    pub wires: Vec<Wire>,
     /// For each unit and each other one the least delay over all paths of wires from the other one, or NEVER.
     pub delays: Vec<Tag>,
     /// The places of the sensors, in the order of the graph.
@@ -94,13 +93,10 @@ impl Plan<'_> {
     pub fn new(program: &Program) -> Outcome<Plan<'_>> {
         let mut platforms = vec![Vec::new(); program.platforms.len()];
         let mut places = vec![0; program.actors.len()];
-        let ranks = program.ranks();
-        let mut order: Vec<usize> = (0..program.actors.len()).collect();
-        order.sort_by_key(|actor| (ranks[*actor], *actor));
-        for actor in order {
-            let platform: &mut Vec<usize> = &mut platforms[program.actors[actor].platform];
-            places[actor] = platform.len();
-            platform.push(actor);
+        for (number, actor) in program.actors.iter().enumerate() {
+            let actors: &mut Vec<usize> = &mut platforms[actor.platform];
+            places[number] = actors.len();
+            actors.push(number);
         }
         let bounds = bounds(program);
         let platforms = platforms.iter().map(|actors| Parts::new(program, &places, &bounds, actors)).collect();
@@ -132,48 +128,44 @@ impl Parts {
             (0..program.links.len()).filter(|link| is_here(end(&program.links[*link].edge))).collect()
         };
         let is_sensor = |place: &usize| matches!(program.actors[actors[*place]].kind, Kind::Sensor { .. });
-        let mut sensors: Vec<usize> = (0..actors.len()).filter(is_sensor).collect();
-        sensors.sort_by_key(|place| actors[*place]);
         let mut parts = Parts {
             units: Vec::new(),
-            outputs: Vec::new(),
+            wires: Vec::new(),
             delays: Vec::new(),
-            sensors,
+            sensors: (0..actors.len()).filter(is_sensor).collect(),
             incoming: links(|edge| edge.to),
             outgoing: links(|edge| edge.from),
             closing: actors.iter().filter_map(|actor| bounds[*actor]).map(|bound| program.until + bound + 1).max().unwrap_or(0),
         };
-        let wires: Vec<&Edge> = program.wires.iter().filter(|wire| is_here(wire.to)).collect();
         let mut feeds: Vec<Feeds> = vec![Vec::new(); actors.len()];
-        for wire in &wires {
+        for wire in program.wires.iter().filter(|wire| is_here(wire.to)) {
             feeds[places[wire.to]].push((places[wire.from], program.delay(wire.from, wire.output)));
         }
-        parts.add_units(program, actors, bounds, &feeds);
-        parts.add_wires(program, places, &wires);
+        let first_inputs: Vec<usize> = actors.iter().scan(0, |sum, actor| Some(std::mem::replace(sum, *sum + program.actors[*actor].inputs))).collect();
+        for (place, &actor) in actors.iter().enumerate() {
+            let delays = least_delays(&feeds, place);
+            let inputs = first_inputs[place]..first_inputs[place] + program.actors[actor].inputs;
+            let first_wire = parts.wires.len();
+            parts.add_wires(program, places, &first_inputs, actor);
+            parts.units.push(Unit { actor, inputs, wires: first_wire..parts.wires.len(), offset: offset(actors, bounds, &delays) });
+            parts.delays.extend(delays);
+        }
         parts
     }
 
-    fn add_units(&mut self, program: &Program, actors: &[usize], bounds: &[Option<u64>], feeds: &[Feeds]) {
-        let (mut first_input, mut first_output) = (0, 0);
-        for (place, &actor) in actors.iter().enumerate() {
-            let Actor { inputs, outputs, .. } = program.actors[actor];
-            let delays = least_delays(feeds, place);
-            let reach = actors.iter().zip(&delays).filter(|(_, delay)| **delay != NEVER);
-            let offset = reach.filter_map(|(from, delay)| bounds[*from].map(|bound| bound as i64 - delay.time as i64)).max();
-            self.units.push(Unit { actor, inputs: first_input..first_input + inputs, first_output, offset });
-            self.delays.extend(delays);
-            first_input += inputs;
-            first_output += outputs;
+    fn add_wires(&mut self, program: &Program, places: &[usize], first_inputs: &[usize], actor: usize) {
+        let first = self.wires.len();
+        for wire in program.wires.iter().filter(|wire| wire.from == actor) {
+            let (delay, place) = (program.delay(actor, wire.output), places[wire.to]);
+            let input = (first_inputs[place] + wire.input) as u32;
+            self.wires.push(Wire { delay, place: place as u32, input, output: wire.output as u8 });
         }
-        self.outputs.resize_with(first_output, Vec::new);
+        self.wires[first..].sort_by_key(|wire| wire.output);
     }
+}
 
-    fn add_wires(&mut self, program: &Program, places: &[usize], wires: &[&Edge]) {
-        for wire in wires {
-            let (from, place) = (&self.units[places[wire.from]], places[wire.to]);
-            let input = self.units[place].inputs.start + wire.input;
-            let delay = program.delay(wire.from, wire.output);
-            self.outputs[from.first_output + wire.output].push(Wire { delay, place: place as u32, input: input as u32 });
-        }
-    }
+/// The greatest bound less delay of what leads to a unit with these delays.
+fn offset(actors: &[usize], bounds: &[Option<u64>], delays: &[Tag]) -> Option<i64> {
+    let reach = actors.iter().zip(delays).filter(|(_, delay)| **delay != NEVER);
+    reach.filter_map(|(from, delay)| bounds[*from].map(|bound| bound as i64 - delay.time as i64)).max()
 }

@@ -120,13 +120,14 @@ impl<'a, const WORDS: usize> Platform<'a, WORDS> {
         let sent = self.send(reading, shared);
         shared.wakes[self.number] = self.wakes();
         if posts + rows + takes + claims + sent > 0 {
-            self.history.keep(reading, [posts, rows, takes, claims, sent]);
+            self.history.keep(reading, [rows, takes, claims, sent]);
             return Some(true);
         }
         self.history.rest(reading);
         Some(closes)
     }
 
+    #[inline(always)]
     fn insert(&mut self, place: usize, input: usize, tag: Tag, value: i64) {
         self.inputs[input].push(tag, value);
         self.come(place, tag);
@@ -147,7 +148,7 @@ impl<'a, const WORDS: usize> Platform<'a, WORDS> {
             let unit = &self.units[usize::from(self.claimed[number])];
             let Open { tag, outputs, values } = unit.open;
             match unit.role {
-                Role::Other => self.give(unit.first_output as usize, outputs, tag, values as usize),
+                Role::Other => self.give(unit.wires, &Open { tag, outputs, values }),
                 Role::Actuator { slack } => self.missed += u64::from(reading > tag.time + slack),
                 Role::Sender { link } => {
                     self.unsent += 1;
@@ -158,19 +159,14 @@ impl<'a, const WORDS: usize> Platform<'a, WORDS> {
         self.claimed.len()
     }
 
-    /// Puts the outputs of a result where they lead.
-    fn give(&mut self, first_output: usize, mut outputs: u8, tag: Tag, mut values: usize) {
-        while outputs != 0 {
-            self.give_one(first_output + outputs.trailing_zeros() as usize, tag, self.history.values[values]);
-            outputs &= outputs - 1;
-            values += 1;
-        }
-    }
-
-    fn give_one(&mut self, output: usize, tag: Tag, value: i64) {
-        for wire in &self.parts.outputs[output] {
-            let tag = tag.plus(wire.delay);
-            if tag.time <= self.plan.program.until {
+    /// Puts the outputs of a result where these wires lead.
+    fn give(&mut self, wires: (u32, u32), open: &Open) {
+        for wire in &self.parts.wires[wires.0 as usize..wires.1 as usize] {
+            let tag = open.tag.plus(wire.delay);
+            if open.outputs >> wire.output & 1 == 1 && tag.time <= self.plan.program.until {
+                let before = open.outputs & ((1 << wire.output) - 1);
+                let number = if before == 0 { 0 } else { before.count_ones() };
+                let value = self.history.values[(open.values + number) as usize];
                 self.insert(wire.place as usize, wire.input as usize, tag, value);
             }
         }
@@ -273,14 +269,21 @@ impl<'a, const WORDS: usize> Platform<'a, WORDS> {
             return None;
         }
         if self.claimed.len() > 1 {
-            let units = &self.units;
-            self.claimed.sort_unstable_by_key(|place| (units[usize::from(*place)].first, units[usize::from(*place)].actor));
+            self.sort_claimed();
             self.claimed.truncate(MOST.min(left));
         }
         for number in 0..self.claimed.len() {
             self.fire(self.claimed[number].into(), reading, &mut shared.tables);
         }
         Some(self.claimed.len())
+    }
+
+    /// Sorts the safe units by tag and actor. Mostly they are in this order already.
+    fn sort_claimed(&mut self) {
+        let key = |place: &u16| (self.units[usize::from(*place)].first, *place);
+        if !self.claimed.is_sorted_by_key(key) {
+            self.claimed.sort_unstable_by_key(key);
+        }
     }
 
     /// Claims a unit, which frees those that it holds up, and fires it.
@@ -298,7 +301,7 @@ impl<'a, const WORDS: usize> Platform<'a, WORDS> {
             self.held_up.remove_all(&unit.holds);
             unit.holds = Places::NONE;
         }
-        if unit.first == NEVER {
+        if unit.first.is_never() {
             self.waiting.remove(place);
         }
         if let Role::Actuator { .. } = unit.role {

@@ -17,7 +17,7 @@ impl Input {
     }
 
     pub fn push(&mut self, tag: Tag, value: i64) {
-        if self.tag == NEVER {
+        if self.tag.is_never() {
             (self.tag, self.value) = (tag, value);
         } else {
             self.later.push_back((tag, value));
@@ -61,9 +61,9 @@ pub struct Unit<const WORDS: usize> {
     pub sensor: Option<u16>,
     pub has_state: bool,
     pub actor: u16,
-    /// The number of its first output, and those of its inputs.
-    pub first_output: u32,
+    /// The numbers of its inputs and wires, from the first up to the last.
     inputs: (u32, u32),
+    pub wires: (u32, u32),
     pub open: Open,
     /// From which units a path leads to this one, and which units this one holds up.
     pub before: Places<WORDS>,
@@ -97,8 +97,8 @@ impl<const WORDS: usize> Unit<WORDS> {
             sensor: parts.sensors.iter().position(|sensor| *sensor == place).map(|number| number as u16),
             has_state: kind.has_state(),
             actor: unit.actor as u16,
-            first_output: unit.first_output as u32,
             inputs: (unit.inputs.start as u32, unit.inputs.end as u32),
+            wires: (unit.wires.start as u32, unit.wires.end as u32),
             open: Open { tag: NEVER, outputs: 0, values: 0 },
             before,
             holds: Places::NONE,
@@ -112,6 +112,14 @@ impl<const WORDS: usize> Unit<WORDS> {
 
     /// Takes all events of the first tag, and adds their values to a list.
     pub fn take(&mut self, inputs: &mut [Input], taken: &mut Inputs, values: &mut Vec<i64>) {
+        if self.inputs.1 - self.inputs.0 == 1 {
+            let input = &mut inputs[self.inputs.0 as usize];
+            let value = input.pop();
+            taken.set(0, value);
+            values.push(value);
+            self.first = input.tag;
+            return;
+        }
         let mut first = NEVER;
         for (number, input) in inputs[self.inputs.0 as usize..self.inputs.1 as usize].iter_mut().enumerate() {
             if input.tag == self.first {
