@@ -86,7 +86,7 @@ impl<'a, const WORDS: usize> Platform<'a, WORDS> {
                 platform.next_due = platform.next_due.min(platform.units[place].due());
             }
         }
-        platform.next_row = platform.sensors.iter().map(Sensor::next_seen).min().unwrap_or(u64::MAX);
+        platform.next_row = platform.sensors.iter().map(|sensor| sensor.next_seen).min().unwrap_or(u64::MAX);
         platform
     }
 
@@ -178,18 +178,24 @@ impl<'a, const WORDS: usize> Platform<'a, WORDS> {
             return 0;
         }
         let before = self.history.rows.len();
-        self.next_row = u64::MAX;
         for number in 0..self.sensors.len() {
-            let sensor = &mut self.sensors[number];
-            let place = sensor.place;
-            let count = sensor.enter(reading);
-            self.next_row = self.next_row.min(sensor.next_seen());
-            let first = sensor.first();
-            let actor = self.units[place].actor;
-            self.history.rows.extend(std::iter::repeat_n(actor, count));
-            self.come(place, first);
+            if self.sensors[number].next_seen <= reading {
+                self.enter_rows(number, reading);
+            }
         }
+        self.next_row = self.sensors.iter().map(|sensor| sensor.next_seen).min().unwrap_or(u64::MAX);
         self.history.rows.len() - before
+    }
+
+    fn enter_rows(&mut self, number: usize, reading: u64) {
+        let sensor = &mut self.sensors[number];
+        let place = sensor.place;
+        while sensor.next_seen <= reading {
+            sensor.enter();
+            self.history.rows.push(self.units[place].actor);
+        }
+        let first = sensor.first();
+        self.come(place, first);
     }
 
     fn take(&mut self, shared: &mut Shared) -> usize {

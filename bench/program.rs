@@ -311,19 +311,19 @@ fn kind(actor: &Json) -> Outcome<(Kind, usize, usize)> {
 
 /// Takes a whole number of decimal digits from the front of a text. Fields in quotes, which few files have, are none.
 fn take_number(text: &mut &[u8]) -> Option<i64> {
-    let (digits, sign) = text.strip_prefix(b"-").map_or((*text, 1), |digits| (digits, -1));
-    let (mut rest, mut number) = (digits, 0i64);
-    while let [digit @ b'0'..=b'9', behind @ ..] = rest {
-        number = number.wrapping_mul(10).wrapping_add(i64::from(digit - b'0'));
-        rest = behind;
+    let whole = *text;
+    let (digits, sign) = whole.strip_prefix(b"-").map_or((whole, 1), |digits| (digits, -1));
+    let (mut count, mut number) = (0, 0i64);
+    while let Some(digit) = digits.get(count).map(|byte| byte.wrapping_sub(b'0')).filter(|digit| *digit < 10) {
+        number = number.wrapping_mul(10).wrapping_add(digit.into());
+        count += 1;
     }
-    let whole = &text[..text.len() - rest.len()];
-    *text = rest;
-    match digits.len() - rest.len() {
+    *text = &digits[count..];
+    match count {
         0 => None,
         1..=18 => Some(sign * number),
         // These may not fit.
-        _ => std::str::from_utf8(whole).ok()?.parse().ok(),
+        _ => std::str::from_utf8(&whole[..whole.len() - text.len()]).ok()?.parse().ok(),
     }
 }
 

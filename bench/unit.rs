@@ -139,23 +139,20 @@ pub struct Sensor {
     pub rows: Vec<Row>,
     entered: usize,
     claimed: usize,
+    /// When the next row is seen.
+    pub next_seen: u64,
 }
 
 impl Sensor {
     pub fn new(place: usize, rows: Vec<Row>) -> Sensor {
-        Sensor { place, rows, entered: 0, claimed: 0 }
+        let next_seen = rows.first().map_or(u64::MAX, |row| row.seen);
+        Sensor { place, rows, entered: 0, claimed: 0, next_seen }
     }
 
-    /// When the next row is seen.
-    pub fn next_seen(&self) -> u64 {
-        self.rows.get(self.entered).map_or(u64::MAX, |row| row.seen)
-    }
-
-    /// Enters the rows that are seen by now, and gives how many they are.
-    pub fn enter(&mut self, reading: u64) -> usize {
-        let count = self.rows[self.entered..].iter().take_while(|row| row.seen <= reading).count();
-        self.entered += count;
-        count
+    /// Enters the next row.
+    pub fn enter(&mut self) {
+        self.entered += 1;
+        self.next_seen = self.rows.get(self.entered).map_or(u64::MAX, |row| row.seen);
     }
 
     /// The tag of the first row that waits.
