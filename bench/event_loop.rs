@@ -2,11 +2,14 @@
 //! fires next. It reads graphs of version 1 without faults, refuses version 2 and fields in quotes by name, and proves nothing.
 mod json;
 mod program;
+mod rows;
+mod tables;
 
-use program::{Inputs, Outcome, Program, Refusal, Tables, Tag};
+use program::{Inputs, Outcome, Program, Refusal, Tag};
 use std::cmp::Reverse;
 use std::collections::BinaryHeap;
 use std::process::ExitCode;
+use tables::Tables;
 
 /// How many firings there may be for each platform.
 const LIMIT: usize = 200_000;
@@ -63,7 +66,7 @@ fn run() -> Outcome<u8> {
             }
         });
     }
-    program::write(&tables.text());
+    tables::write(&tables.text());
     Ok(0)
 }
 

@@ -1,60 +1,73 @@
 //! What a plain paced engine stores of its turns, in little memory, and the log of it.
-use crate::plan::NEVER;
-use crate::program::{Program, Row, Tag};
+use crate::program::{Program, Tag};
+use crate::rows::Row;
 use std::io::{Result, Write};
 use std::ops::Range;
 use std::slice::Iter;
 
-/// What is sent over a link. The last message of a link has the tag NEVER and says that no more comes.
+/// What is sent over a link. The last message of a link has the tag NEVER: no more comes.
 #[derive(Clone, Copy)]
 pub struct Message {
     pub tag: Tag,
     pub value: i64,
 }
 
-/// A claim with its result: which inputs and outputs have a value. The values are those of `History::values`, one claim after another:
-/// of the inputs, the state before, of the outputs, and the state after, as far as there are such.
+/// A claim with its result: which inputs and outputs have a value. The time of its tag is that of the turn and `relative`, and the step
+/// is 0; if `relative` is OTHER the tag is the next one of `History::tags`.
 #[derive(Clone, Copy)]
 pub struct Claim {
-    /// The time of the tag less the reading, if the step is 0. FAR if the tag stands in `History::tags`.
-    pub ahead: i32,
-    pub actor: u16,
+    relative: i32,
+    actor: u16,
     pub inputs: u8,
     pub outputs: u8,
 }
 
-const FAR: i32 = i32::MAX;
+const OTHER: i32 = i32::MAX;
 
 /// How many rows a turn enters, messages it takes, claims it makes and messages it sends. It posts the results of all claims of the turn
 /// before it.
-pub type Lengths = [usize; 4];
+pub type Counts = [usize; 4];
 
-/// A turn in which something happened, or a run of quiet turns. `later` is the first reading less the last one of the turn before it.
+/// A turn in which something happened, or a run of quiet turns. `later` is its first reading less the last one of the turn before it.
 #[derive(Clone, Copy)]
 enum Turn {
-    Busy { later: u16, lengths: [u8; 4] },
-    Quiet { later: u16, lasts: u16, count: u16 },
-    /// One whose numbers are too large for this stands in a list of its own.
+    Busy {
+        later: u16,
+        counts: [u8; 4],
+    },
+    Quiet {
+        later: u16,
+        lasts: u16,
+        turns: u16,
+    },
+    /// One whose numbers are too large for this has a place in a list of its own.
     Large(u32),
 }
 
-#[derive(Clone, Copy, Default)]
+#[derive(Clone, Copy)]
 struct LargeTurn {
     first: u64,
     last: u64,
-    count: u64,
-    lengths: Lengths,
+    turns: u64,
+    counts: Counts,
+}
+
+/// Quiet turns at the end that aren't stored yet, with their first, last but one and last reading.
+#[derive(Default)]
+struct Quiet {
+    turns: u64,
+    first: u64,
+    before_last: u64,
+    last: u64,
 }
 
 #[derive(Default)]
 pub struct History {
     turns: Vec<Turn>,
     large: Vec<LargeTurn>,
-    /// The reading of the last stored turn.
+    quiet: Quiet,
+    /// The last reading of the last stored turn.
     last: u64,
-    /// Quiet turns that aren't stored yet: the run that they are, and the last reading but one.
-    quiet: LargeTurn,
-    before_last: u64,
     /// The actors whose rows were entered, one for each row.
     pub rows: Vec<u16>,
     /// The links from which messages were taken, and over which they were sent, one for each message.
@@ -62,84 +75,85 @@ pub struct History {
     pub sent: Vec<u16>,
     pub claims: Vec<Claim>,
     tags: Vec<Tag>,
+    /// The values of one claim after another: of its inputs, the state before, of its outputs and the state after, as far as there are such.
     pub values: Vec<i64>,
 }
 
 impl History {
     /// Stores a turn in which something happened.
     #[inline(always)]
-    pub fn keep(&mut self, reading: u64, lengths: Lengths) {
-        if self.quiet.count > 0 {
-            self.keep_quiet(self.quiet);
-            self.quiet.count = 0;
+    pub fn add_busy(&mut self, reading: u64, counts: Counts) {
+        if self.quiet.turns > 0 {
+            self.add_run(self.quiet.first, self.quiet.last, self.quiet.turns);
+            self.quiet.turns = 0;
         }
         let later = reading - self.last;
-        let bits = lengths.iter().fold(0, |bits, length| bits | length);
-        if later <= u64::from(u16::MAX) && bits <= usize::from(u8::MAX) {
-            self.turns.push(Turn::Busy { later: later as u16, lengths: lengths.map(|length| length as u8) });
+        let all_bits = counts.iter().fold(0, |bits, count| bits | count);
+        if later <= u64::from(u16::MAX) && all_bits <= usize::from(u8::MAX) {
+            self.turns.push(Turn::Busy { later: later as u16, counts: counts.map(|count| count as u8) });
             self.last = reading;
         } else {
-            self.keep_large(LargeTurn { first: reading, last: reading, count: 1, lengths });
+            self.add_large(LargeTurn { first: reading, last: reading, turns: 1, counts });
         }
-    }
-
-    /// Stores a claim, made at a reading.
-    pub fn keep_claim(&mut self, reading: u64, tag: Tag, mut claim: Claim) {
-        let ahead = tag.time as i64 - reading as i64;
-        claim.ahead = i32::try_from(ahead).ok().filter(|_| tag.step == 0).unwrap_or(FAR);
-        if claim.ahead == FAR {
-            self.tags.push(tag);
-        }
-        self.claims.push(claim);
     }
 
     /// Stores a turn in which nothing happened.
-    pub fn rest(&mut self, reading: u64) {
-        if self.quiet.count == 0 {
+    pub fn add_quiet(&mut self, reading: u64) {
+        if self.quiet.turns == 0 {
             self.quiet.first = reading;
         }
-        self.before_last = self.quiet.last;
+        self.quiet.turns += 1;
+        self.quiet.before_last = self.quiet.last;
         self.quiet.last = reading;
-        self.quiet.count += 1;
     }
 
-    /// Stores the quiet turns at the end of a run. The last one of them stays apart.
+    /// Stores the quiet turns at the end. The last one stays apart.
     pub fn end(&mut self) {
-        let LargeTurn { first, last, count, .. } = self.quiet;
-        if count > 1 {
-            self.keep_quiet(LargeTurn { last: self.before_last, count: count - 1, ..self.quiet });
+        let Quiet { turns, before_last, first, last } = self.quiet;
+        if turns > 1 {
+            self.add_run(first, before_last, turns - 1);
         }
-        if count > 0 {
-            self.keep_quiet(LargeTurn { first: if count > 1 { last } else { first }, count: 1, ..self.quiet });
+        if turns > 0 {
+            self.add_run(last, last, 1);
         }
     }
 
-    fn keep_quiet(&mut self, run: LargeTurn) {
-        let (later, lasts) = (run.first - self.last, run.last - run.first);
-        if later.max(lasts).max(run.count) <= u64::from(u16::MAX) {
-            self.turns.push(Turn::Quiet { later: later as u16, lasts: lasts as u16, count: run.count as u16 });
-            self.last = run.last;
+    fn add_run(&mut self, first: u64, last: u64, turns: u64) {
+        let (later, lasts) = (first - self.last, last - first);
+        if later.max(lasts).max(turns) <= u64::from(u16::MAX) {
+            self.turns.push(Turn::Quiet { later: later as u16, lasts: lasts as u16, turns: turns as u16 });
+            self.last = last;
         } else {
-            self.keep_large(run);
+            self.add_large(LargeTurn { first, last, turns, counts: Counts::default() });
         }
     }
 
-    fn keep_large(&mut self, turn: LargeTurn) {
+    fn add_large(&mut self, turn: LargeTurn) {
         self.turns.push(Turn::Large(self.large.len() as u32));
         self.large.push(turn);
         self.last = turn.last;
     }
 
-    /// A stored turn with all its numbers; the one before it had this last reading.
+    /// Stores a claim that is made at a reading.
+    pub fn add_claim(&mut self, reading: u64, tag: Tag, actor: u16, inputs: u8, outputs: u8) {
+        let relative = i32::try_from(tag.time as i64 - reading as i64).unwrap_or(OTHER);
+        let relative = if tag.step == 0 { relative } else { OTHER };
+        if relative == OTHER {
+            self.tags.push(tag);
+        }
+        self.claims.push(Claim { relative, actor, inputs, outputs });
+    }
+
+    /// All numbers of a stored turn, if the one before it has this last reading.
     fn whole(&self, turn: Turn, before: u64) -> LargeTurn {
         match turn {
-            Turn::Busy { later, lengths } => {
-                let first = before + u64::from(later);
-                LargeTurn { first, last: first, count: 1, lengths: lengths.map(usize::from) }
+            Turn::Busy { later, counts } => {
+                let reading = before + u64::from(later);
+                LargeTurn { first: reading, last: reading, turns: 1, counts: counts.map(usize::from) }
             }
-            Turn::Quiet { later, lasts, count } => {
+            Turn::Quiet { later, lasts, turns } => {
                 let first = before + u64::from(later);
-                LargeTurn { first, last: first + u64::from(lasts), count: count.into(), lengths: Lengths::default() }
+                LargeTurn { first, last: first + u64::from(lasts), turns: turns.into(), counts: Counts::default() }
             }
             Turn::Large(number) => self.large[number as usize],
         }
@@ -154,7 +168,7 @@ pub struct Log<'a> {
     rows: Vec<Iter<'a, Row>>,
     taken: Vec<Iter<'a, Message>>,
     sent: Vec<Iter<'a, Message>>,
-    /// How many tags of the platform's list were used.
+    /// How many tags of the list of the platform were used.
     tags: usize,
 }
 
@@ -164,18 +178,18 @@ impl<'a> Log<'a> {
     }
 
     pub fn add(&mut self, platform: usize, history: &History) -> Result<()> {
-        let (mut last, mut posted, mut from) = (0, 0, Lengths::default());
+        let (mut before, mut posted, mut from) = (0, 0, Counts::default());
         self.tags = 0;
         for turn in &history.turns {
-            let LargeTurn { first, last: to_last, count, lengths } = history.whole(*turn, last);
-            let to: Lengths = std::array::from_fn(|list| from[list] + lengths[list]);
-            writeln!(self.text, "turn,{},{first},{to_last},{count}", self.program.platforms[platform])?;
+            let LargeTurn { first, last, turns, counts } = history.whole(*turn, before);
+            let to: Counts = std::array::from_fn(|list| from[list] + counts[list]);
+            writeln!(self.text, "turn,{},{first},{last},{turns}", self.program.platforms[platform])?;
             self.add_posts(posted..from[2])?;
             self.add_rows(&history.rows[from[0]..to[0]])?;
             self.add_takes(&history.takes[from[1]..to[1]])?;
             self.add_claims(history, from[2]..to[2], first)?;
             self.add_sent(&history.sent[from[3]..to[3]])?;
-            (last, posted, from) = (to_last, from[2], to);
+            (before, posted, from) = (last, from[2], to);
         }
         Ok(())
     }
@@ -209,12 +223,12 @@ impl<'a> Log<'a> {
 
     fn add_claims(&mut self, history: &History, numbers: Range<usize>, reading: u64) -> Result<()> {
         for number in numbers {
-            let Claim { ahead, actor, .. } = history.claims[number];
-            let tag = if ahead == FAR {
+            let Claim { relative, actor, .. } = history.claims[number];
+            let tag = if relative == OTHER {
                 self.tags += 1;
                 history.tags[self.tags - 1]
             } else {
-                Tag::at(reading.wrapping_add_signed(ahead.into()))
+                Tag::at(reading.wrapping_add_signed(relative.into()))
             };
             writeln!(self.text, "claim,{number},{},{},{}", self.name(actor.into()), tag.time, tag.step)?;
         }
@@ -231,7 +245,7 @@ impl<'a> Log<'a> {
 
     fn add_message(&mut self, what: &str, actor: usize, message: &Message) -> Result<()> {
         let (name, Message { tag, value }) = (self.name(actor), message);
-        if *tag == NEVER {
+        if tag.is_never() {
             writeln!(self.text, "{what},{name},end")
         } else {
             writeln!(self.text, "{what},{name},{},{},{value}", tag.time, tag.step)

@@ -4,8 +4,8 @@
 //!
 //!     paced_engine GRAPH [--records] [--log]
 //!
-//! It stores turns, claims and their values in little memory. With `--records` it also stores each claim and each result as a record of
-//! its own, with all its inputs and outputs. `--log` writes the log after the tables.
+//! It stores turns, claims and results flat: some bytes for each, and their values one after another. With `--records` it also stores
+//! each claim and each result as a record of its own, with all its inputs and outputs. `--log` writes the log after the tables.
 mod history;
 mod json;
 mod places;
@@ -13,13 +13,17 @@ mod plan;
 mod platform;
 mod program;
 mod records;
+mod rows;
+mod tables;
 mod unit;
 
 use history::Log;
 use plan::Plan;
 use platform::{Platform, Shared, Traffic};
-use program::{Kind, Outcome, Program, Refusal, Row, Tables};
+use program::{Kind, Outcome, Program, Refusal};
+use rows::Row;
 use std::process::ExitCode;
+use tables::Tables;
 
 struct Engine<'a, const WORDS: usize> {
     program: &'a Program,
@@ -33,8 +37,7 @@ impl<'a, const WORDS: usize> Engine<'a, WORDS> {
     fn new(plan: &'a Plan<'a>, mut rows: Vec<Vec<Row>>, records: bool) -> Engine<'a, WORDS> {
         let program = plan.program;
         let count = program.platforms.len();
-        let platforms: Vec<Platform<WORDS>> =
-            (0..count).map(|number| Platform::new(plan, number, &mut rows, records)).collect();
+        let platforms: Vec<Platform<WORDS>> = (0..count).map(|number| Platform::new(plan, number, &mut rows, records)).collect();
         let shared = Shared {
             links: program.links.iter().map(|_| Traffic::default()).collect(),
             tables: Tables::new(program),
@@ -65,7 +68,7 @@ impl<'a, const WORDS: usize> Engine<'a, WORDS> {
                 moved |= platform.turn(reading, &mut self.shared).ok_or_else(|| long(self.program, number))?;
                 self.running -= usize::from(platform.is_finished());
             } else if !platform.is_finished() {
-                platform.history.rest(reading);
+                platform.history.add_quiet(reading);
             }
         }
         Ok(moved)
@@ -111,9 +114,9 @@ fn run_graph<const WORDS: usize>(plan: &Plan, rows: Vec<Vec<Row>>, words: &[Stri
     let has = |option: &str| words.iter().any(|word| word == option);
     let mut engine: Engine<WORDS> = Engine::new(plan, rows, has("--records"));
     engine.run()?;
-    program::write(&engine.shared.tables.text());
+    tables::write(&engine.shared.tables.text());
     if has("--log") {
-        program::write(&engine.log());
+        tables::write(&engine.log());
     }
     Ok(if engine.missed() > 0 { 5 } else { 0 })
 }

@@ -1,6 +1,6 @@
 //! Sets of places, that is, of the numbers of units of one platform, as bits. They are gone through word by word.
 
-#[derive(Clone, Copy, PartialEq)]
+#[derive(Clone, Copy)]
 pub struct Places<const WORDS: usize>([u64; WORDS]);
 
 impl<const WORDS: usize> Places<WORDS> {

@@ -13,12 +13,11 @@ impl Tag {
 
 /// From which output of its unit a wire leads to which place and input, and what it adds to a tag. Inputs are numbered over all units of
 /// a platform.
-#[derive(Clone, Copy)]
 pub struct Wire {
     pub delay: Tag,
+    pub output: u8,
     pub place: u32,
     pub input: u32,
-    pub output: u8,
 }
 
 /// An actor on its platform.
@@ -35,11 +34,11 @@ pub struct Unit {
 pub struct Parts {
     /// In the order of the graph. The place of a unit is its number in this list.
     pub units: Vec<Unit>,
-    /// The wires of one unit after another, in the order of their outputs.
+    /// The wires of one unit after another.
     pub wires: Vec<Wire>,
     /// For each unit and each other one the least delay over all paths of wires from the other one, or NEVER.
     pub delays: Vec<Tag>,
-    /// The places of the sensors, in the order of the graph.
+    /// The places of the sensors.
     pub sensors: Vec<usize>,
     pub incoming: Vec<usize>,
     pub outgoing: Vec<usize>,
@@ -49,15 +48,12 @@ pub struct Parts {
 pub struct Plan<'a> {
     pub program: &'a Program,
     pub platforms: Vec<Parts>,
-    /// The place of each actor.
+    /// The place of each actor on its platform.
     pub places: Vec<usize>,
 }
 
-/// What feeds a unit over a wire, with what is added to a tag.
-type Feeds = Vec<(usize, Tag)>;
-
 /// Least delays to a place from all others, going back along the wires until nothing changes.
-fn least_delays(feeds: &[Feeds], to: usize) -> Vec<Tag> {
+fn least_delays(feeds: &[Vec<(usize, Tag)>], to: usize) -> Vec<Tag> {
     let mut least = vec![NEVER; feeds.len()];
     least[to] = Tag::at(0);
     let mut todo = vec![to];
@@ -87,6 +83,12 @@ fn bounds(program: &Program) -> Vec<Option<u64>> {
         bounds[link.edge.to] = Some(slack + link.delay + program.clock_error);
     }
     bounds
+}
+
+/// The offset of a unit to which these delays lead from the actors of its platform.
+fn offset(actors: &[usize], bounds: &[Option<u64>], delays: &[Tag]) -> Option<i64> {
+    let reach = actors.iter().zip(delays).filter(|(_, delay)| !delay.is_never());
+    reach.filter_map(|(from, delay)| bounds[*from].map(|bound| bound as i64 - delay.time as i64)).max()
 }
 
 impl Plan<'_> {
@@ -121,7 +123,7 @@ impl Plan<'_> {
 }
 
 impl Parts {
-    /// The parts of the platform with these actors, which are in the order of their places.
+    /// The parts of the platform with these actors.
     fn new(program: &Program, places: &[usize], bounds: &[Option<u64>], actors: &[usize]) -> Parts {
         let is_here = |actor: usize| actors.get(places[actor]) == Some(&actor);
         let links = |end: fn(&Edge) -> usize| -> Vec<usize> {
@@ -137,35 +139,36 @@ impl Parts {
             outgoing: links(|edge| edge.from),
             closing: actors.iter().filter_map(|actor| bounds[*actor]).map(|bound| program.until + bound + 1).max().unwrap_or(0),
         };
-        let mut feeds: Vec<Feeds> = vec![Vec::new(); actors.len()];
+        let mut feeds = vec![Vec::new(); actors.len()];
         for wire in program.wires.iter().filter(|wire| is_here(wire.to)) {
             feeds[places[wire.to]].push((places[wire.from], program.delay(wire.from, wire.output)));
         }
-        let first_inputs: Vec<usize> = actors.iter().scan(0, |sum, actor| Some(std::mem::replace(sum, *sum + program.actors[*actor].inputs))).collect();
-        for (place, &actor) in actors.iter().enumerate() {
-            let delays = least_delays(&feeds, place);
-            let inputs = first_inputs[place]..first_inputs[place] + program.actors[actor].inputs;
-            let first_wire = parts.wires.len();
-            parts.add_wires(program, places, &first_inputs, actor);
-            parts.units.push(Unit { actor, inputs, wires: first_wire..parts.wires.len(), offset: offset(actors, bounds, &delays) });
-            parts.delays.extend(delays);
-        }
+        parts.delays = (0..actors.len()).flat_map(|place| least_delays(&feeds, place)).collect();
+        parts.add_units(program, bounds, actors);
+        parts.add_wires(program, places);
         parts
     }
 
-    fn add_wires(&mut self, program: &Program, places: &[usize], first_inputs: &[usize], actor: usize) {
-        let first = self.wires.len();
-        for wire in program.wires.iter().filter(|wire| wire.from == actor) {
-            let (delay, place) = (program.delay(actor, wire.output), places[wire.to]);
-            let input = (first_inputs[place] + wire.input) as u32;
-            self.wires.push(Wire { delay, place: place as u32, input, output: wire.output as u8 });
+    fn add_units(&mut self, program: &Program, bounds: &[Option<u64>], actors: &[usize]) {
+        let mut input = 0;
+        for (place, &actor) in actors.iter().enumerate() {
+            let inputs = input..input + program.actors[actor].inputs;
+            input = inputs.end;
+            let offset = offset(actors, bounds, &self.delays[place * actors.len()..][..actors.len()]);
+            self.units.push(Unit { actor, inputs, wires: 0..0, offset });
         }
-        self.wires[first..].sort_by_key(|wire| wire.output);
     }
-}
 
-/// The greatest bound less delay of what leads to a unit with these delays.
-fn offset(actors: &[usize], bounds: &[Option<u64>], delays: &[Tag]) -> Option<i64> {
-    let reach = actors.iter().zip(delays).filter(|(_, delay)| **delay != NEVER);
-    reach.filter_map(|(from, delay)| bounds[*from].map(|bound| bound as i64 - delay.time as i64)).max()
+    fn add_wires(&mut self, program: &Program, places: &[usize]) {
+        for place in 0..self.units.len() {
+            let (actor, first) = (self.units[place].actor, self.wires.len());
+            self.wires.extend(program.wires.iter().filter(|wire| wire.from == actor).map(|wire| Wire {
+                delay: program.delay(actor, wire.output),
+                output: wire.output as u8,
+                place: places[wire.to] as u32,
+                input: (self.units[places[wire.to]].inputs.start + wire.input) as u32,
+            }));
+            self.units[place].wires = first..self.wires.len();
+        }
+    }
 }

@@ -1,12 +1,14 @@
 //! A platform of a plain paced engine: what waits on it, and what it does in a turn.
 //!
-//! A unit that waits is either a candidate, which is looked at in each turn, or it is held up by another unit, and is a candidate again
-//! when that one is claimed or when an earlier event comes. A claim is fired at once, and its result is posted in the next turn.
-use crate::history::{Claim, History, Message};
+//! A unit that waits is looked at in each turn, unless it is known that another one holds it up: until that one is claimed, or until an
+//! earlier event comes. A claim is fired at once, and its result is posted in the next turn.
+use crate::history::{History, Message};
 use crate::places::Places;
 use crate::plan::{Parts, Plan, NEVER};
-use crate::program::{Inputs, Row, Tables, Tag};
-use crate::records::{Records, Task};
+use crate::program::{Inputs, Tag};
+use crate::records::Records;
+use crate::rows::Row;
+use crate::tables::Tables;
 use crate::unit::{Input, Open, Role, Sensor, Unit};
 
 /// How many units a turn claims, and how many messages a link holds.
@@ -14,7 +16,7 @@ const MOST: usize = 64;
 /// How many units a platform claims.
 const LIMIT: usize = 200_000;
 
-/// All messages of a link, in the order of their tags, and how many of them were sent and taken.
+/// All messages of a link, and how many of them were sent and taken.
 #[derive(Default)]
 pub struct Traffic {
     pub messages: Vec<Message>,
@@ -22,11 +24,11 @@ pub struct Traffic {
     taken: usize,
 }
 
-/// What the platforms share: the traffic of links, the tables, and for each platform the reading from which on it may have something to
-/// do.
+/// What the platforms share.
 pub struct Shared<'a> {
     pub links: Vec<Traffic>,
     pub tables: Tables<'a>,
+    /// For each platform the reading from which on it may have something to do.
     pub wakes: Vec<u64>,
 }
 
@@ -41,16 +43,17 @@ pub struct Platform<'a, const WORDS: usize> {
     /// The units that have events, and those of them that are known to be held up.
     waiting: Places<WORDS>,
     held_up: Places<WORDS>,
-    /// The places of the units that the last turn claimed, in the order of tag and actor.
+    /// The places of the safe units, and then of those of them that are claimed, in the order of tag and actor.
     claimed: Vec<u16>,
-    /// Room for the values at the inputs of a firing.
+    /// Room for the values at the inputs of a claim.
     taken: Inputs,
-    /// When the next row is seen, and when the first candidate that isn't due yet is due.
+    /// When the next row is seen, and when the next unit is due that isn't known to be held up.
     next_row: u64,
     next_due: u64,
-    is_closed: bool,
+    /// How many messages wait to be sent.
     unsent: usize,
     ends_taken: usize,
+    is_closed: bool,
     pub missed: u64,
     pub history: History,
     records: Option<Records>,
@@ -65,31 +68,32 @@ impl<'a, const WORDS: usize> Platform<'a, WORDS> {
             parts,
             number,
             units: (0..parts.units.len()).map(|place| Unit::new(plan, parts, place)).collect(),
-            inputs: parts.units.iter().flat_map(|unit| unit.inputs.clone()).map(|_| Input::empty()).collect(),
+            inputs: parts.units.iter().flat_map(|unit| unit.inputs.clone()).map(|_| Input::new()).collect(),
             sensors: parts.sensors.iter().map(sensor).collect(),
             waiting: Places::NONE,
             held_up: Places::NONE,
             claimed: Vec::new(),
             taken: Inputs::default(),
-            next_row: 0,
+            next_row: u64::MAX,
             next_due: u64::MAX,
-            is_closed: false,
             unsent: 0,
             ends_taken: 0,
+            is_closed: false,
             missed: 0,
             history: History::default(),
             records: records.then(Records::default),
         };
-        for place in 0..parts.units.len() {
-            if let Some(start) = plan.program.starts_at(parts.units[place].actor) {
-                platform.insert(place, parts.units[place].inputs.start, Tag::at(start), 0);
+        for (place, unit) in parts.units.iter().enumerate() {
+            if let Some(start) = plan.program.starts_at(unit.actor) {
+                platform.insert(place, unit.inputs.start, Tag::at(start), 0);
                 platform.next_due = platform.next_due.min(platform.units[place].due());
             }
         }
-        platform.next_row = platform.sensors.iter().map(|sensor| sensor.next_seen).min().unwrap_or(u64::MAX);
+        platform.find_next_row();
         platform
     }
 
+    /// The actors that are sensors, with their rows.
     pub fn rows(&self) -> impl Iterator<Item = (usize, &[Row])> {
         self.sensors.iter().map(|sensor| (self.parts.units[sensor.place].actor, &sensor.rows[..]))
     }
@@ -109,7 +113,8 @@ impl<'a, const WORDS: usize> Platform<'a, WORDS> {
         }
     }
 
-    /// Makes a turn, and says whether anything happened. Gives nothing if the platform claims too much.
+    /// Makes a turn, and says whether anything happened. Gives nothing if the platform claims too much. As a function of its own it has
+    /// more registers.
     #[inline(never)]
     pub fn turn(&mut self, reading: u64, shared: &mut Shared) -> Option<bool> {
         let posts = self.post(reading, shared);
@@ -120,21 +125,22 @@ impl<'a, const WORDS: usize> Platform<'a, WORDS> {
         let sent = self.send(reading, shared);
         shared.wakes[self.number] = self.wakes();
         if posts + rows + takes + claims + sent > 0 {
-            self.history.keep(reading, [rows, takes, claims, sent]);
-            return Some(true);
+            self.history.add_busy(reading, [rows, takes, claims, sent]);
+            Some(true)
+        } else {
+            self.history.add_quiet(reading);
+            Some(closes)
         }
-        self.history.rest(reading);
-        Some(closes)
     }
 
     #[inline(always)]
     fn insert(&mut self, place: usize, input: usize, tag: Tag, value: i64) {
         self.inputs[input].push(tag, value);
-        self.come(place, tag);
+        self.wait(place, tag);
     }
 
-    /// An event of this tag now waits for a unit.
-    fn come(&mut self, place: usize, tag: Tag) {
+    /// From now on an event of this tag waits for a unit.
+    fn wait(&mut self, place: usize, tag: Tag) {
         let unit = &mut self.units[place];
         if tag < unit.first {
             unit.first = tag;
@@ -143,16 +149,18 @@ impl<'a, const WORDS: usize> Platform<'a, WORDS> {
         }
     }
 
+    /// Posts the results of the last turn.
     fn post(&mut self, reading: u64, shared: &mut Shared) -> usize {
         for number in 0..self.claimed.len() {
             let unit = &self.units[usize::from(self.claimed[number])];
-            let Open { tag, outputs, values } = unit.open;
+            let open = unit.open;
             match unit.role {
-                Role::Other => self.give(unit.wires, &Open { tag, outputs, values }),
-                Role::Actuator { slack } => self.missed += u64::from(reading > tag.time + slack),
+                Role::Inner => self.give(unit.wires, open),
+                Role::Actuator { slack } => self.missed += u64::from(reading > open.tag.time + slack),
                 Role::Sender { link } => {
+                    let value = self.history.values[open.values as usize];
+                    shared.links[link].messages.push(Message { tag: open.tag, value });
                     self.unsent += 1;
-                    shared.links[link].messages.push(Message { tag, value: self.history.values[values as usize] });
                 }
             }
         }
@@ -160,10 +168,11 @@ impl<'a, const WORDS: usize> Platform<'a, WORDS> {
     }
 
     /// Puts the outputs of a result where these wires lead.
-    fn give(&mut self, wires: (u32, u32), open: &Open) {
+    fn give(&mut self, wires: (u32, u32), open: Open) {
         for wire in &self.parts.wires[wires.0 as usize..wires.1 as usize] {
             let tag = open.tag.plus(wire.delay);
             if open.outputs >> wire.output & 1 == 1 && tag.time <= self.plan.program.until {
+                // Mostly there is one output, so that the branch is quicker than the count.
                 let before = open.outputs & ((1 << wire.output) - 1);
                 let number = if before == 0 { 0 } else { before.count_ones() };
                 let value = self.history.values[(open.values + number) as usize];
@@ -183,8 +192,12 @@ impl<'a, const WORDS: usize> Platform<'a, WORDS> {
                 self.enter_rows(number, reading);
             }
         }
-        self.next_row = self.sensors.iter().map(|sensor| sensor.next_seen).min().unwrap_or(u64::MAX);
+        self.find_next_row();
         self.history.rows.len() - before
+    }
+
+    fn find_next_row(&mut self) {
+        self.next_row = self.sensors.iter().map(|sensor| sensor.next_seen).min().unwrap_or(u64::MAX);
     }
 
     fn enter_rows(&mut self, number: usize, reading: u64) {
@@ -195,9 +208,10 @@ impl<'a, const WORDS: usize> Platform<'a, WORDS> {
             self.history.rows.push(self.units[place].actor);
         }
         let first = sensor.first();
-        self.come(place, first);
+        self.wait(place, first);
     }
 
+    /// Takes the messages that were sent to the platform.
     fn take(&mut self, shared: &mut Shared) -> usize {
         let before = self.history.takes.len();
         for &link in &self.parts.incoming {
@@ -214,7 +228,7 @@ impl<'a, const WORDS: usize> Platform<'a, WORDS> {
         let input = self.parts.units[place].inputs.start;
         for message in &traffic.messages[traffic.taken..traffic.sent] {
             self.history.takes.push(link as u16);
-            if message.tag == NEVER {
+            if message.tag.is_never() {
                 self.ends_taken += 1;
             } else {
                 self.insert(place, input, message.tag, message.value);
@@ -223,7 +237,7 @@ impl<'a, const WORDS: usize> Platform<'a, WORDS> {
         traffic.taken = traffic.sent;
     }
 
-    /// The last unit that holds up this one: whose first event may cause one that belongs before its first event, or with it.
+    /// The last unit that holds up this one: whose first event may lead to one that belongs before the first event of this one, or with it.
     fn holder(&self, place: usize) -> Option<usize> {
         (0..WORDS).rev().find_map(|word| self.holder_in(word, place))
     }
@@ -240,7 +254,7 @@ impl<'a, const WORDS: usize> Platform<'a, WORDS> {
         None
     }
 
-    /// Lists all safe units.
+    /// Lists all safe units, and finds out when the next one is due.
     fn find_safe(&mut self, reading: u64) {
         self.claimed.clear();
         self.next_due = u64::MAX;
@@ -292,12 +306,9 @@ impl<'a, const WORDS: usize> Platform<'a, WORDS> {
         }
     }
 
-    /// Claims a unit, which frees those that it holds up, and fires it.
-    fn fire(&mut self, place: usize, reading: u64, tables: &mut Tables) {
-        let unit = &mut self.units[place];
-        let values = &mut self.history.values;
-        let tag = unit.first;
-        let taken = &mut self.taken;
+    /// Claims a unit: takes its events, and lets go of the units that it holds up.
+    fn take_events(&mut self, place: usize) {
+        let (unit, taken, values) = (&mut self.units[place], &mut self.taken, &mut self.history.values);
         taken.clear();
         match unit.sensor {
             Some(number) => unit.first = self.sensors[usize::from(number)].take(taken, values),
@@ -310,12 +321,21 @@ impl<'a, const WORDS: usize> Platform<'a, WORDS> {
         if unit.first.is_never() {
             self.waiting.remove(place);
         }
+    }
+
+    /// Claims a unit and fires it.
+    fn fire(&mut self, place: usize, reading: u64, tables: &mut Tables) {
+        let tag = self.units[place].first;
+        self.take_events(place);
+        let (unit, taken, values) = (&mut self.units[place], &self.taken, &mut self.history.values);
         if let Role::Actuator { .. } = unit.role {
             tables.add(unit.actor.into(), tag, taken.first());
         }
-        let before = unit.state;
+        if let Some(records) = &mut self.records {
+            records.add_task(unit.actor, tag, taken, unit.state);
+        }
         if unit.has_state {
-            values.push(before);
+            values.push(unit.state);
         }
         let (first, mut outputs) = (values.len(), 0);
         unit.kind.fire(&mut unit.state, taken, |output, value| {
@@ -323,15 +343,13 @@ impl<'a, const WORDS: usize> Platform<'a, WORDS> {
             values.push(value);
         });
         if let Some(records) = &mut self.records {
-            let number = self.history.claims.len() as u64;
-            let inputs = std::array::from_fn(|input| taken.get(input));
-            records.add(Task { number, actor: unit.actor.into(), tag, inputs, state: before }, unit.state, outputs, &values[first..]);
+            records.add_result(unit.state, outputs, &values[first..]);
         }
         if unit.has_state {
             values.push(unit.state);
         }
-        self.history.keep_claim(reading, tag, Claim { ahead: 0, actor: unit.actor, inputs: taken.present(), outputs });
         unit.open = Open { tag, outputs, values: first as u32 };
+        self.history.add_claim(reading, tag, unit.actor, taken.present(), outputs);
     }
 
     /// Closes the platform, if nothing waits on it and no row or message can come any more.
@@ -348,6 +366,7 @@ impl<'a, const WORDS: usize> Platform<'a, WORDS> {
         true
     }
 
+    /// Sends what waits, as far as the links have room.
     fn send(&mut self, reading: u64, shared: &mut Shared) -> usize {
         if self.unsent == 0 {
             return 0;
@@ -367,7 +386,7 @@ impl<'a, const WORDS: usize> Platform<'a, WORDS> {
         let count = (MOST - (traffic.sent - traffic.taken)).min(traffic.messages.len() - traffic.sent);
         for message in &traffic.messages[traffic.sent..traffic.sent + count] {
             self.history.sent.push(link as u16);
-            self.missed += u64::from(message.tag != NEVER && reading > message.tag.time + slack);
+            self.missed += u64::from(!message.tag.is_never() && reading > message.tag.time + slack);
         }
         traffic.sent += count;
         self.unsent -= count;

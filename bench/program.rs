@@ -1,8 +1,6 @@
-//! What the plain programs share: a graph of version 1 without faults, its rows, what its actors do, and its tables.
+//! What the plain programs share: a graph of version 1 without faults, and what its actors do.
 use crate::json::Json;
-use std::cmp::Ordering;
 use std::collections::HashMap;
-use std::io::Write;
 
 /// Why a plain program doesn't run a graph, as one line, and the status with which it then ends: those of `ptides` where it refuses
 /// the same, and 1 for what only the plain program doesn't take.
@@ -23,12 +21,12 @@ pub fn ended(result: Outcome<u8>) -> std::process::ExitCode {
         .into()
 }
 
-fn not_taken<T>(what: impl std::fmt::Display) -> Outcome<T> {
+pub fn not_taken<T>(what: impl std::fmt::Display) -> Outcome<T> {
     Err(Refusal { status: 1, line: format!("not taken: {what}") })
 }
 
 /// A time in microseconds and a step.
-#[derive(Clone, Copy, PartialEq, Eq)]
+#[derive(Clone, Copy, PartialEq, Eq, PartialOrd, Ord)]
 pub struct Tag {
     pub time: u64,
     pub step: u64,
@@ -41,23 +39,6 @@ impl Tag {
 
     pub fn plus(self, delay: Tag) -> Tag {
         Tag { time: self.time + delay.time, step: self.step + delay.step }
-    }
-
-    /// Time and step as one number, which takes fewer instructions to compare.
-    fn joined(self) -> u128 {
-        u128::from(self.time) << 64 | u128::from(self.step)
-    }
-}
-
-impl Ord for Tag {
-    fn cmp(&self, other: &Tag) -> Ordering {
-        self.joined().cmp(&other.joined())
-    }
-}
-
-impl PartialOrd for Tag {
-    fn partial_cmp(&self, other: &Tag) -> Option<Ordering> {
-        Some(self.cmp(other))
     }
 }
 
@@ -123,13 +104,6 @@ pub struct Program {
     pub links: Vec<Link>,
 }
 
-#[derive(Clone, Copy)]
-pub struct Row {
-    pub time: u64,
-    pub seen: u64,
-    pub value: i64,
-}
-
 /// The values at the inputs of a firing, and which of them are there.
 #[derive(Clone, Copy, Default)]
 pub struct Inputs {
@@ -138,6 +112,7 @@ pub struct Inputs {
 }
 
 impl Inputs {
+    /// Forgets all values.
     pub fn clear(&mut self) {
         self.present = 0;
     }
@@ -309,46 +284,6 @@ fn kind(actor: &Json) -> Outcome<(Kind, usize, usize)> {
     })
 }
 
-/// Takes a whole number of decimal digits from the front of a text. Fields in quotes, which few files have, are none.
-fn take_number(text: &mut &[u8]) -> Option<i64> {
-    let whole = *text;
-    let (digits, sign) = whole.strip_prefix(b"-").map_or((whole, 1), |digits| (digits, -1));
-    let (mut count, mut number) = (0, 0i64);
-    while let Some(digit) = digits.get(count).map(|byte| byte.wrapping_sub(b'0')).filter(|digit| *digit < 10) {
-        number = number.wrapping_mul(10).wrapping_add(digit.into());
-        count += 1;
-    }
-    *text = &digits[count..];
-    match count {
-        0 => None,
-        1..=18 => Some(sign * number),
-        // These may not fit.
-        _ => std::str::from_utf8(&whole[..whole.len() - text.len()]).ok()?.parse().ok(),
-    }
-}
-
-fn take_comma(text: &mut &[u8]) -> Option<()> {
-    *text = text.strip_prefix(b",")?;
-    Some(())
-}
-
-/// Takes a row from the front of a text, up to the end of its line.
-fn take_row(text: &mut &[u8]) -> Option<Row> {
-    let time = take_number(text)?.try_into().ok()?;
-    take_comma(text)?;
-    let seen = take_number(text)?.try_into().ok()?;
-    take_comma(text)?;
-    let value = take_number(text)?;
-    matches!(text, [] | [b'\n' | b'\r', ..]).then_some(Row { time, seen, value })
-}
-
-/// Takes ends of lines from the front of a text.
-fn take_ends(text: &mut &[u8]) {
-    while let [b'\n' | b'\r', rest @ ..] = text {
-        *text = rest;
-    }
-}
-
 impl Program {
     pub fn read(path: &str) -> Outcome<Program> {
         let graph = Json::read(path);
@@ -438,78 +373,4 @@ impl Program {
         }
         ranks
     }
-
-    /// The rows of an actor up to the horizon; of one that is no sensor, none. Records end at a line feed, at a carriage return, or at
-    /// both, and blank ones don't count.
-    pub fn rows(&self, actor: usize) -> Outcome<Vec<Row>> {
-        let Kind::Sensor { file, .. } = &self.actors[actor].kind else { return Ok(Vec::new()) };
-        let text = std::fs::read(file).unwrap();
-        let mut rest = &text[..];
-        take_ends(&mut rest);
-        let head = rest.iter().position(|byte| matches!(byte, b'\n' | b'\r')).unwrap_or(rest.len());
-        rest = &rest[head..];
-        take_ends(&mut rest);
-        let (mut rows, mut number) = (Vec::new(), 0);
-        while !rest.is_empty() {
-            number += 1;
-            let Some(row) = take_row(&mut rest) else {
-                return not_taken(format_args!("row {number} of sensor {}", self.actors[actor].name));
-            };
-            if row.time <= self.until {
-                rows.push(row);
-            }
-            take_ends(&mut rest);
-        }
-        Ok(rows)
-    }
-}
-
-/// Adds the decimal digits of a number to a text.
-pub fn push_number(text: &mut Vec<u8>, number: u64) {
-    let (mut digits, mut first, mut left) = ([0; 20], 20, number);
-    while left > 0 || first == 20 {
-        first -= 1;
-        digits[first] = b'0' + (left % 10) as u8;
-        left /= 10;
-    }
-    text.extend_from_slice(&digits[first..]);
-}
-
-/// Adds a tag and a value to a text, as `,time,step,value`.
-pub fn push_event(text: &mut Vec<u8>, tag: Tag, value: i64) {
-    text.push(b',');
-    push_number(text, tag.time);
-    text.push(b',');
-    push_number(text, tag.step);
-    text.extend_from_slice(if value < 0 { b",-" } else { b"," });
-    push_number(text, value.unsigned_abs());
-}
-
-/// The lines of each actor that acts.
-pub struct Tables<'a> {
-    program: &'a Program,
-    texts: Vec<Vec<u8>>,
-}
-
-impl Tables<'_> {
-    pub fn new(program: &Program) -> Tables<'_> {
-        Tables { program, texts: vec![Vec::new(); program.actors.len()] }
-    }
-
-    pub fn add(&mut self, actor: usize, tag: Tag, value: i64) {
-        let text = &mut self.texts[actor];
-        text.extend_from_slice(self.program.actors[actor].name.as_bytes());
-        push_event(text, tag, value);
-        text.push(b'\n');
-    }
-
-    pub fn text(&self) -> Vec<u8> {
-        let head: &[u8] = b"actuator,time,step,value\n";
-        [head].into_iter().chain(self.texts.iter().map(|text| &text[..])).collect::<Vec<_>>().concat()
-    }
-}
-
-/// Writes a text to the standard output.
-pub fn write(text: &[u8]) {
-    std::io::stdout().lock().write_all(text).unwrap();
 }

@@ -1,10 +1,11 @@
 //! A unit of a plain paced engine, which is an actor on its platform, with the events that wait for it.
 use crate::places::Places;
 use crate::plan::{Parts, Plan, NEVER};
-use crate::program::{Inputs, Kind, Row, Tag};
+use crate::program::{Inputs, Kind, Tag};
+use crate::rows::Row;
 use std::collections::VecDeque;
 
-/// The events that wait at an input. The first one stands apart; without one its tag is NEVER.
+/// The events that wait at an input. The first one stands apart; if there is none, its tag is NEVER.
 pub struct Input {
     tag: Tag,
     value: i64,
@@ -12,7 +13,7 @@ pub struct Input {
 }
 
 impl Input {
-    pub fn empty() -> Input {
+    pub fn new() -> Input {
         Input { tag: NEVER, value: 0, later: VecDeque::new() }
     }
 
@@ -25,7 +26,7 @@ impl Input {
     }
 
     /// Takes the first event.
-    pub fn pop(&mut self) -> i64 {
+    fn take(&mut self) -> i64 {
         let value = self.value;
         match self.later.pop_front() {
             Some(event) => (self.tag, self.value) = event,
@@ -35,14 +36,20 @@ impl Input {
     }
 }
 
-/// What makes some actors different to others.
+/// What posting a result does.
 pub enum Role {
-    Sender { link: usize },
-    Actuator { slack: u64 },
-    Other,
+    /// Its outputs go over wires.
+    Inner,
+    Sender {
+        link: usize,
+    },
+    Actuator {
+        slack: u64,
+    },
 }
 
-/// The open claim of a unit with its result: which outputs have a value, and where the values of these begin.
+/// A claim with its result: which outputs have a value, and where these values begin in the list of all values.
+#[derive(Clone, Copy)]
 pub struct Open {
     pub tag: Tag,
     pub outputs: u8,
@@ -53,55 +60,55 @@ pub struct Unit<const WORDS: usize> {
     /// The tag of its first event.
     pub first: Tag,
     /// How long after the time of its first event it may fire.
-    pub pace: i64,
-    pub state: i64,
-    pub kind: Kind,
-    pub role: Role,
-    /// The number of the sensor that it is.
-    pub sensor: Option<u16>,
-    pub has_state: bool,
-    pub actor: u16,
-    /// The numbers of its inputs and wires, from the first up to the last.
-    inputs: (u32, u32),
-    pub wires: (u32, u32),
-    pub open: Open,
+    pace: i64,
     /// From which units a path leads to this one, and which units this one holds up.
     pub before: Places<WORDS>,
     pub holds: Places<WORDS>,
+    /// The numbers of its inputs and wires, each from the first to that past the last.
+    inputs: (u32, u32),
+    pub wires: (u32, u32),
+    pub kind: Kind,
+    pub state: i64,
+    pub has_state: bool,
+    pub actor: u16,
+    /// Its number among the sensors.
+    pub sensor: Option<u16>,
+    pub role: Role,
+    /// Its last claim.
+    pub open: Open,
 }
 
 impl<const WORDS: usize> Unit<WORDS> {
     pub fn new(plan: &Plan, parts: &Parts, place: usize) -> Self {
         let unit = &parts.units[place];
-        let kind = &plan.program.actors[unit.actor].kind;
+        let kind = plan.program.actors[unit.actor].kind.clone();
+        let count = parts.units.len();
         let mut before = Places::NONE;
-        for (other, delay) in parts.delays[place * parts.units.len()..].iter().take(parts.units.len()).enumerate() {
-            if other != place && *delay != NEVER {
-                before.put(other);
-            }
+        for other in (0..count).filter(|other| *other != place && !parts.delays[place * count + other].is_never()) {
+            before.put(other);
         }
         let role = match kind {
             Kind::Send { .. } => {
                 Role::Sender { link: plan.program.links.iter().position(|link| link.edge.from == unit.actor).unwrap() }
             }
-            Kind::Actuator { slack } => Role::Actuator { slack: *slack },
-            _ => Role::Other,
+            Kind::Actuator { slack } => Role::Actuator { slack },
+            _ => Role::Inner,
         };
         Unit {
             first: NEVER,
-            // Without a sensor or receiver that leads to it, it may fire at once.
+            // If no sensor or receiver leads to it, it may fire at once.
             pace: unit.offset.map_or(i64::MIN / 2, |offset| offset + 1),
-            state: kind.start(),
-            kind: kind.clone(),
-            role,
-            sensor: parts.sensors.iter().position(|sensor| *sensor == place).map(|number| number as u16),
-            has_state: kind.has_state(),
-            actor: unit.actor as u16,
-            inputs: (unit.inputs.start as u32, unit.inputs.end as u32),
-            wires: (unit.wires.start as u32, unit.wires.end as u32),
-            open: Open { tag: NEVER, outputs: 0, values: 0 },
             before,
             holds: Places::NONE,
+            inputs: (unit.inputs.start as u32, unit.inputs.end as u32),
+            wires: (unit.wires.start as u32, unit.wires.end as u32),
+            state: kind.start(),
+            has_state: kind.has_state(),
+            kind,
+            actor: unit.actor as u16,
+            sensor: parts.sensors.iter().position(|sensor| *sensor == place).map(|number| number as u16),
+            role,
+            open: Open { tag: NEVER, outputs: 0, values: 0 },
         }
     }
 
@@ -110,20 +117,24 @@ impl<const WORDS: usize> Unit<WORDS> {
         (self.first.time as i64 + self.pace).max(0) as u64
     }
 
-    /// Takes all events of the first tag, and adds their values to a list.
+    /// Takes all events of the first tag from the inputs of its platform, and adds their values to a list.
     pub fn take(&mut self, inputs: &mut [Input], taken: &mut Inputs, values: &mut Vec<i64>) {
-        if self.inputs.1 - self.inputs.0 == 1 {
-            let input = &mut inputs[self.inputs.0 as usize];
-            let value = input.pop();
+        let inputs = &mut inputs[self.inputs.0 as usize..self.inputs.1 as usize];
+        if let [input] = inputs {
+            let value = input.take();
             taken.set(0, value);
             values.push(value);
             self.first = input.tag;
-            return;
+        } else {
+            self.take_of_many(inputs, taken, values);
         }
+    }
+
+    fn take_of_many(&mut self, inputs: &mut [Input], taken: &mut Inputs, values: &mut Vec<i64>) {
         let mut first = NEVER;
-        for (number, input) in inputs[self.inputs.0 as usize..self.inputs.1 as usize].iter_mut().enumerate() {
+        for (number, input) in inputs.iter_mut().enumerate() {
             if input.tag == self.first {
-                let value = input.pop();
+                let value = input.take();
                 taken.set(number, value);
                 values.push(value);
             }
@@ -133,13 +144,12 @@ impl<const WORDS: usize> Unit<WORDS> {
     }
 }
 
-/// A sensor: its rows, and how many of them were entered and claimed.
+/// A sensor: its rows, how many of them were entered and claimed, and when the next one is seen.
 pub struct Sensor {
     pub place: usize,
     pub rows: Vec<Row>,
     entered: usize,
     claimed: usize,
-    /// When the next row is seen.
     pub next_seen: u64,
 }
 
