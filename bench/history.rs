@@ -17,7 +17,7 @@ pub struct Message {
 #[derive(Clone, Copy)]
 pub struct Claim {
     relative: i32,
-    actor: u16,
+    pub actor: u16,
     pub inputs: u8,
     pub outputs: u8,
 }
@@ -135,6 +135,7 @@ impl History {
     }
 
     /// Stores a claim that is made at a reading.
+    #[inline(always)]
     pub fn add_claim(&mut self, reading: u64, tag: Tag, actor: u16, inputs: u8, outputs: u8) {
         let relative = i32::try_from(tag.time as i64 - reading as i64).unwrap_or(OTHER);
         let relative = if tag.step == 0 { relative } else { OTHER };

@@ -306,50 +306,36 @@ impl<'a, const WORDS: usize> Platform<'a, WORDS> {
         }
     }
 
-    /// Claims a unit: takes its events, and lets go of the units that it holds up.
-    fn take_events(&mut self, place: usize) {
+    /// Claims a unit and fires it.
+    fn fire(&mut self, place: usize, reading: u64, tables: &mut Tables) {
         let (unit, taken, values) = (&mut self.units[place], &mut self.taken, &mut self.history.values);
-        taken.clear();
-        match unit.sensor {
-            Some(number) => unit.first = self.sensors[usize::from(number)].take(taken, values),
-            None => unit.take(&mut self.inputs, taken, values),
-        }
-        if !unit.holds.is_empty() {
-            self.held_up.remove_all(&unit.holds);
-            unit.holds = Places::NONE;
-        }
+        let (tag, first) = (unit.first, values.len());
+        unit.take(&mut self.sensors, &mut self.inputs, taken, values);
+        unit.release(&mut self.held_up);
         if unit.first.is_never() {
             self.waiting.remove(place);
         }
-    }
-
-    /// Claims a unit and fires it.
-    fn fire(&mut self, place: usize, reading: u64, tables: &mut Tables) {
-        let tag = self.units[place].first;
-        self.take_events(place);
-        let (unit, taken, values) = (&mut self.units[place], &self.taken, &mut self.history.values);
         if let Role::Actuator { .. } = unit.role {
             tables.add(unit.actor.into(), tag, taken.first());
-        }
-        if let Some(records) = &mut self.records {
-            records.add_task(unit.actor, tag, taken, unit.state);
         }
         if unit.has_state {
             values.push(unit.state);
         }
-        let (first, mut outputs) = (values.len(), 0);
+        unit.open = Open { tag, outputs: 0, values: values.len() as u32 };
+        let mut outputs = 0;
         unit.kind.fire(&mut unit.state, taken, |output, value| {
             outputs |= 1 << output;
             values.push(value);
         });
-        if let Some(records) = &mut self.records {
-            records.add_result(unit.state, outputs, &values[first..]);
-        }
+        unit.open.outputs = outputs;
         if unit.has_state {
             values.push(unit.state);
         }
-        unit.open = Open { tag, outputs, values: first as u32 };
         self.history.add_claim(reading, tag, unit.actor, taken.present(), outputs);
+        if let Some(records) = &mut self.records {
+            let claim = &self.history.claims[self.history.claims.len() - 1];
+            records.add(tag, claim, unit.has_state, &self.history.values[first..]);
+        }
     }
 
     /// Closes the platform, if nothing waits on it and no row or message can come any more.

@@ -1,11 +1,12 @@
 //! Each claim and each result as a whole record, with a place for each input and output that an actor can have.
-use crate::program::{Inputs, Tag};
+use crate::history::Claim;
+use crate::program::Tag;
 
 #[derive(Clone)]
 #[allow(dead_code)]
 struct Task {
     number: usize,
-    actor: u16,
+    actor: usize,
     tag: Tag,
     inputs: [Option<i64>; 8],
     state: i64,
@@ -24,18 +25,21 @@ pub struct Records {
     results: Vec<Done>,
 }
 
-impl Records {
-    /// Stores a claim, before it fires.
-    pub fn add_task(&mut self, actor: u16, tag: Tag, taken: &Inputs, state: i64) {
-        let inputs = std::array::from_fn(|input| taken.get(input));
-        self.tasks.push(Task { number: self.tasks.len(), actor, tag, inputs, state });
-    }
+/// The values of ports, of which the bits say which have one of these.
+fn ports(bits: u8, values: &mut impl Iterator<Item = i64>) -> [Option<i64>; 8] {
+    std::array::from_fn(|port| if bits >> port & 1 == 1 { values.next() } else { None })
+}
 
-    /// Stores the result of the last claim. The bits say which outputs have one of these values.
-    pub fn add_result(&mut self, state: i64, bits: u8, values: &[i64]) {
-        let task = self.tasks[self.tasks.len() - 1].clone();
-        let mut values = values.iter();
-        let outputs = std::array::from_fn(|output| if bits >> output & 1 == 1 { values.next().copied() } else { None });
-        self.results.push(Done { task, state, outputs });
+impl Records {
+    /// Stores a claim and its result, whose values are those of a history.
+    pub fn add(&mut self, tag: Tag, claim: &Claim, has_state: bool, values: &[i64]) {
+        let (number, actor, mut values) = (self.tasks.len(), claim.actor.into(), values.iter().copied());
+        let inputs = ports(claim.inputs, &mut values);
+        let state = if has_state { values.next().unwrap() } else { 0 };
+        let task = Task { number, actor, tag, inputs, state };
+        let outputs = ports(claim.outputs, &mut values);
+        let state = if has_state { values.next().unwrap() } else { 0 };
+        self.results.push(Done { task: task.clone(), state, outputs });
+        self.tasks.push(task);
     }
 }

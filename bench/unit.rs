@@ -117,16 +117,27 @@ impl<const WORDS: usize> Unit<WORDS> {
         (self.first.time as i64 + self.pace).max(0) as u64
     }
 
-    /// Takes all events of the first tag from the inputs of its platform, and adds their values to a list.
-    pub fn take(&mut self, inputs: &mut [Input], taken: &mut Inputs, values: &mut Vec<i64>) {
+    /// Takes all events of the first tag from the sensors or inputs of its platform, and adds their values to a list.
+    pub fn take(&mut self, sensors: &mut [Sensor], inputs: &mut [Input], taken: &mut Inputs, values: &mut Vec<i64>) {
+        taken.clear();
         let inputs = &mut inputs[self.inputs.0 as usize..self.inputs.1 as usize];
-        if let [input] = inputs {
+        if let Some(number) = self.sensor {
+            self.first = sensors[usize::from(number)].take(taken, values);
+        } else if let [input] = inputs {
             let value = input.take();
             taken.set(0, value);
             values.push(value);
             self.first = input.tag;
         } else {
             self.take_of_many(inputs, taken, values);
+        }
+    }
+
+    /// Lets go of the units that it holds up.
+    pub fn release(&mut self, held_up: &mut Places<WORDS>) {
+        if !self.holds.is_empty() {
+            held_up.remove_all(&self.holds);
+            self.holds = Places::NONE;
         }
     }
 
