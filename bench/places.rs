@@ -43,6 +43,10 @@ pub struct Word {
 }
 
 impl Word {
+    pub fn is_empty(&self) -> bool {
+        self.bits == 0
+    }
+
     /// Takes out the least place.
     pub fn take_first(&mut self) -> Option<usize> {
         let bit = self.bits.trailing_zeros();

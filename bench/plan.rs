@@ -52,8 +52,11 @@ pub struct Plan<'a> {
     pub places: Vec<usize>,
 }
 
+/// What feeds a unit over wires, with what is added to a tag.
+type Feeds = Vec<(usize, Tag)>;
+
 /// Least delays to a place from all others, going back along the wires until nothing changes.
-fn least_delays(feeds: &[Vec<(usize, Tag)>], to: usize) -> Vec<Tag> {
+fn least_delays(feeds: &[Feeds], to: usize) -> Vec<Tag> {
     let mut least = vec![NEVER; feeds.len()];
     least[to] = Tag::at(0);
     let mut todo = vec![to];
@@ -139,23 +142,23 @@ impl Parts {
             outgoing: links(|edge| edge.from),
             closing: actors.iter().filter_map(|actor| bounds[*actor]).map(|bound| program.until + bound + 1).max().unwrap_or(0),
         };
-        let mut feeds = vec![Vec::new(); actors.len()];
+        let mut feeds: Vec<Feeds> = vec![Vec::new(); actors.len()];
         for wire in program.wires.iter().filter(|wire| is_here(wire.to)) {
             feeds[places[wire.to]].push((places[wire.from], program.delay(wire.from, wire.output)));
         }
-        parts.delays = (0..actors.len()).flat_map(|place| least_delays(&feeds, place)).collect();
-        parts.add_units(program, bounds, actors);
+        parts.add_units(program, bounds, actors, &feeds);
         parts.add_wires(program, places);
         parts
     }
 
-    fn add_units(&mut self, program: &Program, bounds: &[Option<u64>], actors: &[usize]) {
+    fn add_units(&mut self, program: &Program, bounds: &[Option<u64>], actors: &[usize], feeds: &[Feeds]) {
         let mut input = 0;
         for (place, &actor) in actors.iter().enumerate() {
             let inputs = input..input + program.actors[actor].inputs;
             input = inputs.end;
-            let offset = offset(actors, bounds, &self.delays[place * actors.len()..][..actors.len()]);
-            self.units.push(Unit { actor, inputs, wires: 0..0, offset });
+            let delays = least_delays(feeds, place);
+            self.units.push(Unit { actor, inputs, wires: 0..0, offset: offset(actors, bounds, &delays) });
+            self.delays.extend_from_slice(&delays);
         }
     }
 

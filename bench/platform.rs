@@ -3,7 +3,7 @@
 //! A unit that waits is looked at in each turn, unless it is known that another one holds it up: until that one is claimed, or until an
 //! earlier event comes. A claim is fired at once, and its result is posted in the next turn.
 use crate::history::{History, Message};
-use crate::places::Places;
+use crate::places::{Places, Word};
 use crate::plan::{Parts, Plan, NEVER};
 use crate::program::{Inputs, Tag};
 use crate::records::Records;
@@ -259,12 +259,14 @@ impl<'a, const WORDS: usize> Platform<'a, WORDS> {
         self.claimed.clear();
         self.next_due = u64::MAX;
         for word in 0..WORDS {
-            self.find_safe_in(word, reading);
+            let left = self.waiting.without(&self.held_up, word);
+            if !left.is_empty() {
+                self.find_safe_in(left, reading);
+            }
         }
     }
 
-    fn find_safe_in(&mut self, word: usize, reading: u64) {
-        let mut left = self.waiting.without(&self.held_up, word);
+    fn find_safe_in(&mut self, mut left: Word, reading: u64) {
         while let Some(place) = left.take_first() {
             let unit = &self.units[place];
             if unit.due() > reading {
