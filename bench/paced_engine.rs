@@ -80,9 +80,7 @@ impl<'a, const WORDS: usize> Engine<'a, WORDS> {
 
     fn log(&self) -> Vec<u8> {
         let mut rows = vec![Default::default(); self.program.actors.len()];
-        for (actor, list) in self.platforms.iter().flat_map(Platform::rows) {
-            rows[actor] = list.iter();
-        }
+        self.platforms.iter().flat_map(Platform::rows).for_each(|(actor, list)| rows[actor] = list.iter());
         let mut log = Log::new(self.program, rows, self.shared.links.iter().map(|traffic| traffic.messages.iter()).collect());
         for (number, platform) in self.platforms.iter().enumerate() {
             log.add(number, &platform.history).unwrap();
