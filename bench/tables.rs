@@ -2,25 +2,41 @@
 use crate::program::{Program, Tag};
 use std::io::Write;
 
-/// Adds the decimal digits of a number to a text.
-pub fn push_number(text: &mut Vec<u8>, number: u64) {
-    let (mut digits, mut first, mut left) = ([0; 20], 20, number);
-    while left > 0 || first == 20 {
-        first -= 1;
-        digits[first] = b'0' + (left % 10) as u8;
-        left /= 10;
-    }
-    text.extend_from_slice(&digits[first..]);
+/// The end of a line, which is written from its last byte back to its first.
+struct End {
+    bytes: [u8; 72],
+    first: usize,
 }
 
-/// Adds a tag and a value to a text, as `,time,step,value`.
-pub fn push_event(text: &mut Vec<u8>, tag: Tag, value: i64) {
-    text.push(b',');
-    push_number(text, tag.time);
-    text.push(b',');
-    push_number(text, tag.step);
-    text.extend_from_slice(if value < 0 { b",-" } else { b"," });
-    push_number(text, value.unsigned_abs());
+impl End {
+    fn put(&mut self, byte: u8) {
+        self.first -= 1;
+        self.bytes[self.first] = byte;
+    }
+
+    fn put_number(&mut self, number: u64) {
+        self.put(b'0' + (number % 10) as u8);
+        let mut left = number / 10;
+        while left > 0 {
+            self.put(b'0' + (left % 10) as u8);
+            left /= 10;
+        }
+    }
+
+    /// An end with a tag and a value, as `,time,step,value`.
+    fn new(tag: Tag, value: i64) -> End {
+        let mut end = End { bytes: [b'\n'; 72], first: 71 };
+        end.put_number(value.unsigned_abs());
+        if value < 0 {
+            end.put(b'-');
+        }
+        end.put(b',');
+        end.put_number(tag.step);
+        end.put(b',');
+        end.put_number(tag.time);
+        end.put(b',');
+        end
+    }
 }
 
 /// The lines of each actor that acts.
@@ -37,8 +53,8 @@ impl Tables<'_> {
     pub fn add(&mut self, actor: usize, tag: Tag, value: i64) {
         let text = &mut self.texts[actor];
         text.extend_from_slice(self.program.actors[actor].name.as_bytes());
-        push_event(text, tag, value);
-        text.push(b'\n');
+        let end = End::new(tag, value);
+        text.extend_from_slice(&end.bytes[end.first..]);
     }
 
     pub fn text(&self) -> Vec<u8> {
