@@ -16,8 +16,8 @@ impl Tag {
 pub struct Wire {
     pub delay: Tag,
     pub output: u8,
-    pub place: u32,
-    pub input: u32,
+    pub place: u16,
+    pub input: u16,
 }
 
 /// An actor on its platform.
@@ -168,8 +168,8 @@ impl Parts {
             self.wires.extend(program.wires.iter().filter(|wire| wire.from == actor).map(|wire| Wire {
                 delay: program.delay(actor, wire.output),
                 output: wire.output as u8,
-                place: places[wire.to] as u32,
-                input: (self.units[places[wire.to]].inputs.start + wire.input) as u32,
+                place: places[wire.to] as u16,
+                input: (self.units[places[wire.to]].inputs.start + wire.input) as u16,
             }));
             self.units[place].wires = first..self.wires.len();
         }

@@ -168,15 +168,15 @@ impl<'a, const WORDS: usize> Platform<'a, WORDS> {
     }
 
     /// Puts the outputs of a result where these wires lead.
-    fn give(&mut self, wires: (u32, u32), open: Open) {
-        for wire in &self.parts.wires[wires.0 as usize..wires.1 as usize] {
+    fn give(&mut self, wires: (u16, u16), open: Open) {
+        for wire in &self.parts.wires[wires.0.into()..wires.1.into()] {
             let tag = open.tag.plus(wire.delay);
             if open.outputs >> wire.output & 1 == 1 && tag.time <= self.plan.program.until {
                 // Mostly there is one output, so that the branch is quicker than the count.
                 let before = open.outputs & ((1 << wire.output) - 1);
                 let number = if before == 0 { 0 } else { before.count_ones() };
                 let value = self.history.values[(open.values + number) as usize];
-                self.insert(wire.place as usize, wire.input as usize, tag, value);
+                self.insert(wire.place.into(), wire.input.into(), tag, value);
             }
         }
     }

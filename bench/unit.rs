@@ -65,8 +65,8 @@ pub struct Unit<const WORDS: usize> {
     pub before: Places<WORDS>,
     pub holds: Places<WORDS>,
     /// The numbers of its inputs and wires, each from the first to that past the last.
-    inputs: (u32, u32),
-    pub wires: (u32, u32),
+    inputs: (u16, u16),
+    pub wires: (u16, u16),
     pub kind: Kind,
     pub state: i64,
     pub has_state: bool,
@@ -100,8 +100,8 @@ impl<const WORDS: usize> Unit<WORDS> {
             pace: unit.offset.map_or(i64::MIN / 2, |offset| offset + 1),
             before,
             holds: Places::NONE,
-            inputs: (unit.inputs.start as u32, unit.inputs.end as u32),
-            wires: (unit.wires.start as u32, unit.wires.end as u32),
+            inputs: (unit.inputs.start as u16, unit.inputs.end as u16),
+            wires: (unit.wires.start as u16, unit.wires.end as u16),
             state: kind.start(),
             has_state: kind.has_state(),
             kind,
@@ -120,7 +120,7 @@ impl<const WORDS: usize> Unit<WORDS> {
     /// Takes all events of the first tag from the sensors or inputs of its platform, and adds their values to a list.
     pub fn take(&mut self, sensors: &mut [Sensor], inputs: &mut [Input], taken: &mut Inputs, values: &mut Vec<i64>) {
         taken.clear();
-        let inputs = &mut inputs[self.inputs.0 as usize..self.inputs.1 as usize];
+        let inputs = &mut inputs[self.inputs.0.into()..self.inputs.1.into()];
         if let Some(number) = self.sensor {
             self.first = sensors[usize::from(number)].take(taken, values);
         } else if let [input] = inputs {
