@@ -75,7 +75,7 @@ pub struct History {
     pub sent: Vec<u16>,
     pub claims: Vec<Claim>,
     tags: Vec<Tag>,
-    /// The values of one claim after another: of its inputs, the state before, of its outputs and the state after, as far as there are such.
+    /// The values of one claim after another: of its inputs, the state before, of its outputs and the state after, as far as it has them.
     pub values: Vec<i64>,
 }
 
