@@ -12,6 +12,9 @@ use std::marker::Model;
 /// The number of items is less than this, so that 32 bits hold each end.
 pub(crate) const MOST_ITEMS: usize = 4_294_967_296;
 
+/// A vector that grows gets room for this many times the items that it has.
+const GROWTH: usize = 8;
+
 /// A list of lists, with room reserved for more items and lists. Contracts see `lists`, `spare_items` and `spare_lists`.
 ///
 /// The lists `[1, 2]`, `[]` and `[3]` are stored as the items 1, 2, 3, and start at 0, 2 and 2.
@@ -151,6 +154,24 @@ pub(crate) fn widened<T>(items: &mut Vec<T>, spare: usize, wanted: usize) -> Res
     if spare >= wanted {
         return Ok(spare);
     }
-    items.reserve(wanted)?;
+    if items.capacity() - items.len() < wanted {
+        widen(items, wanted)?;
+    }
     Ok(wanted)
+}
+
+/// Makes room for at least `wanted` more items, and for `GROWTH` times those that are there if memory suffices for that. So
+/// a vector is seldom copied. Room that is not used yet takes addresses only.
+#[inline(never)]
+fn widen<T>(items: &mut Vec<T>, wanted: usize) -> Result<(), Memory>
+    ensures items { items.new.items ≡ items.old.items }
+    ensures kept { vec_capacity items.old ≤ vec_capacity items.new }
+    ensures room { OnOk result (vec_len items.new + wanted ≤ vec_capacity items.new) }
+{
+    let more = (GROWTH - 1).saturating_mul(items.len());
+    if items.reserve(wanted.saturating_add(more)).is_ok() {
+        return Ok(());
+    }
+    items.reserve(wanted)?;
+    Ok(())
 }
