@@ -34,9 +34,9 @@ get_turn p k hs h lt = get_from p 0 k k hs h (omega arith) lt
 pub list_of : {X : Type 0} (f : Turn → List X) (p : Lists) (lists : List (List X)) (k : ℕ) (hs : List Head) (h : Head) (list : List X) → k < length hs → f (turn_at p k (get_or hs k h)) ≡ get_or lists k [] → slice_get lists k ≡ Some list → option_map f (slice_get (turns_from p 0 hs) k) ≡ Some list
 list_of f p lists k hs h list lt is read = ap (option_map f) (get_turn p k hs h lt) ∙ ap Some (is ∙ get_or_from_slice_get lists k list [] read)
 
--- a number of a head
-pub number_of : (f : Turn → ℕ) (n : Head → ℕ) (p : Lists) (k : ℕ) (hs : List Head) (h : Head) → k < length hs → f (turn_at p k (get_or hs k h)) ≡ n (get_or hs k h) → option_map f (slice_get (turns_from p 0 hs) k) ≡ Some (n (get_or hs k h))
-number_of f n p k hs h lt is = ap (option_map f) (get_turn p k hs h lt) ∙ ap Some is
+-- what is read of the head of a turn
+pub number_of : {X : Type 0} (f : Turn → X) (n : Head → X) (p : Lists) (k : ℕ) (hs : List Head) (h : Head) → k < length hs → f (turn_at p k (get_or hs k h)) ≡ n (get_or hs k h) → option_map f (slice_get (turns_from p 0 hs) k) ≡ Some (n (get_or hs k h))
+number_of {X} f n p k hs h lt is = ap (option_map f) (get_turn p k hs h lt) ∙ ap Some is
 
 -- the members of one list of all turns
 all_from : {X : Type 0} (f : Turn → List X) (p : Lists) (lists : List (List X)) (i : ℕ) (hs : List Head) → ((k : ℕ) (h : Head) → f (turn_at p k h) ≡ get_or lists k []) → i + length hs ≡ length lists → flat_map f (turns_from p i hs) ≡ flat_map (λ (list : List X). list) (drop i lists)

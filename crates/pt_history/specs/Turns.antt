@@ -6,6 +6,7 @@ use Rattle.pt_types.specs.declared.firing.OnLink.{OnLink}
 use Rattle.pt_types.specs.declared.firing.Task.{Task}
 use Rattle.pt_types.specs.declared.rows.RowAt.{RowAt}
 use Rattle.pt_semantics.specs.Turn.{Turn}
+use Rattle.pt_history.specs.declared.head.Head.{Head}
 use Rattle.pt_history.specs.declared.room.Room.{Room}
 
 -- recorded turns, and the room for more turns and for more items in their lists
@@ -23,6 +24,10 @@ larger a b = record {
   claimed = max a.claimed b.claimed;
   sent = max a.sent b.sent;
 }
+
+-- the readings and the count of a turn
+abbrev pub head_of : Turn → Head
+head_of turn = record { first = turn.first; last = turn.last; count = turn.count }
 
 -- a run of `count` quiet turns with this first and last reading
 abbrev pub quiet : ℕ → ℕ → ℕ → Turn

@@ -2,17 +2,20 @@
 
 ghost use Rattle.std.specs.Prelude.{◌≡◌};
 
-/// The first and the last reading of a recorded turn, in microseconds, and the number of turns it stands for.
+/// The first and the last reading of a recorded turn, and the number of turns it stands for: 1, or more for a run of quiet
+/// turns that are recorded as one.
 #[derive(Clone, Copy, Debug, PartialEq, Eq)]
-pub(crate) struct Head {
+pub struct Head {
+    /// The first reading, in microseconds.
     pub first: u64,
+    /// The last reading, in microseconds; of a single turn it is the first one too.
     pub last: u64,
     pub count: u64,
 }
 
 impl Head {
     /// The head of a single turn at a reading, in microseconds.
-    pub fn single(reading: u64) -> Head
+    pub(crate) fn single(reading: u64) -> Head
         ensures { result ≡ record { first = reading; last = reading; count = 1 } }
     {
         Head {

@@ -25,6 +25,7 @@ mod work;
 mod work_lists;
 
 pub use claims::Mark;
+pub use head::Head;
 pub use history::History;
 pub use miss::Miss;
 pub use pieces::Pieces;
