@@ -19,3 +19,4 @@ pub mod Blocks
 pub mod ValuesAt
 pub mod Starts
 pub mod LastTwo
+pub mod Repeating

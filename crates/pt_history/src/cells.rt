@@ -68,6 +68,7 @@ impl Cells {
     }
 
     /// Appends the values at eight ports and a state as a group. Allocates nothing.
+    #[inline(always)]
     pub fn push(&mut self, ports: &Ports, state: i64)
         requires { 0 < self.old.spare }
         ensures cells { self.new.cells ≡ self.old.cells ++ cells_of ports.now state ∷ [] }

@@ -65,6 +65,7 @@ impl Ends {
         ensures total { self.new.total ≡ self.old.total }
         ensures room { self.new.spare + 1 ≡ self.old.spare }
     {
+        // There are at most as many lists as this number, so that a `usize` holds how many there are.
         let _limit = self.starts.limit();
         self.pending += 1;
     }
@@ -86,6 +87,7 @@ impl Ends {
     pub fn len(&self) -> usize
         ensures { result ≡ length self.now.ends }
     {
+        // As in `begin`: there are at most as many lists as this number.
         let _limit = self.starts.limit();
         self.starts.len() + self.pending
     }
@@ -162,7 +164,7 @@ impl Ends {
 }
 
 /// Stores that lists begin at an index. Allocates nothing.
-#[inline(never)]
+#[inline(always)]
 fn begin_all(starts: &mut Repeats<u32>, start: u32, lists: usize)
     requires { lists ≤ starts.old.spare }
     ensures items { starts.new.items ≡ starts.old.items ++ replicate lists start }

@@ -1,6 +1,6 @@
 //! Indices that rise by at most 1 from each to the next.
 
-ghost use Rattle.std.specs.Prelude.{◌≡◌, ◌+◌, ◌-◌, ◌^◌, ◌<◌, ◌≤◌, ◌++◌, ◌∷◌, [], OnErr, OnOk, length, max, replicate, slice_index_or, true, vec_len, vec_capacity};
+ghost use Rattle.std.specs.Prelude.{◌≡◌, ◌+◌, ◌-◌, ◌%◌, ◌^◌, ◌<◌, ◌≤◌, ◌++◌, ◌∷◌, [], OnErr, OnOk, length, max, replicate, slice_index_or, true, vec_len, vec_capacity};
 ghost use Rattle.pt_history.specs.Indices.{index_in, no_block};
 
 use crate::pieces::widened;
@@ -146,9 +146,32 @@ impl Indices {
         ensures indices { self.new.indices ≡ self.old.indices ++ replicate more (slice_index_or self.old.indices (length self.old.indices - 1) 0) }
         ensures room { self.new.spare + more ≡ self.old.spare }
     {
-        for _time in 0..more {
-            self.again();
+        let mut left = more;
+        while left >= PER_BLOCK - self.len() % PER_BLOCK {
+            left -= PER_BLOCK - self.len() % PER_BLOCK;
+            self.fill();
         }
+        self.stay(left);
+    }
+
+    /// Appends the last index, or 0, until the newest block is full. Allocates nothing.
+    fn fill(&mut self)
+        requires { 64 - length self.old.indices % 64 ≤ self.old.spare }
+        ensures indices { self.new.indices ≡ self.old.indices ++ replicate (64 - length self.old.indices % 64) (slice_index_or self.old.indices (length self.old.indices - 1) 0) }
+        ensures room { self.new.spare + (64 - length self.old.indices % 64) ≡ self.old.spare }
+    {
+        self.stay(PER_BLOCK - 1 - self.len() % PER_BLOCK);
+        self.again();
+    }
+
+    /// Appends the last index this many times more, or 0, where the newest block has room for one more. Allocates nothing.
+    fn stay(&mut self, more: usize)
+        requires room { more ≤ self.old.spare }
+        requires within { length self.old.indices % 64 + more < 64 }
+        ensures indices { self.new.indices ≡ self.old.indices ++ replicate more (slice_index_or self.old.indices (length self.old.indices - 1) 0) }
+        ensures room { self.new.spare + more ≡ self.old.spare }
+    {
+        self.count += more;
     }
 
     /// Appends the index after the last one, or 1. Allocates nothing.

@@ -1,4 +1,4 @@
-use Rattle.std.proofs.Common.{◌≡◌, sym}
+use Rattle.std.proofs.Common.{sym}
 use Rattle.pt_history.proofs.MarkLists.{number_first, number_last}
 use Rattle.pt_history.proofs.marks.number_at.Goals as goal
 

@@ -1,4 +1,4 @@
-use Rattle.std.proofs.Common.{◌≡◌, length, sym, ◌∙◌, eqb-true}
+use Rattle.std.proofs.Common.{◌≡◌, sym, ◌∙◌, eqb-true}
 use Rattle.std.specs.Prelude.{vec_len}
 use Rattle.pt_history.proofs.MarkLists.{number_left}
 use Rattle.pt_history.proofs.marks.store_number.Goals as goal

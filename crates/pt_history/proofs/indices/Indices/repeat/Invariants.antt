@@ -1,9 +1,13 @@
-use Rattle.std.proofs.Common.{◌≡◌, ◌+◌, ◌-◌, ◌++◌, length, get_or, replicate}
+use Rattle.std.proofs.Common.{◌≡◌, ◌+◌, ◌-◌, ◌≤◌}
+use Rattle.pt_history.proofs.Repeating.{IsRepeated}
 use Rattle.pt_history.proofs.indices.Indices.repeat.Given as goal
 
-abbrev pub invariant-loop-time : goal.invariant-loop-time
-invariant-loop-time l = record {
-  indices : l.self.indices ≡ l.fn.self.indices ++ replicate l._time (get_or l.fn.self.indices (length l.fn.self.indices - 1) 0);
-  last : get_or l.self.indices (length l.self.indices - 1) 0 ≡ get_or l.fn.self.indices (length l.fn.self.indices - 1) 0;
-  spare : l.self.spare + l._time ≡ l.fn.self.spare;
+abbrev pub invariant-loop-left : goal.invariant-loop-left
+invariant-loop-left l = record {
+  repeated : IsRepeated l.fn.self.indices l.self.indices (l.more - l.left);
+  spare : l.self.spare + (l.more - l.left) ≡ l.fn.self.spare;
+  few : l.left ≤ l.more;
 }
+
+abbrev pub decreases-loop-left : goal.decreases-loop-left
+decreases-loop-left l = l.left
