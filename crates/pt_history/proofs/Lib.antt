@@ -19,4 +19,5 @@ pub mod Blocks
 pub mod ValuesAt
 pub mod Starts
 pub mod LastTwo
+pub mod HeadLists
 pub mod Repeating

@@ -12,5 +12,7 @@ pub mod WorkWhole
 pub mod WorkLists
 pub mod Indices
 pub mod IndicesWhole
+pub mod Heads
+pub mod PastHeadsWhole
 pub mod Recents
 pub mod HeadsWhole

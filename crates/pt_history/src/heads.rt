@@ -1,36 +1,33 @@
 //! The heads of recorded turns.
 
-ghost use Rattle.std.specs.Prelude.{◌≡◌, ◌+◌, ◌-◌, ◌<◌, ◌≤◌, ◌++◌, ◌∷◌, [], MatchOption, OnErr, OnOk, Some, length, max, slice_get, slice_set, true};
+ghost use Rattle.std.specs.Prelude.{◌≡◌, ◌+◌, ◌-◌, ◌<◌, ◌≤◌, ◌++◌, ◌∷◌, [], MatchOption, OnErr, OnOk, Some, length, max, slice_get, slice_set};
+ghost use Rattle.pt_history.specs.Heads.{single};
 ghost use Rattle.pt_history.specs.Recents.{EndWith, heads_in};
 
 use crate::head::Head;
+use crate::past_heads::PastHeads;
 use crate::pieces::MOST_ITEMS;
-use crate::repeats::Repeats;
 use pt_tags::Memory;
 use std::alloc::Global;
 use std::marker::Model;
 
-/// The last heads, of which two at most can still change.
+/// The number of past heads is less than this, so that the number of all heads is less than 2^32.
+const MOST_PAST: usize = MOST_ITEMS - 2;
+
+/// The last heads, of which two at most can still change. The last is that of a single turn, and only its reading is kept.
 #[derive(Clone, Copy, Debug, PartialEq, Eq)]
 pub(crate) enum Recent {
     Empty,
-    One(Head),
-    Two(Head, Head),
+    One(u64),
+    Two(Head, u64),
 }
 
 /// The heads of recorded turns, and room reserved for more. Contracts see `items` and `spare`.
-///
-/// The turns of a platform mostly have the reading of the turn before, and then their heads are equal.
 #[derive(Drop)]
 pub(crate) struct Heads {
     /// All heads but the last two.
-    past: Repeats<Head>,
-    /// The last of `past`.
-    newest: Option<Head>,
+    past: PastHeads,
     recent: Recent,
-    /// The number of all heads.
-    count: usize,
-    spare: usize,
 }
 
 impl Model for Heads {
@@ -42,7 +39,7 @@ impl Model for Heads {
 
     ghost Value = { RoomyItems Head };
 
-    ghost view = { λ h. record { items = h.past.items ++ heads_in h.recent; spare = h.spare } };
+    ghost view = { λ h. record { items = h.past.items ++ heads_in h.recent; spare = h.past.spare } };
 
     ghost invariant = { AreHeads };
 }
@@ -54,11 +51,8 @@ impl Heads {
         ensures spare { result.spare ≡ 0 }
     {
         Heads {
-            past: Repeats::new(alloc),
-            newest: None,
+            past: PastHeads::new(alloc),
             recent: Recent::Empty,
-            count: 0,
-            spare: 0,
         }
     }
 
@@ -69,39 +63,35 @@ impl Heads {
         ensures room { OnOk result (self.new.spare ≡ max self.old.spare more) }
         ensures unchanged { OnErr result (self.new ≡ self.old) }
     {
-        if more >= MOST_ITEMS - self.count {
+        if more >= MOST_PAST - self.past.len() {
             return Err(Memory);
         }
-        self.past.reserve(more)?;
-        self.spare = self.spare.max(more);
-        Ok(())
+        self.past.reserve(more)
     }
 
-    /// Appends a head. Allocates nothing.
-    pub fn push(&mut self, head: Head)
+    /// Appends the head of a single turn at a reading, in microseconds. Allocates nothing.
+    pub fn push(&mut self, reading: u64)
         requires { 0 < self.old.spare }
-        ensures items { self.new.items ≡ self.old.items ++ head ∷ [] }
-        ensures room { self.new.spare + 1 ≡ self.old.spare }
+        ensures items { self.new.items ≡ self.old.items ++ single reading ∷ [] }
+        ensures room { self.old.spare ≤ self.new.spare + 1 }
     {
-        self.spare -= 1;
-        self.count += 1;
         match self.recent {
-            Recent::Empty => self.recent = Recent::One(head),
-            Recent::One(first) => self.recent = Recent::Two(first, head),
-            Recent::Two(first, second) => {
-                self.recent = Recent::Two(second, head);
-                store(&mut self.past, &mut self.newest, first);
+            Recent::Empty => self.recent = Recent::One(reading),
+            Recent::One(last) => self.recent = Recent::Two(Head::single(last), reading),
+            Recent::Two(before, last) => {
+                self.recent = Recent::Two(Head::single(last), reading);
+                self.past.push(before);
             }
         }
     }
 
-    /// Replaces the last two heads.
-    pub fn replace(&mut self, first: Head, second: Head)
+    /// Replaces the last two heads by another one and that of a single turn at a reading, in microseconds.
+    pub fn replace(&mut self, before: Head, reading: u64)
         requires { 2 ≤ length self.old.items }
-        ensures items { self.new.items ≡ slice_set (slice_set self.old.items (length self.old.items - 2) first) (length self.old.items - 1) second }
+        ensures items { self.new.items ≡ slice_set (slice_set self.old.items (length self.old.items - 2) before) (length self.old.items - 1) (single reading) }
         ensures room { self.new.spare ≡ self.old.spare }
     {
-        self.recent = Recent::Two(first, second);
+        self.recent = Recent::Two(before, reading);
     }
 
     /// The last two heads, or `None` if there are fewer.
@@ -111,7 +101,7 @@ impl Heads {
         match self.recent {
             Recent::Empty => None,
             Recent::One(_) => None,
-            Recent::Two(before, last) => Some((before, last)),
+            Recent::Two(before, last) => Some((before, Head::single(last))),
         }
     }
 
@@ -119,7 +109,7 @@ impl Heads {
     pub fn len(&self) -> usize
         ensures { result ≡ length self.now.items }
     {
-        self.count
+        self.past.len() + count_of(self.recent)
     }
 
     /// Head `number`, counted from 0.
@@ -127,62 +117,40 @@ impl Heads {
         requires { number < length self.now.items }
         ensures { slice_get self.now.items number ≡ Some result }
     {
-        if number < self.past.len() {
-            return self.past.get(number);
-        }
-        if number + 1 == self.count {
-            last_of(self.recent)
+        let past = self.past.len();
+        if number < past {
+            self.past.get(number)
         } else {
-            before_last(self.recent)
+            recent_at(self.recent, number - past)
         }
     }
 }
 
-/// Appends a head to the past ones, of which `newest` is the last.
-fn store(past: &mut Repeats<Head>, newest: &mut Option<Head>, head: Head)
-    requires room { 0 < past.old.spare }
-    requires newest { newest.old ≡ slice_get past.old.items (length past.old.items - 1) }
-    ensures items { past.new.items ≡ past.old.items ++ head ∷ [] }
-    ensures newest { newest.new ≡ Some head }
-    ensures room { past.new.spare + 1 ≡ past.old.spare }
+/// The number of recent heads.
+fn count_of(recent: Recent) -> usize
+    ensures { result ≡ length (heads_in recent) }
 {
-    if let Some(last) = *newest {
-        if same_head(last, head) {
-            past.again();
-            return;
+    match recent {
+        Recent::Empty => 0,
+        Recent::One(_) => 1,
+        Recent::Two(_, _) => 2,
+    }
+}
+
+/// Recent head `number`, counted from 0.
+fn recent_at(recent: Recent, number: usize) -> Head
+    requires { number < length (heads_in recent) }
+    ensures { slice_get (heads_in recent) number ≡ Some result }
+{
+    match recent {
+        Recent::Empty => unreachable!(),
+        Recent::One(reading) => Head::single(reading),
+        Recent::Two(before, reading) => {
+            if number == 0 {
+                before
+            } else {
+                Head::single(reading)
+            }
         }
-    }
-    *newest = Some(head);
-    past.push(head);
-}
-
-/// Whether two heads are equal.
-fn same_head(first: Head, second: Head) -> bool
-    ensures { result ≡ true → first ≡ second }
-{
-    first == second
-}
-
-/// The last of the recent heads.
-fn last_of(recent: Recent) -> Head
-    requires { 0 < length (heads_in recent) }
-    ensures { slice_get (heads_in recent) (length (heads_in recent) - 1) ≡ Some result }
-{
-    match recent {
-        Recent::Empty => unreachable!(),
-        Recent::One(head) => head,
-        Recent::Two(_, head) => head,
-    }
-}
-
-/// The recent head before the last.
-fn before_last(recent: Recent) -> Head
-    requires { 2 ≤ length (heads_in recent) }
-    ensures { slice_get (heads_in recent) 0 ≡ Some result }
-{
-    match recent {
-        Recent::Empty => unreachable!(),
-        Recent::One(_) => unreachable!(),
-        Recent::Two(head, _) => head,
     }
 }

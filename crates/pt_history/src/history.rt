@@ -112,7 +112,7 @@ impl History {
     {
         match self.run() {
             Some(run) => {
-                self.join(run, Head::single(reading));
+                self.join(run, reading);
                 self.room.turns -= 1;
             }
             None => self.add(reading),
@@ -131,7 +131,7 @@ impl History {
     {
         match self.run() {
             Some(run) => {
-                self.join(run, Head::single(reading));
+                self.join(run, reading);
                 true
             }
             None => {
@@ -158,16 +158,16 @@ impl History {
         self.sent.begin();
         self.before_quiet = self.last_quiet;
         self.last_quiet = true;
-        self.heads.push(Head::single(reading));
+        self.heads.push(reading);
     }
 
-    /// Replaces the last two turns, which are quiet, by their joined run and a new quiet turn.
-    fn join(&mut self, run: Head, head: Head)
+    /// Replaces the last two turns, which are quiet, by their joined run and a new quiet turn at a reading, in microseconds.
+    fn join(&mut self, run: Head, reading: u64)
         requires { Joins self.old.turns (length self.old.turns - 2) run }
-        ensures turns { self.new.turns ≡ take (length self.old.turns - 2) self.old.turns ++ quiet run.first run.last run.count ∷ quiet head.first head.last head.count ∷ [] }
+        ensures turns { self.new.turns ≡ take (length self.old.turns - 2) self.old.turns ++ quiet run.first run.last run.count ∷ fresh reading ∷ [] }
         ensures room { self.new.room ≡ self.old.room }
     {
-        self.heads.replace(run, head);
+        self.heads.replace(run, reading);
     }
 
     /// The joined head of the last two turns, if both are quiet and their count fits; else `None`.

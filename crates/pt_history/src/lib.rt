@@ -3,6 +3,7 @@
 //! Each of the five lists is stored flat for all turns: its items one after another, and the index at which each turn's
 //! part starts (`Ends`). Of claims and results only the values that are there are stored, and a result refers to its claim
 //! (`Work`). Readings and starts mostly repeat those of the turn before, and equal neighbours are stored once (`Repeats`).
+//! Most heads are of single turns, of which only the reading is stored (`PastHeads`).
 //! A run of quiet turns is stored as one turn: `begin` joins the last two as defined in pt_semantics.
 //! Memory is reserved before a turn, so that a turn allocates nothing.
 //!
@@ -18,6 +19,7 @@ mod history;
 mod indices;
 mod marks;
 mod miss;
+mod past_heads;
 mod pieces;
 mod repeats;
 mod room;

@@ -1,7 +1,7 @@
 use Rattle.std.proofs.Common.{◌∷◌, [], ◌++◌, ap, ◌∙◌}
-use Rattle.pt_history.specs.declared.head.Head.{Head}
+use Rattle.pt_history.specs.Heads.{single}
 use Rattle.pt_history.specs.Keeping.{turns_from, Lists}
-use Rattle.pt_history.specs.Turns.{RoomyTurns, quiet}
+use Rattle.pt_history.specs.Turns.{RoomyTurns, fresh}
 use Rattle.pt_history.specs.Whole.{lists_of}
 use Rattle.pt_history.proofs.Growing.{turns_begin}
 use Rattle.pt_history.proofs.history.History.add.Goals as goal
@@ -12,8 +12,7 @@ returns-clause-turns c =
     let q : Lists = record { posted = c.begin.new.self.posted.lists; rows = c.begin-2.new.self.lists; taken = c.begin-3.new.self.lists; claimed = c.begin.new.self.claimed.lists; sent = c.begin-4.new.self.lists } in
     let inv = c.self.invariant in
     ap (λ hs. turns_from q 0 hs) c.push.ensures.items
-    ∙ turns_begin p q c.self.inside.heads.items c.single.result
+    ∙ turns_begin p q c.self.inside.heads.items (single c.args.reading)
     (record { posted = inv.posted.lists; rows = inv.rows.lists; taken = inv.taken.lists; claimed = inv.claimed.lists; sent = inv.sent.lists })
     (record { posted = c.begin.ensures.posted; rows = c.begin-2.ensures.lists; taken = c.begin-3.ensures.lists; claimed = c.begin.ensures.claimed; sent = c.begin-4.ensures.lists })
-    ∙ ap (λ (v : RoomyTurns). v.turns ++ quiet c.single.result.first c.single.result.last c.single.result.count ∷ []) c.self.view_is
-    ∙ ap (λ (h : Head). c.args.self.now.turns ++ quiet h.first h.last h.count ∷ []) c.single.ensures
+    ∙ ap (λ (v : RoomyTurns). v.turns ++ fresh c.args.reading ∷ []) c.self.view_is
