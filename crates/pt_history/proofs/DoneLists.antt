@@ -4,8 +4,8 @@ use Rattle.std.specs.Prelude.{option_map, slice_get}
 use Rattle.std.proofs.lemmas.List.{get_or_append_left, length-append}
 use Rattle.pt_types.specs.declared.firing.Done.{Done}
 use Rattle.pt_types.specs.declared.firing.Task.{Task}
-use Rattle.pt_history.specs.declared.work.Source.{Source}
-use Rattle.pt_history.specs.declared.work.Source.TheVariants.{Claim, Other}
+use Rattle.pt_history.specs.declared.sources.Source.{Source}
+use Rattle.pt_history.specs.declared.sources.Source.TheVariants.{Claim, Other}
 use Rattle.pt_history.specs.Cells.{cells_of}
 use Rattle.pt_history.specs.Tasks.{mark_of, no_task}
 use Rattle.pt_history.specs.Works.{SourcesAreWithin, IsStored, done_of, dones_of, task_at}

@@ -7,7 +7,7 @@ use Rattle.pt_history.specs.Works.{SourcesAreWithin}
 pub record IsWork (w : Inside) : Type 0 where
   pub same : length w.sources.items ≡ length w.fired.cells
   pub within : SourcesAreWithin (length w.claims.tasks) (length w.others.items) w.sources.items
-  pub sources : vec_len w.sources + w.spare ≤ vec_capacity w.sources
+  pub sources : w.spare ≤ w.sources.spare
   pub others : vec_len w.others + w.spare ≤ vec_capacity w.others
   pub cells : w.spare ≤ w.fired.spare
   pub fits : length w.others.items + w.spare < 2 ^ 32

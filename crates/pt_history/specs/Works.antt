@@ -2,8 +2,8 @@
 use Rattle.std.specs.Prelude.{◌≡◌, ◌<◌, ◌≤◌, ◌++◌, ℕ, List, [], ◌∷◌, length, Option, ℤ, slice_index_or}
 use Rattle.pt_types.specs.declared.firing.Done.{Done}
 use Rattle.pt_types.specs.declared.firing.Task.{Task}
-use Rattle.pt_history.specs.declared.work.Source.{Source}
-use Rattle.pt_history.specs.declared.work.Source.TheVariants.{Claim, Other}
+use Rattle.pt_history.specs.declared.sources.Source.{Source}
+use Rattle.pt_history.specs.declared.sources.Source.TheVariants.{Claim, Other}
 use Rattle.pt_history.specs.Cells.{ports_in, state_in}
 use Rattle.pt_history.specs.Tasks.{no_task}
 

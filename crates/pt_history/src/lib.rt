@@ -23,6 +23,7 @@ mod past_heads;
 mod pieces;
 mod repeats;
 mod room;
+mod sources;
 mod work;
 mod work_lists;
 

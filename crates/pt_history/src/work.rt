@@ -7,19 +7,11 @@ ghost use Rattle.pt_history.specs.Works.{SourcesAreWithin, IsStored, done_of, ta
 use crate::cells::{Cells, parts_of};
 use crate::claims::{Claims, Mark, mark_of};
 use crate::pieces::{MOST_ITEMS, widened};
+use crate::sources::{Source, Sources};
 use pt_tags::Memory;
 use pt_types::{Done, Fired, Task};
 use std::alloc::Global;
 use std::marker::Model;
-
-/// Where the task of a result is stored.
-#[derive(Clone, Copy, Debug, PartialEq, Eq)]
-pub(crate) enum Source {
-    /// It is the claim with this index.
-    Claim(u32),
-    /// It is none of the claims that were recorded before, and is stored whole at this index.
-    Other(u32),
-}
 
 /// A compact list of claims and one of results, and room reserved for more.
 ///
@@ -27,7 +19,7 @@ pub(crate) enum Source {
 #[derive(Drop)]
 pub(crate) struct Work {
     claims: Claims,
-    sources: Vec<Source>,
+    sources: Sources,
     others: Vec<Task>,
     /// The outputs of each result, and the state after it.
     fired: Cells,
@@ -53,7 +45,7 @@ impl Work {
     {
         Work {
             claims: Claims::new(alloc),
-            sources: Vec::new(alloc),
+            sources: Sources::new(alloc),
             others: Vec::new(alloc),
             fired: Cells::new(alloc),
             spare: 0,
@@ -71,7 +63,7 @@ impl Work {
         if results >= MOST_ITEMS - self.others.len() {
             return Err(Memory);
         }
-        widened(&mut self.sources, self.spare, results)?;
+        self.sources.reserve(results)?;
         widened(&mut self.others, self.spare, results)?;
         self.claims.reserve(claims)?;
         self.fired.reserve(results)?;
@@ -113,7 +105,7 @@ impl Work {
     {
         let source = source_of(&self.claims, &mut self.others, &done.task);
         self.fired.push(&done.fired.outputs, done.fired.state);
-        self.sources.push_reserved(source);
+        self.sources.push(source);
         self.spare -= 1;
     }
 
@@ -165,7 +157,11 @@ impl Work {
         requires { number < length self.now.dones }
         ensures { option_map (λ done. mark_of done.task) (slice_get self.now.dones number) ≡ Some result }
     {
-        mark_at(&self.claims, self.others.as_slice(), self.sources[number])
+        mark_at(
+            &self.claims,
+            self.others.as_slice(),
+            self.sources.get(number),
+        )
     }
 
     /// Result `number`, counted from 0.
@@ -173,7 +169,11 @@ impl Work {
         requires { number < length self.now.dones }
         ensures { slice_get self.now.dones number ≡ Some result }
     {
-        let task = task_at(&self.claims, self.others.as_slice(), self.sources[number]);
+        let task = task_at(
+            &self.claims,
+            self.others.as_slice(),
+            self.sources.get(number),
+        );
         done_of(task, &self.fired.get(number))
     }
 }

@@ -5,6 +5,6 @@ use Rattle.pt_history.proofs.work.Work.results.Goals as goal
 
 pub returns : goal.returns
 returns c =
-    c.len.ensures ∙ c.self.inside.sources.ok.0
+    c.len.ensures
     ∙ sym (length-dones c.self.inside.claims.tasks c.self.inside.others.items c.self.inside.sources.items c.self.inside.fired.cells c.self.invariant.same)
     ∙ ap (λ (v : RoomyWork). length v.dones) c.self.view_is
