@@ -79,7 +79,7 @@ impl PastHeads {
         store(&mut self.lasts, &mut self.newest, head.last);
         self.runs.begin();
         if let Some(run) = run_of(head) {
-            self.runs.extend(&[run]);
+            self.runs.push(run);
         }
     }
 

@@ -78,6 +78,19 @@ impl<T: Drop> Pieces<T> {
         self.ends.begin();
     }
 
+    /// Appends an item to the last list. Allocates nothing.
+    pub(crate) fn push(&mut self, item: T)
+        requires spare { 0 < self.old.spare_items }
+        requires begun { 0 < length self.old.lists }
+        ensures lists { self.new.lists ≡ on_last (λ list. list ++ item ∷ []) self.old.lists }
+        ensures items { self.new.spare_items + 1 ≡ self.old.spare_items }
+        ensures room { self.new.spare_lists ≡ self.old.spare_lists }
+    {
+        self.items.push_reserved(item);
+        self.spare_items -= 1;
+        self.ends.grow(1);
+    }
+
     /// The number of lists.
     pub fn len(&self) -> usize
         ensures { result ≡ length self.now.lists }

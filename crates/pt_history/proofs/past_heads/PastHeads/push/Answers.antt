@@ -12,15 +12,15 @@ use Rattle.pt_history.proofs.past_heads.PastHeads.push.Goals as goal
 pub invariant_of-self : goal.invariant_of-self
 invariant_of-self c =
     let add : List Run → List Run = λ (l : List Run). l ++ c.in-Some.run' ∷ [] in
-    let more : c.extend.new.self.lists ≡ c.self.inside.runs.lists ++ (c.in-Some.run' ∷ []) ∷ [] = c.extend.ensures.lists ∙ ap (λ ls. on_last add ls) c.begin.ensures.lists ∙ on_last-push add c.self.inside.runs.lists [] in
-    let lists : length c.extend.new.self.lists ≡ length c.self.inside.runs.lists + 1 = ap length more ∙ length_push c.self.inside.runs.lists (c.in-Some.run' ∷ []) in
+    let more : c.push.new.self.lists ≡ c.self.inside.runs.lists ++ (c.in-Some.run' ∷ []) ∷ [] = c.push.ensures.lists ∙ ap (λ ls. on_last add ls) c.begin.ensures.lists ∙ on_last-push add c.self.inside.runs.lists [] in
+    let lists : length c.push.new.self.lists ≡ length c.self.inside.runs.lists + 1 = ap length more ∙ length_push c.self.inside.runs.lists (c.in-Some.run' ∷ []) in
     let lasts : length c.store.new.lasts.items ≡ length c.self.inside.lasts.items + 1 = ap length c.store.ensures.items ∙ length_push c.self.inside.lasts.items c.args.head.last in
     let spare : c.args.self.now.spare ≡ c.self.inside.lasts.spare = ap (λ (v : RoomyItems Head). v.spare) (sym c.self.view_is) in
     record {
       newest = c.store.ensures.newest ∙ sym (last_is c.self.inside.lasts.items c.store.new.lasts.items c.args.head.last c.store.ensures.items);
       same = omega (arith, lists, lasts, c.self.invariant.same);
-      lists_room = omega (arith, c.store.ensures.room, c.begin.ensures.room, c.extend.ensures.room, c.self.invariant.lists_room, spare, c.requires);
-      runs_room = omega (arith, c.store.ensures.room, c.begin.ensures.items, c.extend.ensures.items, c.self.invariant.runs_room, spare, c.requires);
+      lists_room = omega (arith, c.store.ensures.room, c.begin.ensures.room, c.push.ensures.room, c.self.invariant.lists_room, spare, c.requires);
+      runs_room = omega (arith, c.store.ensures.room, c.begin.ensures.items, c.push.ensures.items, c.self.invariant.runs_room, spare, c.requires);
     }
 
 pub invariant_of-self-in_default : goal.invariant_of-self-in_default
@@ -41,7 +41,7 @@ returns-in-Some-clause-items c =
     let lists = c.self.inside.runs.lists in
     let run = c.in-Some.run' in
     let add : List Run → List Run = λ (l : List Run). l ++ run ∷ [] in
-    ap₂ heads_of c.store.ensures.items (c.extend.ensures.lists ∙ ap (λ ls. on_last add ls) c.begin.ensures.lists ∙ on_last-push add lists [])
+    ap₂ heads_of c.store.ensures.items (c.push.ensures.lists ∙ ap (λ ls. on_last add ls) c.begin.ensures.lists ∙ on_last-push add lists [])
     ∙ heads_push lasts lists c.args.head.last (run ∷ []) c.self.invariant.same
     ∙ ap (λ (h : Head). heads_of lasts lists ++ h ∷ []) c.in-Some.ensures
     ∙ ap (λ (v : RoomyItems Head). v.items ++ c.args.head ∷ []) c.self.view_is
