@@ -1,5 +1,6 @@
 pub mod Histories
 pub mod InOrder
 pub mod Members
+pub mod Placed
 pub mod Written
 pub mod Gathering

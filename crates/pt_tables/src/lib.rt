@@ -9,8 +9,8 @@
 #![tactic(auto)]
 
 mod actor_tables;
-mod fields;
 mod held;
+mod line;
 mod lines;
 mod margin_lines;
 mod meaning;
@@ -30,4 +30,4 @@ pub use meaning::tables_of_meaning;
 pub use miss::{miss_line, miss_lines};
 pub use platforms::push_log;
 pub use text::tables;
-pub use turns::{push_head, push_history, push_lists, push_turn};
+pub use turns::{push_head, push_history, push_lists};

@@ -1,17 +1,21 @@
 //! Single lines of the log.
 
-ghost use Rattle.std.specs.Prelude.{◌≡◌, ◌++◌, OnOk, string_bytes};
+ghost use Rattle.std.specs.Prelude.{◌≡◌, ◌++◌, ◌∷◌, [], OnOk, codes, string_bytes};
+ghost use Rattle.std.specs.Fmt.{decimal};
 ghost use Rattle.pt_types.specs.declared.firing.Done.{Done};
 ghost use Rattle.pt_types.specs.declared.firing.Task.{Task};
 ghost use Rattle.pt_history.specs.Tasks.{mark_of};
 ghost use Rattle.pt_tables.specs.Log.{claim_line, message_line, post_line, row_line, sent_line, take_line, turn_line};
 
-use crate::fields::{push_bare, push_both, push_end, push_name, push_number, push_value};
+use crate::line::{Line, push_pieces};
 use crate::names::{receiver_name, sender_name};
 use pt_history::Mark;
 use pt_tags::{Message, Tag};
 use pt_types::{Graph, OnLink, Row, RowAt};
 use std::alloc::AllocError;
+
+/// The most bytes of a claim's line before its actor's name: `claim,`, a number of 20 digits, and a comma.
+const CLAIM_ROOM: usize = 27;
 
 /// Appends the line of a turn, or of a run of quiet turns: `turn,PLATFORM,FIRST,LAST,COUNT`.
 pub fn push_turn_line(
@@ -23,20 +27,21 @@ pub fn push_turn_line(
 ) -> Result<(), AllocError>
     ensures { OnOk result (string_bytes text.new ≡ string_bytes text.old ++ turn_line platform.now first last count) }
 {
-    text.push_str("turn,")?;
-    text.push_str(platform)?;
-    push_both(text, first, last)?;
-    push_number(text, count)?;
-    push_end(text)
+    let mut line = Line::new();
+    line.field(count);
+    line.field(last);
+    line.field(first);
+    line.push_after(text, "turn", platform)
 }
 
 /// Appends the line of the posted result of a task, which is given without its inputs: `post,NUMBER`.
 pub(crate) fn push_post(text: &mut String, task: Mark) -> Result<(), AllocError>
     ensures { (done : Done) → mark_of done.task ≡ task → OnOk result (string_bytes text.new ≡ string_bytes text.old ++ post_line done) }
 {
-    text.push_str("post,")?;
-    push_bare(text, task.number)?;
-    push_end(text)
+    let mut line = Line::new();
+    line.number(task.number);
+    line.text("post,");
+    text.push_str(line.as_str())
 }
 
 /// Appends the line of a row that entered: `row,SENSOR,TIME,SEEN,VALUE`.
@@ -45,12 +50,11 @@ pub(crate) fn push_row(text: &mut String, graph: &Graph, at: &RowAt) -> Result<(
 {
     let RowAt { sensor, row } = *at;
     let Row { time, seen, value } = row;
-    text.push_str("row,")?;
-    text.push_str(graph.actor_name(sensor))?;
-    push_number(text, time)?;
-    push_number(text, seen)?;
-    push_value(text, value)?;
-    push_end(text)
+    let mut line = Line::new();
+    line.value(value);
+    line.field(seen);
+    line.field(time);
+    line.push_after(text, "row", graph.actor_name(sensor))
 }
 
 /// Appends the line of a message taken: `take,RECEIVER,TIME,STEP,VALUE` or `take,RECEIVER,end`.
@@ -69,12 +73,26 @@ pub(crate) fn push_taken(text: &mut String, graph: &Graph, taken: &OnLink) -> Re
 pub(crate) fn push_claim(text: &mut String, graph: &Graph, claim: Mark) -> Result<(), AllocError>
     ensures { (task : Task) → mark_of task ≡ claim → OnOk result (string_bytes text.new ≡ string_bytes text.old ++ claim_line graph.now task) }
 {
-    text.push_str("claim,")?;
-    push_bare(text, claim.number)?;
-    push_name(text, graph.actor_name(claim.actor))?;
-    push_number(text, claim.tag.time)?;
-    push_number(text, claim.tag.step)?;
-    push_end(text)
+    let name = graph.actor_name(claim.actor);
+    let mut line = Line::new();
+    line.field(claim.tag.step);
+    line.field(claim.tag.time);
+    if line.room() < name.len() + CLAIM_ROOM {
+        return push_long_claim(text, claim.number, name, line.as_str());
+    }
+    line.text(name);
+    line.put(b',');
+    line.number(claim.number);
+    line.text("claim,");
+    text.push_str(line.as_str())
+}
+
+/// Appends the line of a claim by an actor with a long name, where the rest of the line is given.
+#[inline(never)]
+fn push_long_claim(text: &mut String, number: u64, name: &str, rest: &str) -> Result<(), AllocError>
+    ensures { OnOk result (string_bytes text.new ≡ string_bytes text.old ++ codes "claim," ++ decimal number ++ 44 ∷ name.now ++ rest.now) }
+{
+    write!(text, "claim,{number},{name}{rest}")
 }
 
 /// Appends the line of a message sent: `sent,SENDER,TIME,STEP,VALUE` or `sent,SENDER,end`.
@@ -85,6 +103,7 @@ pub(crate) fn push_sent(text: &mut String, graph: &Graph, sent: &OnLink) -> Resu
 }
 
 /// Appends the line of a message at one end of a link.
+#[inline(always)]
 fn push_message(
     text: &mut String,
     word: &str,
@@ -100,6 +119,7 @@ fn push_message(
 }
 
 /// Appends the line of an event at one end of a link.
+#[inline(always)]
 fn push_event(
     text: &mut String,
     word: &str,
@@ -109,19 +129,16 @@ fn push_event(
 ) -> Result<(), AllocError>
     ensures { OnOk result (string_bytes text.new ≡ string_bytes text.old ++ message_line word.now name.now (Message.Event tag value)) }
 {
-    text.push_str(word)?;
-    push_name(text, name)?;
-    push_number(text, tag.time)?;
-    push_number(text, tag.step)?;
-    push_value(text, value)?;
-    push_end(text)
+    let mut line = Line::new();
+    line.value(value);
+    line.field(tag.step);
+    line.field(tag.time);
+    line.push_after(text, word, name)
 }
 
 /// Appends the line of the end of a link, at one end of it.
 fn push_last(text: &mut String, word: &str, name: &str) -> Result<(), AllocError>
     ensures { OnOk result (string_bytes text.new ≡ string_bytes text.old ++ message_line word.now name.now Message.End) }
 {
-    text.push_str(word)?;
-    push_name(text, name)?;
-    text.push_str(",end\n")
+    push_pieces(text, word, name, ",end\n")
 }

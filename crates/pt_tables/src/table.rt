@@ -3,7 +3,7 @@
 ghost use Rattle.std.specs.Prelude.{◌≡◌, ◌++◌, OnOk, []};
 ghost use Rattle.pt_semantics.specs.Tables.{line};
 
-use crate::fields::{push_end, push_number, push_value};
+use crate::line::Line;
 use pt_tags::Tag;
 use std::alloc::{AllocError, Global};
 use std::marker::Model;
@@ -36,11 +36,12 @@ impl Table {
     pub(crate) fn push_line(&mut self, name: &str, tag: Tag, value: i64) -> Result<(), AllocError>
         ensures { OnOk result (self.new ≡ self.old ++ line name.now tag value) }
     {
+        let mut line = Line::new();
+        line.value(value);
+        line.field(tag.step);
+        line.field(tag.time);
         self.text.push_str(name)?;
-        push_number(&mut self.text, tag.time)?;
-        push_number(&mut self.text, tag.step)?;
-        push_value(&mut self.text, value)?;
-        push_end(&mut self.text)
+        self.text.push_str(line.as_str())
     }
 
     /// All lines, as text.

@@ -11,7 +11,7 @@ ghost use Rattle.pt_tables.specs.TurnLine.{IsLineOf};
 ghost use Rattle.pt_types.specs.Lookups.{platform_name};
 
 use crate::held::holds;
-use crate::lines::{push_claim, push_post, push_row, push_sent, push_taken, push_turn_line};
+use crate::lines::{push_claim, push_post, push_row, push_sent, push_taken};
 use crate::turn_line::TurnLine;
 use pt_history::History;
 use pt_types::{Graph, OnLink, RowAt};
@@ -60,28 +60,6 @@ fn push_next(
     ensures held { OnOk result ((turn : Turn) → slice_get history.now.turns number ≡ Some turn → IsHeldTurn turn) }
 {
     line.push(
-        text,
-        graph.platform_name(platform),
-        history.first(number),
-        history.last(number),
-        history.count(number),
-    )?;
-    push_lists(text, graph, history, number)
-}
-
-/// Appends the lines of one recorded turn of a platform.
-pub fn push_turn(
-    text: &mut String,
-    graph: &Graph,
-    platform: u32,
-    history: &History,
-    number: usize,
-) -> Result<(), AllocError>
-    requires { number < length history.now.turns }
-    ensures lines { OnOk result (option_map (λ turn. string_bytes text.old ++ turn_lines graph.now platform turn) (slice_get history.now.turns number) ≡ Some (string_bytes text.new)) }
-    ensures held { OnOk result ((turn : Turn) → slice_get history.now.turns number ≡ Some turn → IsHeldTurn turn) }
-{
-    push_turn_line(
         text,
         graph.platform_name(platform),
         history.first(number),

@@ -1,0 +1,159 @@
+//! A line that is written from its end.
+
+ghost use Rattle.std.specs.Prelude.{◌≡◌, ◌+◌, ◌<◌, ◌≤◌, ◌++◌, ◌∷◌, [], OnOk, length, string_bytes};
+ghost use Rattle.std.specs.Fmt.{decimal, signed_decimal};
+
+use itoa::write_digits;
+use std::alloc::AllocError;
+use std::marker::Model;
+
+/// The longest line, in bytes. It has room for three numbers and a name of some 60 bytes.
+const ROOM: usize = 128;
+
+/// A line, or the end of one. It is written from its last byte to its first, as the digits of a number are, and appended to a
+/// text as one piece: that is faster than one piece for each field. Contracts see its bytes.
+#[derive(Drop)]
+pub(crate) struct Line {
+    bytes: [u8; ROOM],
+    /// Where the line begins. It ends where `bytes` end.
+    start: usize,
+}
+
+impl Model for Line {
+    ghost use Rattle.std.specs.Prelude.{◌≤◌, List, ℕ, drop};
+    ghost use Rattle.std.specs.Str.{IsUtf8};
+
+    ghost Value = { List ℕ };
+
+    ghost view = { λ l. drop l.start l.bytes };
+
+    ghost invariant = { λ l. (l.start ≤ 128) × IsUtf8 (drop l.start l.bytes) };
+}
+
+impl Line {
+    /// The end of a line.
+    #[inline(always)]
+    pub(crate) fn new() -> Line
+        ensures { result ≡ 10 ∷ [] }
+    {
+        let mut line = Line {
+            bytes: [0; ROOM],
+            start: ROOM,
+        };
+        line.put(b'\n');
+        line
+    }
+
+    /// How many bytes there is room for.
+    #[inline(always)]
+    pub(crate) fn room(&self) -> usize
+        ensures { result + length self.now ≡ 128 }
+    {
+        self.start
+    }
+
+    /// Puts a byte before the line.
+    #[inline(always)]
+    pub(crate) fn put(&mut self, byte: u8)
+        requires room { length self.old < 128 }
+        requires ascii { byte < 128 }
+        ensures { self.new ≡ byte ∷ self.old }
+    {
+        self.start -= 1;
+        self.bytes[self.start] = byte;
+    }
+
+    /// Puts the digits of a number before the line. Many numbers, mostly steps and counts, have one digit.
+    #[inline(always)]
+    pub(crate) fn number(&mut self, number: u64)
+        requires { length self.old + 20 ≤ 128 }
+        ensures value { self.new ≡ decimal number ++ self.old }
+        ensures length { length self.new ≤ length self.old + 20 }
+    {
+        if number < 10 {
+            self.put(b'0' + number as u8);
+            return;
+        }
+        self.start = write_digits(number, &mut self.bytes, self.start);
+    }
+
+    /// Puts a comma and a number before the line.
+    #[inline(always)]
+    pub(crate) fn field(&mut self, number: u64)
+        requires { length self.old + 21 ≤ 128 }
+        ensures value { self.new ≡ 44 ∷ decimal number ++ self.old }
+        ensures length { length self.new ≤ length self.old + 21 }
+    {
+        self.number(number);
+        self.put(b',');
+    }
+
+    /// Puts a comma and a number that may have a sign before the line.
+    #[inline(always)]
+    pub(crate) fn value(&mut self, value: i64)
+        requires { length self.old + 22 ≤ 128 }
+        ensures value { self.new ≡ 44 ∷ signed_decimal value ++ self.old }
+        ensures length { length self.new ≤ length self.old + 22 }
+    {
+        if value >= 0 {
+            self.field(value as u64);
+            return;
+        }
+        self.number(value.unsigned_abs());
+        self.put(b'-');
+        self.put(b',');
+    }
+
+    /// Puts a text before the line.
+    #[inline(always)]
+    pub(crate) fn text(&mut self, text: &str)
+        requires { length text.now + length self.old ≤ 128 }
+        ensures { self.new ≡ text.now ++ self.old }
+    {
+        let start = self.start - text.len();
+        self.bytes[start..self.start].copy_from_slice(text.as_bytes());
+        self.start = start;
+    }
+
+    /// The line as a text.
+    #[inline(always)]
+    pub(crate) fn as_str(&self) -> &str
+        ensures { result.now ≡ self.now }
+    {
+        // Only texts, digits and other bytes of ASCII were put into it.
+        unsafe { std::str::from_utf8_unchecked(&self.bytes[self.start..]) }
+    }
+
+    /// Appends a word, a comma, a name and then the line to a text. If the line has room for them, they are put before it, so
+    /// that there is one piece to append.
+    #[inline(always)]
+    pub(crate) fn push_after(
+        &mut self,
+        text: &mut String,
+        word: &str,
+        name: &str,
+    ) -> Result<(), AllocError>
+        ensures { OnOk result (string_bytes text.new ≡ string_bytes text.old ++ word.now ++ 44 ∷ name.now ++ self.old) }
+    {
+        if self.room() < word.len() + name.len() + 1 {
+            return push_pieces(text, word, name, self.as_str());
+        }
+        self.text(name);
+        self.put(b',');
+        self.text(word);
+        text.push_str(self.as_str())
+    }
+}
+
+/// Appends a word, a comma, a name, and the rest of a line. Not inlined, since most lines are appended as one piece.
+#[inline(never)]
+pub(crate) fn push_pieces(
+    text: &mut String,
+    word: &str,
+    name: &str,
+    rest: &str,
+) -> Result<(), AllocError>
+    ensures { OnOk result (string_bytes text.new ≡ string_bytes text.old ++ word.now ++ 44 ∷ name.now ++ rest.now) }
+{
+    write!(text, "{word},{name}{rest}")
+}
