@@ -3,8 +3,11 @@
 ghost use Rattle.std.specs.Prelude.{◌≡◌, ◌++◌, IfOk, OnOk, string_bytes};
 ghost use Rattle.pt_tables.specs.Log.{turn_line};
 ghost use Rattle.pt_tables.specs.TurnLine.{IsLineOf};
+ghost use Rattle.pt_types.specs.Lookups.{platform_name};
 
 use crate::lines::push_turn_line;
+use pt_history::Head;
+use pt_types::Graph;
 use std::alloc::{AllocError, Global};
 
 /// The first line of some turn of a platform. Most turns have the same readings and count as the turn before, so that this
@@ -32,22 +35,22 @@ impl TurnLine {
         })
     }
 
-    /// Appends the line of a turn with these readings and this count to a text.
+    /// Appends the line of a turn of a platform with these readings and this count to a text.
     #[inline(always)]
     pub(crate) fn push(
         &mut self,
         text: &mut String,
-        platform: &str,
-        first: u64,
-        last: u64,
-        count: u64,
+        graph: &Graph,
+        platform: u32,
+        head: Head,
     ) -> Result<(), AllocError>
-        requires { IsLineOf platform.now self.old }
-        ensures line { OnOk result (IsLineOf platform.now self.new) }
-        ensures text { OnOk result (string_bytes text.new ≡ string_bytes text.old ++ turn_line platform.now first last count) }
+        requires { IsLineOf (platform_name graph.now platform) self.old }
+        ensures line { OnOk result (IsLineOf (platform_name graph.now platform) self.new) }
+        ensures text { OnOk result (string_bytes text.new ≡ string_bytes text.old ++ turn_line (platform_name graph.now platform) head.first head.last head.count) }
     {
+        let Head { first, last, count } = head;
         if self.first != first || self.last != last || self.count != count {
-            self.replace(platform, first, last, count)?;
+            self.replace(graph.platform_name(platform), first, last, count)?;
         }
         text.push_str(self.text.as_str())
     }

@@ -59,13 +59,7 @@ fn push_next(
     ensures lines { OnOk result (option_map (λ turn. string_bytes text.old ++ turn_lines graph.now platform turn) (slice_get history.now.turns number) ≡ Some (string_bytes text.new)) }
     ensures held { OnOk result ((turn : Turn) → slice_get history.now.turns number ≡ Some turn → IsHeldTurn turn) }
 {
-    line.push(
-        text,
-        graph.platform_name(platform),
-        history.first(number),
-        history.last(number),
-        history.count(number),
-    )?;
+    line.push(text, graph, platform, history.head(number))?;
     push_lists(text, graph, history, number)
 }
 
