@@ -76,9 +76,38 @@ pub fn push_lists(
 {
     push_posts(text, history, number)?;
     push_rows(text, graph, history.rows(number))?;
-    push_all_taken(text, graph, history.taken(number))?;
+    push_all_taken(text, graph, taken_in(history, number))?;
     push_claims(text, graph, history, number)?;
-    push_all_sent(text, graph, history.sent(number))
+    push_all_sent(text, graph, sent_in(history, number))
+}
+
+/// The messages that a recorded turn took. Where no turn took any, as on the only platform of a graph, this turn isn't looked
+/// up.
+#[inline(always)]
+#[tactic(auto, using(crate::proofs::Members::none_in))]
+fn taken_in(history: &History, number: usize) -> &[OnLink]
+    requires { number < length history.now.turns }
+    ensures { option_map (λ turn. turn.taken) (slice_get history.now.turns number) ≡ Some result.now }
+{
+    let all = history.all_taken();
+    if all.len() == 0 {
+        return &[];
+    }
+    history.taken(number)
+}
+
+/// The messages that were sent after a recorded turn; as `taken_in`.
+#[inline(always)]
+#[tactic(auto, using(crate::proofs::Members::none_in))]
+fn sent_in(history: &History, number: usize) -> &[OnLink]
+    requires { number < length history.now.turns }
+    ensures { option_map (λ turn. turn.sent) (slice_get history.now.turns number) ≡ Some result.now }
+{
+    let all = history.all_sent();
+    if all.len() == 0 {
+        return &[];
+    }
+    history.sent(number)
 }
 
 /// Appends the lines of the results that a recorded turn posted.

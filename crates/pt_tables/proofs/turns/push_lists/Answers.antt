@@ -17,27 +17,27 @@ returns-clause-lines c =
     let old : List ℕ = string_bytes c.args.text.now in
     let posts = c.in_ok-push_posts.ensures.lines in
     let rows = c.in_ok-push_rows.ensures ∙ ap (λ (text : List ℕ). text ++ flat_map (row_line g) c.rows.result.now) posts in
-    let taken = c.in_ok-push_all_taken.ensures.lines ∙ ap (λ (text : List ℕ). text ++ flat_map (take_line g) c.taken.result.now) rows in
+    let taken = c.in_ok-push_all_taken.ensures.lines ∙ ap (λ (text : List ℕ). text ++ flat_map (take_line g) c.taken_in.result.now) rows in
     let claims = c.in_ok-push_claims.ensures ∙ ap (λ (text : List ℕ). text ++ flat_map (claim_line g) (claimed_in c.args.history.now.turns c.args.number)) taken in
-    on_ok_weaker c.push_all_sent.result (λ (sent : string_bytes c.push_all_sent.new.text ≡ string_bytes c.push_claims.new.text ++ flat_map (sent_line g) c.sent.result.now).
-    lists_written g (slice_get c.args.history.now.turns c.args.number) (posted_in c.args.history.now.turns c.args.number) c.rows.result.now c.taken.result.now (claimed_in c.args.history.now.turns c.args.number) c.sent.result.now old
+    on_ok_weaker c.push_all_sent.result (λ (sent : string_bytes c.push_all_sent.new.text ≡ string_bytes c.push_claims.new.text ++ flat_map (sent_line g) c.sent_in.result.now).
+    lists_written g (slice_get c.args.history.now.turns c.args.number) (posted_in c.args.history.now.turns c.args.number) c.rows.result.now c.taken_in.result.now (claimed_in c.args.history.now.turns c.args.number) c.sent_in.result.now old
     (record {
       the_posted = posted_is c.args.history.now.turns c.args.number c.requires;
       the_rows = c.rows.ensures;
-      the_taken = c.taken.ensures;
+      the_taken = c.taken_in.ensures;
       the_claimed = claimed_is c.args.history.now.turns c.args.number c.requires;
-      the_sent = c.sent.ensures;
+      the_sent = c.sent_in.ensures;
     })
-    ∙ ap Some (sym (sent ∙ ap (λ (text : List ℕ). text ++ flat_map (sent_line g) c.sent.result.now) claims)))
+    ∙ ap Some (sym (sent ∙ ap (λ (text : List ℕ). text ++ flat_map (sent_line g) c.sent_in.result.now) claims)))
     c.push_all_sent.ensures.lines
 
 pub returns-clause-held : goal.returns-clause-held
 returns-clause-held c =
     let turns = c.args.history.now.turns in
     let o : Option Turn = slice_get turns c.args.number in
-    on_ok_weaker c.push_all_sent.result (λ (sent : Each IsHeldMessage c.sent.result.now). λ turn at. record {
+    on_ok_weaker c.push_all_sent.result (λ (sent : Each IsHeldMessage c.sent_in.result.now). λ turn at. record {
       posted = subst (Each IsHeldResult) (read_of (λ (t : Turn). t.posted) o turn (posted_in turns c.args.number) at (posted_is turns c.args.number c.requires)) c.in_ok-push_posts.ensures.held;
-      taken = subst (Each IsHeldMessage) (read_of (λ (t : Turn). t.taken) o turn c.taken.result.now at c.taken.ensures) c.in_ok-push_all_taken.ensures.held;
-      sent = subst (Each IsHeldMessage) (read_of (λ (t : Turn). t.sent) o turn c.sent.result.now at c.sent.ensures) sent;
+      taken = subst (Each IsHeldMessage) (read_of (λ (t : Turn). t.taken) o turn c.taken_in.result.now at c.taken_in.ensures) c.in_ok-push_all_taken.ensures.held;
+      sent = subst (Each IsHeldMessage) (read_of (λ (t : Turn). t.sent) o turn c.sent_in.result.now at c.sent_in.ensures) sent;
     })
     c.push_all_sent.ensures.held
