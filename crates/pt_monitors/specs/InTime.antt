@@ -1,5 +1,5 @@
 -- Whether the results of recorded turns were posted in time.
-use Rattle.std.specs.Prelude.{◌≡◌, List, None, Option, Some}
+use Rattle.std.specs.Prelude.{◌≡◌, ◌≤◌, ℕ, List, None, Option, Some}
 use Rattle.pt_types.specs.declared.graph.Graph.{Graph}
 use Rattle.pt_semantics.specs.Lists.{Each}
 use Rattle.pt_semantics.specs.Turn.{Turn}
@@ -17,3 +17,7 @@ HasNoMiss g o = (d : Dated) → o ≡ Some d → IsInTime g d
 -- no result of these turns is a miss
 abbrev pub AreInTime : Graph → List Turn → Type 0
 AreInTime g turns = Each (IsInTime g) (all_dated turns)
+
+-- no turn ends after this reading
+abbrev pub EndBy : ℕ → List Turn → Type 0
+EndBy r turns = Each (λ (turn : Turn). turn.last ≤ r) turns

@@ -1,11 +1,12 @@
 //! The misses of a history.
 
-ghost use Rattle.std.specs.Prelude.{◌≡◌, ℕ, ◌<◌, ◌++◌, OnOk, Some, false, filter_map, length, option_map, option_to_list, slice_get, true};
+ghost use Rattle.std.specs.Prelude.{◌≡◌, ℕ, ◌+◌, ◌<◌, ◌≤◌, ◌++◌, IfSome, None, OnOk, Some, false, filter_map, flat_map, length, option_map, option_to_list, slice_get, take, true};
 ghost use Rattle.pt_types.specs.declared.firing.Done.{Done};
+ghost use Rattle.pt_types.specs.declared.graph.Graph.{Graph};
 ghost use Rattle.pt_types.specs.Lookups.{slack_of};
 ghost use Rattle.pt_history.specs.Tasks.{mark_of};
 ghost use Rattle.pt_history.specs.Turns.{all_dated, posted_in};
-ghost use Rattle.pt_monitors.specs.InTime.{AreInTime, HasNoMiss};
+ghost use Rattle.pt_monitors.specs.InTime.{AreInTime, EndBy, HasNoMiss};
 ghost use Rattle.pt_monitors.specs.Misses.{AppendsMisses, AppendsSent, IsLastReading, ListsMissed, miss_of_message, miss_of_result, miss_past, missed_at, missed_of};
 
 use pt_history::{History, Mark, Miss};
@@ -15,12 +16,26 @@ use pt_types::{Graph, Kind, OnLink};
 /// Appends the misses of a platform's history: turn by turn, and in a turn the results before the messages.
 ///
 /// With tag time 50 and slack 10, a reading of 60 is in time and one of 61 is a miss. If memory runs out, some may be
-/// appended. Mostly no result is a miss, and then only the messages are looked at turn by turn.
+/// appended.
 pub fn missed_in(graph: &Graph, history: &History, misses: &mut Vec<Miss>) -> Result<(), Memory>
     ensures missed { OnOk result (misses.new.items ≡ misses.old.items ++ missed_of graph.now history.now.turns) }
     ensures all { ListsMissed graph.now history.now.turns (missed_of graph.now history.now.turns) }
 {
-    if are_in_time(graph, history) {
+    missed_until(graph, history, None, misses)
+}
+
+/// Does the same as `missed_in`; no turn ends after `latest`, if that is given. Mostly no result is a miss, and then only the
+/// messages are looked at turn by turn.
+pub(crate) fn missed_until(
+    graph: &Graph,
+    history: &History,
+    latest: Option<u64>,
+    misses: &mut Vec<Miss>,
+) -> Result<(), Memory>
+    requires { IfSome latest (λ r. EndBy r history.now.turns) }
+    ensures { OnOk result (misses.new.items ≡ misses.old.items ++ missed_of graph.now history.now.turns) }
+{
+    if are_in_time(graph, history, latest) {
         return missed_sent(graph, history, misses);
     }
     for number in 0..history.turns() {
@@ -31,11 +46,12 @@ pub fn missed_in(graph: &Graph, history: &History, misses: &mut Vec<Miss>) -> Re
 
 /// Whether every result of an actuator was posted in time. The results of all turns are read one after another; when one was
 /// posted is looked up for an actuator's result alone, since most results are of other actors.
-fn are_in_time(graph: &Graph, history: &History) -> bool
+fn are_in_time(graph: &Graph, history: &History, latest: Option<u64>) -> bool
+    requires { IfSome latest (λ r. EndBy r history.now.turns) }
     ensures { result ≡ true → AreInTime graph.now history.now.turns }
 {
     for number in 0..history.results() {
-        if is_late(graph, history, number) {
+        if is_late(graph, history, latest, number) {
             return false;
         }
     }
@@ -43,8 +59,9 @@ fn are_in_time(graph: &Graph, history: &History) -> bool
 }
 
 /// Whether a result of all turns, by its number, is an actuator's, posted past its limit.
-fn is_late(graph: &Graph, history: &History, number: usize) -> bool
-    requires { number < length (all_dated history.now.turns) }
+fn is_late(graph: &Graph, history: &History, latest: Option<u64>, number: usize) -> bool
+    requires number { number < length (all_dated history.now.turns) }
+    requires latest { IfSome latest (λ r. EndBy r history.now.turns) }
     ensures { result ≡ false → HasNoMiss graph.now (slice_get (all_dated history.now.turns) number) }
 {
     let mark = history.result_mark(number);
@@ -52,11 +69,24 @@ fn is_late(graph: &Graph, history: &History, number: usize) -> bool
         return false;
     };
     match &actor.kind {
-        Kind::Actuator { slack } => {
-            miss_past(history.posted_at(number), mark.actor, mark.tag, *slack).is_some()
-        }
+        Kind::Actuator { slack } => is_past(history, latest, number, mark, *slack),
         _ => false,
     }
+}
+
+/// Whether an actuator's result was posted past its limit. To look up when it was posted takes a search among the turns, and
+/// none is needed if not even the latest reading is past the limit.
+fn is_past(history: &History, latest: Option<u64>, number: usize, mark: Mark, slack: u64) -> bool
+    requires number { number < length (all_dated history.now.turns) }
+    requires latest { IfSome latest (λ r. EndBy r history.now.turns) }
+    ensures { result ≡ false → option_map (λ dated. miss_past dated.reading mark.actor mark.tag slack) (slice_get (all_dated history.now.turns) number) ≡ Some None }
+{
+    if let Some(latest) = latest {
+        if miss_past(latest, mark.actor, mark.tag, slack).is_none() {
+            return false;
+        }
+    }
+    miss_past(history.posted_at(number), mark.actor, mark.tag, slack).is_some()
 }
 
 /// Appends the misses of a history of which no result is a miss: those among its messages.
@@ -67,10 +97,29 @@ fn missed_sent(graph: &Graph, history: &History, misses: &mut Vec<Miss>) -> Resu
     if history.all_sent().is_empty() {
         return Ok(());
     }
-    for number in 0..history.turns() {
+    let mut number = next_sent(history, 0);
+    while number < history.turns() {
         missed_after(graph, history, number, misses)?;
+        number = next_sent(history, number + 1);
     }
     Ok(())
+}
+
+/// The next turn, from turn `from` on, after which messages were sent; the number of turns if there is none. A function of its
+/// own, since a loop that only reads is fast, and most turns send nothing.
+#[inline(never)]
+fn next_sent(history: &History, from: usize) -> usize
+    requires { from ≤ length history.now.turns }
+    ensures rises { from ≤ result }
+    ensures within { result ≤ length history.now.turns }
+    ensures skips { (g : Graph) → AreInTime g history.now.turns → flat_map (missed_at g) (take result history.now.turns) ≡ flat_map (missed_at g) (take from history.now.turns) }
+{
+    for number in from..history.turns() {
+        if !history.sent(number).is_empty() {
+            return number;
+        }
+    }
+    history.turns()
 }
 
 /// Appends the misses of a recorded turn.
