@@ -1,6 +1,6 @@
 //! The rows of a text.
 
-ghost use Rattle.std.specs.Prelude.{◌≡◌, Some, None, IfOk, option_map};
+ghost use Rattle.std.specs.Prelude.{◌≡◌, [], Some, None, IfOk, option_map};
 ghost use Rattle.csv.specs.Reading.{reader_state, strip_bom};
 ghost use Rattle.csv.specs.Records.{fields_of};
 ghost use Rattle.csv.specs.declared.parser.State.TheVariants.{StartRecord};
@@ -20,6 +20,15 @@ pub const MOST_BYTES: usize = 8_388_608;
 
 /// The most rows of a sensor file.
 pub const MOST_ROWS: u32 = 100_000;
+
+/// The greatest time of a row, in microseconds.
+const MOST_TIME: u64 = 1_000_000_000_000_000;
+
+/// The latest reading at which a row may be seen, in microseconds.
+const MOST_SEEN: u64 = 10_000_000_000_000_000;
+
+/// The fewest bytes that a row takes: `1,1,1` and the end of its line.
+const LEAST_BYTES: usize = 6;
 
 /// Room for the bytes of a usual record, so that csv reads it in one step.
 const LINE_BYTES: usize = 128;
@@ -46,7 +55,8 @@ fn read(alloc: Global, bytes: &[u8]) -> Result<List<Row>, RowFault>
     let mut reader = reader_of(alloc, bytes);
     let mut line = ByteRecord::with_capacity(alloc, LINE_BYTES, 4)?;
     if advance(&mut reader, &mut line)? && is_header(&line) {
-        rows(alloc, &mut reader, &mut line)
+        let room = room_for(alloc, bytes.len());
+        rows(room, &mut reader, &mut line)
     } else {
         Err(RowFault::Header)
     }
@@ -73,16 +83,29 @@ pub fn advance(reader: &mut Reader<&[u8]>, line: &mut ByteRecord) -> Result<bool
     reader.read_byte_record(line).map_err(|_| Memory)
 }
 
-/// The rows that follow; the header was read.
+/// A list with room for all rows of a text of so many bytes, so that it never has to move; without room if memory for that is
+/// refused. Most of the room may never be used, and then it costs nothing.
+fn room_for(alloc: Global, bytes: usize) -> Vec<Row>
+    ensures { result.items ≡ [] }
+{
+    let most = (bytes / LEAST_BYTES + 1).min(MOST_ROWS as usize);
+    match Vec::with_capacity(alloc, most) {
+        Ok(rows) => rows,
+        Err(_) => Vec::new(alloc),
+    }
+}
+
+/// The rows that follow, in a list that has none yet; the header was read.
 fn rows(
-    alloc: Global,
+    room: Vec<Row>,
     reader: &mut Reader<&[u8]>,
     line: &mut ByteRecord,
 ) -> Result<List<Row>, RowFault>
-    requires { IsPlain (λ r. Some r.now) reader.old }
+    requires plain { IsPlain (λ r. Some r.now) reader.old }
+    requires empty { room.items ≡ [] }
     ensures { GivesRows (rows_from 100000 1 None (reader_state reader.old) (bytes_left (λ r. Some r.now) reader.old)) result }
 {
-    let mut rows = Vec::new(alloc);
+    let mut rows = room;
     let mut before = None;
     for number in 1..MOST_ROWS + 1 {
         let found = advance(reader, line)?;
@@ -150,8 +173,8 @@ fn three<'a>(
 fn numbers(cells: (&[u8], &[u8], &[u8])) -> Option<Row>
     ensures { result ≡ numbers_of (cells.entry.0.now, cells.entry.1.now, cells.entry.2.now) }
 {
-    let time = limited(1_000_000_000_000_000, cells.0)?;
-    let seen = limited(10_000_000_000_000_000, cells.1)?;
+    let time = limited(MOST_TIME, cells.0)?;
+    let seen = limited(MOST_SEEN, cells.1)?;
     let value = signed(cells.2)?;
     Some(Row { time, seen, value })
 }
