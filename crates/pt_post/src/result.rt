@@ -39,10 +39,9 @@ pub fn post(fields: &mut Fields, graph: &Graph, branches: &Branches, done: &Done
     ensures frame { (fields.new.sensors ≡ fields.old.sensors) × (fields.new.reading ≡ fields.old.reading) × (fields.new.closed ≡ fields.old.closed) × (fields.new.claims ≡ fields.old.claims) }
     ensures groups { fields.new.queue.groups ≡ fields.old.queue.groups }
 {
-    match fields.open_claims.find(&done.task) {
+    match fields.open_claims.take(&done.task) {
         None => false,
         Some(unit) => {
-            fields.open_claims.close(unit);
             emit(
                 &mut fields.queue,
                 graph,

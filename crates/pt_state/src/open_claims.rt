@@ -1,6 +1,6 @@
 //! The open claims: those whose results are not posted yet.
 
-ghost use Rattle.std.specs.Prelude.{◌≡◌, ◌+◌, ◌<◌, ◌≤◌, ◌==◌, ◌++◌, ◌∷◌, [], None, Some, filter, true, length, remove, IfSome, IsOk, OnOk, OnErr, option_map, slice_get};
+ghost use Rattle.std.specs.Prelude.{◌≡◌, ◌+◌, ◌<◌, ◌≤◌, ◌==◌, ◌++◌, ◌∷◌, [], None, Some, filter, true, length, remove, IfSome, IsOk, MatchOption, OnOk, OnErr, option_map, slice_get};
 ghost use Rattle.std.specs.Option.{is_some};
 ghost use Rattle.std.specs.VecDeque.{deque_len, deque_capacity};
 ghost use Rattle.pt_types.specs.declared.graph.Graph.{Graph};
@@ -22,7 +22,7 @@ use std::marker::Model;
 /// The open claims of a platform in the order in which they were made, at most one for each unit.
 ///
 /// Contracts see the list of claims, and `spare`: how many more fit in memory. Results mostly come in the order of their
-/// claims, so the claim to close is usually the first.
+/// claims, so the claim to take out is usually the first.
 #[derive(Drop)]
 pub struct OpenClaims {
     claims: VecDeque<OpenClaim>,
@@ -55,7 +55,8 @@ fn is_first(claims: &VecDeque<OpenClaim>, unit: Unit) -> bool
 /// The unit of the first open claim, if it has this task.
 #[inline(always)]
 fn first_with(claims: &VecDeque<OpenClaim>, task: &Task) -> Option<Unit>
-    ensures { IfSome result (λ unit. IsFound claims.now.items task.now (Some unit)) }
+    ensures found { IfSome result (λ unit. IsFound claims.now.items task.now (Some unit)) }
+    ensures place { IfSome result (λ unit. IsPlaceOf claims.now.items unit (Some 0)) }
 {
     match claims.front() {
         Some(claim) if same_task(&claim.task, task) => Some(claim.unit),
@@ -88,6 +89,7 @@ fn place_among(claims: &VecDeque<OpenClaim>, unit: Unit) -> Option<usize>
 }
 
 /// Removes the open claim at an index, which is mostly the first.
+#[inline(always)]
 fn remove_at(claims: &mut VecDeque<OpenClaim>, place: usize)
     requires { place < length claims.old.items }
     ensures items { claims.new.items ≡ remove claims.old.items place }
@@ -125,7 +127,8 @@ impl OpenClaims {
             return Ok(());
         }
         self.claims.reserve(count)?;
-        self.spare = count;
+        // All that fits is spare, so that the next calls find it there.
+        self.spare = self.claims.capacity() - self.claims.len();
         Ok(())
     }
 
@@ -146,8 +149,45 @@ impl OpenClaims {
         }
     }
 
-    /// Removes the open claim of a unit, if it has one. This is quick if that claim is the first.
-    pub fn close(&mut self, unit: Unit)
+    /// Removes the open claim with this task, which is mostly the first, and returns its unit; `None` if there is no such
+    /// claim.
+    #[inline(always)]
+    pub fn take(&mut self, task: &Task) -> Option<Unit>
+        ensures found { IsFound self.old.items task.now result }
+        ensures items { MatchOption result (self.new ≡ self.old) (λ unit. self.new.items ≡ filter (is_other unit) self.old.items) }
+        ensures busy { IfSome result (λ unit. busy_in self.new.items ≡ put_busy (busy_in self.old.items) unit None) }
+        ensures open_claims { (g : Graph) → Each (IsOpen g self.old.items) self.old.items → Each (IsOpen g self.new.items) self.new.items }
+        ensures spare { self.new.spare ≡ self.old.spare }
+    {
+        match first_with(&self.claims, task) {
+            None => self.take_among(task),
+            Some(unit) => {
+                remove_at(&mut self.claims, 0);
+                Some(unit)
+            }
+        }
+    }
+
+    /// The same for any open claim. Not inlined, so that the caller stays short.
+    #[inline(never)]
+    fn take_among(&mut self, task: &Task) -> Option<Unit>
+        ensures found { IsFound self.old.items task.now result }
+        ensures items { MatchOption result (self.new ≡ self.old) (λ unit. self.new.items ≡ filter (is_other unit) self.old.items) }
+        ensures busy { IfSome result (λ unit. busy_in self.new.items ≡ put_busy (busy_in self.old.items) unit None) }
+        ensures open_claims { (g : Graph) → Each (IsOpen g self.old.items) self.old.items → Each (IsOpen g self.new.items) self.new.items }
+        ensures spare { self.new.spare ≡ self.old.spare }
+    {
+        match self.find_among(task) {
+            None => None,
+            Some(unit) => {
+                self.close(unit);
+                Some(unit)
+            }
+        }
+    }
+
+    /// Removes the open claim of a unit, if it has one.
+    fn close(&mut self, unit: Unit)
         ensures items { self.new.items ≡ filter (is_other unit) self.old.items }
         ensures busy { busy_in self.new.items ≡ put_busy (busy_in self.old.items) unit None }
         ensures open_claims { (g : Graph) → Each (IsOpen g self.old.items) self.old.items → Each (IsOpen g self.new.items) self.new.items }
@@ -159,19 +199,7 @@ impl OpenClaims {
         }
     }
 
-    /// The unit of the open claim with this task, which is mostly the first; `None` if there is no such claim.
-    #[inline(always)]
-    pub fn find(&self, task: &Task) -> Option<Unit>
-        ensures { IsFound self.now.items task.now result }
-    {
-        if let Some(unit) = first_with(&self.claims, task) {
-            return Some(unit);
-        }
-        self.find_among(task)
-    }
-
     /// The unit of the open claim, of all, with this task; `None` if there is no such claim.
-    #[inline(never)]
     fn find_among(&self, task: &Task) -> Option<Unit>
         ensures { IsFound self.now.items task.now result }
     {

@@ -6,6 +6,7 @@ ghost use Rattle.pt_semantics.specs.Units.{same_part};
 use pt_types::{Task, Unit};
 
 /// Whether two tasks are equal.
+#[inline(always)]
 pub fn same_task(a: &Task, b: &Task) -> bool
     ensures { (result ≡ true) ↔ (a.now ≡ b.now) }
 {

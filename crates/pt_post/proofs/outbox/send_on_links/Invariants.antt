@@ -1,7 +1,7 @@
 use Rattle.std.proofs.Common.{◌≡◌, ◌≤◌, ◌+◌, ◌++◌, ℕ, take, length, slice_get}
 use Rattle.pt_semantics.specs.Closing.{on_link}
 use Rattle.pt_semantics.specs.Posting.{message_from}
-use Rattle.pt_post.proofs.outbox.send.Given as goal
+use Rattle.pt_post.proofs.outbox.send_on_links.Given as goal
 
 abbrev pub invariant-loop-l : goal.invariant-loop-l
 invariant-loop-l v = record {

@@ -5,7 +5,7 @@ use Rattle.pt_semantics.specs.Posting.{message_from}
 use Rattle.pt_types.specs.Ports.{at_port}
 use Rattle.pt_post.specs.Sent.{sent_on}
 use Rattle.pt_post.proofs.Going.{more_link}
-use Rattle.pt_post.proofs.outbox.send.Goals as goal
+use Rattle.pt_post.proofs.outbox.send_on_links.Goals as goal
 
 abbrev none_link : Link
 none_link = record { from = 0; to = 0; delay = 0 }
