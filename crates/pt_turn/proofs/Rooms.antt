@@ -1,5 +1,6 @@
 -- Room for a turn is room for a lesser one.
 use Rattle.std.proofs.Common.{◌≡◌, ℕ, ◌+◌, ◌*◌, ◌≤◌, true, false, nat_le, List, [], ◌∷◌, ◌++◌, Option, Some, None, length, map, flat_map, sym, ap, subst, arith, length-append, ⊎_elim}
+use Rattle.std.specs.Prelude.{MatchOption}
 use Rattle.std.specs.List.{range_with_len}
 use Rattle.std.proofs.lemmas.Bool.{cases_Bool, cond-true, cond-false}
 use Rattle.std.proofs.lemmas.Bool.Decides.{nat_tests}
@@ -16,6 +17,7 @@ use Rattle.pt_state.specs.State.{left_in}
 use Rattle.pt_state.specs.Sensors.{at_sensor}
 use Rattle.pt_turn.specs.Steps.{HasRoom, count_due}
 use Rattle.pt_turn.specs.declared.steps.Lists.{Lists}
+use Rattle.pt_turn.specs.declared.room.Room.{Room}
 use Rattle.pt_turn.specs.Platforms.{raised_to}
 
 -- a reading that is raised
@@ -95,3 +97,10 @@ has_room_on g f lists r s dones most_dones messages most_messages n most later d
       taken = omega (arith, h.taken, m);
       claimed = omega (arith, h.claimed, k);
     }
+
+-- memory is reserved for this turn, or for none
+pub some_room : (P : Room → Type 0) (o : Option Room) (r : Room) → o ≡ Some r → P r → MatchOption o (Unit {0}) P
+some_room P o r is h = subst (λ z. MatchOption z (Unit {0}) P) (sym is) h
+
+pub no_room : (P : Room → Type 0) (o : Option Room) → o ≡ None → MatchOption o (Unit {0}) P
+no_room P o is = subst (λ z. MatchOption z (Unit {0}) P) (sym is) tt

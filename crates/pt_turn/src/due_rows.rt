@@ -1,6 +1,6 @@
 //! How many rows enter in a turn.
 
-ghost use Rattle.std.specs.Prelude.{◌≡◌, ◌≤◌, IfSome, drop, length};
+ghost use Rattle.std.specs.Prelude.{◌≡◌, ◌+◌, ◌≤◌, IfSome, drop, length};
 ghost use Rattle.pt_semantics.specs.Entering.{all_due, due};
 ghost use Rattle.pt_state.specs.State.{left_in};
 ghost use Rattle.pt_state.specs.Sensors.{AreSensors};
@@ -9,21 +9,23 @@ use pt_enter::is_seen;
 use pt_state::Sensor;
 use pt_types::{Graph, Row};
 
-/// How many of the rows after the first `entered` are seen by a reading, in microseconds. Mostly there are none.
+/// A count, and how many more of the rows after the first `entered` are seen by a reading, in microseconds; `None` if 64 bits
+/// do not hold the sum. Mostly there are none.
 #[inline(always)]
-fn count_seen(rows: &[Row], entered: usize, reading: u64) -> usize
+fn add_seen(count: usize, rows: &[Row], entered: usize, reading: u64) -> Option<usize>
     requires { entered ≤ length rows.now }
-    ensures { result ≡ length (due reading (drop entered rows.now)) }
+    ensures { IfSome result (λ sum. sum ≡ count + length (due reading (drop entered rows.now))) }
 {
     if !is_seen(rows, entered, reading) {
-        return 0;
+        return Some(count);
     }
-    count_on(rows, entered, reading)
+    count.checked_add(count_seen(rows, entered, reading))
 }
 
-/// The same, row by row. Not inlined, since most turns have no such row.
+/// How many of the rows after the first `entered` are seen by a reading, in microseconds. Not inlined, since most turns have
+/// no such row.
 #[inline(never)]
-fn count_on(rows: &[Row], entered: usize, reading: u64) -> usize
+fn count_seen(rows: &[Row], entered: usize, reading: u64) -> usize
     requires { entered ≤ length rows.now }
     ensures { result ≡ length (due reading (drop entered rows.now)) }
 {
@@ -42,7 +44,7 @@ pub fn count_due(graph: &Graph, sensors: &[Sensor], reading: u64) -> Option<usiz
 {
     let mut count: usize = 0;
     for sensor in sensors {
-        count = count.checked_add(count_seen(sensor.rows.as_slice(), sensor.entered, reading))?;
+        count = add_seen(count, sensor.rows.as_slice(), sensor.entered, reading)?;
     }
     Some(count)
 }

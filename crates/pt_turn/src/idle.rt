@@ -68,7 +68,7 @@ impl Platform {
         }
         keep_quiet(&mut self.history, reading)?;
         self.fields.reading = Some(reading);
-        self.room = None;
+        self.room.clear();
         Ok(true)
     }
 }

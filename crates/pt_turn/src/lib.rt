@@ -23,6 +23,7 @@ mod opening;
 mod outbox;
 mod pending_rows;
 mod platform;
+mod reserved;
 mod room;
 mod rows_by_platform;
 mod starting_events;

@@ -59,11 +59,13 @@ pub fn make(
     );
     match ending {
         Ending::On => keep(history, reading, dones, lists, tasks),
-        _ => *fault = keep_last(plan, ending, last, history, reading, dones, lists, tasks),
+        _ => keep_last(
+            plan, ending, last, history, reading, dones, lists, tasks, fault,
+        ),
     }
 }
 
-/// Records the last turn of a platform, as `keep` does, and returns its fault: its ending is not `On`. Not inlined, since it is
+/// Records the last turn of a platform, as `keep` does, and writes its fault: its ending is not `On`. Not inlined, since it is
 /// called once at most.
 #[inline(never)]
 fn keep_last(
@@ -75,7 +77,8 @@ fn keep_last(
     dones: &[Done],
     lists: &mut Lists,
     tasks: &mut Tasks,
-) -> Option<TurnFault>
+    fault: &mut Option<TurnFault>,
+)
     requires late { ending ≡ Late → SomeIsLate plan.now.graph last lists.old.taken.items }
     requires turns { 0 < history.old.room.turns }
     requires posted { length lists.old.posted.items ≤ history.old.room.posted }
@@ -84,13 +87,12 @@ fn keep_last(
     requires taken { length lists.old.taken.items ≤ history.old.room.taken }
     requires claimed { length lists.old.claimed.items ≤ history.old.room.claimed }
     requires tasks { length lists.old.claimed.items ≤ tasks.old.spare }
-    ensures fault { IsFaultOf plan.now.graph last lists.old.taken.items ending result }
+    ensures fault { IsFaultOf plan.now.graph last lists.old.taken.items ending fault.new }
     ensures turns { history.new.turns ≡ kept_with history.old.turns (turn_of reading dones.now lists.old) }
     ensures sent { history.new.room.sent ≡ history.old.room.sent }
     ensures tasks { tasks.new.tasks ≡ tasks.old.tasks ++ lists.old.claimed.items }
     ensures empty { AreEmpty lists.new }
 {
-    let fault = fault_of(plan, ending, last, lists.taken.as_slice());
+    *fault = fault_of(plan, ending, last, lists.taken.as_slice());
     keep(history, reading, dones, lists, tasks);
-    fault
 }

@@ -56,6 +56,7 @@ fn widen_fields(fields: &mut Fields, needs: Needs) -> Result<(), Memory>
 }
 
 /// Reserves the memory needed by the lists of a turn, which are empty.
+#[inline(always)]
 fn widen_lists(lists: &mut Lists, needs: Needs) -> Result<(), Memory>
     requires { AreEmpty lists.old }
     ensures lists { ListsAreWider lists.old lists.new }
@@ -103,6 +104,15 @@ fn widen<T>(list: &mut Vec<T>, items: usize) -> Result<(), Memory>
     if items <= list.capacity() {
         return Ok(());
     }
+    widen_more(list, items)
+}
+
+/// Reserves memory for this many more items in a list. Not inlined, so that the caller stays short.
+#[inline(never)]
+fn widen_more<T>(list: &mut Vec<T>, items: usize) -> Result<(), Memory>
+    ensures wider { IsWider list.old list.new }
+    ensures room { OnOk result (vec_len list.new + items ≤ vec_capacity list.new) }
+{
     list.reserve(items)?;
     Ok(())
 }

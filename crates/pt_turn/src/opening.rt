@@ -7,6 +7,7 @@ ghost use Rattle.pt_turn.specs.Handed.{rows_handed, AreHanded};
 ghost use Rattle.pt_turn.specs.Platforms.{rows_at, state_at};
 
 use crate::platform::Platform;
+use crate::reserved::Reserved;
 use crate::{Lists, open_fields};
 use pt_claim::{closing_reading, next_reading};
 use pt_history::History;
@@ -47,7 +48,7 @@ impl Platform {
                 claimed: Vec::new(alloc),
             },
             fault: None,
-            room: None,
+            room: Reserved::none(),
             next: None,
         })
     }

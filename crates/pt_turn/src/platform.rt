@@ -10,7 +10,7 @@ ghost use Rattle.pt_turn.specs.Running.{Shows, last_reading};
 
 use crate::Lists;
 use crate::fault::TurnFault;
-use crate::room::Room;
+use crate::reserved::Reserved;
 use pt_history::History;
 use pt_offsets::Plan;
 use pt_state::Fields;
@@ -33,7 +33,8 @@ pub struct Platform {
     /// What the current turn has done; empty between turns.
     pub(crate) lists: Lists,
     pub(crate) fault: Option<TurnFault>,
-    pub(crate) room: Option<Room>,
+    /// The turn that memory is reserved for.
+    pub(crate) room: Reserved,
     /// Its next reading, in microseconds, if it is known.
     pub(crate) next: Option<u64>,
 }

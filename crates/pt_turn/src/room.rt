@@ -56,7 +56,7 @@ impl Platform {
             return Err(Memory);
         };
         make_room(&mut self.fields, &mut self.lists, &mut self.history, needs)?;
-        self.room = Some(room);
+        self.room.set(room);
         Ok(())
     }
 }

@@ -53,7 +53,7 @@ impl Platform {
             tasks,
             &mut self.fault,
         );
-        self.room = None;
+        self.room.clear();
         self.next = None;
     }
 }

@@ -10,6 +10,7 @@ use Rattle.pt_state.specs.Sensors.{AreSensors}
 use Rattle.pt_state.specs.State.{rows_at_sensors, state_of, IsSound}
 use Rattle.pt_turn.specs.Platforms.{messages_of}
 use Rattle.pt_turn.specs.Running.{Ran}
+use Rattle.pt_turn.proofs.Rooms.{no_room}
 use Rattle.pt_turn.proofs.platform.Platform.open.Goals as goal
 use Rattle.pt_types.specs.Limits.{most_claims}
 
@@ -37,6 +38,6 @@ invariant_of-result c =
       });
       empty = record { posted = c.new-2.ensures.items; rows = c.new-3.ensures.items; taken = c.new-4.ensures.items; claimed = c.new-5.ensures.items };
       sent = omega (arith, none);
-      room = tt;
+      room = no_room _ c.none.result c.none.ensures;
       next = tt;
     }

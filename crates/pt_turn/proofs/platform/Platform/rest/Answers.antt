@@ -3,6 +3,7 @@ use Rattle.pt_semantics.specs.Kept.{kept_with}
 use Rattle.pt_semantics.specs.Paced.{IsNextReading}
 use Rattle.pt_history.specs.Turns.{fresh}
 use Rattle.pt_turn.specs.declared.fault.TurnFault.{TurnFault}
+use Rattle.pt_turn.specs.declared.room.Room.{Room}
 use Rattle.pt_turn.specs.declared.platform.Platform.TheInside.{Inside}
 use Rattle.pt_turn.specs.Platforms.{IsPlatform, PlatformView, platform_graph, state_at, view_of}
 use Rattle.pt_turn.specs.Rested.{HasRested}
@@ -26,8 +27,9 @@ invariant_of-self-2 c =
     let sent : length p.fields.outbox.items ≤ c.keep_quiet.new.history.room.sent = omega (arith, c.in_ok-keep_quiet.ensures.sent, c.self-2.invariant.sent) in
     let done = has_rested p r 1 c.find_next-next.result c.keep_quiet.new.history [] c.self-2.invariant next c.if-next-reading.false rises turns sent c.raised_to-reading.type_inv in
     let no_fault : p.fault ≡ None = ap (λ (v : PlatformView). v.fault) same ∙ c.requires.no_fault in
-    subst (λ (fault : Option TurnFault). IsPlatform (after p (record p.fields { reading = Some r }) c.keep_quiet.new.history p.lists fault p.next)) (sym no_fault)
-    (is_again p r 1 [] [] (record p.fields { reading = Some r }) c.keep_quiet.new.history p.lists None p.next [] [] c.self-2.invariant no_fault done c.self-2.invariant.next)
+    subst (λ (o : Option Room). IsPlatform (record (after p (record p.fields { reading = Some r }) c.keep_quiet.new.history p.lists p.fault p.next) { room = o })) (sym c.clear.ensures)
+    (subst (λ (fault : Option TurnFault). IsPlatform (after p (record p.fields { reading = Some r }) c.keep_quiet.new.history p.lists fault p.next)) (sym no_fault)
+    (is_again p r 1 [] [] (record p.fields { reading = Some r }) c.keep_quiet.new.history p.lists None p.next [] [] c.self-2.invariant no_fault done c.self-2.invariant.next))
 
 pub returns-clause-rested : goal.returns-clause-rested
 returns-clause-rested c = λ yes.
@@ -44,10 +46,11 @@ returns-clause-rested c = λ yes.
     let empty : c.self.inside.fields.outbox.items ≡ [] = no_members c.self.inside.fields.outbox.items len in
     let outbox : p.fields.outbox.items ≡ [] = ap (λ (v : PlatformView). v.outbox) (same ∙ sym c.self.view_is) ∙ empty in
     let no_fault : p.fault ≡ None = ap (λ (v : PlatformView). v.fault) same ∙ c.requires.no_fault in
-    subst (λ (fault : Option TurnFault). HasRested c.args.self.now (view_of (after p (record p.fields { reading = Some r }) c.keep_quiet.new.history p.lists fault None)) c.args.reading) (sym no_fault)
+    subst (λ (o : Option Room). HasRested c.args.self.now (view_of (record (after p (record p.fields { reading = Some r }) c.keep_quiet.new.history p.lists p.fault None) { room = o })) c.args.reading) (sym c.clear.ensures)
+    (subst (λ (fault : Option TurnFault). HasRested c.args.self.now (view_of (after p (record p.fields { reading = Some r }) c.keep_quiet.new.history p.lists fault None)) c.args.reading) (sym no_fault)
     (subst (λ (v : PlatformView). HasRested v (view_of (after p (record p.fields { reading = Some r }) c.keep_quiet.new.history p.lists None None)) c.args.reading) same (record {
       made = λ most. (turned most).0;
       idle = λ most. sym (turned most).1;
       stays = (turned 1).2;
       sent_all = outbox;
-    }))
+    })))

@@ -1,9 +1,11 @@
-use Rattle.std.proofs.Common.{Some, subst}
+use Rattle.std.proofs.Common.{Option, subst}
 use Rattle.pt_offsets.specs.Plans.{Parts}
 use Rattle.pt_turn.specs.declared.platform.Platform.TheInside.{Inside}
 use Rattle.pt_turn.specs.Growing.{AreEnough}
-use Rattle.pt_turn.specs.Platforms.{platform_graph, raised_to}
-use Rattle.pt_turn.proofs.Wider.{is_roomy, is_wider, room_still}
+use Rattle.pt_turn.specs.Platforms.{IsRoomy, platform_graph, raised_to}
+use Rattle.pt_turn.specs.declared.room.Room.{Room}
+use Rattle.pt_turn.proofs.Rooms.{some_room}
+use Rattle.pt_turn.proofs.Wider.{is_roomy, is_wider, room_still, wider}
 use Rattle.pt_turn.proofs.platform.Platform.room.Goals as goal
 
 pub invariant_of-self : goal.invariant_of-self
@@ -20,8 +22,10 @@ invariant_of-self-2 c =
     let enough : AreEnough (platform_graph p) p.fields (raised_to p.fields.reading c.args.room.reading) c.args.room c.in-Some.needs =
     subst (λ r. AreEnough (platform_graph p) p.fields r c.args.room c.in-Some.needs) c.raised_to-reading.ensures
     (subst (λ (plan : Parts). AreEnough plan.graph p.fields c.raised_to-reading.result c.args.room c.in-Some.needs) c.deref.ensures c.in-Some.ensures) in
-    is_wider p c.make_room.new.fields c.make_room.new.history c.make_room.new.lists (Some c.args.room) c.self.invariant m.fields m.history m.lists
-    (is_roomy p c.make_room.new.fields c.make_room.new.history c.make_room.new.lists (Some c.args.room) c.args.room c.in-Some.needs m.fields enough c.in_ok-make_room.ensures.met.0 c.in_ok-make_room.ensures.met.1 c.in_ok-make_room.ensures.met.2)
+    let room : Option Room = c.set.new.self in
+    is_wider p c.make_room.new.fields c.make_room.new.history c.make_room.new.lists room c.self.invariant m.fields m.history m.lists
+    (some_room (IsRoomy (wider p c.make_room.new.fields c.make_room.new.history c.make_room.new.lists room)) room c.args.room c.set.ensures
+    (is_roomy p c.make_room.new.fields c.make_room.new.history c.make_room.new.lists room c.args.room c.in-Some.needs m.fields enough c.in_ok-make_room.ensures.met.0 c.in_ok-make_room.ensures.met.1 c.in_ok-make_room.ensures.met.2))
 
 pub make_room-requires : goal.make_room-requires
 make_room-requires c = record { empty = c.self.invariant.empty }

@@ -1,4 +1,4 @@
-use Rattle.std.proofs.Common.{◌≡◌, ◌≤◌, ◌++◌, None, length, sym, subst}
+use Rattle.std.proofs.Common.{◌≡◌, ◌≤◌, ◌++◌, Option, None, length, sym, subst}
 use Rattle.std.specs.Prelude.{MatchOption}
 use Rattle.std.specs.Arc.{arc_value}
 use Rattle.pt_causality.specs.Ranked.{level_of}
@@ -7,7 +7,7 @@ use Rattle.pt_post.specs.Posted.{AreDone}
 use Rattle.pt_turn.specs.declared.room.Room.{Room}
 use Rattle.pt_turn.specs.declared.platform.Platform.TheInside.{Inside}
 use Rattle.pt_turn.specs.Making.{CanKeep, IsReady}
-use Rattle.pt_turn.specs.Platforms.{IsRoomy, PlatformView, platform_graph, level_at, messages_of, state_at, view_of}
+use Rattle.pt_turn.specs.Platforms.{IsPlatform, IsRoomy, PlatformView, platform_graph, level_at, messages_of, state_at, view_of}
 use Rattle.pt_turn.specs.Turned.{IsEnough, IsTurned, MayCome, StaysThere}
 use Rattle.pt_turn.proofs.Again.{IsDone, after, is_again, is_done_as, is_turned}
 use Rattle.pt_turn.proofs.Readiness.{basis_of, both_rooms, can_keep, is_ready}
@@ -31,7 +31,8 @@ invariant_of-self c =
     let done : IsDone p c.raised_to-reading.result c.args.most c.args.done.now c.args.taken.now c.make.new.fields c.make.new.history c.make.new.lists c.make.new.fault c.args.tasks.now.tasks c.make.new.tasks.tasks =
     is_done_as p c.args.self.now c.deref.result.now c.args.reading c.raised_to-reading.result c.args.most c.args.done.now c.args.taken.now c.make.new.fields c.make.new.history c.make.new.lists c.make.new.fault c.args.tasks.now.tasks c.make.new.tasks.tasks c.self.view_is c.self.invariant c.requires.room c.deref.ensures
     m.kept m.sound m.sensors m.all_rows m.reading m.claims m.empty m.outbox m.sent c.raised_to-reading.type_inv in
-    is_again p c.raised_to-reading.result c.args.most c.args.done.now c.args.taken.now c.make.new.fields c.make.new.history c.make.new.lists c.make.new.fault None c.args.tasks.now.tasks c.make.new.tasks.tasks c.self.invariant c.in_default.is done tt
+    subst (λ (o : Option Room). IsPlatform (record (after p c.make.new.fields c.make.new.history c.make.new.lists c.make.new.fault None) { room = o })) (sym c.clear.ensures)
+    (is_again p c.raised_to-reading.result c.args.most c.args.done.now c.args.taken.now c.make.new.fields c.make.new.history c.make.new.lists c.make.new.fault None c.args.tasks.now.tasks c.make.new.tasks.tasks c.self.invariant c.in_default.is done tt)
 
 pub returns-clause-turned : goal.returns-clause-turned
 returns-clause-turned c =
@@ -41,5 +42,6 @@ returns-clause-turned c =
     is_done_as p c.args.self.now c.deref.result.now c.args.reading c.raised_to-reading.result c.args.most c.args.done.now c.args.taken.now c.make.new.fields c.make.new.history c.make.new.lists c.make.new.fault c.args.tasks.now.tasks c.make.new.tasks.tasks c.self.view_is c.self.invariant c.requires.room c.deref.ensures
     m.kept m.sound m.sensors m.all_rows m.reading m.claims m.empty m.outbox m.sent c.raised_to-reading.type_inv in
     λ none.
+    subst (λ (o : Option Room). (made : IsTurned c.args.self.now (view_of (record (after p c.make.new.fields c.make.new.history c.make.new.lists c.make.new.fault None) { room = o })) c.args.reading c.args.most c.args.done.now c.args.taken.now) × (c.make.new.tasks.tasks ≡ c.args.tasks.now.tasks ++ made.turn.claimed) × StaysThere c.args.self.now (view_of (record (after p c.make.new.fields c.make.new.history c.make.new.lists c.make.new.fault None) { room = o }))) (sym c.clear.ensures)
     (subst (λ (v : PlatformView). (made : IsTurned v (view_of (after p c.make.new.fields c.make.new.history c.make.new.lists c.make.new.fault None)) c.args.reading c.args.most c.args.done.now c.args.taken.now) × (c.make.new.tasks.tasks ≡ c.args.tasks.now.tasks ++ made.turn.claimed) × StaysThere v (view_of (after p c.make.new.fields c.make.new.history c.make.new.lists c.make.new.fault None))) c.self.view_is
     (is_turned p c.raised_to-reading.result c.args.reading c.args.most c.args.done.now c.args.taken.now c.make.new.fields c.make.new.history c.make.new.lists c.make.new.fault c.args.tasks.now.tasks c.make.new.tasks.tasks c.raised_to-reading.ensures done))

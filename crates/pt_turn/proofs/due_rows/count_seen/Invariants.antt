@@ -1,6 +1,6 @@
 use Rattle.std.proofs.Common.{◌≡◌, ◌+◌, ◌≤◌, drop, length}
 use Rattle.pt_semantics.specs.Entering.{due}
-use Rattle.pt_turn.proofs.due_rows.count_on.Given as goal
+use Rattle.pt_turn.proofs.due_rows.count_seen.Given as goal
 
 abbrev pub invariant-loop-index : goal.invariant-loop-index
 invariant-loop-index l = record {
