@@ -1,12 +1,14 @@
 -- Messages are taken from the pipes, link by link.
-use Rattle.std.proofs.Common.{◌≡◌, ℕ, ◌+◌, ◌<◌, Bool, true, false, refl, List, [], ◌∷◌, ◌++◌, Some, length, get_or, map, take, drop, set, sym, ap, ap₂, ◌∙◌, append_assoc, add-one, arith, eq-eqb}
+use Rattle.std.proofs.Common.{◌≡◌, ℕ, suc, ◌+◌, ◌<◌, Bool, true, false, refl, List, [], ◌∷◌, ◌++◌, Some, length, get_or, map, take, drop, set, sym, ap, ap₂, ◌∙◌, append_assoc, add-one, arith, eq-eqb}
 use Rattle.std.specs.Prelude.{slice_get, if◌then◌else◌, ◌==◌}
-use Rattle.std.proofs.lemmas.Bool.{cond-true, cond-false, ne_eqb}
+use Rattle.std.specs.List.{list_all}
+use Rattle.std.proofs.lemmas.Bool.{cond-true, cond-false, false≢true, ne_eqb}
 use Rattle.std.proofs.lemmas.List.{drop_more, drop-set-lt, take_more_set, take_more}
 use Rattle.pt_tags.specs.declared.message.Message.{Message}
 use Rattle.pt_types.specs.declared.graph.Graph.{Graph}
 use Rattle.pt_types.specs.declared.graph.Link.{Link}
 use Rattle.pt_types.specs.declared.firing.OnLink.{OnLink}
+use Rattle.pt_semantics.specs.Turn.{is_empty}
 use Rattle.pt_types.specs.Lookups.{platform_of}
 use Rattle.pt_visits.specs.Pipes.{arriving, emptied, leads_to, put_on}
 
@@ -69,3 +71,14 @@ emptied_none g i n all pipes d lt none is =
     ∙ ap (λ (z : List Message). z ∷ emptied g i (n + 1) (drop (n + 1) pipes)) (ap (λ (ms : List Message). if leads_to g i (slice_get g.links n) then [] else ms) none ∙ still_none (leads_to g i (slice_get g.links n)) ∙ sym none))
     ∙ sym (append_assoc (take n pipes) (get_or pipes n d ∷ []) (emptied g i (n + 1) (drop (n + 1) pipes)))
     ∙ ap (λ (z : List (List Message)). z ++ emptied g i (n + 1) (drop (n + 1) pipes)) (sym (take_more pipes n d lt))
+
+-- where no pipe has a message, none arrives, and no pipe changes
+pub arriving_none : (g : Graph) (i n : ℕ) (pipes : List (List Message)) → list_all is_empty pipes ≡ true → arriving g i n pipes ≡ []
+arriving_none g i n [] none = refl
+arriving_none g i n ([] ∷ pipes) none = ap (λ (z : List OnLink). z ++ arriving g i (suc n) pipes) (no_more n (leads_to g i (slice_get g.links n))) ∙ arriving_none g i (suc n) pipes none
+arriving_none g i n ((m ∷ ms) ∷ pipes) none = absurd (false≢true none)
+
+pub emptied_same : (g : Graph) (i n : ℕ) (pipes : List (List Message)) → list_all is_empty pipes ≡ true → emptied g i n pipes ≡ pipes
+emptied_same g i n [] none = refl
+emptied_same g i n ([] ∷ pipes) none = ap₂ (λ (z : List Message) (zs : List (List Message)). z ∷ zs) (still_none (leads_to g i (slice_get g.links n))) (emptied_same g i (suc n) pipes none)
+emptied_same g i n ((m ∷ ms) ∷ pipes) none = absurd (false≢true none)

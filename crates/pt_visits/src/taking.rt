@@ -1,6 +1,8 @@
 //! Taking the messages that have arrived at a platform.
 
 ghost use Rattle.std.specs.Prelude.{◌≡◌, ◌++◌, [], OnOk, length, map};
+ghost use Rattle.std.specs.List.{list_all};
+ghost use Rattle.pt_semantics.specs.Turn.{is_empty};
 ghost use Rattle.pt_types.specs.Lawful.{IsLawful};
 ghost use Rattle.pt_types.specs.Lookups.{platform_of};
 ghost use Rattle.pt_visits.specs.Pipes.{arriving, emptied, put_on};
@@ -22,8 +24,43 @@ fn take_from(pipe: &mut Pipe, link: u32, taken: &mut Vec<OnLink>) -> Result<(), 
     Ok(())
 }
 
-/// Takes all messages from the links that lead to a platform, link by link in graph order.
+/// Whether a pipe has no message.
+fn is_empty(pipe: &Pipe) -> bool
+    ensures { result ≡ is_empty pipe.now }
+{
+    pipe.peek().is_none()
+}
+
+/// Whether no pipe has a message.
+fn are_empty(pipes: &[Pipe]) -> bool
+    ensures { result ≡ list_all is_empty pipes.now }
+{
+    pipes.iter().all(|pipe| is_empty(pipe))
+}
+
+/// Takes all messages from the links that lead to a platform, link by link in graph order. Mostly no link has a message, so
+/// the caller only looks for one.
+#[inline(always)]
 pub fn take_all(
+    graph: &Graph,
+    number: u32,
+    pipes: &mut [Pipe],
+    taken: &mut Vec<OnLink>,
+) -> Result<(), Memory>
+    requires lawful { IsLawful graph.now }
+    requires links { length pipes.old ≡ length graph.now.links }
+    ensures taken { OnOk result (taken.new.items ≡ taken.old.items ++ arriving graph.now number 0 pipes.old) }
+    ensures pipes { OnOk result (pipes.new ≡ emptied graph.now number 0 pipes.old) }
+{
+    if are_empty(pipes) {
+        return Ok(());
+    }
+    take_each(graph, number, pipes, taken)
+}
+
+/// The same, link by link. Not inlined, since at most visits no message is under way.
+#[inline(never)]
+fn take_each(
     graph: &Graph,
     number: u32,
     pipes: &mut [Pipe],

@@ -1,6 +1,6 @@
 use Rattle.std.proofs.Common.{◌≡◌, ◌++◌, length, take, drop}
 use Rattle.pt_visits.specs.Pipes.{arriving, emptied}
-use Rattle.pt_visits.proofs.taking.take_all.Given as goal
+use Rattle.pt_visits.proofs.taking.take_each.Given as goal
 
 abbrev pub invariant-loop-l : goal.invariant-loop-l
 invariant-loop-l l = record {
