@@ -9,8 +9,7 @@ ghost use Rattle.pt_graph.specs.EndFaults.{block_place, has_blocks, guard_has_bl
 
 use crate::ranges::found;
 use pt_blocks::Named;
-use pt_graph_text::{ActorText, Document, KindText, Part, Place, RowText};
-use pt_tags::Name;
+use pt_graph_text::{ActorText, Document, KindText, Part, Place, RowText, Word};
 
 /// The first actor that names an unknown block.
 pub fn block_place(listed: &[Named], document: &Document) -> Option<Place>
@@ -43,7 +42,7 @@ fn guards_have_blocks(listed: &[Named], rows: &[RowText]) -> bool
 }
 
 #[tactic(auto, unfolding(crate::specs::EndFaults::guard_has_block))]
-fn guard_has_block(listed: &[Named], guard: &Option<Name>) -> bool
+fn guard_has_block(listed: &[Named], guard: &Option<Word>) -> bool
     ensures { result ≡ guard_has_block listed.now guard.now }
 {
     match guard {
@@ -52,14 +51,14 @@ fn guard_has_block(listed: &[Named], guard: &Option<Name>) -> bool
     }
 }
 
-fn has_name(listed: &[Named], name: &Name) -> bool
+fn has_name(listed: &[Named], name: &Word) -> bool
     ensures { result ≡ has_name listed.now name.now }
 {
     find(listed, name).is_some()
 }
 
 /// The number of the block with this name.
-pub fn find(listed: &[Named], name: &Name) -> Option<usize>
+pub fn find(listed: &[Named], name: &Word) -> Option<usize>
     ensures { result ≡ find_block listed.now name.now }
 {
     let name = name.as_str();

@@ -10,11 +10,22 @@ ghost use Rattle.pt_graph.specs.Graphs.{small, number_or_0, number_and_law, emit
 use crate::blocks::find;
 use crate::known::{index_of, number_at};
 use pt_blocks::Named;
-use pt_graph_text::{ActorText, Document, KindText, LinkText, PairText, RowText, WireText};
+use pt_graph_text::{ActorText, Document, KindText, LinkText, PairText, RowText, WireText, Word};
 use pt_tags::{List, Name};
 use pt_types::{Actor, Kind, Law, Link, MachineRow, PairError, Wire};
 use std::alloc::{AllocError, Global};
 use std::collections::BTreeMap;
+
+/// The names of the platforms.
+pub fn platforms_of(alloc: Global, platforms: &[Word]) -> Result<Vec<Name>, AllocError>
+    ensures { IfOk result (λ v. v.items ≡ platforms.now) }
+{
+    let mut done = Vec::new(alloc);
+    for platform in platforms {
+        done.push(copy(alloc, platform)?)?;
+    }
+    Ok(done)
+}
 
 /// The actors, with numbers of platforms and blocks.
 pub fn actors_of(
@@ -36,7 +47,7 @@ pub fn actors_of(
 fn actor_from(
     alloc: Global,
     listed: &[Named],
-    platforms: &List<Name>,
+    platforms: &List<Word>,
     actor: &ActorText,
 ) -> Result<Actor, AllocError>
     ensures { IfOk result (λ a. a ≡ actor_from listed.now platforms.now actor.now) }
@@ -61,8 +72,8 @@ fn with_ports(name: Name, platform: u32, kind: Kind) -> Actor
     }
 }
 
-/// A copy of a name.
-pub fn copy(alloc: Global, name: &Name) -> Result<Name, AllocError>
+/// A name of the graph with this text.
+fn copy(alloc: Global, name: &Word) -> Result<Name, AllocError>
     ensures { IfOk result (λ n. n ≡ name.now) }
 {
     Ok(Name::new(String::from_str(alloc, name.as_str())?))
@@ -84,7 +95,7 @@ fn kind_from(alloc: Global, listed: &[Named], kind: &KindText) -> Result<Kind, A
     }
 }
 
-fn sensor_from(alloc: Global, file: &Name, bound: i64) -> Result<Kind, AllocError>
+fn sensor_from(alloc: Global, file: &Word, bound: i64) -> Result<Kind, AllocError>
     ensures { IfOk result (λ k. k ≡ kind_from [] (text.Sensor file.now bound)) }
 {
     Ok(Kind::Sensor {
@@ -142,7 +153,7 @@ fn emit_from(emit: Option<(i64, i64)>) -> Option<(u32, i64)>
     }
 }
 
-fn guard_from(listed: &[Named], guard: &Option<Name>) -> Option<(u32, Law)>
+fn guard_from(listed: &[Named], guard: &Option<Word>) -> Option<(u32, Law)>
     ensures { result ≡ option_map (number_and_law listed.now) guard.now }
 {
     match guard {
@@ -152,7 +163,7 @@ fn guard_from(listed: &[Named], guard: &Option<Name>) -> Option<(u32, Law)>
 }
 
 /// The number and the law of the block with this name.
-fn block_of(listed: &[Named], name: &Name) -> (u32, Law)
+fn block_of(listed: &[Named], name: &Word) -> (u32, Law)
     ensures { result ≡ number_and_law listed.now name.now }
 {
     let number = find(listed, name);
@@ -177,7 +188,7 @@ fn law_at(listed: &[Named], number: usize) -> Law
     }
 }
 
-fn block_from(listed: &[Named], name: &Name) -> Kind
+fn block_from(listed: &[Named], name: &Word) -> Kind
     ensures { result ≡ kind_from listed.now (text.Block name.now) }
 {
     let (block, law) = block_of(listed, name);
@@ -245,7 +256,7 @@ fn number_or_0(number: Option<usize>) -> u32
     number.unwrap_or(0).min(u32::MAX as usize) as u32
 }
 
-fn platform_number(platforms: &List<Name>, name: &Name) -> u32
+fn platform_number(platforms: &List<Word>, name: &Word) -> u32
     ensures { result ≡ platform_number platforms.now name.now }
 {
     number_or_0(index_of(platforms.as_slice(), name.as_str()))
@@ -311,7 +322,7 @@ fn link_from<'a>(numbers: &BTreeMap<&'a str, usize>, link: &'a LinkText) -> Link
     }
 }
 
-fn pair_from(platforms: &List<Name>, pair: &PairText) -> PairError
+fn pair_from(platforms: &List<Word>, pair: &PairText) -> PairError
     ensures { result ≡ pair_from platforms.now pair.now }
 {
     PairError {

@@ -13,8 +13,8 @@ ghost use Rattle.pt_graph.specs.Known.{first_named, itself, name_of_actor, same_
 
 use crate::index::repeated;
 use crate::ranges::found;
-use pt_graph_text::{ActorText, Document, LinkText, PairText, Part, Place, WireText};
-use pt_tags::{List, Name};
+use pt_graph_text::{ActorText, Document, LinkText, PairText, Part, Place, WireText, Word};
+use pt_tags::List;
 use std::alloc::{AllocError, Global};
 use std::collections::BTreeMap;
 
@@ -26,7 +26,7 @@ pub trait Named {
         ensures { result.now ≡ name_of self.now };
 }
 
-impl Named for Name {
+impl Named for Word {
     ghost use Rattle.pt_graph.specs.Known.{itself};
 
     ghost name_of = { itself };
@@ -148,21 +148,21 @@ fn lost_link<'a>(numbers: &BTreeMap<&'a str, usize>, links: &'a [LinkText]) -> O
     None
 }
 
-fn is_known<'a>(numbers: &BTreeMap<&'a str, usize>, from: &'a Name, to: &'a Name) -> bool
+fn is_known<'a>(numbers: &BTreeMap<&'a str, usize>, from: &'a Word, to: &'a Word) -> bool
     ensures { result ≡ is_known (at_name numbers.now) from.now to.now }
 {
     number_at(numbers, from).is_some() && number_at(numbers, to).is_some()
 }
 
 /// The number of a name.
-pub fn number_at<'a>(numbers: &BTreeMap<&'a str, usize>, name: &'a Name) -> Option<usize>
+pub fn number_at<'a>(numbers: &BTreeMap<&'a str, usize>, name: &'a Word) -> Option<usize>
     ensures { result ≡ at_name numbers.now name.now }
 {
     let name = name.as_str();
     numbers.get(&name).copied()
 }
 
-fn is_platform(platforms: &List<Name>, name: &Name) -> bool
+fn is_platform(platforms: &List<Word>, name: &Word) -> bool
     ensures { result ≡ is_platform platforms.now name.now }
 {
     index_of(platforms.as_slice(), name.as_str()).is_some()

@@ -11,9 +11,9 @@ ghost use Rattle.pt_graph.specs.Naming.{name_place, actor_is_named, kind_is_name
 
 use crate::ranges::found;
 use pt_graph_text::{
-    ActorText, Document, KindText, LinkText, PairText, Part, Place, RowText, WireText,
+    ActorText, Document, KindText, LinkText, PairText, Part, Place, RowText, WireText, Word,
 };
-use pt_tags::{List, Name};
+use pt_tags::List;
 
 /// The first place with a name that is not valid.
 #[tactic(auto, unfolding(crate::specs::Naming::name_place))]
@@ -27,7 +27,7 @@ pub fn name_place(document: &Document) -> Option<Place>
         .or(found(Part::Pair, unnamed_pair(&document.pairs)))
 }
 
-fn unnamed_platform(platforms: &List<Name>) -> Option<usize>
+fn unnamed_platform(platforms: &List<Word>) -> Option<usize>
     ensures { result ≡ position (λ n. not (is_name n)) platforms.now }
 {
     platforms.as_slice().iter().position(|n| !is_name(n))
@@ -89,7 +89,7 @@ fn guards_are_named(rows: &[RowText]) -> bool
     rows.iter().all(|row| guard_is_named(&row.guard))
 }
 
-fn guard_is_named(guard: &Option<Name>) -> bool
+fn guard_is_named(guard: &Option<Word>) -> bool
     ensures { result ≡ guard_is_named guard.now }
 {
     match guard {
@@ -98,7 +98,7 @@ fn guard_is_named(guard: &Option<Name>) -> bool
     }
 }
 
-fn is_name(name: &Name) -> bool
+fn is_name(name: &Word) -> bool
     ensures { result ≡ is_name name.now }
 {
     is_name_text(name.as_str().as_bytes())
@@ -116,7 +116,7 @@ fn all_in_name(bytes: &[u8]) -> bool
     bytes.iter().all(|b| in_name(*b))
 }
 
-fn is_file(name: &Name) -> bool
+fn is_file(name: &Word) -> bool
     ensures { result ≡ is_file name.now }
 {
     is_file_text(name.as_str().as_bytes())

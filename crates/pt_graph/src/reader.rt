@@ -15,7 +15,7 @@ ghost use Rattle.pt_graph.specs.Graphs.{actors_of, wires_of, links_of, graph_wit
 ghost use Rattle.pt_graph.specs.GraphOf.{built, graph_in, graph_of};
 
 use crate::blocks::block_place;
-use crate::convert::{actors_of, links_of, pairs_of, wires_of};
+use crate::convert::{actors_of, links_of, pairs_of, platforms_of, wires_of};
 use crate::ends::{check_ends, refuse, with_hidden};
 use crate::index::numbers;
 use crate::known::{repeated_place, unknown_place};
@@ -158,12 +158,15 @@ fn graph(
 {
     let clock_errors = pairs_of(alloc, &document)?;
     let wires = with_hidden(wires, actors.as_slice())?;
-    let Document {
-        head,
-        platforms,
-        ..
-    } = document;
-    Ok(whole(head, platforms, actors, wires, links, clock_errors))
+    let platforms = platforms_of(alloc, document.platforms.as_slice())?;
+    Ok(whole(
+        document.head,
+        List::new(platforms),
+        actors,
+        wires,
+        links,
+        clock_errors,
+    ))
 }
 
 #[tactic(auto, unfolding(crate::specs::Graphs::whole_graph))]

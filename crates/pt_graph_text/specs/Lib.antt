@@ -9,3 +9,4 @@ pub mod Whole
 pub mod Arrays
 pub mod Inner
 pub mod Lines
+pub mod Words

@@ -5,15 +5,15 @@ use crate::document::{ActorText, LinkText, PairText, WireText};
 use crate::object::Lists;
 use crate::reading::Unread;
 use crate::version::Version;
+use crate::word::Word;
 use json::Reader;
-use pt_tags::Name;
 use serde_json::Value;
 use std::alloc::Global;
 
 /// The arrays of the top object; `None` for one that is missing or is not an array.
 #[derive(Drop)]
 pub struct Arrays {
-    pub platforms: Option<Listed<Name>>,
+    pub platforms: Option<Listed<Word>>,
     pub actors: Option<Listed<ActorText>>,
     pub wires: Option<Listed<WireText>>,
     pub links: Option<Listed<LinkText>>,

@@ -11,8 +11,9 @@ ghost use Rattle.pt_graph_text.specs.Decoding.{Decodes, DecodesEach, whole, fiel
 
 use crate::reading::{Unread, read_value};
 use crate::version::Version;
+use crate::word::Word;
 use json::Reader;
-use pt_tags::{List, Name};
+use pt_tags::List;
 use serde_json::Value;
 use std::alloc::Global;
 
@@ -73,15 +74,15 @@ impl Decode for i64 {
     }
 }
 
-impl Decode for Name {
+impl Decode for Word {
     ghost decoded = { λ v. as_str };
 
-    fn decode(alloc: Global, _version: Version, value: &Value) -> Result<Name, Misfit> {
+    fn decode(alloc: Global, _version: Version, value: &Value) -> Result<Word, Misfit> {
         let Some(text) = value.as_str() else {
             return Err(Misfit::Member);
         };
-        match String::from_str(alloc, text) {
-            Ok(text) => Ok(Name::new(text)),
+        match Word::new(alloc, text) {
+            Ok(word) => Ok(word),
             Err(_) => Err(Misfit::Memory),
         }
     }

@@ -12,8 +12,9 @@ use crate::kinds::{KindText, kind_of};
 use crate::object::{Object, read_object};
 use crate::reading::Unread;
 use crate::version::Version;
+use crate::word::Word;
 use json::Reader;
-use pt_tags::{List, Name};
+use pt_tags::List;
 use serde_json::Value;
 use std::alloc::Global;
 
@@ -27,39 +28,39 @@ pub struct RowText {
     /// An output and the value that it gets.
     pub emit: Option<(i64, i64)>,
     /// The name of a block.
-    pub guard: Option<Name>,
+    pub guard: Option<Word>,
 }
 
 /// An actor.
 #[derive(Drop)]
 pub struct ActorText {
-    pub name: Name,
-    pub platform: Name,
+    pub name: Word,
+    pub platform: Word,
     pub kind: KindText,
 }
 
 /// A wire, with the names of its actors.
 #[derive(Drop)]
 pub struct WireText {
-    pub from: Name,
+    pub from: Word,
     pub output: i64,
-    pub to: Name,
+    pub to: Word,
     pub input: i64,
 }
 
 /// A link, with the names of its actors.
 #[derive(Drop)]
 pub struct LinkText {
-    pub from: Name,
-    pub to: Name,
+    pub from: Word,
+    pub to: Word,
     pub delay: i64,
 }
 
 /// The names of two platforms and their clock error, in microseconds.
 #[derive(Drop)]
 pub struct PairText {
-    pub a: Name,
-    pub b: Name,
+    pub a: Word,
+    pub b: Word,
     pub error: i64,
 }
 
@@ -77,7 +78,7 @@ pub struct Head {
 pub struct Document {
     pub version: Version,
     pub head: Head,
-    pub platforms: List<Name>,
+    pub platforms: List<Word>,
     pub actors: List<ActorText>,
     pub wires: List<WireText>,
     pub links: List<LinkText>,
@@ -219,7 +220,7 @@ impl Decode for ActorText {
 
     #[tactic(auto, unfolding(crate::specs::Documents::actor_of))]
     fn decode(alloc: Global, version: Version, value: &Value) -> Result<ActorText, Misfit> {
-        let kind: Name = member(alloc, version, value, "kind")?;
+        let kind: Word = member(alloc, version, value, "kind")?;
         Ok(ActorText {
             name: member(alloc, version, value, "name")?,
             platform: member(alloc, version, value, "platform")?,

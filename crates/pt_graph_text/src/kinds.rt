@@ -8,7 +8,8 @@ ghost use Rattle.pt_graph_text.specs.Kinds.{kind_text_of, number_kind_of, other_
 use crate::decode::{Misfit, has_members, member};
 use crate::document::RowText;
 use crate::version::Version;
-use pt_tags::{List, Name};
+use crate::word::Word;
+use pt_tags::List;
 use serde_json::Value;
 use std::alloc::Global;
 
@@ -16,7 +17,7 @@ use std::alloc::Global;
 #[derive(Drop)]
 pub enum KindText {
     Sensor {
-        file: Name,
+        file: Word,
         bound: i64,
     },
     Receive,
@@ -57,7 +58,7 @@ pub enum KindText {
         rows: List<RowText>,
     },
     Block {
-        block: Name,
+        block: Word,
     },
     Lanes {
         cells: List<i64>,

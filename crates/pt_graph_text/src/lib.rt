@@ -17,8 +17,10 @@ mod lines;
 mod number;
 mod object;
 mod reading;
+mod short;
 mod version;
 mod whole;
+mod word;
 
 pub use decode::{Decode, Misfit, Stop};
 pub use document::{ActorText, Document, Head, LinkText, PairText, RowText, WireText};
@@ -27,3 +29,4 @@ pub use kinds::KindText;
 pub use lines::fault_line;
 pub use version::{Version, version_of};
 pub use whole::{place, read_document};
+pub use word::Word;
