@@ -228,8 +228,27 @@ fn shared_end(marks: &[u64], before: &[u64], from: usize, end: usize) -> usize
     from
 }
 
+/// The bits that are set both in `marks` and in `before`, in any of the words from number `from` up to number `end`, without that.
+///
+/// It doesn't stop at the first such bit, so that one instruction joins several words.
+#[inline(always)]
+fn shared_bits(marks: &[u64], before: &[u64], from: usize, end: usize) -> u64
+    requires marks { end ≤ length marks.now }
+    requires before { end ≤ length before.now }
+    ensures { (n i : ℕ) → from ≤ n → n < end → bit_at result i ≡ 0 → bit_at (bit_and (slice_index_or marks.now n 0) (slice_index_or before.now n 0)) i ≡ 0 }
+{
+    let mut shared = 0u64;
+    for index in from..end {
+        shared |= marks[index] & before[index];
+    }
+    shared
+}
+
 /// Whether the words from number `from` up to number `end`, without that, share no bit but that of this unit. If so, no other
 /// unit holds it up.
+///
+/// Not inlined, so that its loops have all registers.
+#[inline(never)]
 fn shares_none(marks: &[u64], before: &[u64], from: usize, end: usize, unit: Unit) -> bool
     requires { end ≤ length marks.now }
     ensures group { result ≡ true → unit.group < 8 }
@@ -246,10 +265,10 @@ fn shares_none(marks: &[u64], before: &[u64], from: usize, end: usize, unit: Uni
     if end > before.len() {
         return false;
     }
-    if shared_end(marks, before, from, own) > from {
+    if shared_bits(marks, before, from, own) != 0 {
         return false;
     }
-    if shared_end(marks, before, own + 1, end) > own + 1 {
+    if shared_bits(marks, before, own + 1, end) != 0 {
         return false;
     }
     let shared = marks[own] & before[own];
