@@ -1,5 +1,5 @@
 -- The next reading, by sensors and by units.
-use Rattle.std.proofs.Common.{◌≡◌, ℕ, zero, suc, ◌+◌, ◌<◌, ◌≤◌, ◌⊎◌, ◌==◌, true, false, List, [], ◌∷◌, Some, None, get_or, drop, length, min, unwrap_or, refl, sym, ap, subst, ◌∙◌, inl, inr, ⊎_elim, eq-eqb, ne_eqb, arith}
+use Rattle.std.proofs.Common.{◌≡◌, ℕ, zero, suc, ◌+◌, ◌*◌, ◌<◌, ◌≤◌, ◌⊎◌, ◌==◌, true, false, List, [], ◌∷◌, Some, None, get_or, drop, length, min, unwrap_or, refl, sym, ap, subst, ◌∙◌, inl, inr, ⊎_elim, eq-eqb, ne_eqb, arith}
 use Rattle.std.proofs.lemmas.Bool.{cases_Bool}
 use Rattle.std.proofs.lemmas.List.{drop_more}
 use Rattle.pt_tags.specs.declared.tag.Tag.{Tag}
@@ -13,17 +13,16 @@ use Rattle.pt_semantics.specs.Lists.{first_of, or_else}
 use Rattle.pt_semantics.specs.Paced.{IsClosing, IsNextReading, IsPaced}
 use Rattle.pt_semantics.specs.Units.{HasEvent}
 use Rattle.pt_claim.proofs.Fronts.{event_is_unit}
-use Rattle.pt_claim.proofs.Passing.{nobody, place_in}
 use Rattle.pt_causality.specs.Units.{IsUnit}
 use Rattle.pt_queue.specs.declared.waiting.Waiting.{Waiting}
-use Rattle.pt_queue.specs.Events.{waiting_in, AreWaiting}
+use Rattle.pt_queue.specs.Events.{IsFirstWaiting, waiting_in}
 use Rattle.pt_state.specs.declared.fields.Fields.{Fields}
 use Rattle.pt_state.specs.declared.fields.Sensor.{Sensor}
 use Rattle.pt_state.specs.State.{IsSound, busy_in, left_in, rows_left, state_of}
 use Rattle.pt_state.specs.Sensors.{AreSensors, RiseFrom}
 use Rattle.pt_claim.specs.Least.{AtOrIn, Below, IsLeastAmong}
 use Rattle.pt_claim.specs.Next.{no_sensor, IsPacedNext, IsPacedOfSome, IsSeenNext}
-use Rattle.pt_claim.proofs.Least.{least_one}
+use Rattle.pt_claim.proofs.Least.{least_both, least_none, least_one}
 
 -- rows
 
@@ -79,9 +78,9 @@ SeenNext f = Below (length f.sensors.items) (λ i. IsSeenNext (get_or f.sensors.
 abbrev PacedNext : Graph → Fields → ℕ → Type 0
 PacedNext g f = IsPacedOfSome g (waiting_in f.queue.events) (busy_in f.open_claims.items)
 
--- the paced reading of the listed unit of that number
-abbrev pub PacedAt : Graph → Fields → List Waiting → ℕ → ℕ → Type 0
-PacedAt g f listed k = IsPacedNext g (waiting_in f.queue.events) (busy_in f.open_claims.items) (get_or listed k nobody).unit
+-- c is the paced reading of a unit whose place is before n
+abbrev pub PacedBefore : Graph → Fields → ℕ → ℕ → Type 0
+PacedBefore g f n c = (u : Part) × IsUnit g u × (8 * u.actor + u.group < n) × IsPacedNext g (waiting_in f.queue.events) (busy_in f.open_claims.items) u c
 
 pub next_is : (g : Graph) (f : Fields) (i closing seen r : ℕ) (taken : List OnLink) → IsSound g f → AreSensors g f.sensors.items → IsClosing g i closing → IsLeastAmong (AtOrIn closing (SeenNext f)) seen → IsLeastAmong (AtOrIn seen (PacedNext g f)) r → IsNextReading g i (state_of f taken) r
 next_is g f i closing seen r taken sound sensors closes first then = (
@@ -113,16 +112,42 @@ next_is g f i closing seen r taken sound sensors closes first then = (
     below_closing : seen ≤ closing
     below_closing = first.1 closing (inl refl)
 
--- of the listed units one has it, or of all units of the graph
-pub listed_is_all : (g : Graph) (f : Fields) (listed : List Waiting) (b r : ℕ) → IsSound g f → AreWaiting g (waiting_in f.queue.events) listed
-    → IsLeastAmong (AtOrIn b (Below (length listed) (PacedAt g f listed))) r → IsLeastAmong (AtOrIn b (PacedNext g f)) r
-listed_is_all g f listed b r sound are least = (
-  ⊎_elim (λ (same : r ≡ b). inl same)
-      (λ (h : Below (length listed) (PacedAt g f listed) r). inr ((get_or listed h.0 nobody).unit, event_is_unit g f (get_or listed h.0 nobody).unit h.2.0 sound h.2.1, h.2)) least.0,
+-- before the first place there is no unit
+pub before_none : (g : Graph) (f : Fields) (b : ℕ) → IsLeastAmong (AtOrIn b (PacedBefore g f 0)) b
+before_none g f b = least_none (PacedBefore g f 0) b (λ d h. never (8 * h.0.actor + h.0.group) h.2)
+  where
+    never : (n : ℕ) → n < 0 → ⊥
+    never n l = omega (arith, l)
+
+same_place : (u v : Part) → u.group < 8 → v.group < 8 → 8 * u.actor + u.group ≡ 8 * v.actor + v.group → u ≡ v
+same_place u v few less is =
+    let actor : u.actor ≡ v.actor = omega (arith, few, less, is) in
+    let group : u.group ≡ v.group = omega (arith, few, less, is) in
+    λ i. record { actor = actor i; group = group i }
+
+-- one unit more
+pub before_more : (g : Graph) (f : Fields) (b c e n : ℕ) (w : Waiting) → IsSound g f → IsFirstWaiting g (waiting_in f.queue.events) n (Some w)
+    → IsLeastAmong (AtOrIn b (PacedBefore g f n)) c → IsLeastAmong (AtOrIn c (IsPacedNext g (waiting_in f.queue.events) (busy_in f.open_claims.items) w.unit)) e → IsLeastAmong (AtOrIn b (PacedBefore g f (8 * w.unit.actor + w.unit.group + 1))) e
+before_more g f b c e n w sound next = least_both (PacedBefore g f n) (IsPacedNext g (waiting_in f.queue.events) (busy_in f.open_claims.items) w.unit) (PacedBefore g f (8 * w.unit.actor + w.unit.group + 1)) b c e
+    (λ d h.
+    let less : 8 * h.0.actor + h.0.group < n = h.2 in
+    let le : n ≤ 8 * w.unit.actor + w.unit.group = next.1 in
+    (h.0, h.1, omega (arith, less, le), h.3))
+    (λ d paced. (w.unit, event_is_unit g f w.unit w.tag sound next.0.0, omega arith, paced))
+    (λ d h.
+    let less : 8 * h.0.actor + h.0.group < 8 * w.unit.actor + w.unit.group + 1 = h.2 in
+    let this = next.2 h.0 h.3.0 h.3.1 in
+    ⊎_elim
+    (λ (l : 8 * h.0.actor + h.0.group < n). inl (h.0, h.1, l, h.3))
+    (λ (m : 8 * w.unit.actor + w.unit.group ≤ 8 * h.0.actor + h.0.group).
+    let same : h.0 ≡ w.unit = same_place h.0 w.unit this.0 (next.2 w.unit w.tag next.0.0).0 (omega (arith, less, m)) in
+    inr (subst (λ u. IsPacedNext g (waiting_in f.queue.events) (busy_in f.open_claims.items) u d) same h.3))
+    this.1)
+
+-- behind the last unit that has events there is none
+pub before_all : (g : Graph) (f : Fields) (b r n : ℕ) → IsFirstWaiting g (waiting_in f.queue.events) n None → IsLeastAmong (AtOrIn b (PacedBefore g f n)) r → IsLeastAmong (AtOrIn b (PacedNext g f)) r
+before_all g f b r n none least = (
+  ⊎_elim (λ (same : r ≡ b). inl same) (λ (h : PacedBefore g f n r). inr (h.0, h.1, h.3)) least.0,
   λ d h. ⊎_elim (λ (same : d ≡ b). least.1 d (inl same))
-      (λ (p : PacedNext g f d).
-      let found = are.all p.0 p.2.0 p.2.1 in
-      let at = place_in found.0 listed found.1 in
-      let here : (get_or listed at.0 nobody).unit ≡ p.0 = ap (λ (z : Waiting). z.unit) at.2 ∙ found.2 in
-      least.1 d (inr (at.0, at.1, subst (λ u. IsPacedNext g (waiting_in f.queue.events) (busy_in f.open_claims.items) u d) (sym here) p.2))) h,
+      (λ (p : PacedNext g f d). least.1 d (inr (p.0, p.1, (none p.0 p.2.0 p.2.1).1, p.2))) h,
 )

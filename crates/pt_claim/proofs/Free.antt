@@ -4,16 +4,13 @@ use Rattle.std.proofs.lemmas.Bool.{false≢true}
 use Rattle.pt_tags.specs.declared.tag.Tag.{Tag}
 use Rattle.pt_types.specs.declared.graph.Graph.{Graph}
 use Rattle.pt_types.specs.declared.graph.Unit.{Unit as Part}
-use Rattle.pt_semantics.specs.Lists.{IsIn}
 use Rattle.pt_semantics.specs.Edges.{Edge}
 use Rattle.pt_semantics.specs.Bounds.{Feeds}
 use Rattle.pt_semantics.specs.Meaning.{Values}
 use Rattle.pt_semantics.specs.Ranks.{sum_along}
 use Rattle.pt_semantics.specs.Safe.{IsSafe}
-use Rattle.pt_semantics.specs.Units.{HasEvent}
 use Rattle.pt_semantics.proofs.Lookups.{none_some}
-use Rattle.pt_queue.specs.declared.waiting.Waiting.{Waiting}
-use Rattle.pt_queue.specs.Events.{AreWaiting, IsClear, IsLeastTag}
+use Rattle.pt_queue.specs.Events.{IsClear, IsLeastTag, IsOnly}
 use Rattle.pt_state.specs.declared.fields.OpenClaim.{OpenClaim}
 use Rattle.pt_state.specs.State.{busy_in}
 
@@ -25,18 +22,9 @@ pub no_claims : (xs : List OpenClaim) → (length xs == 0) ≡ true → xs ≡ [
 no_claims [] h = refl
 no_claims (x ∷ xs) h = let none : length (x ∷ xs) ≡ 0 = eqb-true (length (x ∷ xs)) 0 h in absurd (omega (arith, none))
 
-sole : (listed : List Waiting) (a b : Waiting) → length listed ≡ 1 → IsIn a listed → IsIn b listed → a ≡ b
-sole [] a b one h k = absurd h
-sole (x ∷ []) a b one h k = ⊎_elim (λ (e : a ≡ x). ⊎_elim (λ (f : b ≡ x). e ∙ sym f) (λ (m : IsIn b []). absurd m) k) (λ (m : IsIn a []). absurd m) h
-sole (x ∷ y ∷ ys) a b one h k = absurd (omega (arith, one))
-
 -- nothing leads to the only unit that has events
-pub only_clear : (g : Graph) (waits : Values) (listed : List Waiting) (u : Part) (t : Tag) → AreWaiting g waits listed → length listed ≡ 1 → HasEvent g waits u t → IsClear g waits u t
-only_clear g waits listed u t are one event = λ x w path differ other go.
-    let this = are.all u t event in
-    let that = are.all x w other in
-    let same : that.0 ≡ this.0 = sole listed that.0 this.0 one that.1 this.1 in
-    absurd (differ (sym that.2 ∙ ap (λ (z : Waiting). z.unit) same ∙ this.2))
+pub only_clear : (g : Graph) (waits : Values) (u : Part) (t : Tag) → IsOnly g waits u → IsClear g waits u t
+only_clear g waits u t only x w path differ other go = absurd (differ (only x w other))
 
 -- without open claims a unit that is due is safe where no event leads to it
 pub free_alone : (g : Graph) (waits : Values) (claims : List OpenClaim) (r : ℕ) (u : Part) (t : Tag) → claims ≡ [] → IsLeastTag g waits u (Some t) → ((x b : ℕ) (path : List Edge) → Feeds g x b path u → t.time + b < r + (sum_along path).time)

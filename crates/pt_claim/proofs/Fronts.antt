@@ -174,10 +174,6 @@ first_end g waits busy r a k cs none first = record {
       (stands_or u a k);
 }
 
--- no unit of an actor for which nothing waits is safe
-pub not_safe : (g : Graph) (waits : Values) (busy : Part → Option Task) (r : ℕ) (u : Part) (t : Tag) → ((p : ℕ) (w : Tag) → waits u.actor p w ≡ None) → IsSafe g waits busy r u t → ⊥
-not_safe g waits busy r u t none safe = let found = event_found g waits u t safe.event in none_some found.value (sym (none found.port t) ∙ found.waits_there)
-
 -- before the first actor there is none
 pub first_none : (g : Graph) (waits : Values) (busy : Part → Option Task) (r : ℕ) (cs : List Waiting) → cs ≡ [] → AreFirst g waits busy r 0 0 cs
 first_none g waits busy r cs is = subst (AreFirst g waits busy r 0 0) (sym is) (record {

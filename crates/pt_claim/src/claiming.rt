@@ -20,9 +20,6 @@ use pt_queue::Waiting;
 use pt_state::{Fields, OpenClaim};
 use pt_types::{Graph, MOST_CLAIMS, Task, Unit};
 
-/// Up to this many units with events it is first tried whether only one of them is safe: to clear a front takes longer.
-const FEW: usize = 8;
-
 /// The state of an actor.
 fn state_at(states: &[i64], actor: u32) -> i64
     requires there { actor < length states.now }
@@ -69,6 +66,8 @@ pub fn claim(fields: &mut Fields, graph: &Graph, next: Waiting) -> Task
 /// Claims safe units, each time the one with the least tag, actor and group, and appends their tasks.
 /// (The order is this project's own choice.)
 ///
+/// If few units have events it is first tried whether only one of them is safe: to clear a front takes longer.
+///
 /// Stops once no unit is safe at this reading (in microseconds), after `most` claims, or when the platform has made 200,000
 /// in all. Allocates nothing.
 pub fn claims(
@@ -92,10 +91,7 @@ pub fn claims(
     ensures others { OthersStay fields.old fields.new }
     ensures tasks { vec_capacity tasks.old ≤ vec_capacity tasks.new }
 {
-    if fields.queue.is_empty() {
-        return;
-    }
-    if fields.queue.waiting().len() > FEW {
+    if fields.queue.are_many() {
         claim_several(fields, graph, least, offsets, reading, most, None, tasks);
         return;
     }

@@ -18,7 +18,7 @@ use crate::safe::{is_behind, is_due, is_free, is_safe};
 use arrayvec::ArrayVec;
 use pt_causality::Least;
 use pt_offsets::Offsets;
-use pt_queue::Waiting;
+use pt_queue::{Waiting, place_of};
 use pt_state::Fields;
 use pt_tags::Tag;
 use pt_types::{Graph, Unit};
@@ -146,10 +146,12 @@ fn fill(
 {
     units.clear();
     let mut ahead = None;
-    for waiting in fields.queue.waiting() {
+    let mut from = 0usize;
+    while let Some(waiting) = fields.queue.first_waiting(from) {
         ahead = add_unit(
-            fields, graph, least, offsets, reading, *waiting, ahead, known, units,
+            fields, graph, least, offsets, reading, waiting, ahead, known, units,
         );
+        from = place_of(waiting.unit) + 1;
     }
 }
 
@@ -204,8 +206,10 @@ pub fn alone(
     ensures several { IfErr result (AreBothSafe graph.now (waiting_in fields.now.queue.events) (busy_in fields.now.open_claims.items) reading) }
 {
     let mut alone = None;
-    for waiting in fields.queue.waiting() {
-        alone = alone_with(fields, graph, least, offsets, reading, *waiting, alone)?;
+    let mut from = 0usize;
+    while let Some(waiting) = fields.queue.first_waiting(from) {
+        alone = alone_with(fields, graph, least, offsets, reading, waiting, alone)?;
+        from = place_of(waiting.unit) + 1;
     }
     Ok(alone)
 }

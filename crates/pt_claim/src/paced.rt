@@ -8,7 +8,7 @@ ghost use Rattle.pt_claim.specs.Least.{AtOrIn, IsLeastAmong};
 ghost use Rattle.pt_claim.specs.Next.{IsPacedNext, IsPacedOfSome};
 
 use pt_offsets::Plan;
-use pt_queue::Waiting;
+use pt_queue::{Waiting, place_of};
 use pt_state::Fields;
 use pt_tags::Tag;
 
@@ -51,8 +51,10 @@ pub fn paced_next(fields: &Fields, plan: &Plan, so_far: u64) -> u64
     ensures { IsLeastAmong (AtOrIn so_far (IsPacedOfSome plan.now.graph (waiting_in fields.now.queue.events) (busy_in fields.now.open_claims.items))) result }
 {
     let mut least = so_far;
-    for waiting in fields.queue.waiting() {
-        least = sooner_of_unit(fields, plan, *waiting, least);
+    let mut from = 0usize;
+    while let Some(waiting) = fields.queue.first_waiting(from) {
+        least = sooner_of_unit(fields, plan, waiting, least);
+        from = place_of(waiting.unit) + 1;
     }
     least
 }

@@ -150,7 +150,7 @@ pub fn is_free(
     if !fields.open_claims.is_empty() {
         return is_free_of_claims(fields, graph, least, reading, unit, tag);
     }
-    if fields.queue.waiting().len() == 1 {
+    if fields.queue.is_only(unit) {
         return true;
     }
     !fields.queue.blocked(unit, tag, least)

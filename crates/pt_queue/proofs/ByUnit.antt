@@ -5,8 +5,8 @@ use Rattle.std.proofs.lemmas.List.{get_or-replicate, get_or-set_same, get_or-set
 use Rattle.pt_tags.specs.declared.tag.Tag.{Tag}
 use Rattle.pt_types.specs.declared.graph.Unit.{Unit as Part}
 use Rattle.pt_semantics.specs.Units.{same_part}
-use Rattle.pt_semantics.proofs.Lookups.{same_part-true, same_part-refl}
-use Rattle.pt_queue.specs.Listed.{FitsIn, tag_in}
+use Rattle.pt_semantics.proofs.Lookups.{none_some, same_part-true, same_part-refl}
+use Rattle.pt_queue.specs.Tagged.{FitsIn, tag_in}
 use Rattle.pt_queue.specs.Marks.{unit_with}
 
 either : (n m : ℕ) → (n < m) ⊎ (m ≤ n)
@@ -21,6 +21,13 @@ no_place tags u m = ap (λ b. if b then slice_index_or tags (8 * u.actor + u.gro
   where
     past : (n m : ℕ) → m ≤ n → nat_lt n m ≡ false
     past n m l = grind arith
+
+-- a unit with a tag has a place
+pub has_place : (tags : List (Option Tag)) (u : Part) (t : Tag) → tag_in tags u ≡ Some t → u.group < 8
+has_place tags u t e = ⊎_elim
+    (λ (l : u.group < 8). l)
+    (λ (m : 8 ≤ u.group). absurd (none_some t (sym (no_place tags u m) ∙ e)))
+    (either u.group 8)
 
 -- two units have two places
 places_apart : (u x : Part) → u.group < 8 → x.group < 8 → same_part u x ≡ false → 8 * x.actor + x.group ≢ 8 * u.actor + u.group

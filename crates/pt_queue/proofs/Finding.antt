@@ -2,26 +2,21 @@
 use Rattle.std.proofs.Common.{◌≡◌, ℕ, ◌+◌, ◌-◌, ◌*◌, ◌/◌, ◌%◌, ◌^◌, ◌<◌, ◌≤◌, ◌≢◌, ◌&&◌, ◌⊎◌, Bool, true, false, not, nat_lt, IsSome, List, Option, None, Some, length, slice_index_or, refl, sym, ap, subst, ◌∙◌, ⊎_elim, arith}
 use Rattle.std.specs.Int.{bit_at}
 use Rattle.std.specs.Option.{is_some}
-use Rattle.std.specs.List.{list_any}
 use Rattle.std.specs.Int.RustNames.{bit_and}
 use Rattle.std.proofs.lemmas.Bool.{cases_Bool, false≢true}
 use Rattle.std.proofs.lemmas.Nat.Bits.{bit_at_and, bit_at-zero}
 use Rattle.pt_tags.specs.declared.tag.Tag.{Tag}
 use Rattle.pt_tags.specs.declared.tag.Delay.{Delay}
 use Rattle.pt_types.specs.declared.graph.Unit.{Unit as Part}
-use Rattle.pt_semantics.specs.Lists.{Each}
-use Rattle.pt_semantics.proofs.Lookups.{Each-in, same_part-refl}
+use Rattle.pt_semantics.proofs.Lookups.{same_part-refl}
 use Rattle.pt_causality.specs.Before.{MayHave, bit_of}
 use Rattle.pt_queue.specs.declared.groups.Groups.{Groups}
-use Rattle.pt_queue.specs.declared.waiting.Waiting.{Waiting}
-use Rattle.pt_queue.specs.Events.{IsRising}
 use Rattle.pt_queue.specs.Groups.{groups_at}
 use Rattle.pt_queue.specs.Scans.{reaches}
-use Rattle.pt_queue.specs.Listed.{AreTags, holds_up, tag_holds_up, tag_in, unit_holds_up}
+use Rattle.pt_queue.specs.Tagged.{IsOnlyTag, tag_holds_up, tag_in, unit_holds_up}
 use Rattle.pt_queue.specs.Marks.{AreMarks, IsHolder, IsHolderAmong, IsHolderIn, one_if, unit_with}
 use Rattle.pt_queue.proofs.ByUnit.{no_place, tag_with, with_place}
-use Rattle.pt_queue.proofs.Holding.{holder_has, one_holds}
-use Rattle.pt_queue.proofs.Listing.{in_tag as tag_lists, tag_in as tag_listed}
+use Rattle.pt_queue.proofs.Holding.{holder_has}
 use Rattle.pt_queue.proofs.Words.{at_word, past_words, top_above, top_below}
 
 pub below_or : (n m : ℕ) → (n < m) ⊎ (m ≤ n)
@@ -97,22 +92,10 @@ module _ (table : List Groups) (least : Part → Part → Option Delay) (u : Par
         (λ (more : 64 * (len - behind) ≤ n). done n more up)
         (below_or n (64 * (len - behind)))
 
--- no unit with a place in a word before that of the first listed unit holds up
-pub none_low : (table : List Groups) (least : Part → Part → Option Delay) (u : Part) (t : Tag) (ws : List Waiting) (tags : List (Option Tag)) (first n : ℕ) → AreTags table ws tags → Each (λ (w : Waiting). first ≤ w.unit.actor / 8) ws → n / 64 < first
-    → unit_holds_up table least u t tags (unit_with n) ≡ false
-none_low table least u t ws tags first n are each low = by (tag_in tags (unit_with n)) refl
-  where
-    by : (o : Option Tag) → tag_in tags (unit_with n) ≡ o → unit_holds_up table least u t tags (unit_with n) ≡ false
-    by None e = ap (tag_holds_up table least u t (unit_with n)) e
-    by (Some w) e =
-        let r = tag_lists ws (unit_with n) w (sym (are.same (unit_with n)) ∙ e) in
-        let le : first ≤ r.0.unit.actor / 8 = Each-in (λ (y : Waiting). first ≤ y.unit.actor / 8) ws each r.0 r.1 in
-        let at : r.0.unit.actor ≡ n / 8 = ap (λ (x : Part). x.actor) r.2 in
-        absurd (omega (arith, le, at, low))
-
--- no bit is set in 0
-pub none_in_zero : (table : List Groups) (least : Part → Part → Option Delay) (u : Part) (t : Tag) (tags : List (Option Tag)) (index word : ℕ) → word ≡ 0 → IsHolderIn table least u t tags index word None
-none_in_zero table least u t tags index word zero = λ i few set. let none : bit_at word i ≡ 0 = ap (λ w. bit_at w i) zero ∙ bit_at-zero i in absurd (omega (arith, none, set))
+-- a unit does not hold up itself
+not_itself : (table : List Groups) (least : Part → Part → Option Delay) (u : Part) (t : Tag) (o : Option Tag) → tag_holds_up table least u t u o ≡ false
+not_itself table least u t None = refl
+not_itself table least u t (Some w) = ap (λ b. not b && (reaches (least u u) w t && nat_lt u.group (groups_at table u.actor).count)) (same_part-refl u)
 
 -- all units, by their places
 pub no_holder : (table : List Groups) (least : Part → Part → Option Delay) (u : Part) (t : Tag) (tags : List (Option Tag)) → ((n : ℕ) → unit_holds_up table least u t tags (unit_with n) ≡ false) → IsHolder table least u t tags None
@@ -125,51 +108,49 @@ pub none_found : (o : Option Part) → is_some o ≡ false → o ≡ None
 none_found None h = refl
 none_found (Some x) h = absurd (false≢true (sym h))
 
--- without a holder no listed unit holds up
-pub none_listed : (table : List Groups) (least : Part → Part → Option Delay) (u : Part) (t : Tag) (ws : List Waiting) (tags : List (Option Tag)) → IsRising ws → AreTags table ws tags → IsHolder table least u t tags None → list_any (holds_up table least u t) ws ≡ false
-none_listed table least u t ws tags rises are none = ⊎_elim
-    (λ (y : list_any (holds_up table least u t) ws ≡ true).
-    let f = one_holds (holds_up table least u t) ws y in
-    let tag : tag_in tags f.0.unit ≡ Some f.0.tag = are.same f.0.unit ∙ tag_listed ws f.0 rises f.1 in
-    absurd (false≢true (sym (none f.0.unit) ∙ ap (tag_holds_up table least u t f.0.unit) tag ∙ f.2)))
-    (λ (no : list_any (holds_up table least u t) ws ≡ false). no)
-    (cases_Bool (list_any (holds_up table least u t) ws))
+-- outside of the words that have bits no unit holds up
+module _ (table : List Groups) (least : Part → Part → Option Delay) (u : Part) (t : Tag) (tags : List (Option Tag)) (from end : ℕ)
+    (span : (n : ℕ) → one_if (slice_index_or tags n None) ≡ 1 → (from ≤ n / 64) × (n / 64 < end)) where
+  outside : (n : ℕ) → ((from ≤ n / 64) × (n / 64 < end) → ⊥) → unit_holds_up table least u t tags (unit_with n) ≡ false
+  outside n away = ⊎_elim
+      (λ (y : unit_holds_up table least u t tags (unit_with n) ≡ true). absurd (away (span n (ap one_if (sym (tag_with tags n)) ∙ (holder_has table least u t (unit_with n) (tag_in tags (unit_with n)) y).0))))
+      (λ (k : unit_holds_up table least u t tags (unit_with n) ≡ false). k)
+      (cases_Bool (unit_holds_up table least u t tags (unit_with n)))
 
--- what two parts of the words give, where no bit is set before the first part
-pub found_among : (table : List Groups) (least : Part → Part → Option Delay) (u : Part) (t : Tag) (ws : List Waiting) (tags : List (Option Tag)) (marks : List ℕ) (first middle : ℕ) (o p : Option Part) → AreTags table ws tags → AreMarks tags marks
-    → Each (λ (w : Waiting). first ≤ w.unit.actor / 8) ws → IsHolderAmong table least u t tags first middle o → is_some o ≡ false → IsHolderAmong table least u t tags middle (length marks) p → IsHolder table least u t tags p
-found_among table least u t ws tags marks first middle o (Some h) are marked each front none rest = rest
-found_among table least u t ws tags marks first middle o None are marked each front none rest = no_holder table least u t tags (λ n. ⊎_elim
-    (λ (low : n / 64 < first). none_low table least u t ws tags first n are each low)
-    (λ (high : first ≤ n / 64). ⊎_elim
-    (λ (l : n / 64 < middle). subst (IsHolderAmong table least u t tags first middle) (none_found o none) front n (omega (arith, high)) (omega (arith, l)))
-    (λ (m : middle ≤ n / 64). ⊎_elim
-    (λ (l : n / 64 < length marks). rest n (omega (arith, m)) (omega (arith, l)))
-    (λ (past : length marks ≤ n / 64). past_marks table least u t tags marks marked n past)
-    (below_or (n / 64) (length marks)))
-    (below_or (n / 64) middle))
-    (below_or (n / 64) first))
+  -- so it is enough to look at these words
+  within : ((n : ℕ) → from ≤ n / 64 → n / 64 < end → unit_holds_up table least u t tags (unit_with n) ≡ false) → IsHolder table least u t tags None
+  within none = no_holder table least u t tags (λ n. ⊎_elim
+      (λ (low : n / 64 < from). outside n (λ (w : (from ≤ n / 64) × (n / 64 < end)). omega (arith, low, w.0)))
+      (λ (high : from ≤ n / 64). ⊎_elim
+      (λ (l : n / 64 < end). none n high l)
+      (λ (past : end ≤ n / 64). outside n (λ (w : (from ≤ n / 64) × (n / 64 < end)). omega (arith, past, w.1)))
+      (below_or (n / 64) end))
+      (below_or (n / 64) from))
 
--- a unit does not hold up itself
-not_itself : (table : List Groups) (least : Part → Part → Option Delay) (u : Part) (t : Tag) (o : Option Tag) → tag_holds_up table least u t u o ≡ false
-not_itself table least u t None = refl
-not_itself table least u t (Some w) = ap (λ b. not b && (reaches (least u u) w t && nat_lt u.group (groups_at table u.actor).count)) (same_part-refl u)
+  -- what two parts of the words give
+  pub found_among : (middle : ℕ) (o p : Option Part) → IsHolderAmong table least u t tags from middle o → is_some o ≡ false → IsHolderAmong table least u t tags middle end p → IsHolder table least u t tags p
+  found_among middle o (Some h) front none rest = rest
+  found_among middle o None front none rest = within (λ n high l. ⊎_elim
+      (λ (k : n / 64 < middle). subst (IsHolderAmong table least u t tags from middle) (none_found o none) front n (omega (arith, high)) (omega (arith, k)))
+      (λ (m : middle ≤ n / 64). rest n (omega (arith, m)) (omega (arith, l)))
+      (below_or (n / 64) middle))
 
--- no unit holds up where the words share no bit but its own
-pub none_shared : (table : List Groups) (least : Part → Part → Option Delay) (u : Part) (t : Tag) (ws : List Waiting) (tags : List (Option Tag)) (marks before : List ℕ) (first : ℕ) → AreTags table ws tags → AreMarks tags marks
-    → Each (λ (w : Waiting). first ≤ w.unit.actor / 8) ws → ((x : Part) → IsSome (least x u) → MayHave before x) → u.group < 8
-    → ((n : ℕ) → first ≤ n / 64 → n / 64 < length marks → n ≢ 8 * u.actor + u.group → (n / 64 < length before) × (bit_at (bit_and (slice_index_or marks (n / 64) 0) (slice_index_or before (n / 64) 0)) (n % 64) ≡ 0))
-    → IsHolder table least u t tags None
-none_shared table least u t ws tags marks before first are marked each all group none = no_holder table least u t tags (λ n. ⊎_elim
-    (λ (low : n / 64 < first). none_low table least u t ws tags first n are each low)
-    (λ (high : first ≤ n / 64). ⊎_elim
-    (λ (l : n / 64 < length marks). ⊎_elim
-    (λ (e : n ≡ 8 * u.actor + u.group). ap (λ k. unit_holds_up table least u t tags (unit_with k)) e ∙ ap (unit_holds_up table least u t tags) (with_place u group) ∙ not_itself table least u t (tag_in tags u))
-    (λ (ne : n ≢ 8 * u.actor + u.group). let clear = none n high l ne in bit_clear table least u t tags marks marked before all n clear.0 clear.1)
-    (either n (8 * u.actor + u.group)))
-    (λ (past : length marks ≤ n / 64). past_marks table least u t tags marks marked n past)
-    (below_or (n / 64) (length marks)))
-    (below_or (n / 64) first))
+  -- no unit holds up where the words share no bit but its own
+  pub none_shared : (marks before : List ℕ) → AreMarks tags marks → ((x : Part) → IsSome (least x u) → MayHave before x) → u.group < 8
+      → ((n : ℕ) → from ≤ n / 64 → n / 64 < end → n ≢ 8 * u.actor + u.group → (n / 64 < length before) × (bit_at (bit_and (slice_index_or marks (n / 64) 0) (slice_index_or before (n / 64) 0)) (n % 64) ≡ 0))
+      → IsHolder table least u t tags None
+  none_shared marks before marked all group none = within (λ n high l. ⊎_elim
+      (λ (e : n ≡ 8 * u.actor + u.group). ap (λ k. unit_holds_up table least u t tags (unit_with k)) e ∙ ap (unit_holds_up table least u t tags) (with_place u group) ∙ not_itself table least u t (tag_in tags u))
+      (λ (ne : n ≢ 8 * u.actor + u.group). let clear = none n high l ne in bit_clear table least u t tags marks marked before all n clear.0 clear.1)
+      (either n (8 * u.actor + u.group)))
+    where
+      either : (n m : ℕ) → (n ≡ m) ⊎ (n ≢ m)
+      either n m = grind arith
+
+-- a unit isn't held up where no other has a tag
+pub only_free : (table : List Groups) (least : Part → Part → Option Delay) (u : Part) (t : Tag) (tags : List (Option Tag)) → IsOnlyTag tags u → (x : Part) → unit_holds_up table least u t tags x ≡ false
+only_free table least u t tags only x = by (tag_in tags x) refl
   where
-    either : (n m : ℕ) → (n ≡ m) ⊎ (n ≢ m)
-    either n m = grind arith
+    by : (o : Option Tag) → tag_in tags x ≡ o → unit_holds_up table least u t tags x ≡ false
+    by None e = ap (tag_holds_up table least u t x) e
+    by (Some w) e = subst (λ z. unit_holds_up table least u t tags z ≡ false) (sym (only x w e)) (not_itself table least u t (tag_in tags u))

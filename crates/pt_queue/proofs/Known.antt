@@ -1,98 +1,97 @@
--- The list of units and the events.
-use Rattle.std.proofs.Common.{◌≡◌, ℕ, ◌*◌, ◌<◌, ◌≤◌, ◌==◌, true, false, if◌then◌else◌, List, [], ◌∷◌, Option, Some, None, length, refl, sym, ap, subst, ◌∙◌, inl, ⊎_elim, ne_eqb, arith}
+-- What the tags by place say of the events.
+use Rattle.std.proofs.Common.{◌≡◌, ℕ, ◌+◌, ◌*◌, ◌<◌, ◌==◌, Bool, not, true, false, List, [], ◌∷◌, Option, Some, None, if◌then◌else◌, length, refl, sym, ap, subst, ◌∙◌, inl, ⊎_elim, ne_eqb, arith}
+use Rattle.std.specs.Option.{is_some}
 use Rattle.std.proofs.lemmas.Bool.{cases_Bool}
 use Rattle.pt_tags.specs.declared.tag.Tag.{Tag}
-use Rattle.pt_tags.specs.Tags.{UpTo}
 use Rattle.pt_types.specs.declared.firing.Event.{Event}
 use Rattle.pt_types.specs.declared.graph.Graph.{Graph}
 use Rattle.pt_types.specs.declared.graph.Unit.{Unit as Part}
-use Rattle.pt_semantics.specs.Lists.{Each, IsIn}
+use Rattle.pt_semantics.specs.Lists.{Each}
 use Rattle.pt_semantics.specs.Units.{HasEvent, same_part}
-use Rattle.pt_semantics.proofs.Lookups.{Each-from, Each-in, same_part-true}
+use Rattle.pt_semantics.proofs.Lookups.{same_part-true}
 use Rattle.pt_queue.specs.declared.groups.Groups.{Groups}
 use Rattle.pt_queue.specs.declared.waiting.Waiting.{Waiting}
 use Rattle.pt_queue.specs.Groups.{AreGroups, group_in}
-use Rattle.pt_queue.specs.Events.{AreWaiting, IsLeastTag, IsListed, IsPlaced, IsRising, waiting_in}
-use Rattle.pt_queue.specs.Listed.{AreListed, FitsIn, tag_of}
+use Rattle.pt_queue.specs.Events.{IsFirstWaiting, IsLeastTag, IsOnly, IsPlaced, waiting_in}
+use Rattle.pt_queue.specs.Tagged.{AreTags, FitsIn, IsFirstTag, IsOnlyTag, tag_in}
 use Rattle.pt_queue.specs.Scans.{is_of, least_from, sooner, sooner_if, unit_in}
+use Rattle.pt_queue.proofs.ByUnit.{has_place}
 use Rattle.pt_queue.proofs.Found.{least_below, least_found, least_is}
-use Rattle.pt_queue.proofs.Listing.{in_tag, tag_in}
 
--- an event's unit is listed, and a listed unit has an event
+-- the tags are those of the events of a graph's units
+module _ (g : Graph) (table : List Groups) (events : List Event) (tags : List (Option Tag)) (groups : AreGroups g table) (placed : Each (IsPlaced table) events) (are : AreTags table events tags) where
+  pub tag_is : (u : Part) (o : Option Tag) → tag_in tags u ≡ o → IsLeastTag g (waiting_in events) u o
+  tag_is u o e = subst (IsLeastTag g (waiting_in events) u) (sym (are.least u) ∙ e) (least_is g table events u groups placed)
 
-pub listed_of : (table : List Groups) (events : List Event) (ws : List Waiting) (e : Event) → AreListed table events ws → IsIn e events → (w : Waiting) × IsIn w ws × (w.unit ≡ unit_in table e) × UpTo w.tag e.tag
-listed_of table events ws e are m =
-    let b = least_below table events e m in
-    let w = in_tag ws (unit_in table e) b.0 (are.tags (unit_in table e) ∙ b.1) in
-    (w.0, w.1, w.2, subst (λ z. UpTo z e.tag) (sym w.3) b.2)
+  -- a unit with an event has a tag
+  has_tag : (u : Part) (t : Tag) → HasEvent g (waiting_in events) u t → (s : Tag) × (tag_in tags u ≡ Some s)
+  has_tag u t event = by (tag_in tags u) refl
+    where
+      by : (o : Option Tag) → tag_in tags u ≡ o → (s : Tag) × (tag_in tags u ≡ Some s)
+      by None e = absurd (tag_is u None e t event)
+      by (Some s) e = (s, e)
 
-pub event_in : (table : List Groups) (events : List Event) (ws : List Waiting) (w : Waiting) → AreListed table events ws → IsIn w ws → (e : Event) × IsIn e events × (unit_in table e ≡ w.unit) × (e.tag ≡ w.tag)
-event_in table events ws w are m = least_found table events w.unit w.tag (sym (are.tags w.unit) ∙ tag_in ws w are.rising m)
+  pub first_is : (n : ℕ) (o : Option Waiting) → IsFirstTag tags n o → IsFirstWaiting g (waiting_in events) n o
+  first_is n None first = λ u t event. let tag = has_tag u t event in (has_place tags u tag.0 tag.1, first u tag.0 tag.1)
+  first_is n (Some w) first = (tag_is w.unit (Some w.tag) first.0, first.1, λ u t event. let tag = has_tag u t event in (has_place tags u tag.0 tag.1, first.2 u tag.0 tag.1))
 
--- what the list says of a graph
-pub waiting_is : (g : Graph) (table : List Groups) (events : List Event) (ws : List Waiting) → AreGroups g table → Each (IsPlaced table) events → AreListed table events ws → AreWaiting g (waiting_in events) ws
-waiting_is g table events ws groups placed are = record {
-  rising = are.rising;
-  each = Each-from (λ (w : Waiting). IsLeastTag g (waiting_in events) w.unit (Some w.tag)) ws (λ w m.
-      subst (IsLeastTag g (waiting_in events) w.unit) (sym (are.tags w.unit) ∙ tag_in ws w are.rising m) (least_is g table events w.unit groups placed));
-  all = λ u t h. listed u t h (tag_of ws u) refl;
-}
-  where
-    least : (u : Part) (o : Option Tag) → tag_of ws u ≡ o → IsLeastTag g (waiting_in events) u o
-    least u o h = subst (IsLeastTag g (waiting_in events) u) (sym (are.tags u) ∙ h) (least_is g table events u groups placed)
+  pub only_is : (u : Part) → IsOnlyTag tags u → IsOnly g (waiting_in events) u
+  only_is u only x t event = let tag = has_tag x t event in only x tag.0 tag.1
 
-    listed : (u : Part) (t : Tag) → HasEvent g (waiting_in events) u t → (o : Option Tag) → tag_of ws u ≡ o → IsListed u ws
-    listed u t h None is = absurd (least u None is t h)
-    listed u t h (Some s) is = let w = in_tag ws u s is in (w.0, w.1, w.2)
+-- the unit of an event has its place
 
--- room for the units of events
+pub unit_fits : (table : List Groups) (e : Event) (n : ℕ) → ((a p : ℕ) → p < 8 → group_in table a p < 8) → n ≡ 8 * length table → IsPlaced table e → FitsIn n (unit_in table e)
+unit_fits table e n few room placed = let a : e.actor < length table = placed.actor in (few e.actor e.port placed.port, omega (arith, a, room))
 
-pub unit_fits : (table : List Groups) (e : Event) (n : ℕ) → ((a p : ℕ) → p < 8 → group_in table a p < 8) → 8 * length table ≤ n → IsPlaced table e → FitsIn n (unit_in table e)
-unit_fits table e n few l placed = let a : e.actor < length table = placed.actor in (few e.actor e.port placed.port, omega (arith, a, l))
+-- the tags after the events changed
 
-pub all_fit : (table : List Groups) (events : List Event) (ws : List Waiting) (n : ℕ) → ((a p : ℕ) → p < 8 → group_in table a p < 8) → 8 * length table ≤ n → Each (IsPlaced table) events → AreListed table events ws → Each (λ (w : Waiting). FitsIn n w.unit) ws
-all_fit table events ws n few l placed are = Each-from (λ (w : Waiting). FitsIn n w.unit) ws (λ w m.
-    let e = event_in table events ws w are m in
-    subst (FitsIn n) e.2 (unit_fits table e.0 n few l (Each-in (IsPlaced table) events placed e.0 e.1)))
-
--- the list after the events changed
-
-pub listed_more : (table : List Groups) (events new : List Event) (ws vs : List Waiting) (e : Event) (unit : Part) → AreListed table events ws → IsRising vs → unit ≡ unit_in table e → ((x : Part) → tag_of vs x ≡ (if same_part unit x then sooner (tag_of ws unit) e.tag else tag_of ws x)) → ((u : Part) → least_from table u None new ≡ sooner_if (is_of table u e) (least_from table u None events) e.tag) → AreListed table new vs
-listed_more table events new ws vs e unit are rises is tags least = record {
-  rising = rises;
-  tags = λ u. ⊎_elim
+pub tags_more : (table : List Groups) (events new : List Event) (tags vs : List (Option Tag)) (e : Event) (unit : Part) → AreTags table events tags → unit ≡ unit_in table e → ((x : Part) → tag_in vs x ≡ (if same_part unit x then sooner (tag_in tags unit) e.tag else tag_in tags x)) → length vs ≡ length tags → ((u : Part) → least_from table u None new ≡ sooner_if (is_of table u e) (least_from table u None events) e.tag) → AreTags table new vs
+tags_more table events new tags vs e unit are is changed len least = record {
+  room = len ∙ are.room;
+  few = are.few;
+  least = λ u. ⊎_elim
       (λ (y : same_part unit u ≡ true).
-      tags u ∙ ap (λ b. if b then sooner (tag_of ws unit) e.tag else tag_of ws u) y
-      ∙ ap (λ z. sooner (tag_of ws z) e.tag) (same_part-true unit u y)
-      ∙ ap (λ o. sooner o e.tag) (are.tags u)
+      changed u ∙ ap (λ b. if b then sooner (tag_in tags unit) e.tag else tag_in tags u) y
+      ∙ ap (λ z. sooner (tag_in tags z) e.tag) (same_part-true unit u y)
+      ∙ ap (λ o. sooner o e.tag) (are.least u)
       ∙ sym (least u ∙ ap (λ b. sooner_if b (least_from table u None events) e.tag) (ap (λ z. same_part z u) (sym is) ∙ y)))
       (λ (n : same_part unit u ≡ false).
-      tags u ∙ ap (λ b. if b then sooner (tag_of ws unit) e.tag else tag_of ws u) n
-      ∙ are.tags u
+      changed u ∙ ap (λ b. if b then sooner (tag_in tags unit) e.tag else tag_in tags u) n
+      ∙ are.least u
       ∙ sym (least u ∙ ap (λ b. sooner_if b (least_from table u None events) e.tag) (ap (λ z. same_part z u) (sym is) ∙ n)))
       (cases_Bool (same_part unit u));
 }
 
-pub listed_less : (table : List Groups) (events new : List Event) (ws vs : List Waiting) (unit : Part) (o : Option Tag) → AreListed table events ws → IsRising vs → o ≡ least_from table unit None new → ((x : Part) → tag_of vs x ≡ (if same_part unit x then o else tag_of ws x)) → ((u : Part) → same_part unit u ≡ false → least_from table u None new ≡ least_from table u None events) → AreListed table new vs
-listed_less table events new ws vs unit o are rises is tags least = record {
-  rising = rises;
-  tags = λ u. ⊎_elim
+pub tags_less : (table : List Groups) (events new : List Event) (tags vs : List (Option Tag)) (unit : Part) (o : Option Tag) → AreTags table events tags → o ≡ least_from table unit None new → ((x : Part) → tag_in vs x ≡ (if same_part unit x then o else tag_in tags x)) → length vs ≡ length tags → ((u : Part) → same_part unit u ≡ false → least_from table u None new ≡ least_from table u None events) → AreTags table new vs
+tags_less table events new tags vs unit o are is changed len least = record {
+  room = len ∙ are.room;
+  few = are.few;
+  least = λ u. ⊎_elim
       (λ (y : same_part unit u ≡ true).
-      tags u ∙ ap (λ b. if b then o else tag_of ws u) y ∙ is ∙ ap (λ z. least_from table z None new) (same_part-true unit u y))
+      changed u ∙ ap (λ b. if b then o else tag_in tags u) y ∙ is ∙ ap (λ z. least_from table z None new) (same_part-true unit u y))
       (λ (n : same_part unit u ≡ false).
-      tags u ∙ ap (λ b. if b then o else tag_of ws u) n ∙ are.tags u ∙ sym (least u n))
+      changed u ∙ ap (λ b. if b then o else tag_in tags u) n ∙ are.least u ∙ sym (least u n))
       (cases_Bool (same_part unit u));
 }
 
--- a list without units is that of no events
-pub none_listed : (table : List Groups) (events : List Event) (ws : List Waiting) → AreListed table events ws → (length ws == 0) ≡ (length events == 0)
-none_listed table [] [] are = refl
-none_listed table (e ∷ es) [] are = absurd (let w = listed_of table (e ∷ es) [] e are (inl refl) in w.1)
-none_listed table [] (w ∷ ws) are = absurd (let e = event_in table [] (w ∷ ws) w are (inl refl) in e.1)
-none_listed table (e ∷ es) (w ∷ ws) are = ne_eqb (length (w ∷ ws)) 0 (λ z. some z) ∙ sym (ne_eqb (length (e ∷ es)) 0 (λ z. other z))
+-- no unit has a tag where there are no events
+none_tagged : (table : List Groups) (events : List Event) (tags : List (Option Tag)) (o : Option Waiting) → AreTags table events tags → IsFirstTag tags 0 o → not (is_some o) ≡ (length events == 0)
+none_tagged table [] tags None are first = refl
+none_tagged table (e ∷ es) tags None are first =
+    let b = least_below table (e ∷ es) e (inl refl) in
+    absurd (never (8 * (unit_in table e).actor + (unit_in table e).group) (first (unit_in table e) b.0 (are.least (unit_in table e) ∙ b.1)))
   where
-    some : length (w ∷ ws) ≡ 0 → ⊥
+    never : (n : ℕ) → n < 0 → ⊥
+    never n l = omega (arith, l)
+none_tagged table [] tags (Some w) are first = absurd (let e = least_found table [] w.unit w.tag (sym (are.least w.unit) ∙ first.0) in e.1)
+none_tagged table (e ∷ es) tags (Some w) are first = sym (ne_eqb (length (e ∷ es)) 0 (λ z. some z))
+  where
+    some : length (e ∷ es) ≡ 0 → ⊥
     some z = omega (arith, z)
 
-    other : length (e ∷ es) ≡ 0 → ⊥
-    other z = omega (arith, z)
+pub empty_exactly : (table : List Groups) (events : List Event) (tags : List (Option Tag)) (o : Option Waiting) (none : Bool) → is_some o ≡ not none → AreTags table events tags → IsFirstTag tags 0 o → none ≡ (length events == 0)
+empty_exactly table events tags o none is are first = twice none ∙ ap not (sym is) ∙ none_tagged table events tags o are first
+  where
+    twice : (b : Bool) → b ≡ not (not b)
+    twice true = refl
+    twice false = refl

@@ -6,8 +6,6 @@ pub mod Flat
 pub mod Soonest
 pub mod Removing
 pub mod Views
-pub mod Listing
-pub mod Placing
 pub mod Following
 pub mod Known
 pub mod Holding
@@ -17,5 +15,7 @@ pub mod Changing
 pub mod ByUnit
 pub mod Bits
 pub mod Words
+pub mod Summing
 pub mod Marked
+pub mod Searching
 pub mod Finding

@@ -1,5 +1,5 @@
 -- A list of events, seen as the value that waits at each input and tag.
-use Rattle.std.specs.Prelude.{◌≡◌, ℕ, ◌<◌, ◌≤◌, ◌==◌, ◌&&◌, List, [], ◌∷◌, Option, Some, None, length, ◌≢◌}
+use Rattle.std.specs.Prelude.{◌≡◌, ℕ, ◌+◌, ◌*◌, ◌<◌, ◌≤◌, ◌⊎◌, ◌==◌, ◌&&◌, List, Option, Some, None, length, ◌≢◌}
 use Rattle.pt_tags.specs.declared.tag.Tag.{Tag}
 use Rattle.pt_tags.specs.declared.tag.Delay.{Delay}
 use Rattle.pt_tags.specs.Tags.{same_tag, UpTo, Before, plus}
@@ -7,7 +7,7 @@ use Rattle.pt_types.specs.declared.firing.Event.{Event}
 use Rattle.pt_types.specs.declared.graph.Unit.{Unit as Part}
 use Rattle.pt_types.specs.declared.graph.Graph.{Graph}
 use Rattle.pt_types.specs.Ports.{when}
-use Rattle.pt_semantics.specs.Lists.{first_of, Each, IsIn}
+use Rattle.pt_semantics.specs.Lists.{first_of}
 use Rattle.pt_semantics.specs.Edges.{Edge}
 use Rattle.pt_semantics.specs.Ranks.{sum_along}
 use Rattle.pt_semantics.specs.Paths.{Goes, IsLeast}
@@ -40,24 +40,18 @@ abbrev pub IsLeastTag : Graph → Values → Part → Option Tag → Type 0
 IsLeastTag g waits u None = (t : Tag) → HasEvent g waits u t → ⊥
 IsLeastTag g waits u (Some t) = HasEvent g waits u t × ((w : Tag) → HasEvent g waits u w → UpTo t w)
 
--- unit u comes before v, by actor and group
-abbrev pub UnitBefore : Part → Part → Type 0
-UnitBefore u v = (u.actor ≤ v.actor) × (v.actor ≤ u.actor → u.group < v.group)
+-- the place of a unit, eight for each actor
+abbrev pub place : Part → ℕ
+place u = 8 * u.actor + u.group
 
--- the units rise by actor and group
-abbrev pub IsRising : List Waiting → Type 0
-IsRising [] = Unit {0}
-IsRising (w ∷ ws) = Each (λ (x : Waiting). UnitBefore w.unit x.unit) ws × IsRising ws
+-- w is the first unit with events whose place isn't before n, with its least tag; or, for None, no unit with such a place has events; in both cases each unit with events has its group below 8
+abbrev pub IsFirstWaiting : Graph → Values → ℕ → Option Waiting → Type 0
+IsFirstWaiting g waits n None = (u : Part) (t : Tag) → HasEvent g waits u t → (u.group < 8) × (place u < n)
+IsFirstWaiting g waits n (Some w) = IsLeastTag g waits w.unit (Some w.tag) × (n ≤ place w.unit) × ((u : Part) (t : Tag) → HasEvent g waits u t → (u.group < 8) × ((place u < n) ⊎ (place w.unit ≤ place u)))
 
--- a unit is in the list
-abbrev pub IsListed : Part → List Waiting → Type 0
-IsListed u listed = (w : Waiting) × IsIn w listed × (w.unit ≡ u)
-
--- the units that have events, in rising order of actor and group, each with its least tag
-pub record AreWaiting (g : Graph) (waits : Values) (listed : List Waiting) : Type 0 where
-  pub rising : IsRising listed
-  pub each : Each (λ (w : Waiting). IsLeastTag g waits w.unit (Some w.tag)) listed
-  pub all : (u : Part) (t : Tag) → HasEvent g waits u t → IsListed u listed
+-- no unit but u has events
+abbrev pub IsOnly : Graph → Values → Part → Type 0
+IsOnly g waits u = (x : Part) (t : Tag) → HasEvent g waits x t → x ≡ u
 
 -- no event that waits for another unit leads to unit u at t or before
 abbrev pub IsClear : Graph → Values → Part → Tag → Type 0

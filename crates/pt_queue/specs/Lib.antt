@@ -2,5 +2,5 @@ pub mod Groups
 pub mod Events
 pub mod Lines
 pub mod Scans
-pub mod Listed
+pub mod Tagged
 pub mod Marks

@@ -6,7 +6,8 @@ use Rattle.pt_tags.specs.declared.tag.Delay.{Delay}
 use Rattle.pt_types.specs.declared.graph.Unit.{Unit as Part}
 use Rattle.pt_causality.specs.Before.{bit_of}
 use Rattle.pt_queue.specs.declared.groups.Groups.{Groups}
-use Rattle.pt_queue.specs.Listed.{unit_holds_up}
+use Rattle.pt_queue.specs.declared.waiting.Waiting.{Waiting}
+use Rattle.pt_queue.specs.Tagged.{unit_holds_up}
 
 -- the most places of units
 abbrev pub most_places : ℕ
@@ -17,9 +18,28 @@ abbrev pub IsTopBit : ℕ → Option ℕ → Type 0
 IsTopBit word None = word ≡ 0
 IsTopBit word (Some k) = (k < 64) × (2 ^ k ≤ word) × (word < 2 ^ (k + 1))
 
+-- k is the lowest bit of a word that is set and isn't before bit n; or, for None, there is no such bit
+abbrev pub IsNextBit : ℕ → ℕ → Option ℕ → Type 0
+IsNextBit word n None = (i : ℕ) → n ≤ i → bit_at word i ≡ 0
+IsNextBit word n (Some k) = (k < 64) × (n ≤ k) × (bit_at word k ≡ 1) × ((i : ℕ) → n ≤ i → i < k → bit_at word i ≡ 0)
+
+-- p is the first bit of these words that is set and isn't before bit n; or, for None, there is no such bit
+abbrev pub IsFirstBit : List ℕ → ℕ → Option ℕ → Type 0
+IsFirstBit words n None = (m : ℕ) → n ≤ m → bit_of words m ≡ 0
+IsFirstBit words n (Some p) = (n ≤ p) × (bit_of words p ≡ 1) × ((m : ℕ) → n ≤ m → m < p → bit_of words m ≡ 0)
+
+-- a summary has a bit for each two words, which is set if a bit is set in one of them
+abbrev pub AreSummed : List ℕ → ℕ → Type 0
+AreSummed words summary = (n : ℕ) → bit_of words n ≡ 1 → bit_at summary (n / 128) ≡ 1
+
 -- the unit with place n
 abbrev pub unit_with : ℕ → Part
 unit_with n = record { actor = n / 8; group = n % 8 }
+
+-- the unit with place n, with its tag; or, for None, it has no tag
+abbrev pub IsWaitingAt : List (Option Tag) → ℕ → Option Waiting → Type 0
+IsWaitingAt tags n None = slice_index_or tags n None ≡ None
+IsWaitingAt tags n (Some w) = (w.unit ≡ unit_with n) × (slice_index_or tags n None ≡ Some w.tag)
 
 -- 1 where there is a tag, else 0
 abbrev pub one_if : Option Tag → ℕ

@@ -1,16 +1,12 @@
 //! Which of the units that have events hold up another unit.
 
-ghost use Rattle.std.specs.Prelude.{◌≡◌, ◌≢◌, ◌+◌, ◌*◌, ◌/◌, ◌%◌, ◌<◌, ◌≤◌, ℕ, true, is_some, length, slice_index_or};
+ghost use Rattle.std.specs.Prelude.{◌≡◌, ◌≢◌, ◌+◌, ◌*◌, ◌/◌, ◌%◌, ◌<◌, ◌≤◌, ℕ, true, false, length, slice_index_or};
 ghost use Rattle.std.specs.Int.{bit_at};
 ghost use Rattle.std.specs.Int.RustNames.{bit_and};
-ghost use Rattle.std.specs.List.{list_any};
 ghost use Rattle.pt_types.specs.declared.graph.Unit.{Unit as Part};
-ghost use Rattle.pt_semantics.specs.Lists.{Each};
-ghost use Rattle.pt_semantics.specs.Units.{same_part};
 ghost use Rattle.pt_causality.specs.Before.{MayHave};
 ghost use Rattle.pt_causality.specs.Delays.{HasAllBefore, least_of};
-ghost use Rattle.pt_queue.specs.Events.{IsRising};
-ghost use Rattle.pt_queue.specs.Listed.{AreTags, SomeHoldsUp, holds_up, unit_holds_up};
+ghost use Rattle.pt_queue.specs.Tagged.{SomeHoldsUp, holds_up, unit_holds_up};
 ghost use Rattle.pt_queue.specs.Marks.{IsHolder, IsHolderAmong, IsHolderIn, most_places};
 
 use crate::events::reaches;
@@ -23,7 +19,7 @@ use pt_causality::Least;
 use pt_tags::Tag;
 use pt_types::Unit;
 
-/// Whether a listed unit differs from this one, and its least tag leads here at the tag or before.
+/// Whether a unit that has events differs from this one, and its least tag leads here at the tag or before.
 ///
 /// The least tag is enough: the unit's later events lead here later.
 fn other_holds_up(table: &[Groups], least: &Least, unit: Unit, tag: Tag, other: &Waiting) -> bool
@@ -36,7 +32,7 @@ fn other_holds_up(table: &[Groups], least: &Least, unit: Unit, tag: Tag, other: 
         && other.unit.group < count_at(table, other.unit.actor)
 }
 
-/// As `other_holds_up`. Inlined, because the listed unit is often this one itself.
+/// As `other_holds_up`. Inlined, because the other unit is often this one itself.
 #[inline(always)]
 fn holds_up(table: &[Groups], least: &Least, unit: Unit, tag: Tag, other: &Waiting) -> bool
     ensures { result ≡ holds_up table.now (least_of least.now) unit tag other.now }
@@ -45,38 +41,6 @@ fn holds_up(table: &[Groups], least: &Least, unit: Unit, tag: Tag, other: &Waiti
         return false;
     }
     other_holds_up(table, least, unit, tag, other)
-}
-
-/// Whether this unit is the only one in the list.
-fn is_only(listed: &[Waiting], unit: Unit) -> bool
-    ensures { result ≡ true → Each (λ w. same_part w.unit unit ≡ true) listed.now }
-{
-    if listed.len() != 1 {
-        return false;
-    }
-    listed[0].unit == unit
-}
-
-/// The last listed unit that holds up this one; `None` if there is none.
-///
-/// An actor mostly has a greater number than those that lead to it. So the last unit is mostly the nearest, which holds up
-/// this one for longest.
-fn holder_listed(
-    table: &[Groups],
-    listed: &[Waiting],
-    unit: Unit,
-    tag: Tag,
-    least: &Least,
-) -> Option<Unit>
-    ensures { is_some result ≡ list_any (holds_up table.now (least_of least.now) unit tag) listed.now }
-{
-    for behind in 0..listed.len() {
-        let other = &listed[listed.len() - behind - 1];
-        if holds_up(table, least, unit, tag, other) {
-            return Some(other.unit);
-        }
-    }
-    None
 }
 
 /// Whether a unit may be among those with a bit in `before`: its bit is set, or it has none.
@@ -91,45 +55,6 @@ pub fn may_lead(before: &[u64], unit: Unit) -> bool
         None => true,
         Some(word) => (*word >> (place % 64)) & 1 == 1,
     }
-}
-
-/// As `holds_up`, where `before` has all units from which a path leads here: most units are told apart by one bit.
-fn holds_up_before(
-    table: &[Groups],
-    least: &Least,
-    before: &[u64],
-    unit: Unit,
-    tag: Tag,
-    other: &Waiting,
-) -> bool
-    requires { HasAllBefore least.now unit before.now }
-    ensures { result ≡ holds_up table.now (least_of least.now) unit tag other.now }
-{
-    if !may_lead(before, other.unit) {
-        return false;
-    }
-    holds_up(table, least, unit, tag, other)
-}
-
-/// As `holder_listed`, where `before` has all units from which a path leads here.
-fn holder_before(
-    table: &[Groups],
-    listed: &[Waiting],
-    unit: Unit,
-    tag: Tag,
-    least: &Least,
-    before: &[u64],
-) -> Option<Unit>
-    requires { HasAllBefore least.now unit before.now }
-    ensures { is_some result ≡ list_any (holds_up table.now (least_of least.now) unit tag) listed.now }
-{
-    for behind in 0..listed.len() {
-        let other = &listed[listed.len() - behind - 1];
-        if holds_up_before(table, least, before, unit, tag, other) {
-            return Some(other.unit);
-        }
-    }
-    None
 }
 
 /// Whether `other` has events and holds up this unit.
@@ -186,17 +111,6 @@ fn holder_in_word(
     None
 }
 
-/// The number of words before that of the first listed unit: no bit is set there.
-fn words_before(listed: &[Waiting]) -> usize
-    requires { IsRising listed.now }
-    ensures { Each (λ w. result ≤ w.unit.actor / 8) listed.now }
-{
-    match listed.get(0) {
-        None => 0,
-        Some(first) => first.unit.actor as usize / 8,
-    }
-}
-
 /// A word of `before`; all bits are set in a word past its end, since of the units there nothing is known.
 fn word_before(before: &[u64], index: usize) -> u64
     ensures { (x : Part) → MayHave before.now x → x.group < 8 → (8 * x.actor + x.group) / 64 ≡ index → bit_at result ((8 * x.actor + x.group) % 64) ≡ 1 }
@@ -250,7 +164,6 @@ fn shared_bits(marks: &[u64], before: &[u64], from: usize, end: usize) -> u64
 /// Not inlined, so that its loops have all registers.
 #[inline(never)]
 fn shares_none(marks: &[u64], before: &[u64], from: usize, end: usize, unit: Unit) -> bool
-    requires { end ≤ length marks.now }
     ensures group { result ≡ true → unit.group < 8 }
     ensures none { result ≡ true → (n : ℕ) → from ≤ n / 64 → n / 64 < end → n ≢ 8 * unit.actor + unit.group → (n / 64 < length before.now) × (bit_at (bit_and (slice_index_or marks.now (n / 64) 0) (slice_index_or before.now (n / 64) 0)) (n % 64) ≡ 0) }
 {
@@ -262,7 +175,7 @@ fn shares_none(marks: &[u64], before: &[u64], from: usize, end: usize, unit: Uni
     if own < from || own >= end {
         return false;
     }
-    if end > before.len() {
+    if end > before.len() || end > marks.len() {
         return false;
     }
     if shared_bits(marks, before, from, own) != 0 {
@@ -342,7 +255,6 @@ fn is_near(marks: &[u64], before: &[u64], unit: Unit, near: Option<Unit>) -> boo
 /// word of the unit `near`, where the next holder often is, and comes to the words behind that one last.
 fn holder_marked(
     table: &[Groups],
-    listed: &[Waiting],
     tags: &LeastTags,
     unit: Unit,
     tag: Tag,
@@ -350,50 +262,40 @@ fn holder_marked(
     before: &[u64],
     near: Option<Unit>,
 ) -> Option<Unit>
-    requires rises { IsRising listed.now }
-    requires tags { AreTags table.now listed.now tags.now }
-    requires before { HasAllBefore least.now unit before.now }
+    requires { HasAllBefore least.now unit before.now }
     ensures { IsHolder table.now (least_of least.now) unit tag tags.now result }
 {
     let marks = tags.marks();
-    let words = marks.len();
-    let none_before = words_before(listed);
-    if !is_near(marks, before, unit, near) && shares_none(marks, before, none_before, words, unit) {
+    let span = tags.span();
+    if !is_near(marks, before, unit, near)
+        && shares_none(marks, before, span.from, span.end, unit)
+    {
         return None;
     }
-    let middle = words_up_to(near, words).max(none_before);
-    let found = holder_in_words(table, tags, unit, tag, least, before, none_before, middle);
+    let middle = words_up_to(near, span.end).max(span.from);
+    let found = holder_in_words(table, tags, unit, tag, least, before, span.from, middle);
     if found.is_some() {
         return found;
     }
-    holder_in_words(table, tags, unit, tag, least, before, middle, words)
+    holder_in_words(table, tags, unit, tag, least, before, middle, span.end)
 }
 
-/// A listed unit that holds up this one; `None` if there is none.
-///
-/// Where the listed units are at most half as many as the words of bits, to ask each of them takes less time than to look at
-/// each word.
+/// A unit that has events and holds up this one; `None` if there is none.
 fn holder(
     table: &[Groups],
-    listed: &[Waiting],
     tags: &LeastTags,
     holders: &Holders,
     unit: Unit,
     tag: Tag,
     least: &Least,
 ) -> Option<Unit>
-    requires rises { IsRising listed.now }
-    requires tags { AreTags table.now listed.now tags.now }
-    ensures { is_some result ≡ list_any (holds_up table.now (least_of least.now) unit tag) listed.now }
+    ensures { IsHolder table.now (least_of least.now) unit tag tags.now result }
 {
-    let Some(before) = least.before(unit) else {
-        return holder_listed(table, listed, unit, tag, least);
-    };
-    if listed.len() <= tags.marks().len() / 2 {
-        return holder_before(table, listed, unit, tag, least, before);
-    }
     let near = holders.near(unit);
-    holder_marked(table, listed, tags, unit, tag, least, before, near)
+    match least.before(unit) {
+        None => holder_marked(table, tags, unit, tag, least, &[], near),
+        Some(before) => holder_marked(table, tags, unit, tag, least, before, near),
+    }
 }
 
 /// Whether the unit that took the place of this one's last holder holds it up. If so, that is remembered.
@@ -442,29 +344,27 @@ fn is_held_still(
     }
 }
 
-/// Whether a listed unit holds up this one.
+/// Whether a unit that has events holds up this one.
 ///
 /// The unit that held it up last is tried first. One found by a search is remembered.
 pub fn is_blocked(
     table: &[Groups],
-    listed: &[Waiting],
     tags: &LeastTags,
     holders: &Holders,
     unit: Unit,
     tag: Tag,
     least: &Least,
 ) -> bool
-    requires rises { IsRising listed.now }
-    requires tags { AreTags table.now listed.now tags.now }
-    ensures { result ≡ list_any (holds_up table.now (least_of least.now) unit tag) listed.now }
+    ensures held { result ≡ true → SomeHoldsUp table.now (least_of least.now) unit tag tags.now }
+    ensures free { result ≡ false → (x : Part) → unit_holds_up table.now (least_of least.now) unit tag tags.now x ≡ false }
 {
-    if is_only(listed, unit) {
+    if tags.is_only(unit) {
         return false;
     }
     if is_held_still(table, tags, holders, unit, tag, least) {
         return true;
     }
-    match holder(table, listed, tags, holders, unit, tag, least) {
+    match holder(table, tags, holders, unit, tag, least) {
         None => false,
         Some(holder) => {
             holders.keep(unit, holder);

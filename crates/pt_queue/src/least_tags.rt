@@ -1,16 +1,21 @@
 //! The least tag of each unit's events, by unit.
 
-ghost use Rattle.std.specs.Prelude.{◌≡◌, ◌+◌, ◌*◌, ◌<◌, ◌≤◌, IfOk, IsSome, None, length, replicate, slice_set, if◌then◌else◌};
+ghost use Rattle.std.specs.Prelude.{◌≡◌, ◌+◌, ◌*◌, ◌/◌, ◌<◌, ◌≤◌, ℕ, IfOk, IsSome, None, Some, true, false, length, replicate, slice_index_or, slice_set, if◌then◌else◌};
 ghost use Rattle.pt_types.specs.declared.graph.Unit.{Unit as Part};
 ghost use Rattle.pt_semantics.specs.Units.{same_part};
-ghost use Rattle.pt_queue.specs.Listed.{FitsIn, tag_in};
-ghost use Rattle.pt_queue.specs.Marks.{AreMarks, most_places, unit_with};
+ghost use Rattle.pt_queue.specs.Tagged.{FitsIn, IsFirstTag, IsOnlyTag, tag_in};
+ghost use Rattle.pt_queue.specs.Marks.{AreMarks, IsWaitingAt, most_places, one_if, unit_with};
+ghost use Rattle.pt_queue.specs.Scans.{sooner};
 
-use crate::marks::mark;
+use crate::marks::{Span, first_from, is_only, mark, span_of, summed};
+use crate::waiting::Waiting;
 use pt_tags::{Memory, Tag};
 use pt_types::Unit;
 use std::alloc::{AllocError, Global};
 use std::marker::Model;
+
+/// Up to this many units with events are few.
+const FEW: usize = 8;
 
 /// The place of a unit, eight for each actor: `8 * actor + group`.
 pub fn place_of(unit: Unit) -> usize
@@ -41,6 +46,28 @@ fn no_tags(alloc: Global, count: usize) -> Result<Vec<Option<Tag>>, AllocError>
     Ok(tags)
 }
 
+/// Whether another tag doesn't lower the least tag so far.
+fn is_least(so_far: Option<Tag>, tag: Tag) -> bool
+    ensures stays { result ≡ true → sooner so_far tag ≡ so_far }
+    ensures less { result ≡ false → sooner so_far tag ≡ Some tag }
+{
+    match so_far {
+        None => false,
+        Some(least) => !tag.is_before(least),
+    }
+}
+
+/// How many places have a tag, after one of them was set.
+fn recounted(count: usize, before: bool, now: bool) -> usize {
+    if before == now {
+        return count;
+    }
+    if now {
+        return count.saturating_add(1);
+    }
+    count.saturating_sub(1)
+}
+
 /// The least tag of each unit's events, where it has events. Contracts see a list with the tag at each place: unit
 /// `8 * actor + group`.
 #[derive(Drop)]
@@ -48,18 +75,22 @@ pub struct LeastTags {
     tags: Vec<Option<Tag>>,
     /// A bit for each place, 64 in a word: it is set where there is a tag.
     marks: Vec<u64>,
+    /// A bit for each two words of `marks`: it is set if one of them isn't 0. So a search passes over the others.
+    summary: u64,
+    /// How many places have a tag. No contract mentions it: it only says which way is faster.
+    count: usize,
 }
 
 impl Model for LeastTags {
     ghost use Rattle.std.specs.Prelude.{List, Option};
     ghost use Rattle.pt_tags.specs.declared.tag.Tag.{Tag};
-    ghost use Rattle.pt_queue.specs.Marks.{AreMarked};
+    ghost use Rattle.pt_queue.specs.Marks.{AreMarked, AreSummed};
 
     ghost Value = { List (Option Tag) };
 
     ghost view = { λ l. l.tags.items };
 
-    ghost invariant = { λ l. AreMarked l.tags.items l.marks.items };
+    ghost invariant = { λ l. AreMarked l.tags.items l.marks.items × AreSummed l.marks.items l.summary };
 }
 
 impl LeastTags {
@@ -70,7 +101,12 @@ impl LeastTags {
     {
         let tags = no_tags(alloc, count)?;
         let marks = vec![in alloc; 0u64; count / 64 + 1]?;
-        Ok(LeastTags { tags, marks })
+        Ok(LeastTags {
+            tags,
+            marks,
+            summary: 0,
+            count: 0,
+        })
     }
 
     /// The least tag of a unit's events; `None` if it has none, or no place.
@@ -88,8 +124,10 @@ impl LeastTags {
         requires { place < length self.old }
         ensures { self.new ≡ slice_set self.old place tag }
     {
+        self.count = recounted(self.count, self.tags[place].is_some(), tag.is_some());
         self.tags[place] = tag;
         mark(&mut self.marks, place, tag.is_some());
+        self.summary = summed(self.summary, self.marks.as_slice(), place / 128);
     }
 
     /// Sets the tag of a unit. A unit without a place can only have no tag.
@@ -108,11 +146,70 @@ impl LeastTags {
         self.put(place, tag);
     }
 
+    /// Sets the tag of a unit to this one, if it has none or a greater one.
+    pub fn lower(&mut self, unit: Unit, tag: Tag)
+        requires { FitsIn (length self.old) unit }
+        ensures tags { (x : Part) → tag_in self.new x ≡ (if same_part unit x then sooner (tag_in self.old unit) tag else tag_in self.old x) }
+        ensures len { length self.new ≡ length self.old }
+    {
+        if is_least(self.of(unit), tag) {
+            return;
+        }
+        self.set(unit, Some(tag));
+    }
+
+    /// The unit with a place, with its tag, if it has one.
+    fn waiting_at(&self, place: usize) -> Option<Waiting>
+        requires { place < 64 + most_places }
+        ensures { IsWaitingAt self.now place result }
+    {
+        match self.tags.get(place).copied().unwrap_or(None) {
+            None => None,
+            Some(tag) => Some(Waiting {
+                unit: unit_at(place),
+                tag,
+            }),
+        }
+    }
+
+    /// The first unit that has a tag, of those whose place isn't before `from`.
+    #[inline(always)]
+    pub fn first_waiting(&self, from: usize) -> Option<Waiting>
+        ensures { IsFirstTag self.now from result }
+    {
+        match first_from(self.marks.as_slice(), self.summary, from) {
+            None => None,
+            Some(place) => self.waiting_at(place),
+        }
+    }
+
+    /// Whether no other unit than this one has a tag. It says `false` of a unit without a place.
+    pub fn is_only(&self, unit: Unit) -> bool
+        ensures { result ≡ true → IsOnlyTag self.now unit }
+    {
+        if unit.group >= 8 {
+            return false;
+        }
+        is_only(self.marks.as_slice(), self.summary, place_of(unit))
+    }
+
+    /// Whether more than a few units have a tag.
+    pub fn are_many(&self) -> bool {
+        self.count > FEW
+    }
+
     /// A bit for each place, set where there is a tag.
     pub fn marks(&self) -> &[u64]
         ensures marks { AreMarks self.now result.now }
         ensures few { 64 * length result.now ≤ 64 + most_places }
     {
         self.marks.as_slice()
+    }
+
+    /// Words of `marks` outside of which no bit is set.
+    pub fn span(&self) -> Span
+        ensures { (n : ℕ) → one_if (slice_index_or self.now n None) ≡ 1 → (result.from ≤ n / 64) × (n / 64 < result.end) }
+    {
+        span_of(self.marks.as_slice(), self.summary)
     }
 }

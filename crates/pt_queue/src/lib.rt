@@ -1,8 +1,8 @@
 //! The pending events of a platform, taken unit by unit.
 //!
 //! Each input of each actor has a line of events in rising order of tag, and a table gives the input groups of every actor.
-//! The queue also lists the units that have events, each with its least tag, and remembers for each unit which one held it
-//! up last. Contracts mention only which value waits at each input and tag, so another representation could meet them too.
+//! The queue also has the least tag of each unit that has events, and remembers for each unit which one held it up last.
+//! Contracts mention only which value waits at each input and tag, so another representation could meet them too.
 //!
 //! Read first: `Queue`, then `specs/Events.antt`.
 #![tactic(auto)]
@@ -15,7 +15,6 @@ mod least_tags;
 mod line;
 mod lines;
 mod loose;
-mod lowering;
 mod marks;
 mod queue;
 mod taking;
@@ -23,5 +22,6 @@ mod waiting;
 
 pub use blocked::may_lead;
 pub use events::reaches;
+pub use least_tags::place_of;
 pub use queue::Queue;
 pub use waiting::Waiting;

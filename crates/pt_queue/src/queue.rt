@@ -10,7 +10,7 @@ ghost use Rattle.pt_semantics.specs.Meaning.{added};
 ghost use Rattle.pt_semantics.specs.Units.{unit_inputs};
 ghost use Rattle.pt_causality.specs.Delays.{AreLeast, IsUnit, least_of};
 ghost use Rattle.pt_queue.specs.Groups.{AreGroups};
-ghost use Rattle.pt_queue.specs.Events.{waiting_in, value_in, AreWaiting, IsPlaced, IsLeastTag, IsBlocked, IsClear};
+ghost use Rattle.pt_queue.specs.Events.{waiting_in, value_in, IsPlaced, IsLeastTag, IsFirstWaiting, IsOnly, IsBlocked, IsClear};
 
 use crate::blocked::is_blocked;
 use crate::events::unit_of;
@@ -19,9 +19,8 @@ use crate::holders::Holders;
 use crate::least_tags::LeastTags;
 use crate::lines::{Lines, line_number};
 use crate::loose::{remember, settle, widen};
-use crate::lowering::lower_both;
 use crate::taking::take_events;
-use crate::waiting::{Waiting, set};
+use crate::waiting::Waiting;
 use pt_causality::Least;
 use pt_tags::{Memory, Tag};
 use pt_types::{Event, Graph, Ports, Unit};
@@ -45,9 +44,7 @@ const REFUSED: usize = 64;
 #[derive(Drop)]
 pub struct Queue {
     groups: Vec<Groups>,
-    /// The units that have events, with room for all units.
-    waiting: Vec<Waiting>,
-    /// The same tags, by unit.
+    /// The least tag of each unit that has events.
     tags: LeastTags,
     holders: Holders,
     lines: Lines,
@@ -59,17 +56,17 @@ pub struct Queue {
 }
 
 impl Model for Queue {
-    ghost use Rattle.std.specs.Prelude.{◌+◌, ◌≤◌, vec_capacity};
+    ghost use Rattle.std.specs.Prelude.{◌+◌, ◌≤◌};
     ghost use Rattle.std.specs.VecDeque.{deque_len, deque_capacity};
     ghost use Rattle.pt_queue.specs.Events.{Queued};
     ghost use Rattle.pt_queue.specs.Lines.{AreKept, all_of, with_events};
-    ghost use Rattle.pt_queue.specs.Listed.{AreKnown, AreTags};
+    ghost use Rattle.pt_queue.specs.Tagged.{AreTags};
 
     ghost Value = { Queued };
 
     ghost view = { λ q. record { groups = q.groups.items; events = all_of (with_events q.lines q.loose.items); spare = q.spare } };
 
-    ghost invariant = { λ q. AreKept q.groups.items q.lines q.loose.items × (q.spare + deque_len q.loose ≤ deque_capacity q.loose) × AreKnown q.groups.items (all_of (with_events q.lines q.loose.items)) q.waiting.items (vec_capacity q.waiting) × AreTags q.groups.items q.waiting.items q.tags };
+    ghost invariant = { λ q. AreKept q.groups.items q.lines q.loose.items × (q.spare + deque_len q.loose ≤ deque_capacity q.loose) × AreTags q.groups.items (all_of (with_events q.lines q.loose.items)) q.tags };
 }
 
 impl Queue {
@@ -81,13 +78,11 @@ impl Queue {
     {
         let groups = all_groups(alloc, graph)?;
         let lines = Lines::new(alloc, 8 * groups.len())?;
-        let waiting = Vec::with_capacity(alloc, 8 * groups.len())?;
         let tags = LeastTags::new(alloc, 8 * groups.len())?;
         let holders = Holders::new(alloc, 8 * groups.len())?;
         let short = Vec::with_capacity(alloc, REFUSED)?;
         Ok(Queue {
             groups,
-            waiting,
             tags,
             holders,
             lines,
@@ -159,7 +154,7 @@ impl Queue {
     {
         self.spare -= 1;
         let unit = unit_of(self.groups.as_slice(), &event);
-        lower_both(&mut self.waiting, &mut self.tags, unit, event.tag);
+        self.tags.lower(unit, event.tag);
         let line = line_number(event.actor, event.port);
         if !self.lines.push(line, event) {
             remember(&mut self.short, line);
@@ -177,11 +172,27 @@ impl Queue {
         self.tags.of(unit)
     }
 
-    /// The units that have events, in rising order of actor and group, each with its least tag.
-    pub fn waiting(&self) -> &[Waiting]
-        ensures { (g : Graph) → AreGroups g self.now.groups → AreWaiting g (waiting_in self.now.events) result.now }
+    /// The first unit that has events, of those whose place isn't before `from`, with its least tag.
+    ///
+    /// The places of units rise by actor and group. So the next unit is the first from `place_of` of this one plus 1 on.
+    #[inline(always)]
+    pub fn first_waiting(&self, from: usize) -> Option<Waiting>
+        ensures { (g : Graph) → AreGroups g self.now.groups → IsFirstWaiting g (waiting_in self.now.events) from result }
     {
-        self.waiting.as_slice()
+        self.tags.first_waiting(from)
+    }
+
+    /// Whether this is the only unit that has events.
+    #[inline(always)]
+    pub fn is_only(&self, unit: Unit) -> bool
+        ensures { (g : Graph) → AreGroups g self.now.groups → result ≡ true → IsOnly g (waiting_in self.now.events) unit }
+    {
+        self.tags.is_only(unit)
+    }
+
+    /// Whether many units have events. Nothing is proved of it: it only says which way is faster.
+    pub fn are_many(&self) -> bool {
+        self.tags.are_many()
     }
 
     /// Removes the events of a tag at a unit's inputs, and returns their values by input.
@@ -200,7 +211,6 @@ impl Queue {
             tag,
             &mut inputs,
         );
-        set(&mut self.waiting, unit, least);
         self.tags.set(unit, least);
         inputs
     }
@@ -217,7 +227,6 @@ impl Queue {
     {
         is_blocked(
             self.groups.as_slice(),
-            self.waiting.as_slice(),
             &self.tags,
             &self.holders,
             unit,
@@ -243,6 +252,6 @@ impl Queue {
     pub fn is_empty(&self) -> bool
         ensures { (result ≡ true) ↔ ((a p : ℕ) (t : Tag) → waiting_in self.now.events a p t ≡ None) }
     {
-        self.waiting.is_empty()
+        self.tags.first_waiting(0).is_none()
     }
 }

@@ -3,20 +3,8 @@ use Rattle.std.proofs.lemmas.List.{append-nil}
 use Rattle.pt_queue.specs.Events.{waiting_in}
 use Rattle.pt_state.specs.State.{busy_in}
 use Rattle.pt_claim.specs.Fronts.{AreFront, one_of}
-use Rattle.pt_claim.proofs.Fronts.{nothing_left, not_safe}
+use Rattle.pt_claim.proofs.Fronts.{nothing_left}
 use Rattle.pt_claim.proofs.claiming.claims.Goals as goal
-
-pub returns-then-is_empty-clause-claimed : goal.returns-then-is_empty-clause-claimed
-returns-then-is_empty-clause-claimed c = record {
-  claimed = [];
-  appended = sym (append-nil c.args.tasks.now.items);
-  claims = λ taken. refl;
-  at_most = omega arith;
-  count = omega arith;
-  open_claims = omega arith;
-  in_all = c.requires.claims;
-  all_or = inl (λ u t safe. not_safe c.args.graph.now (waiting_in c.args.fields.now.queue.events) (busy_in c.args.fields.now.open_claims.items) c.args.reading u t (λ p w. c.is_empty.ensures.0 c.if-is_empty.true u.actor p w) safe);
-}
 
 pub returns-in-Ok-None-clause-claimed : goal.returns-in-Ok-None-clause-claimed
 returns-in-Ok-None-clause-claimed c = record {

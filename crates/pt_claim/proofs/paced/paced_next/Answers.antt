@@ -1,21 +1,26 @@
-use Rattle.std.proofs.Common.{◌≡◌, length, subst, arith}
+use Rattle.std.proofs.Common.{◌≡◌, ◌+◌, ◌*◌, sym, subst, arith}
 use Rattle.pt_queue.specs.Events.{waiting_in}
-use Rattle.pt_claim.proofs.Passing.{listed_least}
-use Rattle.pt_claim.specs.Least.{AtOrIn, Below, IsLeastAmong}
-use Rattle.pt_claim.proofs.Candidates.{listed_is_all, PacedAt}
-use Rattle.pt_claim.proofs.Least.{below_more}
+use Rattle.pt_claim.specs.Least.{AtOrIn, IsLeastAmong}
+use Rattle.pt_claim.proofs.Candidates.{before_all, before_more, before_none, PacedBefore}
+use Rattle.pt_claim.proofs.Fronts.{event_is_unit}
 use Rattle.pt_claim.proofs.paced.paced_next.Goals as goal
 
+pub loop-waiting-init : goal.loop-waiting-init
+loop-waiting-init c = before_none c.args.plan.now.graph c.args.fields.now c.args.so_far
+
 pub sooner_of_unit-least-requires-clause-tag : goal.sooner_of_unit-least-requires-clause-tag
-sooner_of_unit-least-requires-clause-tag c =
-    listed_least c.args.plan.now.graph (waiting_in c.args.fields.now.queue.events) c.loop-waiting.waiting-index c.waiting-waiting-items.result.now (c.waiting-waiting-items.ensures c.args.plan.now.graph c.requires.sound.groups) c.loop-waiting-test.true
+sooner_of_unit-least-requires-clause-tag c = (c.in-Some.ensures c.args.plan.now.graph c.requires.sound.groups).0
 
 pub loop-waiting-preserved : goal.loop-waiting-preserved
-loop-waiting-preserved c = below_more (PacedAt c.args.plan.now.graph c.args.fields.now c.waiting-waiting-items.result.now) c.args.so_far c.loop-waiting.least c.sooner_of_unit-least.result c.loop-waiting.waiting-index c.loop-waiting.invariant c.sooner_of_unit-least.ensures
+loop-waiting-preserved c = subst (λ p. IsLeastAmong (AtOrIn c.args.so_far (PacedBefore c.args.plan.now.graph c.args.fields.now (p + 1))) c.sooner_of_unit-least.result) (sym c.place_of-from.ensures)
+    (before_more c.args.plan.now.graph c.args.fields.now c.args.so_far c.loop-waiting.least c.sooner_of_unit-least.result c.loop-waiting.from c.in-Some.waiting c.requires.sound (c.in-Some.ensures c.args.plan.now.graph c.requires.sound.groups) c.loop-waiting.invariant c.sooner_of_unit-least.ensures)
+
+pub loop-waiting-smaller : goal.loop-waiting-smaller
+loop-waiting-smaller c =
+    let next = c.in-Some.ensures c.args.plan.now.graph c.requires.sound.groups in
+    let unit = event_is_unit c.args.plan.now.graph c.args.fields.now c.in-Some.waiting.unit c.in-Some.waiting.tag c.requires.sound next.0.0 in
+    let few = (next.2 c.in-Some.waiting.unit c.in-Some.waiting.tag next.0.0).0 in
+    omega (arith, next.1, unit.0, few, c.place_of-from.ensures)
 
 pub returns : goal.returns
-returns c =
-    let listed = c.waiting-waiting-items.result.now in
-    let end : c.loop-waiting.waiting-index ≡ length listed = omega (arith, c.loop-waiting-test.false, c.loop-waiting.auto.waiting-index-end) in
-    listed_is_all c.args.plan.now.graph c.args.fields.now listed c.args.so_far c.loop-waiting.least c.requires.sound (c.waiting-waiting-items.ensures c.args.plan.now.graph c.requires.sound.groups)
-    (subst (λ n. IsLeastAmong (AtOrIn c.args.so_far (Below n (PacedAt c.args.plan.now.graph c.args.fields.now listed))) c.loop-waiting.least) end c.loop-waiting.invariant)
+returns c = before_all c.args.plan.now.graph c.args.fields.now c.args.so_far c.loop-waiting.least c.loop-waiting.from (c.in_default.ensures c.args.plan.now.graph c.requires.sound.groups) c.loop-waiting.invariant

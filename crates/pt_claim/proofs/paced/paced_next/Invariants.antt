@@ -1,6 +1,10 @@
-use Rattle.pt_claim.specs.Least.{AtOrIn, Below, IsLeastAmong}
-use Rattle.pt_claim.proofs.Candidates.{PacedAt}
+use Rattle.std.proofs.Common.{◌-◌, ◌*◌, length}
+use Rattle.pt_claim.specs.Least.{AtOrIn, IsLeastAmong}
+use Rattle.pt_claim.proofs.Candidates.{PacedBefore}
 use Rattle.pt_claim.proofs.paced.paced_next.Given as goal
 
 abbrev pub invariant-loop-waiting : goal.invariant-loop-waiting
-invariant-loop-waiting l = IsLeastAmong (AtOrIn l.fn.so_far (Below l.waiting-index (PacedAt l.plan.graph l.fields l.waiting-items))) l.least
+invariant-loop-waiting l = IsLeastAmong (AtOrIn l.fn.so_far (PacedBefore l.plan.graph l.fields l.from)) l.least
+
+abbrev pub decreases-loop-waiting : goal.decreases-loop-waiting
+decreases-loop-waiting l = 8 * length l.plan.graph.actors - l.from

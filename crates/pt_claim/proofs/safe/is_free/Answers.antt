@@ -3,11 +3,11 @@ use Rattle.pt_queue.specs.Events.{waiting_in}
 use Rattle.pt_claim.proofs.Free.{free_alone, no_claims, not_true, only_clear}
 use Rattle.pt_claim.proofs.safe.is_free.Goals as goal
 
-pub returns-then-waiting-eq1 : goal.returns-then-waiting-eq1
-returns-then-waiting-eq1 c = (
+pub returns-then-is_only : goal.returns-then-is_only
+returns-then-is_only c = (
   λ h. free_alone c.args.graph.now (waiting_in c.args.fields.now.queue.events) c.args.fields.now.open_claims.items c.args.reading c.args.unit c.args.tag
       (no_claims c.args.fields.now.open_claims.items (sym c.is_empty.ensures ∙ c.if-not-is_empty.false)) c.requires.tag c.requires.due
-      (only_clear c.args.graph.now (waiting_in c.args.fields.now.queue.events) c.waiting.result.now c.args.unit c.args.tag (c.waiting.ensures c.args.graph.now c.requires.sound.groups) (omega (arith, c.if-waiting-eq1.true)) c.requires.tag.0),
+      (only_clear c.args.graph.now (waiting_in c.args.fields.now.queue.events) c.args.unit c.args.tag (c.if-is_only.ensures c.args.graph.now c.requires.sound.groups refl)),
   λ safe. refl,
 )
 

@@ -2,7 +2,7 @@ use Rattle.std.proofs.Common.{◌≡◌, ◌+◌, ◌-◌, ◌*◌, ◌%◌, ◌
 use Rattle.std.specs.Int.{bit_at}
 use Rattle.std.proofs.lemmas.Nat.{one_shl}
 use Rattle.pt_causality.specs.Delays.{least_of}
-use Rattle.pt_queue.specs.Listed.{unit_holds_up}
+use Rattle.pt_queue.specs.Tagged.{unit_holds_up}
 use Rattle.pt_queue.specs.Marks.{unit_with}
 use Rattle.pt_queue.proofs.Finding.{without_top}
 use Rattle.pt_queue.proofs.blocked.holder_in_word.Goals as goal

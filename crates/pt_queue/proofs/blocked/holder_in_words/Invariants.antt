@@ -1,6 +1,6 @@
 use Rattle.std.proofs.Common.{◌≡◌, ◌*◌, ◌<◌, ◌≤◌, ℕ, false}
 use Rattle.pt_causality.specs.Delays.{least_of}
-use Rattle.pt_queue.specs.Listed.{unit_holds_up}
+use Rattle.pt_queue.specs.Tagged.{unit_holds_up}
 use Rattle.pt_queue.specs.Marks.{unit_with}
 use Rattle.pt_queue.proofs.blocked.holder_in_words.Given as goal
 

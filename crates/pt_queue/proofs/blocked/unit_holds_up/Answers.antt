@@ -1,6 +1,6 @@
 use Rattle.std.proofs.Common.{ap, ◌∙◌}
 use Rattle.pt_causality.specs.Delays.{least_of}
-use Rattle.pt_queue.specs.Listed.{tag_holds_up}
+use Rattle.pt_queue.specs.Tagged.{tag_holds_up}
 use Rattle.pt_queue.proofs.blocked.unit_holds_up.Goals as goal
 
 pub returns-in-None : goal.returns-in-None

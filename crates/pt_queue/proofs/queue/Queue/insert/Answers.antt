@@ -1,14 +1,12 @@
-use Rattle.std.proofs.Common.{◌≡◌, ◌<◌, None, [], ◌∷◌, ◌++◌, vec_capacity, if◌then◌else◌, length, ap, ap₂, sym, subst, ◌∙◌, arith}
+use Rattle.std.proofs.Common.{◌≡◌, ◌<◌, None, [], ◌∷◌, ◌++◌, length, ap, ap₂, sym, subst, ◌∙◌, arith}
 use Rattle.pt_semantics.specs.Meaning.{added}
-use Rattle.pt_semantics.specs.Units.{same_part}
 use Rattle.pt_queue.specs.Events.{waiting_in, value_in, IsPlaced, Queued}
 use Rattle.pt_queue.specs.Lines.{AreKept, all_of, joined_by, with_events}
-use Rattle.pt_queue.specs.Listed.{AreKnown, FitsIn}
-use Rattle.pt_queue.specs.Scans.{sooner, unit_in}
-use Rattle.pt_queue.proofs.Changing.{known_fit, known_more, roomy}
+use Rattle.pt_queue.specs.Tagged.{AreTags, FitsIn}
+use Rattle.pt_queue.specs.Scans.{unit_in}
 use Rattle.pt_queue.proofs.Flat.{line_kept, loose_pushed, waits_joined, waits_loose}
 use Rattle.pt_queue.proofs.Following.{least_joined, least_loose}
-use Rattle.pt_queue.proofs.Known.{unit_fits}
+use Rattle.pt_queue.proofs.Known.{tags_more, unit_fits}
 use Rattle.pt_queue.proofs.queue.Queue.insert.Goals as goal
 
 pub returns-in-Ok-clause-waits : goal.returns-in-Ok-clause-waits
@@ -28,21 +26,11 @@ returns-else-not-push-clause-waits c =
     ∙ waits_joined table c.self.inside.lines c.self.inside.loose.items c.args.event c.self.invariant.0 placed absent
     ∙ ap (λ (v : Queued). added (waiting_in v.events) (value_in c.args.event)) c.self.view_is
 
-pub lower_both-requires-clause-room : goal.lower_both-requires-clause-room
-lower_both-requires-clause-room c = known_fit c.self.inside.groups.items c.self.inside.lines c.self.inside.loose.items c.self.inside.waiting.items (vec_capacity c.self.inside.waiting) c.self.invariant.0 c.self.invariant.2
-
-pub lower_both-requires-clause-unit : goal.lower_both-requires-clause-unit
-lower_both-requires-clause-unit c =
+pub lower-requires : goal.lower-requires
+lower-requires c =
     let table = c.self.inside.groups.items in
     let placed : IsPlaced table c.args.event = record { actor = subst (λ (v : Queued). c.args.event.actor < length v.groups) (sym c.self.view_is) c.requires.actor; port = c.requires.port } in
-    subst (FitsIn (vec_capacity c.self.inside.waiting)) (sym (c.unit_of-unit.ensures ∙ ap (λ gs. unit_in gs c.args.event) c.as_slice.ensures.value)) (unit_fits table c.args.event (vec_capacity c.self.inside.waiting) c.self.invariant.2.few c.self.invariant.2.room placed)
-
-pub lower_both-requires-clause-place : goal.lower_both-requires-clause-place
-lower_both-requires-clause-place c =
-    let table = c.self.inside.groups.items in
-    let placed : IsPlaced table c.args.event = record { actor = subst (λ (v : Queued). c.args.event.actor < length v.groups) (sym c.self.view_is) c.requires.actor; port = c.requires.port } in
-    let known = roomy table (all_of (with_events c.self.inside.lines c.self.inside.loose.items)) c.self.inside.waiting.items c.self.inside.tags (vec_capacity c.self.inside.waiting) c.self.invariant.2 c.self.invariant.3 in
-    subst (FitsIn (length c.self.inside.tags)) (sym (c.unit_of-unit.ensures ∙ ap (λ gs. unit_in gs c.args.event) c.as_slice.ensures.value)) (unit_fits table c.args.event (length c.self.inside.tags) known.few known.room placed)
+    subst (FitsIn (length c.self.inside.tags)) (sym (c.unit_of-unit.ensures ∙ ap (λ gs. unit_in gs c.args.event) c.as_slice.ensures.value)) (unit_fits table c.args.event (length c.self.inside.tags) c.self.invariant.2.few c.self.invariant.2.room placed)
 
 pub invariant_of-self : goal.invariant_of-self
 invariant_of-self c =
@@ -53,14 +41,10 @@ invariant_of-self c =
     let unit : c.unit_of-unit.result ≡ unit_in table c.args.event = c.unit_of-unit.ensures ∙ ap (λ gs. unit_in gs c.args.event) c.as_slice.ensures.value in (
       subst (λ ls. AreKept table ls c.push_back.new.self.items) (sym lines) (subst (AreKept table c.self.inside.lines) (sym loose) (loose_pushed table c.self.inside.lines c.self.inside.loose.items c.args.event c.self.invariant.0 placed)),
       omega (arith, c.push_back.ensures.len, c.push_back.ensures.capacity, c.in-Ok.ensures.len, c.self.invariant.1, c.requires.spare),
-      subst (λ ls. AreKnown table (all_of (with_events ls c.push_back.new.self.items)) c.lower_both.new.listed.items (vec_capacity c.lower_both.new.listed)) (sym lines)
-          (subst (λ es. AreKnown table (all_of (with_events c.self.inside.lines es)) c.lower_both.new.listed.items (vec_capacity c.lower_both.new.listed)) (sym loose)
-          (known_more table (all_of (with_events c.self.inside.lines c.self.inside.loose.items)) (all_of (with_events c.self.inside.lines (c.self.inside.loose.items ++ c.args.event ∷ []))) c.self.inside.waiting.items c.lower_both.new.listed.items (vec_capacity c.self.inside.waiting) (vec_capacity c.lower_both.new.listed) c.args.event c.unit_of-unit.result c.self.invariant.2 c.lower_both.ensures.rises unit c.lower_both.ensures.listed c.lower_both.ensures.capacity
+      subst (λ ls. AreTags table (all_of (with_events ls c.push_back.new.self.items)) c.lower.new.self) (sym lines)
+          (subst (λ es. AreTags table (all_of (with_events c.self.inside.lines es)) c.lower.new.self) (sym loose)
+          (tags_more table (all_of (with_events c.self.inside.lines c.self.inside.loose.items)) (all_of (with_events c.self.inside.lines (c.self.inside.loose.items ++ c.args.event ∷ []))) c.self.inside.tags c.lower.new.self c.args.event c.unit_of-unit.result c.self.invariant.2 unit c.lower.ensures.tags c.lower.ensures.len
           (least_loose table c.self.inside.lines c.self.inside.loose.items c.args.event c.self.invariant.0 placed))),
-      record {
-        room = c.lower_both.ensures.len ∙ c.self.invariant.3.room;
-        same = λ x. c.lower_both.ensures.tags x ∙ ap₂ (λ a b. if same_part c.unit_of-unit.result x then sooner a c.args.event.tag else b) (c.self.invariant.3.same c.unit_of-unit.result) (c.self.invariant.3.same x) ∙ sym (c.lower_both.ensures.listed x);
-      },
     )
 
 pub invariant_of-self-else-not-push : goal.invariant_of-self-else-not-push
@@ -72,11 +56,7 @@ invariant_of-self-else-not-push c =
     let kept : AreKept table (joined_by c.self.inside.lines c.args.event) c.self.inside.loose.items = line_kept table c.self.inside.lines c.args.event c.self.inside.loose.items c.self.invariant.0 placed in (
       subst (λ ls. AreKept table ls c.self.inside.loose.items) (sym lines) kept,
       omega (arith, c.self.invariant.1, c.requires.spare),
-      subst (λ ls. AreKnown table (all_of (with_events ls c.self.inside.loose.items)) c.lower_both.new.listed.items (vec_capacity c.lower_both.new.listed)) (sym lines)
-          (known_more table (all_of (with_events c.self.inside.lines c.self.inside.loose.items)) (all_of (with_events (joined_by c.self.inside.lines c.args.event) c.self.inside.loose.items)) c.self.inside.waiting.items c.lower_both.new.listed.items (vec_capacity c.self.inside.waiting) (vec_capacity c.lower_both.new.listed) c.args.event c.unit_of-unit.result c.self.invariant.2 c.lower_both.ensures.rises unit c.lower_both.ensures.listed c.lower_both.ensures.capacity
+      subst (λ ls. AreTags table (all_of (with_events ls c.self.inside.loose.items)) c.lower.new.self) (sym lines)
+          (tags_more table (all_of (with_events c.self.inside.lines c.self.inside.loose.items)) (all_of (with_events (joined_by c.self.inside.lines c.args.event) c.self.inside.loose.items)) c.self.inside.tags c.lower.new.self c.args.event c.unit_of-unit.result c.self.invariant.2 unit c.lower.ensures.tags c.lower.ensures.len
           (least_joined table c.self.inside.lines c.self.inside.loose.items c.args.event c.self.invariant.0 placed kept)),
-      record {
-        room = c.lower_both.ensures.len ∙ c.self.invariant.3.room;
-        same = λ x. c.lower_both.ensures.tags x ∙ ap₂ (λ a b. if same_part c.unit_of-unit.result x then sooner a c.args.event.tag else b) (c.self.invariant.3.same c.unit_of-unit.result) (c.self.invariant.3.same x) ∙ sym (c.lower_both.ensures.listed x);
-      },
     )

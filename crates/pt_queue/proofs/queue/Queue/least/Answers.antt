@@ -12,5 +12,5 @@ returns c = λ g are.
     let events = all_of (with_events c.self.inside.lines c.self.inside.loose.items) in
     let groups = ap (λ (v : Queued). v.groups) c.self.view_is in
     subst (λ (v : Queued). IsLeastTag g (waiting_in v.events) c.args.unit c.of.result) c.self.view_is
-    (subst (IsLeastTag g (waiting_in events) c.args.unit) (sym (c.of.ensures ∙ c.self.invariant.3.same c.args.unit ∙ c.self.invariant.2.units.tags c.args.unit))
+    (subst (IsLeastTag g (waiting_in events) c.args.unit) (sym (c.of.ensures ∙ c.self.invariant.2.least c.args.unit))
     (least_is g table events c.args.unit (subst (AreGroups g) (sym groups) are) (placed_settled table c.self.inside.lines c.self.inside.loose.items c.self.invariant.0)))

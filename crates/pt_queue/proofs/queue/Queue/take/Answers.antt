@@ -1,37 +1,24 @@
-use Rattle.std.proofs.Common.{◌≡◌, ◌++◌, ◌==◌, None, vec_capacity, map, filter, not, if◌then◌else◌, length, ap, ap₂, ◌∙◌, subst, sym, arith}
+use Rattle.std.proofs.Common.{◌≡◌, ◌++◌, ◌==◌, None, map, filter, not, ap, ap₂, ◌∙◌, subst, sym, arith}
 use Rattle.pt_types.specs.Ports.{eight, when}
 use Rattle.pt_types.specs.declared.firing.Event.{Event}
 use Rattle.pt_semantics.specs.Claiming.{without_unit}
-use Rattle.pt_semantics.specs.Units.{same_part, unit_inputs}
+use Rattle.pt_semantics.specs.Units.{unit_inputs}
 use Rattle.pt_queue.specs.Groups.{AreGroups, group_in}
 use Rattle.pt_queue.specs.Events.{waiting_in, Queued}
 use Rattle.pt_queue.specs.Lines.{all_of, with_events}
 use Rattle.pt_queue.specs.Scans.{is_at, least_from}
-use Rattle.pt_queue.proofs.Changing.{known_fit, left_fits, left_kept, left_known, roomy}
+use Rattle.pt_queue.proofs.Changing.{left_fits, left_kept, left_known}
 use Rattle.pt_queue.proofs.Views.{inputs_whole, removed_waits, view_waits}
 use Rattle.pt_queue.proofs.queue.Queue.take.Goals as goal
 
-pub set-requires-clause-room : goal.set-requires-clause-room
-set-requires-clause-room c = known_fit c.self.inside.groups.items c.self.inside.lines c.self.inside.loose.items c.self.inside.waiting.items (vec_capacity c.self.inside.waiting) c.self.invariant.0 c.self.invariant.2
-
-pub set-requires-clause-unit : goal.set-requires-clause-unit
-set-requires-clause-unit c =
+pub set-requires : goal.set-requires
+set-requires c =
     let table = c.self.inside.groups.items in
     let keep = λ (e : Event). not (is_at table c.args.unit c.args.tag e) in
     let lines : c.take_events-least.new.lines ≡ map (filter keep) c.self.inside.lines = c.take_events-least.ensures.lines ∙ ap (λ gs. map (filter (λ (e : Event). not (is_at gs c.args.unit c.args.tag e))) c.self.inside.lines) c.as_slice.ensures.value in
     let loose : c.take_events-least.new.loose.items ≡ filter keep c.self.inside.loose.items = c.take_events-least.ensures.loose ∙ ap (λ gs. filter (λ (e : Event). not (is_at gs c.args.unit c.args.tag e)) c.self.inside.loose.items) c.as_slice.ensures.value in
     let least : c.take_events-least.result ≡ least_from table c.args.unit None (all_of c.take_events-least.new.lines ++ c.take_events-least.new.loose.items) = c.take_events-least.ensures.least ∙ ap (λ gs. least_from gs c.args.unit None (all_of c.take_events-least.new.lines ++ c.take_events-least.new.loose.items)) c.as_slice.ensures.value in
-    left_fits table c.args.unit c.args.tag c.self.inside.lines c.take_events-least.new.lines c.self.inside.loose.items c.take_events-least.new.loose.items c.self.invariant.0 lines loose c.self.inside.waiting.items (vec_capacity c.self.inside.waiting) c.take_events-least.result c.self.invariant.2 least
-
-pub set-requires-2 : goal.set-requires-2
-set-requires-2 c =
-    let table = c.self.inside.groups.items in
-    let keep = λ (e : Event). not (is_at table c.args.unit c.args.tag e) in
-    let lines : c.take_events-least.new.lines ≡ map (filter keep) c.self.inside.lines = c.take_events-least.ensures.lines ∙ ap (λ gs. map (filter (λ (e : Event). not (is_at gs c.args.unit c.args.tag e))) c.self.inside.lines) c.as_slice.ensures.value in
-    let loose : c.take_events-least.new.loose.items ≡ filter keep c.self.inside.loose.items = c.take_events-least.ensures.loose ∙ ap (λ gs. filter (λ (e : Event). not (is_at gs c.args.unit c.args.tag e)) c.self.inside.loose.items) c.as_slice.ensures.value in
-    let least : c.take_events-least.result ≡ least_from table c.args.unit None (all_of c.take_events-least.new.lines ++ c.take_events-least.new.loose.items) = c.take_events-least.ensures.least ∙ ap (λ gs. least_from gs c.args.unit None (all_of c.take_events-least.new.lines ++ c.take_events-least.new.loose.items)) c.as_slice.ensures.value in
-    left_fits table c.args.unit c.args.tag c.self.inside.lines c.take_events-least.new.lines c.self.inside.loose.items c.take_events-least.new.loose.items c.self.invariant.0 lines loose c.self.inside.waiting.items (length c.self.inside.tags) c.take_events-least.result
-    (roomy table (all_of (with_events c.self.inside.lines c.self.inside.loose.items)) c.self.inside.waiting.items c.self.inside.tags (vec_capacity c.self.inside.waiting) c.self.invariant.2 c.self.invariant.3) least
+    left_fits table c.args.unit c.args.tag c.self.inside.lines c.take_events-least.new.lines c.self.inside.loose.items c.take_events-least.new.loose.items c.self.invariant.0 lines loose c.self.inside.tags c.take_events-least.result c.self.invariant.2 least
 
 pub invariant_of-self : goal.invariant_of-self
 invariant_of-self c =
@@ -43,11 +30,7 @@ invariant_of-self c =
       left_kept table c.args.unit c.args.tag c.self.inside.lines c.take_events-least.new.lines c.self.inside.loose.items c.take_events-least.new.loose.items c.self.invariant.0 lines loose,
       omega (arith, c.take_events-least.ensures.len, c.take_events-least.ensures.capacity, c.self.invariant.1),
       left_known table c.args.unit c.args.tag c.self.inside.lines c.take_events-least.new.lines c.self.inside.loose.items c.take_events-least.new.loose.items c.self.invariant.0 lines loose
-          c.self.inside.waiting.items c.set.new.listed.items (vec_capacity c.self.inside.waiting) (vec_capacity c.set.new.listed) c.take_events-least.result c.self.invariant.2 c.set.ensures.rises least c.set.ensures.tags c.set.ensures.capacity,
-      record {
-        room = c.set-2.ensures.len ∙ c.self.invariant.3.room;
-        same = λ x. c.set-2.ensures.tags x ∙ ap (λ o. if same_part c.args.unit x then c.take_events-least.result else o) (c.self.invariant.3.same x) ∙ sym (c.set.ensures.tags x);
-      },
+          c.self.inside.tags c.set.new.self c.take_events-least.result c.self.invariant.2 least c.set.ensures.tags c.set.ensures.len,
     )
 
 pub returns-clause-inputs : goal.returns-clause-inputs

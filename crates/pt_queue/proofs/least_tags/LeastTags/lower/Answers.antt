@@ -3,9 +3,9 @@ use Rattle.pt_tags.specs.declared.tag.Tag.{Tag}
 use Rattle.pt_types.specs.declared.graph.Unit.{Unit as Part}
 use Rattle.pt_semantics.specs.Units.{same_part}
 use Rattle.pt_semantics.proofs.Lookups.{same_part-true}
-use Rattle.pt_queue.specs.Listed.{tag_in, tag_of}
+use Rattle.pt_queue.specs.Tagged.{tag_in}
 use Rattle.pt_queue.specs.Scans.{sooner}
-use Rattle.pt_queue.proofs.lowering.lower_both.Goals as goal
+use Rattle.pt_queue.proofs.least_tags.LeastTags.lower.Goals as goal
 
 -- where the tag of a unit stays, all stay
 all_stay : (tags : Part → Option Tag) (u x : Part) (t : Tag) → sooner (tags u) t ≡ tags u → tags x ≡ (if same_part u x then sooner (tags u) t else tags x)
@@ -15,24 +15,13 @@ all_stay tags u x t stays = by (same_part u x) refl
     by true e = ap tags (sym (same_part-true u x e)) ∙ sym stays
     by false e = refl
 
-pub returns-then-is_least-clause-listed : goal.returns-then-is_least-clause-listed
-returns-then-is_least-clause-listed c = λ x.
-    all_stay (tag_of c.args.listed.now.items) c.args.unit x c.args.tag
-    (ap (λ o. sooner o c.args.tag) (sym (c.of.ensures ∙ c.requires.same c.args.unit)) ∙ c.is_least.ensures.stays c.if-is_least.true ∙ c.of.ensures ∙ c.requires.same c.args.unit)
-
 pub returns-then-is_least-clause-tags : goal.returns-then-is_least-clause-tags
 returns-then-is_least-clause-tags c = λ x.
-    all_stay (tag_in c.args.tags.now) c.args.unit x c.args.tag
+    all_stay (tag_in c.args.self.now) c.args.unit x c.args.tag
     (ap (λ o. sooner o c.args.tag) (sym c.of.ensures) ∙ c.is_least.ensures.stays c.if-is_least.true ∙ c.of.ensures)
-
-pub returns-clause-listed : goal.returns-clause-listed
-returns-clause-listed c = λ x.
-    c.list.ensures.tags x
-    ∙ ap (λ o. if same_part c.args.unit x then o else tag_of c.args.listed.now.items x)
-    (sym (ap (λ o. sooner o c.args.tag) (sym (c.of.ensures ∙ c.requires.same c.args.unit)) ∙ c.is_least.ensures.less c.if-is_least.false))
 
 pub returns-clause-tags : goal.returns-clause-tags
 returns-clause-tags c = λ x.
     c.set.ensures.tags x
-    ∙ ap (λ o. if same_part c.args.unit x then o else tag_in c.args.tags.now x)
+    ∙ ap (λ o. if same_part c.args.unit x then o else tag_in c.args.self.now x)
     (sym (ap (λ o. sooner o c.args.tag) (sym c.of.ensures) ∙ c.is_least.ensures.less c.if-is_least.false))
