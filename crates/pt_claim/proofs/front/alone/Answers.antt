@@ -1,4 +1,4 @@
-use Rattle.std.proofs.Common.{◌+◌, ◌*◌, ◌/◌, ◌%◌, [], refl, sym, subst, arith}
+use Rattle.std.proofs.Common.{◌+◌, ◌/◌, ◌%◌, [], refl, sym, subst, arith}
 use Rattle.pt_queue.specs.Events.{waiting_in}
 use Rattle.pt_state.specs.State.{busy_in}
 use Rattle.pt_claim.specs.Fronts.{AreFirst, one_of}

@@ -1,4 +1,4 @@
-use Rattle.std.proofs.Common.{◌+◌, ◌*◌, ◌/◌, ◌%◌, sym, subst, arith, rules}
+use Rattle.std.proofs.Common.{◌+◌, ◌/◌, ◌%◌, sym, subst, arith, rules}
 use Rattle.pt_queue.specs.Events.{waiting_in}
 use Rattle.pt_state.specs.State.{busy_in}
 use Rattle.pt_claim.specs.Fronts.{AreFirst}

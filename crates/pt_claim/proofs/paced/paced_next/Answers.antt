@@ -1,5 +1,4 @@
-use Rattle.std.proofs.Common.{◌≡◌, ◌+◌, ◌*◌, sym, subst, arith}
-use Rattle.pt_queue.specs.Events.{waiting_in}
+use Rattle.std.proofs.Common.{◌+◌, sym, subst, arith}
 use Rattle.pt_claim.specs.Least.{AtOrIn, IsLeastAmong}
 use Rattle.pt_claim.proofs.Candidates.{before_all, before_more, before_none, PacedBefore}
 use Rattle.pt_claim.proofs.Fronts.{event_is_unit}

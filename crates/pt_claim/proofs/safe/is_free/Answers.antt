@@ -1,4 +1,4 @@
-use Rattle.std.proofs.Common.{not, refl, sym, ap, ◌∙◌, arith}
+use Rattle.std.proofs.Common.{not, refl, sym, ap, ◌∙◌}
 use Rattle.pt_queue.specs.Events.{waiting_in}
 use Rattle.pt_claim.proofs.Free.{free_alone, no_claims, not_true, only_clear}
 use Rattle.pt_claim.proofs.safe.is_free.Goals as goal
