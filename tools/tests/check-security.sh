@@ -95,7 +95,7 @@ check_texts() {
 
 check_limits() {
     { echo time,seen,value; seq 100000 | sed 's/.*/&,&,7/'; } >s.csv
-    equal "little memory" "memory, status 9" "$(shown within 8000 "$program" run graph.json)"
+    equal "little memory" "memory, status 9" "$(shown within 6000 "$program" run graph.json)"
     copy "$top/examples/basic/s.csv" s.csv
     equal "enough" "$table, status 0" "$(shown within 2000000 "$program" run graph.json)"
 }
