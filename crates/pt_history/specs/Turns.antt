@@ -26,8 +26,8 @@ larger a b = record {
 }
 
 -- the readings and the count of a turn
-abbrev pub head_of : Turn → Head
-head_of turn = record { first = turn.first; last = turn.last; count = turn.count }
+abbrev pub turn_head : Turn → Head
+turn_head turn = record { first = turn.first; last = turn.last; count = turn.count }
 
 -- a run of `count` quiet turns with this first and last reading
 abbrev pub quiet : ℕ → ℕ → ℕ → Turn

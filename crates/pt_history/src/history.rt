@@ -5,7 +5,7 @@ ghost use Rattle.std.specs.List.{flat_map};
 ghost use Rattle.pt_history.specs.Lists.{on_last};
 ghost use Rattle.pt_semantics.specs.Turn.{is_quiet};
 ghost use Rattle.pt_semantics.specs.Kept.{kept_with, settled};
-ghost use Rattle.pt_history.specs.Turns.{all_dated, claimed_in, claiming, entering, fresh, head_of, larger, posted_in, posting, quiet, sending, taking};
+ghost use Rattle.pt_history.specs.Turns.{all_dated, claimed_in, claiming, entering, fresh, turn_head, larger, posted_in, posting, quiet, sending, taking};
 ghost use Rattle.pt_history.specs.Keeping.{Joins};
 ghost use Rattle.pt_history.specs.Tasks.{mark_of};
 
@@ -272,7 +272,7 @@ impl History {
     /// The readings and the count of a recorded turn, all by one look-up.
     pub fn head(&self, number: usize) -> Head
         requires { number < length self.now.turns }
-        ensures { option_map head_of (slice_get self.now.turns number) ≡ Some result }
+        ensures { option_map turn_head (slice_get self.now.turns number) ≡ Some result }
     {
         self.heads.get(number)
     }

@@ -35,13 +35,13 @@ impl Model for Sources {
     ghost use Rattle.pt_history.specs.declared.sources.Source.{Source};
     ghost use Rattle.pt_history.specs.declared.sources.Source.TheVariants.{Claim};
     ghost use Rattle.pt_history.specs.Indices.{RoomyItems};
-    ghost use Rattle.pt_history.specs.SourcesWhole.{AreSources};
+    ghost use Rattle.pt_history.specs.SourcesWhole.{AreStoredSources};
 
     ghost Value = { RoomyItems Source };
 
     ghost view = { λ s. record { items = map Claim s.claims.items ++ s.rest.items; spare = s.spare } };
 
-    ghost invariant = { AreSources };
+    ghost invariant = { AreStoredSources };
 }
 
 impl Sources {

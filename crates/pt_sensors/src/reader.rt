@@ -83,8 +83,8 @@ pub fn advance(reader: &mut Reader<&[u8]>, line: &mut ByteRecord) -> Result<bool
     reader.read_byte_record(line).map_err(|_| Memory)
 }
 
-/// A list with room for all rows of a text of so many bytes, so that it never has to move; without room if memory for that is
-/// refused. Most of the room may never be used, and then it costs nothing.
+/// A list with room for all rows of a text of this number of bytes, so that it never has to move; without room if memory for that
+/// is refused. Most of the room may never be used, and then it costs nothing.
 fn room_for(alloc: Global, bytes: usize) -> Vec<Row>
     ensures { result.items ≡ [] }
 {

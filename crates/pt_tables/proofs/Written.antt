@@ -9,7 +9,7 @@ use Rattle.pt_types.specs.declared.graph.Graph.{Graph}
 use Rattle.pt_types.specs.declared.rows.RowAt.{RowAt}
 use Rattle.pt_semantics.specs.Turn.{Turn}
 use Rattle.pt_semantics.proofs.Lookups.{none_some, same_some}
-use Rattle.pt_history.specs.Turns.{head_of}
+use Rattle.pt_history.specs.Turns.{turn_head}
 use Rattle.pt_history.specs.declared.head.Head.{Head}
 use Rattle.pt_history.proofs.InTurn.{drop_next}
 use Rattle.pt_tables.specs.Log.{claim_line, list_lines, post_line, row_line, sent_line, take_line, turn_line, turn_lines}
@@ -22,10 +22,10 @@ pub record ReadsHead (o : Option Turn) (first last count : ℕ) : Type 0 where
   pub the_count : option_map (λ (turn : Turn). turn.count) o ≡ Some count
 
 -- which is what its head has
-pub head_read : (o : Option Turn) (head : Head) → option_map head_of o ≡ Some head → ReadsHead o head.first head.last head.count
+pub head_read : (o : Option Turn) (head : Head) → option_map turn_head o ≡ Some head → ReadsHead o head.first head.last head.count
 head_read None head is = absurd (none_some head is)
 head_read (Some turn) head is =
-    let same : head_of turn ≡ head = same_some (head_of turn) head is in
+    let same : turn_head turn ≡ head = same_some (turn_head turn) head is in
     record { the_first = ap (λ (h : Head). Some h.first) same; the_last = ap (λ (h : Head). Some h.last) same; the_count = ap (λ (h : Head). Some h.count) same }
 
 -- what is read of a turn's lists
