@@ -10,7 +10,7 @@ use Rattle.pt_semantics.specs.Meaning.{Values}
 use Rattle.pt_semantics.specs.Ranks.{sum_along}
 use Rattle.pt_semantics.specs.Safe.{IsSafe}
 use Rattle.pt_semantics.proofs.Lookups.{none_some}
-use Rattle.pt_queue.specs.Events.{IsClear, IsLeastTag, IsOnly}
+use Rattle.pt_queue.specs.Events.{IsClear, IsLeastTag, IsOnlyUnit}
 use Rattle.pt_state.specs.declared.fields.OpenClaim.{OpenClaim}
 use Rattle.pt_state.specs.State.{busy_in}
 
@@ -23,7 +23,7 @@ no_claims [] h = refl
 no_claims (x ∷ xs) h = let none : length (x ∷ xs) ≡ 0 = eqb-true (length (x ∷ xs)) 0 h in absurd (omega (arith, none))
 
 -- nothing leads to the only unit that has events
-pub only_clear : (g : Graph) (waits : Values) (u : Part) (t : Tag) → IsOnly g waits u → IsClear g waits u t
+pub only_clear : (g : Graph) (waits : Values) (u : Part) (t : Tag) → IsOnlyUnit g waits u → IsClear g waits u t
 only_clear g waits u t only x w path differ other go = absurd (differ (only x w other))
 
 -- without open claims a unit that is due is safe where no event leads to it

@@ -17,5 +17,6 @@ pub mod Bits
 pub mod Words
 pub mod Summing
 pub mod Marked
+pub mod Floors
 pub mod Searching
 pub mod Finding

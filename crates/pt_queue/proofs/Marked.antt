@@ -50,3 +50,7 @@ put_marked tags marks new place tag are there here others len = record {
   where
     either : (n m : ℕ) → (n ≡ m) ⊎ (n ≢ m)
     either n m = grind arith
+
+-- a tag was replaced by another, or nothing was removed
+pub still_marked : (tags : List (Option Tag)) (marks : List ℕ) (place : ℕ) (tag : Option Tag) → AreMarked tags marks → place < length tags → one_if (slice_index_or tags place None) ≡ one_if tag → AreMarked (slice_set tags place tag) marks
+still_marked tags marks place tag are there same = put_marked tags marks marks place tag are there (are.marks_are place ∙ same) (λ n ne. refl) refl

@@ -7,7 +7,7 @@ use Rattle.std.proofs.lemmas.List.{get_or-replicate, get_or_past, length-replica
 use Rattle.std.proofs.lemmas.Nat.{pow-add}
 use Rattle.std.proofs.lemmas.Nat.Bits.{bit_at_above, bit_at_clear_other, bit_at_set_other, bit_at_set_same, bit_at-lt, bit_at-pow_other, bit_at-zero}
 use Rattle.pt_causality.specs.Before.{bit_of}
-use Rattle.pt_queue.specs.Marks.{AreSummed, IsFirstBit, IsNextBit, IsTopBit}
+use Rattle.pt_queue.specs.Marks.{AreSummed, IsFirstMark, IsNextBit, IsTopBit}
 use Rattle.pt_queue.proofs.Words.{at_word, past_words}
 
 pub below_or : (n m : ℕ) → (n < m) ⊎ (m ≤ n)
@@ -114,7 +114,7 @@ none_more words start index word n is none old le up = ⊎_elim
     (below_or n (64 * index))
 
 -- the first bit of a word is the first of all
-pub first_in_word : (words : List ℕ) (from index low word bit : ℕ) → word ≡ slice_index_or words index 0 → IsNextBit word low (Some bit) → from ≤ 64 * index + low → ((n : ℕ) → from ≤ n → n < 64 * index + low → bit_of words n ≡ 0) → IsFirstBit words from (Some (64 * index + bit))
+pub first_in_word : (words : List ℕ) (from index low word bit : ℕ) → word ≡ slice_index_or words index 0 → IsNextBit word low (Some bit) → from ≤ 64 * index + low → ((n : ℕ) → from ≤ n → n < 64 * index + low → bit_of words n ≡ 0) → IsFirstMark words from (Some (64 * index + bit))
 first_in_word words from index low word bit is next le none =
     let few : bit < 64 = next.0 in
     let over : low ≤ bit = next.1 in (
@@ -132,7 +132,7 @@ first_in_word words from index low word bit is next le none =
     place n index bit low few less m = omega (arith, few, less, m)
 
 -- none in the rest of a word: the first is behind it
-pub first_further : (words : List ℕ) (from word : ℕ) (o : Option ℕ) → word ≡ slice_index_or words (from / 64) 0 → IsNextBit word (from % 64) None → IsFirstBit words (64 * (from / 64 + 1)) o → IsFirstBit words from o
+pub first_further : (words : List ℕ) (from word : ℕ) (o : Option ℕ) → word ≡ slice_index_or words (from / 64) 0 → IsNextBit word (from % 64) None → IsFirstMark words (64 * (from / 64 + 1)) o → IsFirstMark words from o
 first_further words from word o is none further = by o further
   where
     here : (n : ℕ) → from ≤ n → n < 64 * (from / 64 + 1) → bit_of words n ≡ 0
@@ -140,7 +140,7 @@ first_further words from word o is none further = by o further
         let at : n ≡ 64 * (from / 64) + n % 64 = omega (arith, le, less) in
         at_word words n (from / 64) (n % 64) (omega arith) at ∙ ap (λ w. bit_at w (n % 64)) (sym is) ∙ none (n % 64) (omega (arith, at, le))
 
-    by : (o : Option ℕ) → IsFirstBit words (64 * (from / 64 + 1)) o → IsFirstBit words from o
+    by : (o : Option ℕ) → IsFirstMark words (64 * (from / 64 + 1)) o → IsFirstMark words from o
     by None f = λ n le. ⊎_elim (λ (l : n < 64 * (from / 64 + 1)). here n le l) (λ (m : 64 * (from / 64 + 1) ≤ n). f n m) (below_or n (64 * (from / 64 + 1)))
     by (Some p) f =
         let over : 64 * (from / 64 + 1) ≤ p = f.0 in (
@@ -149,7 +149,7 @@ first_further words from word o is none further = by o further
           λ n le less. ⊎_elim (λ (l : n < 64 * (from / 64 + 1)). here n le l) (λ (m : 64 * (from / 64 + 1) ≤ n). f.2 n m less) (below_or n (64 * (from / 64 + 1))),
         )
 
-pub none_past : (words : List ℕ) (from : ℕ) → length words ≤ from / 64 → IsFirstBit words from None
+pub none_past : (words : List ℕ) (from : ℕ) → length words ≤ from / 64 → IsFirstMark words from None
 none_past words from past n le = past_words words n (omega (arith, past, le))
 
 -- the words at both ends

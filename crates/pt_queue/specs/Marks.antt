@@ -24,9 +24,9 @@ IsNextBit word n None = (i : ℕ) → n ≤ i → bit_at word i ≡ 0
 IsNextBit word n (Some k) = (k < 64) × (n ≤ k) × (bit_at word k ≡ 1) × ((i : ℕ) → n ≤ i → i < k → bit_at word i ≡ 0)
 
 -- p is the first bit of these words that is set and isn't before bit n; or, for None, there is no such bit
-abbrev pub IsFirstBit : List ℕ → ℕ → Option ℕ → Type 0
-IsFirstBit words n None = (m : ℕ) → n ≤ m → bit_of words m ≡ 0
-IsFirstBit words n (Some p) = (n ≤ p) × (bit_of words p ≡ 1) × ((m : ℕ) → n ≤ m → m < p → bit_of words m ≡ 0)
+abbrev pub IsFirstMark : List ℕ → ℕ → Option ℕ → Type 0
+IsFirstMark words n None = (m : ℕ) → n ≤ m → bit_of words m ≡ 0
+IsFirstMark words n (Some p) = (n ≤ p) × (bit_of words p ≡ 1) × ((m : ℕ) → n ≤ m → m < p → bit_of words m ≡ 0)
 
 -- a summary has a bit for each two words, which is set if a bit is set in one of them
 abbrev pub AreSummed : List ℕ → ℕ → Type 0

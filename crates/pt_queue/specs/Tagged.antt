@@ -1,5 +1,5 @@
 -- The least tags of the units that have events, by place.
-use Rattle.std.specs.Prelude.{◌≡◌, ℕ, ◌+◌, ◌*◌, ◌<◌, ◌≤◌, ◌&&◌, ◌⊎◌, nat_lt, not, Bool, false, true, List, Option, Some, None, length, slice_index_or, if◌then◌else◌}
+use Rattle.std.specs.Prelude.{◌≡◌, ℕ, ◌+◌, ◌*◌, ◌/◌, ◌<◌, ◌≤◌, ◌&&◌, ◌⊎◌, nat_lt, not, Bool, false, true, List, Option, Some, None, length, slice_index_or, if◌then◌else◌}
 use Rattle.pt_tags.specs.declared.tag.Tag.{Tag}
 use Rattle.pt_tags.specs.declared.tag.Delay.{Delay}
 use Rattle.pt_types.specs.declared.firing.Event.{Event}
@@ -8,6 +8,7 @@ use Rattle.pt_semantics.specs.Units.{same_part}
 use Rattle.pt_queue.specs.declared.groups.Groups.{Groups}
 use Rattle.pt_queue.specs.declared.waiting.Waiting.{Waiting}
 use Rattle.pt_queue.specs.Groups.{groups_at, group_in}
+use Rattle.pt_queue.specs.Events.{unit_place}
 use Rattle.pt_queue.specs.Scans.{least_from, reaches}
 
 -- a unit has its place among n units, eight for each actor
@@ -45,6 +46,16 @@ pub record AreTags (table : List Groups) (events : List Event) (tags : List (Opt
 abbrev pub IsFirstTag : List (Option Tag) → ℕ → Option Waiting → Type 0
 IsFirstTag tags n None = (u : Part) (t : Tag) → tag_in tags u ≡ Some t → 8 * u.actor + u.group < n
 IsFirstTag tags n (Some w) = (tag_in tags w.unit ≡ Some w.tag) × (n ≤ 8 * w.unit.actor + w.unit.group) × ((u : Part) (t : Tag) → tag_in tags u ≡ Some t → (8 * u.actor + u.group < n) ⊎ (8 * w.unit.actor + w.unit.group ≤ 8 * u.actor + u.group))
+
+-- w is the first unit with a tag whose place isn't before n and is in the same word of 64 places; or, for None, no unit with such a place has a tag
+abbrev pub IsNextTag : List (Option Tag) → ℕ → Option Waiting → Type 0
+IsNextTag tags n None = (u : Part) (t : Tag) → tag_in tags u ≡ Some t → unit_place u / 64 ≡ n / 64 → unit_place u < n
+IsNextTag tags n (Some w) = (tag_in tags w.unit ≡ Some w.tag) × (n ≤ unit_place w.unit) × (unit_place w.unit / 64 ≡ n / 64) × ((u : Part) (t : Tag) → tag_in tags u ≡ Some t → (unit_place u < n) ⊎ (unit_place w.unit ≤ unit_place u))
+
+-- a time for each word of 64 places: no tag there is before it
+pub record AreFloors (tags : List (Option Tag)) (times : List ℕ) : Type 0 where
+  pub floors : (n : ℕ) (t : Tag) → slice_index_or tags n None ≡ Some t → slice_index_or times (n / 64) 0 ≤ t.time
+  pub len : length times ≡ length tags / 64 + 1
 
 -- no unit but u has a tag
 abbrev pub IsOnlyTag : List (Option Tag) → Part → Type 0

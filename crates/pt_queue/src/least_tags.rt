@@ -1,13 +1,17 @@
 //! The least tag of each unit's events, by unit.
 
 ghost use Rattle.std.specs.Prelude.{◌≡◌, ◌+◌, ◌*◌, ◌/◌, ◌<◌, ◌≤◌, ℕ, IfOk, IsSome, None, Some, true, false, length, replicate, slice_index_or, slice_set, if◌then◌else◌};
+ghost use Rattle.pt_tags.specs.declared.tag.Tag.{Tag};
 ghost use Rattle.pt_types.specs.declared.graph.Unit.{Unit as Part};
 ghost use Rattle.pt_semantics.specs.Units.{same_part};
-ghost use Rattle.pt_queue.specs.Tagged.{FitsIn, IsFirstTag, IsOnlyTag, tag_in};
+ghost use Rattle.pt_queue.specs.Events.{unit_place};
+ghost use Rattle.pt_queue.specs.Tagged.{FitsIn, IsFirstTag, IsNextTag, IsOnlyTag, tag_in};
 ghost use Rattle.pt_queue.specs.Marks.{AreMarks, IsWaitingAt, most_places, one_if, unit_with};
 ghost use Rattle.pt_queue.specs.Scans.{sooner};
 
-use crate::marks::{Span, first_from, is_only, mark, span_of, summed};
+use crate::marks::{
+    Span, clear_bit, first_from, is_only, next_bit, set_bit, span_of, summed, word_at,
+};
 use crate::waiting::Waiting;
 use pt_tags::{Memory, Tag};
 use pt_types::Unit;
@@ -57,15 +61,17 @@ fn is_least(so_far: Option<Tag>, tag: Tag) -> bool
     }
 }
 
-/// How many places have a tag, after one of them was set.
-fn recounted(count: usize, before: bool, now: bool) -> usize {
-    if before == now {
-        return count;
+/// Lowers the time of a word to this one, if it is greater.
+#[inline(always)]
+fn lower_time(times: &mut Vec<u64>, index: usize, time: u64)
+    requires { index < length times.old.items }
+    ensures here { slice_index_or times.new.items index 0 ≤ time }
+    ensures all { (n : ℕ) → slice_index_or times.new.items n 0 ≤ slice_index_or times.old.items n 0 }
+    ensures len { length times.new.items ≡ length times.old.items }
+{
+    if time < times[index] {
+        times[index] = time;
     }
-    if now {
-        return count.saturating_add(1);
-    }
-    count.saturating_sub(1)
 }
 
 /// The least tag of each unit's events, where it has events. Contracts see a list with the tag at each place: unit
@@ -77,6 +83,9 @@ pub struct LeastTags {
     marks: Vec<u64>,
     /// A bit for each two words of `marks`: it is set if one of them isn't 0. So a search passes over the others.
     summary: u64,
+    /// For each word of `marks` a time in microseconds that no tag of its places is before. It can be less than the least of their
+    /// times: setting a tag only lowers it, and it rises, to `u64::MAX`, when the last bit of the word is cleared.
+    times: Vec<u64>,
     /// How many places have a tag. No contract mentions it: it only says which way is faster.
     count: usize,
 }
@@ -85,12 +94,13 @@ impl Model for LeastTags {
     ghost use Rattle.std.specs.Prelude.{List, Option};
     ghost use Rattle.pt_tags.specs.declared.tag.Tag.{Tag};
     ghost use Rattle.pt_queue.specs.Marks.{AreMarked, AreSummed};
+    ghost use Rattle.pt_queue.specs.Tagged.{AreFloors};
 
     ghost Value = { List (Option Tag) };
 
     ghost view = { λ l. l.tags.items };
 
-    ghost invariant = { λ l. AreMarked l.tags.items l.marks.items × AreSummed l.marks.items l.summary };
+    ghost invariant = { λ l. AreMarked l.tags.items l.marks.items × AreSummed l.marks.items l.summary × AreFloors l.tags.items l.times.items };
 }
 
 impl LeastTags {
@@ -101,10 +111,12 @@ impl LeastTags {
     {
         let tags = no_tags(alloc, count)?;
         let marks = vec![in alloc; 0u64; count / 64 + 1]?;
+        let times = vec![in alloc; u64::MAX; count / 64 + 1]?;
         Ok(LeastTags {
             tags,
             marks,
             summary: 0,
+            times,
             count: 0,
         })
     }
@@ -120,14 +132,52 @@ impl LeastTags {
     }
 
     /// Sets the tag at a place.
+    #[inline(always)]
+    fn fill(&mut self, place: usize, tag: Tag)
+        requires { place < length self.old }
+        ensures { self.new ≡ slice_set self.old place (Some tag) }
+    {
+        let had = self.tags[place].is_some();
+        self.tags[place] = Some(tag);
+        lower_time(&mut self.times, place / 64, tag.time);
+        if had {
+            return;
+        }
+        set_bit(&mut self.marks, place);
+        self.summary |= 1 << (place / 128);
+        self.count = self.count.wrapping_add(1);
+    }
+
+    /// Removes the tag at a place, if there is one.
+    #[inline(always)]
+    fn clear(&mut self, place: usize)
+        requires { place < length self.old }
+        ensures { self.new ≡ slice_set self.old place None }
+    {
+        let had = self.tags[place].is_some();
+        self.tags[place] = None;
+        if !had {
+            return;
+        }
+        self.count = self.count.wrapping_sub(1);
+        clear_bit(&mut self.marks, place);
+        if self.marks[place / 64] != 0 {
+            return;
+        }
+        self.times[place / 64] = u64::MAX;
+        self.summary = summed(self.summary, self.marks.as_slice(), place / 128);
+    }
+
+    /// Sets the tag at a place, or removes it.
+    #[inline(always)]
     fn put(&mut self, place: usize, tag: Option<Tag>)
         requires { place < length self.old }
         ensures { self.new ≡ slice_set self.old place tag }
     {
-        self.count = recounted(self.count, self.tags[place].is_some(), tag.is_some());
-        self.tags[place] = tag;
-        mark(&mut self.marks, place, tag.is_some());
-        self.summary = summed(self.summary, self.marks.as_slice(), place / 128);
+        match tag {
+            None => self.clear(place),
+            Some(tag) => self.fill(place, tag),
+        }
     }
 
     /// Sets the tag of a unit. A unit without a place can only have no tag.
@@ -183,6 +233,26 @@ impl LeastTags {
         }
     }
 
+    /// The first unit that has a tag, of those whose place isn't before `from` and is in the same word.
+    #[inline(always)]
+    pub fn next_in_word(&self, from: usize) -> Option<Waiting>
+        ensures { IsNextTag self.now from result }
+    {
+        let index = from / 64;
+        match next_bit(word_at(self.marks.as_slice(), index), (from % 64) as u32) {
+            None => None,
+            Some(bit) => self.waiting_at(64 * index + bit as usize),
+        }
+    }
+
+    /// A time in microseconds that no tag with its place in this word is before.
+    #[inline(always)]
+    pub fn not_before(&self, word: usize) -> u64
+        ensures { (u : Part) (t : Tag) → tag_in self.now u ≡ Some t → unit_place u / 64 ≡ word → result ≤ t.time }
+    {
+        word_at(self.times.as_slice(), word)
+    }
+
     /// Whether no other unit than this one has a tag. It says `false` of a unit without a place.
     pub fn is_only(&self, unit: Unit) -> bool
         ensures { result ≡ true → IsOnlyTag self.now unit }
@@ -202,6 +272,7 @@ impl LeastTags {
     pub fn marks(&self) -> &[u64]
         ensures marks { AreMarks self.now result.now }
         ensures few { 64 * length result.now ≤ 64 + most_places }
+        ensures all { length self.now ≤ 64 * length result.now }
     {
         self.marks.as_slice()
     }

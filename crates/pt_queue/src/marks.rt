@@ -1,21 +1,29 @@
 //! Bits, 64 in a word, and a summary of the words: a bit for each two of them, which is set if one of the two isn't 0.
 
-ghost use Rattle.std.specs.Prelude.{◌≡◌, ◌≢◌, ◌+◌, ◌*◌, ◌/◌, ◌<◌, ◌≤◌, ℕ, true, length, slice_index_or, if◌then◌else◌};
+ghost use Rattle.std.specs.Prelude.{◌≡◌, ◌≢◌, ◌+◌, ◌*◌, ◌/◌, ◌<◌, ◌≤◌, ℕ, true, length, slice_index_or};
 ghost use Rattle.std.specs.Int.{bit_at};
 ghost use Rattle.pt_causality.specs.Before.{bit_of};
-ghost use Rattle.pt_queue.specs.Marks.{AreSummed, IsFirstBit, IsNextBit, IsTopBit, most_places};
+ghost use Rattle.pt_queue.specs.Marks.{AreSummed, IsFirstMark, IsNextBit, IsTopBit, most_places};
 
-/// Sets a bit, or clears it.
-pub fn mark(words: &mut Vec<u64>, place: usize, on: bool)
+/// Sets a bit.
+#[inline(always)]
+pub fn set_bit(words: &mut Vec<u64>, place: usize)
     requires { place < 64 * length words.old.items }
-    ensures here { bit_of words.new.items place ≡ (if on then 1 else 0) }
+    ensures here { bit_of words.new.items place ≡ 1 }
     ensures others { (n : ℕ) → n ≢ place → bit_of words.new.items n ≡ bit_of words.old.items n }
     ensures len { length words.new.items ≡ length words.old.items }
 {
-    if on {
-        words[place / 64] |= 1 << (place % 64);
-        return;
-    }
+    words[place / 64] |= 1 << (place % 64);
+}
+
+/// Clears a bit.
+#[inline(always)]
+pub fn clear_bit(words: &mut Vec<u64>, place: usize)
+    requires { place < 64 * length words.old.items }
+    ensures here { bit_of words.new.items place ≡ 0 }
+    ensures others { (n : ℕ) → n ≢ place → bit_of words.new.items n ≡ bit_of words.old.items n }
+    ensures len { length words.new.items ≡ length words.old.items }
+{
     words[place / 64] &= !(1 << (place % 64));
 }
 
@@ -31,7 +39,7 @@ pub fn last_bit(word: u64) -> Option<u32>
 
 /// The lowest bit that is set in a word, of those from number `from` on.
 #[inline(always)]
-fn next_bit(word: u64, from: u32) -> Option<u32>
+pub fn next_bit(word: u64, from: u32) -> Option<u32>
     requires { from < 64 }
     ensures { IsNextBit word from result }
 {
@@ -84,7 +92,7 @@ fn next_word(summary: u64, index: usize) -> usize
 fn first_behind(words: &[u64], summary: u64, start: usize) -> Option<usize>
     requires summed { AreSummed words.now summary }
     requires few { 64 * length words.now ≤ 64 + most_places }
-    ensures { IsFirstBit words.now (64 * start) result }
+    ensures { IsFirstMark words.now (64 * start) result }
 {
     let mut index = next_word(summary, start);
     while index < words.len() {
@@ -101,7 +109,7 @@ fn first_behind(words: &[u64], summary: u64, start: usize) -> Option<usize>
 pub fn first_from(words: &[u64], summary: u64, from: usize) -> Option<usize>
     requires summed { AreSummed words.now summary }
     requires few { 64 * length words.now ≤ 64 + most_places }
-    ensures { IsFirstBit words.now from result }
+    ensures { IsFirstMark words.now from result }
 {
     let index = from / 64;
     if index >= words.len() {

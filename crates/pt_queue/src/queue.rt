@@ -1,16 +1,17 @@
 //! The queue of a platform.
 
-ghost use Rattle.std.specs.Prelude.{◌≡◌, ◌↔◌, ℕ, ◌+◌, ◌<◌, ◌≤◌, true, false, None, [], length, IfOk, IsOk, OnOk, OnErr};
+ghost use Rattle.std.specs.Prelude.{◌≡◌, ◌↔◌, ℕ, ◌+◌, ◌/◌, ◌<◌, ◌≤◌, true, false, None, [], length, IfOk, IsOk, OnOk, OnErr};
 ghost use Rattle.pt_tags.specs.declared.tag.Tag.{Tag};
 ghost use Rattle.pt_types.specs.declared.graph.Graph.{Graph};
+ghost use Rattle.pt_types.specs.declared.graph.Unit.{Unit as Part};
 ghost use Rattle.pt_types.specs.Lawful.{IsLawful};
 ghost use Rattle.pt_semantics.specs.Claiming.{without_unit};
 ghost use Rattle.pt_semantics.specs.Lists.{Each};
 ghost use Rattle.pt_semantics.specs.Meaning.{added};
-ghost use Rattle.pt_semantics.specs.Units.{unit_inputs};
+ghost use Rattle.pt_semantics.specs.Units.{HasEvent, unit_inputs};
 ghost use Rattle.pt_causality.specs.Delays.{AreLeast, IsUnit, least_of};
 ghost use Rattle.pt_queue.specs.Groups.{AreGroups};
-ghost use Rattle.pt_queue.specs.Events.{waiting_in, value_in, IsPlaced, IsLeastTag, IsFirstWaiting, IsOnly, IsBlocked, IsClear};
+ghost use Rattle.pt_queue.specs.Events.{waiting_in, value_in, IsPlaced, IsLeastTag, IsFirstWaiting, IsNextInWord, IsOnlyUnit, IsBlocked, IsClear, unit_place};
 
 use crate::blocked::is_blocked;
 use crate::events::unit_of;
@@ -182,10 +183,36 @@ impl Queue {
         self.tags.first_waiting(from)
     }
 
+    /// The number of words of 64 places: each unit with events has its place in one of them, and its group is below 8.
+    #[inline(always)]
+    pub fn words(&self) -> usize
+        ensures { (g : Graph) → AreGroups g self.now.groups → (u : Part) (t : Tag) → HasEvent g (waiting_in self.now.events) u t → (u.group < 8) × (unit_place u / 64 < result) }
+    {
+        self.tags.marks().len()
+    }
+
+    /// The first unit that has events, with its least tag, of those whose place isn't before `from` and is in the same word of 64
+    /// places.
+    #[inline(always)]
+    pub fn next_in_word(&self, from: usize) -> Option<Waiting>
+        ensures { (g : Graph) → AreGroups g self.now.groups → IsNextInWord g (waiting_in self.now.events) from result }
+    {
+        self.tags.next_in_word(from)
+    }
+
+    /// A time in microseconds that no event of a unit with its place in this word of 64 places is before. `u64::MAX` for a word
+    /// where no unit has events; else it can be less than the least of their times.
+    #[inline(always)]
+    pub fn not_before(&self, word: usize) -> u64
+        ensures { (g : Graph) → AreGroups g self.now.groups → (u : Part) (t : Tag) → HasEvent g (waiting_in self.now.events) u t → unit_place u / 64 ≡ word → result ≤ t.time }
+    {
+        self.tags.not_before(word)
+    }
+
     /// Whether this is the only unit that has events.
     #[inline(always)]
     pub fn is_only(&self, unit: Unit) -> bool
-        ensures { (g : Graph) → AreGroups g self.now.groups → result ≡ true → IsOnly g (waiting_in self.now.events) unit }
+        ensures { (g : Graph) → AreGroups g self.now.groups → result ≡ true → IsOnlyUnit g (waiting_in self.now.events) unit }
     {
         self.tags.is_only(unit)
     }

@@ -1,6 +1,6 @@
 use Rattle.std.proofs.Common.{◌≡◌, ◌*◌, ◌≤◌, ◌+◌, None, Some, length, ap, sym, subst, ◌∙◌, arith}
 use Rattle.pt_causality.specs.Before.{bit_of}
-use Rattle.pt_queue.specs.Marks.{AreSummed, IsFirstBit, IsWaitingAt, most_places}
+use Rattle.pt_queue.specs.Marks.{AreSummed, IsFirstMark, IsWaitingAt, most_places}
 use Rattle.pt_queue.specs.Tagged.{IsFirstTag}
 use Rattle.pt_queue.proofs.Searching.{first_none, first_some, place_few}
 use Rattle.pt_queue.proofs.least_tags.LeastTags.first_waiting.Goals as goal
@@ -23,10 +23,10 @@ waiting_at-requires c =
 
 pub returns-in-None : goal.returns-in-None
 returns-in-None c = subst (λ ts. IsFirstTag ts c.args.from None) c.self.view_is
-    (first_none c.self.inside.tags.items c.self.inside.marks.items c.self.invariant.0.marks_are c.args.from (subst (λ ws. IsFirstBit ws c.args.from None) c.as_slice.ensures.value c.in-None.ensures))
+    (first_none c.self.inside.tags.items c.self.inside.marks.items c.self.invariant.0.marks_are c.args.from (subst (λ ws. IsFirstMark ws c.args.from None) c.as_slice.ensures.value c.in-None.ensures))
 
 pub returns-in-Some : goal.returns-in-Some
 returns-in-Some c = subst (λ ts. IsFirstTag ts c.args.from c.waiting_at.result) c.self.view_is
     (first_some c.self.inside.tags.items c.self.inside.marks.items c.self.invariant.0.marks_are c.args.from c.in-Some.place c.waiting_at.result
-    (subst (λ ws. IsFirstBit ws c.args.from (Some c.in-Some.place)) c.as_slice.ensures.value c.in-Some.ensures)
+    (subst (λ ws. IsFirstMark ws c.args.from (Some c.in-Some.place)) c.as_slice.ensures.value c.in-Some.ensures)
     (subst (λ ts. IsWaitingAt ts c.in-Some.place c.waiting_at.result) (sym c.self.view_is) c.waiting_at.ensures))
