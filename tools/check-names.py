@@ -30,14 +30,6 @@ FILES = rf"{FILE}(?:(?:,| and|, and) {FILE})*"
 CITED = re.compile(rf"(?P<names>{NAMES})(?: in | \(| \(in |, )(?P<files>{FILES})|\*\*(?P<first>{FILE})\*\*, (?P<behind>{NAMES})")
 # What only a definition is called, cited without a file.
 STATEMENT = re.compile(r"(?:Is|Are|Has|Have)[A-Z]\w*")
-# Names that two crates still define. Renaming one proves all crates above it anew, so it waits for the next change of its crate.
-TWICE = {
-    "AreSources",  # pt_history, pt_offsets
-    "IsFirstBit",  # pt_queue, pt_meaning
-    "IsOnly",  # pt_queue, pt_retell
-    "head_of",  # pt_history, pt_graph_text
-    "place",  # pt_queue, pt_graph_text
-}
 DOCUMENTS = ("*.md", "docs/*.md", "bench/*.md", "examples/README.md", "examples/*/README.md", "examples/*/*/README.md")
 
 
@@ -64,8 +56,6 @@ def repeated(places: dict[str, list[Path]]) -> Iterator[str]:
     """A line for each name that two crates define."""
     for name, files in places.items():
         firsts = {file.parts[1]: file for file in reversed(files)}
-        if len(firsts) == 2 and name in TWICE:
-            continue
         if len(firsts) > 1 and "◌" not in name:
             yield f"{name} is defined in {' and in '.join(str(file) for file in sorted(firsts.values()))}: rename one of them"
 

@@ -13,7 +13,7 @@ use Rattle.pt_causality.specs.Before.{MayHave, bit_of}
 use Rattle.pt_queue.specs.declared.groups.Groups.{Groups}
 use Rattle.pt_queue.specs.Groups.{groups_at}
 use Rattle.pt_queue.specs.Scans.{reaches}
-use Rattle.pt_queue.specs.Tagged.{IsOnlyTag, tag_holds_up, tag_in, unit_holds_up}
+use Rattle.pt_queue.specs.Tagged.{tag_holds_up, tag_in, unit_holds_up}
 use Rattle.pt_queue.specs.Marks.{AreMarks, IsHolder, IsHolderAmong, IsHolderIn, one_if, unit_with}
 use Rattle.pt_queue.proofs.ByUnit.{no_place, tag_with, with_place}
 use Rattle.pt_queue.proofs.Holding.{holder_has}
@@ -146,11 +146,3 @@ module _ (table : List Groups) (least : Part → Part → Option Delay) (u : Par
     where
       either : (n m : ℕ) → (n ≡ m) ⊎ (n ≢ m)
       either n m = grind arith
-
--- a unit isn't held up where no other has a tag
-pub only_free : (table : List Groups) (least : Part → Part → Option Delay) (u : Part) (t : Tag) (tags : List (Option Tag)) → IsOnlyTag tags u → (x : Part) → unit_holds_up table least u t tags x ≡ false
-only_free table least u t tags only x = by (tag_in tags x) refl
-  where
-    by : (o : Option Tag) → tag_in tags x ≡ o → unit_holds_up table least u t tags x ≡ false
-    by None e = ap (tag_holds_up table least u t x) e
-    by (Some w) e = subst (λ z. unit_holds_up table least u t tags z ≡ false) (sym (only x w e)) (not_itself table least u t (tag_in tags u))

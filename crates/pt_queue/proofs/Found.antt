@@ -201,7 +201,3 @@ empty_waits (e ∷ es) n b len is = (
   λ h. let w = some_of (λ (y : Event). value_in y e.actor e.port e.tag) (e ∷ es) e e.value (inl refl) (when-true (e.actor == e.actor && e.port == e.port && same_tag e.tag e.tag) (Some e.value) (here e)) in
       absurd (none_some w.0 (sym (h e.actor e.port e.tag) ∙ w.1)),
 )
-
--- something waits where an event of the list does
-pub some_waits : (xs : List Event) (e : Event) → IsIn e xs → (v : ℤ) × (waiting_in xs e.actor e.port e.tag ≡ Some v)
-some_waits xs e m = some_of (λ (y : Event). value_in y e.actor e.port e.tag) xs e e.value m (when-true (e.actor == e.actor && e.port == e.port && same_tag e.tag e.tag) (Some e.value) (here e))

@@ -1,6 +1,5 @@
 -- The bits that are set where there is a tag.
-use Rattle.std.proofs.Common.{◌≡◌, ◌≢◌, ℕ, ◌+◌, ◌/◌, ◌%◌, ◌<◌, ◌≤◌, ◌⊎◌, if◌then◌else◌, List, Option, Some, None, length, replicate, slice_index_or, slice_set, refl, sym, ap, subst, ◌∙◌, ⊎_elim, arith}
-use Rattle.std.specs.Option.{is_some}
+use Rattle.std.proofs.Common.{◌≡◌, ◌≢◌, ℕ, ◌+◌, ◌/◌, ◌%◌, ◌<◌, ◌≤◌, ◌⊎◌, List, Option, None, length, replicate, slice_index_or, slice_set, refl, sym, ap, subst, ◌∙◌, ⊎_elim, arith}
 use Rattle.std.specs.Int.{bit_at}
 use Rattle.std.proofs.lemmas.List.{get_or-replicate, get_or_past, get_or-set_same, get_or-set_other, length-replicate, length-set}
 use Rattle.std.proofs.lemmas.Nat.Bits.{bit_at-zero}
@@ -8,11 +7,6 @@ use Rattle.pt_tags.specs.declared.tag.Tag.{Tag}
 use Rattle.pt_causality.specs.Before.{bit_of}
 use Rattle.pt_queue.specs.Marks.{AreMarked, most_places, one_if}
 use Rattle.pt_queue.proofs.ByUnit.{nowhere}
-
--- the bit of a tag that is there, or not
-pub one_or : (o : Option Tag) → (if is_some o then 1 else 0) ≡ one_if o
-one_or None = refl
-one_or (Some t) = refl
 
 -- without tags no bit is set
 zeros : (n k : ℕ) → slice_index_or (replicate {A = ℕ} n 0) k 0 ≡ 0

@@ -64,9 +64,6 @@ first_taken t (x ∷ xs) e h is k =
     itself : (t : Tag) → same_tag t t ≡ true
     itself t = grind arith
 
-after : (t u : Tag) → same_tag u t ≡ false → tag_lt u t ≡ false → Before t u
-after t u h k = grind arith
-
 pub ahead : (t u : Tag) → tag_lt t u ≡ true → Before t u
 ahead t u h = grind arith
 
@@ -76,9 +73,6 @@ none_taken t [] e h is b = absurd (none_some e (sym is))
 none_taken t (x ∷ xs) e h is b =
     let before : Before t x.tag = subst (λ (y : Event). Before t y.tag) (same_some e x is) b in
     all_kept t (x ∷ xs) (before, each_later t x.tag xs before h.0)
-
-pub not_before : (t : Tag) (xs : List Event) (e : Event) → TagsRise xs → Some e ≡ first xs → same_tag e.tag t ≡ false → tag_lt e.tag t ≡ false → filter (λ (x : Event). not (same_tag t x.tag)) xs ≡ xs
-not_before t xs e h is ne nl = none_taken t xs e h is (after t e.tag ne nl)
 
 not_there : (t u : Tag) → Before t u → same_tag u t ≡ false
 not_there t u h = grind arith

@@ -1,5 +1,5 @@
 -- What a queue says, by all its events.
-use Rattle.std.proofs.Common.{◌≡◌, ℕ, zero, suc, ◌==◌, ◌&&◌, not, List, [], ◌++◌, Some, None, map, filter, replicate, refl, sym, ap, ◌∙◌, ne_eqb}
+use Rattle.std.proofs.Common.{◌≡◌, ℕ, zero, suc, ◌==◌, not, List, [], ◌++◌, map, filter, replicate, refl, sym, ap, ◌∙◌}
 use Rattle.pt_tags.specs.declared.tag.Tag.{Tag}
 use Rattle.pt_types.specs.declared.firing.Event.{Event}
 use Rattle.pt_types.specs.declared.graph.Graph.{Graph}
@@ -8,14 +8,13 @@ use Rattle.pt_types.specs.Ports.{when, eight}
 use Rattle.pt_types.specs.Lookups.{kind_of}
 use Rattle.pt_semantics.specs.Units.{unit_inputs}
 use Rattle.pt_types.specs.Groups.{input_group}
-use Rattle.pt_tags.specs.Tags.{same_tag}
 use Rattle.pt_semantics.specs.Claiming.{without_unit}
 use Rattle.pt_semantics.specs.Lists.{Each}
 use Rattle.pt_semantics.specs.Meaning.{Values}
 use Rattle.pt_semantics.proofs.Lookups.{Each-append, eight_below}
 use Rattle.pt_queue.specs.declared.groups.Groups.{Groups}
 use Rattle.pt_queue.specs.Groups.{AreGroups, group_in}
-use Rattle.pt_queue.specs.Events.{waiting_in, value_in, IsPlaced}
+use Rattle.pt_queue.specs.Events.{waiting_in, IsPlaced}
 use Rattle.pt_queue.specs.Lines.{AreKept, all_of, with_events}
 use Rattle.pt_queue.specs.Scans.{is_at}
 use Rattle.pt_queue.proofs.Flat.{all_placed, all_wait, settled_kept}
@@ -45,9 +44,6 @@ removed_waits g table u t lines loose are k =
 pub none_in : (count : ℕ) → all_of (replicate count []) ≡ []
 none_in zero = refl
 none_in (suc n) = none_in n
-
-pub away : (e : Event) (a p : ℕ) (t : Tag) → (e.actor ≡ a → ⊥) → value_in e a p t ≡ None
-away e a p t ne = ap (λ b. when (b && e.port == p && same_tag e.tag t) (Some e.value)) (ne_eqb e.actor a ne)
 
 -- the inputs of a unit, by the table
 pub inputs_whole : (g : Graph) (table : List Groups) (u : Part) (t : Tag) (w : Values) → AreGroups g table → eight (λ p. when (group_in table u.actor p == u.group) (w u.actor p t)) ≡ unit_inputs g w u t

@@ -1,6 +1,5 @@
 -- Bits, 64 in a word: one that is set or cleared, and the highest.
-use Rattle.std.proofs.Common.{◌≡◌, ◌≢◌, ℕ, ◌+◌, ◌-◌, ◌*◌, ◌/◌, ◌%◌, ◌^◌, ◌<◌, ◌≤◌, ◌⊎◌, List, length, max, slice_index_or, slice_set, sym, ap, ◌∙◌, ⊎_elim, arith, add-one}
-use Rattle.std.proofs.Math.Nat.{pow-suc}
+use Rattle.std.proofs.Common.{◌≡◌, ◌≢◌, ℕ, ◌+◌, ◌-◌, ◌*◌, ◌/◌, ◌%◌, ◌^◌, ◌<◌, ◌≤◌, ◌⊎◌, List, length, max, slice_index_or, slice_set, sym, ap, ◌∙◌, ⊎_elim, arith}
 use Rattle.std.specs.Int.{bit_at, bit_not, w64}
 use Rattle.std.specs.Int.RustNames.{bit_and, bit_or}
 use Rattle.std.proofs.lemmas.List.{get_or-set_same, get_or-set_other, get_or_past}
@@ -50,15 +49,6 @@ pub past_words : (words : List ℕ) (n : ℕ) → length words ≤ n / 64 → bi
 past_words words n l = ap (λ w. bit_at w (n % 64)) (get_or_past words (n / 64) 0 l) ∙ bit_at-zero (n % 64)
 
 -- the bits of a word whose highest bit is k, without that bit
-
-pub top_rest : (word k : ℕ) → 2 ^ k ≤ word → word < 2 ^ (k + 1) → word - 2 ^ k < 2 ^ k
-top_rest word k le less = let twice : 2 ^ (k + 1) ≡ 2 * 2 ^ k = double k in omega (arith, le, less, twice)
-  where
-    double : (k : ℕ) → 2 ^ (k + 1) ≡ 2 * 2 ^ k
-    double k = ap (λ n. 2 ^ n) (add-one k) ∙ pow-suc 2 k ∙ mul (2 ^ k)
-      where
-        mul : (n : ℕ) → n * 2 ≡ 2 * n
-        mul n = omega arith
 
 pub top_below : (word k i : ℕ) → 2 ^ k ≤ word → word < 2 ^ (k + 1) → i < k → bit_at word i ≡ bit_at (word - 2 ^ k) i
 top_below word k i le less l =

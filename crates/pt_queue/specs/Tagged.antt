@@ -26,7 +26,7 @@ tag_holds_up table least u t x (Some w) = holds_up table least u t (record { uni
 
 -- the tag at a unit's place, eight places for each actor
 abbrev pub tag_in : List (Option Tag) → Part → Option Tag
-tag_in tags u = if nat_lt u.group 8 then slice_index_or tags (8 * u.actor + u.group) None else None
+tag_in tags u = if nat_lt u.group 8 then slice_index_or tags (unit_place u) None else None
 
 -- unit x has a tag, differs from u, and the tag leads to u at t or before
 abbrev pub unit_holds_up : List Groups → (Part → Part → Option Delay) → Part → Tag → List (Option Tag) → Part → Bool
@@ -44,8 +44,8 @@ pub record AreTags (table : List Groups) (events : List Event) (tags : List (Opt
 
 -- w is the first unit with a tag whose place isn't before n; or, for None, no unit with such a place has a tag
 abbrev pub IsFirstTag : List (Option Tag) → ℕ → Option Waiting → Type 0
-IsFirstTag tags n None = (u : Part) (t : Tag) → tag_in tags u ≡ Some t → 8 * u.actor + u.group < n
-IsFirstTag tags n (Some w) = (tag_in tags w.unit ≡ Some w.tag) × (n ≤ 8 * w.unit.actor + w.unit.group) × ((u : Part) (t : Tag) → tag_in tags u ≡ Some t → (8 * u.actor + u.group < n) ⊎ (8 * w.unit.actor + w.unit.group ≤ 8 * u.actor + u.group))
+IsFirstTag tags n None = (u : Part) (t : Tag) → tag_in tags u ≡ Some t → unit_place u < n
+IsFirstTag tags n (Some w) = (tag_in tags w.unit ≡ Some w.tag) × (n ≤ unit_place w.unit) × ((u : Part) (t : Tag) → tag_in tags u ≡ Some t → (unit_place u < n) ⊎ (unit_place w.unit ≤ unit_place u))
 
 -- w is the first unit with a tag whose place isn't before n and is in the same word of 64 places; or, for None, no unit with such a place has a tag
 abbrev pub IsNextTag : List (Option Tag) → ℕ → Option Waiting → Type 0

@@ -6,6 +6,7 @@ ghost use Rattle.std.specs.Int.RustNames.{bit_and};
 ghost use Rattle.pt_types.specs.declared.graph.Unit.{Unit as Part};
 ghost use Rattle.pt_causality.specs.Before.{MayHave};
 ghost use Rattle.pt_causality.specs.Delays.{HasAllBefore, least_of};
+ghost use Rattle.pt_queue.specs.Events.{unit_place};
 ghost use Rattle.pt_queue.specs.Tagged.{SomeHoldsUp, holds_up, unit_holds_up};
 ghost use Rattle.pt_queue.specs.Marks.{IsHolder, IsHolderAmong, IsHolderIn, most_places};
 
@@ -113,7 +114,7 @@ fn holder_in_word(
 
 /// A word of `before`; all bits are set in a word past its end, since of the units there nothing is known.
 fn word_before(before: &[u64], index: usize) -> u64
-    ensures { (x : Part) → MayHave before.now x → x.group < 8 → (8 * x.actor + x.group) / 64 ≡ index → bit_at result ((8 * x.actor + x.group) % 64) ≡ 1 }
+    ensures { (x : Part) → MayHave before.now x → x.group < 8 → unit_place x / 64 ≡ index → bit_at result (unit_place x % 64) ≡ 1 }
 {
     match before.get(index) {
         None => u64::MAX,
@@ -165,7 +166,7 @@ fn shared_bits(marks: &[u64], before: &[u64], from: usize, end: usize) -> u64
 #[inline(never)]
 fn shares_none(marks: &[u64], before: &[u64], from: usize, end: usize, unit: Unit) -> bool
     ensures group { result ≡ true → unit.group < 8 }
-    ensures none { result ≡ true → (n : ℕ) → from ≤ n / 64 → n / 64 < end → n ≢ 8 * unit.actor + unit.group → (n / 64 < length before.now) × (bit_at (bit_and (slice_index_or marks.now (n / 64) 0) (slice_index_or before.now (n / 64) 0)) (n % 64) ≡ 0) }
+    ensures none { result ≡ true → (n : ℕ) → from ≤ n / 64 → n / 64 < end → n ≢ unit_place unit → (n / 64 < length before.now) × (bit_at (bit_and (slice_index_or marks.now (n / 64) 0) (slice_index_or before.now (n / 64) 0)) (n % 64) ≡ 0) }
 {
     let place = place_of(unit);
     let own = place / 64;
@@ -358,9 +359,6 @@ pub fn is_blocked(
     ensures held { result ≡ true → SomeHoldsUp table.now (least_of least.now) unit tag tags.now }
     ensures free { result ≡ false → (x : Part) → unit_holds_up table.now (least_of least.now) unit tag tags.now x ≡ false }
 {
-    if tags.is_only(unit) {
-        return false;
-    }
     if is_held_still(table, tags, holders, unit, tag, least) {
         return true;
     }

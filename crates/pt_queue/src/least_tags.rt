@@ -181,6 +181,7 @@ impl LeastTags {
     }
 
     /// Sets the tag of a unit. A unit without a place can only have no tag.
+    #[inline(always)]
     pub fn set(&mut self, unit: Unit, tag: Option<Tag>)
         requires { IsSome tag → FitsIn (length self.old) unit }
         ensures tags { (x : Part) → tag_in self.new x ≡ (if same_part unit x then tag else tag_in self.old x) }
@@ -209,11 +210,12 @@ impl LeastTags {
     }
 
     /// The unit with a place, with its tag, if it has one.
+    #[inline(always)]
     fn waiting_at(&self, place: usize) -> Option<Waiting>
-        requires { place < 64 + most_places }
+        requires { place < length self.now }
         ensures { IsWaitingAt self.now place result }
     {
-        match self.tags.get(place).copied().unwrap_or(None) {
+        match self.tags[place] {
             None => None,
             Some(tag) => Some(Waiting {
                 unit: unit_at(place),

@@ -1,4 +1,4 @@
-use Rattle.std.proofs.Common.{◌≡◌, ◌*◌, ◌≤◌, ◌+◌, None, Some, length, ap, sym, subst, ◌∙◌, arith}
+use Rattle.std.proofs.Common.{◌≡◌, ◌*◌, ◌<◌, ◌≤◌, ◌+◌, None, Some, length, ap, sym, subst, ◌∙◌, arith}
 use Rattle.pt_causality.specs.Before.{bit_of}
 use Rattle.pt_queue.specs.Marks.{AreSummed, IsFirstMark, IsWaitingAt, most_places}
 use Rattle.pt_queue.specs.Tagged.{IsFirstTag}
@@ -17,9 +17,7 @@ first_from-requires-clause-few c =
 pub waiting_at-requires : goal.waiting_at-requires
 waiting_at-requires c =
     let set : bit_of c.self.inside.marks.items c.in-Some.place ≡ 1 = ap (λ ws. bit_of ws c.in-Some.place) (sym c.as_slice.ensures.value) ∙ c.in-Some.ensures.1 in
-    let less = place_few c.self.inside.tags.items c.self.inside.marks.items c.self.invariant.0.marks_are c.in-Some.place set in
-    let few = c.self.invariant.0.few in
-    omega (arith, less, few)
+    subst (λ ts. c.in-Some.place < length ts) c.self.view_is (place_few c.self.inside.tags.items c.self.inside.marks.items c.self.invariant.0.marks_are c.in-Some.place set)
 
 pub returns-in-None : goal.returns-in-None
 returns-in-None c = subst (λ ts. IsFirstTag ts c.args.from None) c.self.view_is

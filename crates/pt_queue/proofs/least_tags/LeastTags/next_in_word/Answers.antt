@@ -1,4 +1,4 @@
-use Rattle.std.proofs.Common.{◌≡◌, ◌*◌, ◌/◌, ◌%◌, ◌+◌, None, Some, slice_index_or, ap, sym, subst, ◌∙◌, arith}
+use Rattle.std.proofs.Common.{◌≡◌, ◌*◌, ◌/◌, ◌%◌, ◌+◌, ◌<◌, None, Some, length, slice_index_or, ap, sym, subst, ◌∙◌, arith}
 use Rattle.pt_queue.specs.Marks.{IsFirstMark, IsWaitingAt}
 use Rattle.pt_queue.specs.Tagged.{IsNextTag}
 use Rattle.pt_queue.proofs.Searching.{next_none, next_some, place_few}
@@ -11,9 +11,8 @@ waiting_at-requires c =
     let word : c.word_at.result ≡ slice_index_or marks (c.args.from / 64) 0 = c.word_at.ensures ∙ ap (λ ws. slice_index_or ws (c.args.from / 64) 0) c.as_slice.ensures.value in
     let first : IsFirstMark marks c.args.from (Some (64 * (c.args.from / 64) + c.in-Some.bit)) =
     first_in_word marks c.args.from (c.args.from / 64) (c.args.from % 64) c.word_at.result c.in-Some.bit word c.in-Some.ensures (omega arith) (λ n le less. absurd (omega (arith, le, less))) in
-    let less = place_few c.self.inside.tags.items marks c.self.invariant.0.marks_are (64 * (c.args.from / 64) + c.in-Some.bit) first.1 in
-    let few = c.self.invariant.0.few in
-    omega (arith, less, few)
+    subst (λ ts. 64 * (c.args.from / 64) + c.in-Some.bit < length ts) c.self.view_is
+    (place_few c.self.inside.tags.items marks c.self.invariant.0.marks_are (64 * (c.args.from / 64) + c.in-Some.bit) first.1)
 
 pub returns-in-None : goal.returns-in-None
 returns-in-None c =
