@@ -11,6 +11,7 @@ ghost use Rattle.pt_queue.specs.Tagged.{SomeHoldsUp, holds_up, unit_holds_up};
 ghost use Rattle.pt_queue.specs.Marks.{IsHolder, IsHolderAmong, IsHolderIn, most_places};
 
 use crate::events::reaches;
+use crate::few_words::{are_few_words, is_held_in_few};
 use crate::groups::{Groups, count_at};
 use crate::holders::Holders;
 use crate::least_tags::{LeastTags, place_of, unit_at};
@@ -89,7 +90,7 @@ fn unit_holds_up(
 ///
 /// It stays apart from the loop over all words, most of which are 0, so that this one is short.
 #[inline(never)]
-fn holder_in_word(
+pub fn holder_in_word(
     table: &[Groups],
     tags: &LeastTags,
     unit: Unit,
@@ -113,7 +114,7 @@ fn holder_in_word(
 }
 
 /// A word of `before`; all bits are set in a word past its end, since of the units there nothing is known.
-fn word_before(before: &[u64], index: usize) -> u64
+pub fn word_before(before: &[u64], index: usize) -> u64
     ensures { (x : Part) → MayHave before.now x → x.group < 8 → unit_place x / 64 ≡ index → bit_at result (unit_place x % 64) ≡ 1 }
 {
     match before.get(index) {
@@ -347,7 +348,8 @@ fn is_held_still(
 
 /// Whether a unit that has events holds up this one.
 ///
-/// The unit that held it up last is tried first. One found by a search is remembered.
+/// Where the bits of all units are more than a few words, the unit that held it up last is tried first, and one found by a search
+/// is remembered.
 pub fn is_blocked(
     table: &[Groups],
     tags: &LeastTags,
@@ -359,6 +361,9 @@ pub fn is_blocked(
     ensures held { result ≡ true → SomeHoldsUp table.now (least_of least.now) unit tag tags.now }
     ensures free { result ≡ false → (x : Part) → unit_holds_up table.now (least_of least.now) unit tag tags.now x ≡ false }
 {
+    if are_few_words(tags) {
+        return is_held_in_few(table, tags, unit, tag, least);
+    }
     if is_held_still(table, tags, holders, unit, tag, least) {
         return true;
     }

@@ -9,6 +9,7 @@
 
 mod blocked;
 mod events;
+mod few_words;
 mod groups;
 mod holders;
 mod least_tags;
