@@ -1,4 +1,5 @@
 pub mod Admitted
+pub mod ByWord
 pub mod Listed
 pub mod Maxima
 pub mod Small

@@ -90,6 +90,7 @@ past_timing g a lawful past =
     let none : (k : ℕ) → HasOffset g (unit_at a k) None = λ k. no_offset g (unit_at a k) lawful (λ (unit : IsUnit g (unit_at a k)). let below : a < length g.actors = unit.0 in omega arith) in
     record {
       bound = sym (none_past g a (bound_of g a) lawful past refl);
+      units = λ k unit. let below : a < length g.actors = unit.0 in absurd (omega (arith, below, past));
       offsets = none;
       offset = none;
       margin = no_margin (kind_of g a);

@@ -1,4 +1,5 @@
 pub mod Bounded
+pub mod Entries
 pub mod Faults
 pub mod Firsts
 pub mod Greatest
@@ -6,3 +7,4 @@ pub mod Margins
 pub mod Plans
 pub mod Sources
 pub mod Timings
+pub mod Words

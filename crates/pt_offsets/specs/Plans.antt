@@ -13,7 +13,8 @@ use Rattle.pt_causality.specs.declared.ranks.Ranks.{Ranks}
 use Rattle.pt_causality.specs.Ranked.{level_of, rank_of}
 use Rattle.pt_offsets.specs.declared.table.Offsets.{Offsets}
 use Rattle.pt_offsets.specs.Margins.{HasActorOffset, HasMargin}
-use Rattle.pt_offsets.specs.Timings.{actor_offset_of, bound_in, margin_in, offset_of}
+use Rattle.pt_offsets.specs.Timings.{actor_offset_of, bound_in, least_offset_in, margin_in, offset_of}
+use Rattle.pt_offsets.specs.Words.{IsLeastInWord}
 
 -- the four parts of a plan
 pub record Parts : Type 0 where
@@ -22,10 +23,11 @@ pub record Parts : Type 0 where
   pub ranks : Ranks
   pub offsets : Offsets
 
--- these are the offsets of the graph's units and actors, its bounds and its margins
+-- these are the offsets of the graph's units and actors, the least ones by word, its bounds and its margins
 pub record AreOffsets (g : Graph) (o : Offsets) : Type 0 where
   pub units : (u : Part) → HasOffset g u (offset_of o u)
   pub actors : (a : ℕ) → HasActorOffset g a (actor_offset_of o a)
+  pub words : (word : ℕ) → IsLeastInWord g word (least_offset_in o word)
   pub bounds : (a : ℕ) → bound_in o a ≡ bound_of g a
   pub margins : (a : ℕ) → HasMargin g a (margin_in o a)
 

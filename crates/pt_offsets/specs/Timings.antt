@@ -1,5 +1,6 @@
 -- The bounds, offsets and margins of actors as lists.
-use Rattle.std.specs.Prelude.{◌≡◌, ◌<ℤ◌, ◌≤ℤ◌, ◌+ℤ◌, ℕ, ℤ, pos, [], List, None, Option, Some, slice_index_or}
+pub use Rattle.pt_offsets.specs.Entries.{no_timing, timing_at}
+use Rattle.std.specs.Prelude.{◌≡◌, ◌<◌, ◌<ℤ◌, ◌≤ℤ◌, ◌+ℤ◌, ℕ, ℤ, pos, List, None, Option, Some, length, slice_index_or}
 use Rattle.pt_types.specs.declared.graph.Graph.{Graph}
 use Rattle.pt_types.specs.declared.graph.Unit.{Unit as Part}
 use Rattle.pt_types.specs.declared.kind.Kind.{Kind}
@@ -7,18 +8,12 @@ use Rattle.pt_types.specs.declared.kind.Kind.TheVariants.{Send}
 use Rattle.pt_semantics.specs.Bounds.{bound_of}
 use Rattle.pt_types.specs.Lookups.{kind_of}
 use Rattle.pt_semantics.specs.Offsets.{HasOffset}
+use Rattle.pt_causality.specs.Units.{IsUnit}
 use Rattle.pt_offsets.specs.declared.fault.OffsetFault.{OffsetFault}
 use Rattle.pt_offsets.specs.declared.fault.OffsetFault.TheVariants.{Infeasible, Memory}
 use Rattle.pt_offsets.specs.declared.table.Offsets.{Offsets}
 use Rattle.pt_offsets.specs.declared.table.Timing.{Timing}
 use Rattle.pt_offsets.specs.Margins.{HasActorOffset, margin_of, unit_at}
-
--- the entry of an actor past the end: nothing is present
-abbrev pub no_timing : Timing
-no_timing = record { bound = None; offsets = []; offset = None; margin = None }
-
-abbrev pub timing_at : List Timing → ℕ → Timing
-timing_at timings a = slice_index_or timings a no_timing
 
 -- the offset of a unit, and the greatest offset of an actor's units
 unfoldable pub offset_of : Offsets → Part → Option ℤ
@@ -26,6 +21,10 @@ offset_of o u = slice_index_or (timing_at o.actors.items u.actor).offsets u.grou
 
 unfoldable pub actor_offset_of : Offsets → ℕ → Option ℤ
 actor_offset_of o a = (timing_at o.actors.items a).offset
+
+-- the least offset in a word of units, those of eight actors in a row; none if one of them has no offset, or past the end
+unfoldable pub least_offset_in : Offsets → ℕ → Option ℤ
+least_offset_in o word = slice_index_or o.words.items word None
 
 -- the bound and the margin of an actor
 unfoldable pub bound_in : Offsets → ℕ → Option ℕ
@@ -37,6 +36,7 @@ margin_in o a = (timing_at o.actors.items a).margin
 -- this is the entry of actor a
 pub record IsTiming (g : Graph) (a : ℕ) (t : Timing) : Type 0 where
   pub bound : t.bound ≡ bound_of g a
+  pub units : (group : ℕ) → IsUnit g (unit_at a group) → group < length t.offsets
   pub offsets : (group : ℕ) → HasOffset g (unit_at a group) (slice_index_or t.offsets group None)
   pub offset : HasActorOffset g a t.offset
   pub margin : t.margin ≡ margin_of (kind_of g a) t.offset

@@ -10,7 +10,8 @@ ghost use Rattle.pt_semantics.specs.Offsets.{HasOffset, IsFeasible};
 ghost use Rattle.pt_causality.specs.Delays.{AreLeast, AreSmall, least_of};
 ghost use Rattle.pt_offsets.specs.Faults.{CauseOfOffset, Names};
 ghost use Rattle.pt_offsets.specs.Margins.{HasActorOffset, HasMargin, SendsInTime};
-ghost use Rattle.pt_offsets.specs.Timings.{AreTimings, CanSendInTime, SendsLate, timing_at, actor_offset_of, bound_in, margin_in, offset_of};
+ghost use Rattle.pt_offsets.specs.Timings.{AreTimings, CanSendInTime, SendsLate, timing_at, actor_offset_of, bound_in, least_offset_in, margin_in, offset_of};
+ghost use Rattle.pt_offsets.specs.Words.{IsLeastInWord};
 
 use crate::fault::OffsetFault;
 use crate::table::{Offsets, Timing};
@@ -29,6 +30,7 @@ pub fn offsets_of(alloc: Global, graph: &Graph, least: &Least) -> Result<Offsets
     requires small { AreSmall (least_of least.now) }
     ensures offsets { IfOk result (λ o. (u : Part) → HasOffset graph.now u (offset_of o u)) }
     ensures actors { IfOk result (λ o. (a : ℕ) → HasActorOffset graph.now a (actor_offset_of o a)) }
+    ensures words { IfOk result (λ o. (word : ℕ) → IsLeastInWord graph.now word (least_offset_in o word)) }
     ensures bounds { IfOk result (λ o. (a : ℕ) → bound_in o a ≡ bound_of graph.now a) }
     ensures margins { IfOk result (λ o. (a : ℕ) → HasMargin graph.now a (margin_in o a)) }
 

@@ -16,6 +16,7 @@ mod planning;
 mod table;
 mod timing;
 mod unit_offsets;
+mod words;
 
 pub use admission::offsets_of;
 pub use fault::{OffsetFault, PlanFault};

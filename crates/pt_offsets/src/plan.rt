@@ -9,7 +9,8 @@ ghost use Rattle.pt_semantics.specs.Ranks.{AreLevels, AreRanks};
 ghost use Rattle.pt_causality.specs.Branches.{AreBranches};
 ghost use Rattle.pt_causality.specs.Delays.{AreLeast, AreSmall, least_of};
 ghost use Rattle.pt_causality.specs.Ranked.{level_of, rank_of};
-ghost use Rattle.pt_offsets.specs.Timings.{actor_offset_of, bound_in, margin_in, offset_of};
+ghost use Rattle.pt_offsets.specs.Timings.{actor_offset_of, bound_in, least_offset_in, margin_in, offset_of};
+ghost use Rattle.pt_offsets.specs.Words.{IsLeastInWord};
 ghost use Rattle.pt_offsets.specs.Margins.{HasActorOffset, HasMargin};
 ghost use Rattle.pt_offsets.specs.Plans.{IsAdmitted};
 
@@ -58,6 +59,7 @@ impl Plan {
         requires levels { AreLevels graph (level_of ranks) }
         requires offsets { (u : Part) → HasOffset graph u (offset_of offsets u) }
         requires actors { (a : ℕ) → HasActorOffset graph a (actor_offset_of offsets a) }
+        requires words { (word : ℕ) → IsLeastInWord graph word (least_offset_in offsets word) }
         requires bounds { (a : ℕ) → bound_in offsets a ≡ bound_of graph a }
         requires margins { (a : ℕ) → HasMargin graph a (margin_in offsets a) }
         requires feasible { IsFeasible graph }

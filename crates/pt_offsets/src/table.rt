@@ -1,8 +1,10 @@
 //! The bounds, offsets and margins of all actors.
 
-ghost use Rattle.std.specs.Prelude.{◌≡◌, IfOk, map};
+ghost use Rattle.std.specs.Prelude.{◌≡◌, IfOk, length, map};
 ghost use Rattle.pt_offsets.specs.Firsts.{first_offset};
+ghost use Rattle.pt_offsets.specs.Words.{AreAtMostWords};
 
+use crate::words::least_by_word;
 use pt_tags::List;
 use pt_types::Unit;
 use std::alloc::{AllocError, Global};
@@ -45,18 +47,26 @@ pub struct Offsets {
     actors: Vec<Timing>,
     /// The offset of each actor's first unit, which is mostly its only one: close together, since a turn asks for many.
     firsts: Vec<Option<i64>>,
+    /// The least offset of the units of each eight actors, if all of them have one.
+    words: Vec<Option<i64>>,
     ghost firsts_are: { firsts.items ≡ map first_offset actors.items },
 }
 
 impl Offsets {
-    ghost use Rattle.pt_offsets.specs.Timings.{offset_of, actor_offset_of, bound_in, margin_in};
+    ghost use Rattle.pt_offsets.specs.Timings.{offset_of, actor_offset_of, bound_in, least_offset_in, margin_in};
 
     /// The offsets of actors with these timings.
     pub(crate) fn new(alloc: Global, actors: Vec<Timing>) -> Result<Offsets, AllocError>
-        ensures { IfOk result (λ offsets. offsets.actors.items ≡ actors.items) }
+        ensures actors { IfOk result (λ offsets. offsets.actors.items ≡ actors.items) }
+        ensures words { IfOk result (λ offsets. AreAtMostWords (length actors.items) actors.items offsets.words.items) }
     {
         let firsts = first_offsets(alloc, actors.as_slice())?;
-        Ok(Offsets { actors, firsts })
+        let words = least_by_word(alloc, actors.as_slice())?;
+        Ok(Offsets {
+            actors,
+            firsts,
+            words,
+        })
     }
 
     /// The offset of a unit; `None` if no sensor and no receiver leads to it.
@@ -74,6 +84,15 @@ impl Offsets {
         let timing = self.actors.get(unit.actor as usize)?;
         let offsets = timing.offsets.as_slice();
         offsets.get(unit.group as usize).copied().unwrap_or(None)
+    }
+
+    /// The least offset of the units of the eight actors from number 8 * `word` on; `None` if one of them has no offset, and
+    /// past the last actor.
+    #[tactic(auto, unfolding(crate::specs::Timings::least_offset_in))]
+    pub fn least_in_word(&self, word: usize) -> Option<i64>
+        ensures { result ≡ least_offset_in self.now word }
+    {
+        self.words.get(word).copied().unwrap_or(None)
     }
 
     /// The greatest offset of an actor's units; `None` if none of them has an offset.

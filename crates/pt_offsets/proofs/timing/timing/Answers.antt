@@ -1,4 +1,4 @@
-use Rattle.std.proofs.Common.{◌≡◌, ◌<◌, ℕ, ℤ, List, Option, None, true, length, get_or, ap, sym, subst, ◌∙◌}
+use Rattle.std.proofs.Common.{◌≡◌, ◌<◌, ℕ, ℤ, List, Option, None, true, length, get_or, arith, ap, sym, subst, ◌∙◌}
 use Rattle.pt_tags.specs.declared.tag.Delay.{Delay}
 use Rattle.pt_types.specs.declared.graph.Graph.{Graph}
 use Rattle.pt_types.specs.declared.graph.Unit.{Unit as Part}
@@ -9,7 +9,7 @@ use Rattle.pt_types.specs.Lookups.{kind_of}
 use Rattle.pt_semantics.specs.Offsets.{HasOffset}
 use Rattle.pt_semantics.specs.Units.{groups}
 use Rattle.pt_types.proofs.LawfulActors.{any_kind}
-use Rattle.pt_causality.specs.Delays.{least_of}
+use Rattle.pt_causality.specs.Delays.{IsUnit, least_of}
 use Rattle.pt_offsets.specs.Bounded.{offset_from}
 use Rattle.pt_offsets.specs.Greatest.{HasGreatest}
 use Rattle.pt_offsets.specs.Margins.{margin_of, unit_at}
@@ -51,6 +51,8 @@ returns c =
     let each = each_offset g bounds least c.args.number offsets c.requires.lawful c.requires.bounds c.requires.least c.requires.there units in
     record {
       bound = c.bound_at.ensures ∙ c.requires.bounds.each c.args.number;
+      units = subst (λ (xs : List (Option ℤ)). (k : ℕ) → IsUnit g (unit_at c.args.number k) → k < length xs) (sym c.new.ensures)
+          (λ k unit. let below : k < groups (kind_of g c.args.number) = unit.1 in let len : length offsets ≡ groups (kind_of g c.args.number) = units.len in omega (arith, below, len));
       offsets = subst (λ (xs : List (Option ℤ)). (k : ℕ) → HasOffset g (unit_at c.args.number k) (get_or xs k None)) (sym c.new.ensures) each;
       offset = actor_offset g bounds least c.args.number offsets c.requires.lawful c.requires.bounds c.requires.least c.requires.there units c.greatest-offset.result
           (subst (λ (xs : List (Option ℤ)). HasGreatest (length xs) (λ k. get_or xs k None) c.greatest-offset.result) c.as_slice.ensures.value c.greatest-offset.ensures);

@@ -12,7 +12,7 @@ invariant_of-result c = (
     small = c.requires.small;
     ranks = c.requires.ranks;
     levels = c.requires.levels;
-    offsets = record { units = c.requires.offsets; actors = c.requires.actors; bounds = c.requires.bounds; margins = c.requires.margins };
+    offsets = record { units = c.requires.offsets; actors = c.requires.actors; words = c.requires.words; bounds = c.requires.bounds; margins = c.requires.margins };
   },
   c.requires.branches,
 )
