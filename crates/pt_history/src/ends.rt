@@ -126,16 +126,17 @@ impl Ends {
         }
     }
 
-    /// The list that has an item, which is counted from 0 over all lists.
-    pub fn list_of(&self, item: usize) -> usize
+    /// The list that has an item, which is counted from 0 over all lists. It is found in few steps if it is soon after the list
+    /// `near`; no contract depends on that one.
+    pub fn list_of(&self, item: usize, near: usize) -> usize
         requires { item < self.now.total }
         ensures within { result < length self.now.ends }
         ensures starts { slice_index (0 ∷ self.now.ends) result ≤ item }
         ensures ends { item < slice_index self.now.ends result }
     {
         let _ = &self.starts;
-        let mut low = 0;
-        let mut high = self.len();
+        let mut low = self.list_before(item, near);
+        let mut high = self.list_behind(item, low);
         while high - low > 1 {
             let middle = low + (high - low) / 2;
             if self.start(middle) <= item {
@@ -145,6 +146,35 @@ impl Ends {
             }
         }
         low
+    }
+
+    /// The list `near`, if it doesn't begin behind an item, or else the first one.
+    fn list_before(&self, item: usize, near: usize) -> usize
+        requires { item < self.now.total }
+        ensures within { result < length self.now.ends }
+        ensures starts { slice_index (0 ∷ self.now.ends) result ≤ item }
+    {
+        let _ = &self.starts;
+        if near < self.len() && self.start(near) <= item {
+            return near;
+        }
+        0
+    }
+
+    /// The first list, of those 1, 2, 4, 8 and so on after list `low`, that begins behind an item; the number of lists if there is
+    /// none.
+    fn list_behind(&self, item: usize, low: usize) -> usize
+        requires { low < length self.now.ends }
+        ensures less { low < result }
+        ensures few { result ≤ length self.now.ends }
+        ensures behind { result < length self.now.ends → item < slice_index (0 ∷ self.now.ends) result }
+    {
+        let lists = self.len();
+        let mut high = low + 1;
+        while high < lists && self.start(high) <= item {
+            high = high.saturating_add(high - low);
+        }
+        high.min(lists)
     }
 
     /// Whether a list is known to be empty. `false` says nothing.

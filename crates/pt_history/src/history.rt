@@ -13,6 +13,7 @@ use crate::Pieces;
 use crate::claims::Mark;
 use crate::head::Head;
 use crate::heads::Heads;
+use crate::posted_at::PostedAt;
 use crate::room::Room;
 use crate::work_lists::WorkLists;
 use pt_tags::Memory;
@@ -340,12 +341,15 @@ impl History {
         self.work.result_mark(number)
     }
 
-    /// The last reading of the turn that posted result `number` of all recorded turns, counted from 0, in microseconds.
-    pub fn posted_at(&self, number: usize) -> u64
+    /// When result `number` of all recorded turns was posted, counted from 0. It is found in few steps if that was soon after turn
+    /// `near`, as for the result after one that was posted in that turn.
+    pub fn posted_at(&self, number: usize, near: usize) -> PostedAt
         requires { number < length (all_dated self.now.turns) }
-        ensures { option_map (λ dated. dated.reading) (slice_get (all_dated self.now.turns) number) ≡ Some result }
+        ensures { option_map (λ dated. dated.reading) (slice_get (all_dated self.now.turns) number) ≡ Some result.reading }
     {
-        self.heads.get(self.work.list_of_result(number)).last
+        let turn = self.work.list_of_result(number, near);
+        let reading = self.heads.get(turn).last;
+        PostedAt { turn, reading }
     }
 
     /// The rows entered in a recorded turn.

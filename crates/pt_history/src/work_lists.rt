@@ -180,14 +180,15 @@ impl WorkLists {
         self.work.done_mark(number)
     }
 
-    /// The list that has result `number` of all lists, counted from 0.
-    pub fn list_of_result(&self, number: usize) -> usize
+    /// The list that has result `number` of all lists, counted from 0. It is found in few steps if it is soon after the list
+    /// `near`.
+    pub fn list_of_result(&self, number: usize, near: usize) -> usize
         requires { number < length (flat_map (λ list. list) self.now.posted.lists) }
         ensures within { result < length self.now.posted.lists }
         ensures starts { length (flat_map (λ list. list) (take result self.now.posted.lists)) ≤ number }
         ensures ends { number < length (flat_map (λ list. list) (take (result + 1) self.now.posted.lists)) }
     {
-        self.posted.list_of(number)
+        self.posted.list_of(number, near)
     }
 
     /// Result `number` of a list, counted from 0.

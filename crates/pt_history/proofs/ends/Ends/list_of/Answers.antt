@@ -1,7 +1,7 @@
 use Rattle.std.proofs.Common.{◌≡◌, ◌⊎◌, ◌+◌, ◌<◌, ◌≤◌, ◌∷◌, length, get_or, ap, sym, subst, ◌∙◌, arith, inl, inr, ℕ, List, suc}
 use Rattle.std.proofs.lemmas.Bool.{cases_lt}
 use Rattle.pt_history.specs.Lists.{RoomyEnds, starts_of}
-use Rattle.pt_history.proofs.Starts.{end_last, length-ends, some_lists}
+use Rattle.pt_history.proofs.Starts.{end_last, length-ends}
 use Rattle.pt_history.proofs.ends.Ends.list_of.Goals as goal
 
 before_end : (ends : List ℕ) (item low high : ℕ) → high ≡ low + 1 → high ≤ length ends → (high < length ends → item < get_or (0 ∷ ends) high 0) → (length ends ≡ high → item < get_or ends low 0) → item < get_or ends low 0
@@ -12,18 +12,12 @@ before_end ends item low high next few before last = by (cases_lt high (length e
     by (inr past) = last (omega (arith, few, past))
 
 pub loop-high-init : goal.loop-high-init
-loop-high-init c =
-    let total = c.self.inside.total in
-    let starts = starts_of c.self.inside.starts.items c.self.inside.pending total in
-    let many : length c.args.self.now.ends ≡ length starts = ap (λ (v : RoomyEnds). length v.ends) (sym c.self.view_is) ∙ length-ends starts total in
-    let all : c.args.self.now.total ≡ total = ap (λ (v : RoomyEnds). v.total) (sym c.self.view_is) in
-    let some : 0 < length starts = some_lists starts total c.self.invariant.0 (omega (arith, all, c.requires)) in
-    record {
-      less = omega (arith, some, many, c.len-high.ensures);
-      few = omega (arith, c.len-high.ensures);
-      starts = omega arith;
-      ends_before = λ lt. absurd (omega (arith, lt, c.len-high.ensures));
-    }
+loop-high-init c = record {
+  less = c.list_behind-high.ensures.less;
+  few = c.list_behind-high.ensures.few;
+  starts = c.list_before-low.ensures.starts;
+  ends_before = c.list_behind-high.ensures.behind;
+}
 
 pub returns-clause-ends : goal.returns-clause-ends
 returns-clause-ends c =
