@@ -8,6 +8,7 @@ pub mod Cutting
 pub mod Dated
 pub mod LastMember
 pub mod Filling
+pub mod FirstTwo
 pub mod CellLists
 pub mod MarkLists
 pub mod TaskLists

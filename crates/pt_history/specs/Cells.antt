@@ -1,5 +1,5 @@
 -- Nine optional values each, stored one after another: only the values that are there, each with its place.
-use Rattle.std.specs.Prelude.{◌+◌, ◌-◌, ◌++◌, ℕ, List, [], ◌∷◌, Option, None, Some, ℤ, pos, unwrap_or, slice_index_or, slice_set, take, drop, if◌then◌else◌}
+use Rattle.std.specs.Prelude.{◌≡◌, ◌+◌, ◌-◌, ◌<◌, ◌++◌, ℕ, List, [], ◌∷◌, Option, None, Some, ℤ, pos, unwrap_or, length, slice_index_or, slice_set, take, drop, if◌then◌else◌}
 use Rattle.std.specs.Ordering.{int_eq}
 
 -- groups of nine optional values, and the room left for more groups
@@ -26,6 +26,15 @@ state_in cells = unwrap_or (slice_index_or cells 8 None) (pos 0)
 -- nine without values
 abbrev pub no_cells : List (Option ℤ)
 no_cells = None ∷ None ∷ None ∷ None ∷ None ∷ None ∷ None ∷ None ∷ None ∷ []
+
+-- no values at the ports after port 1
+abbrev pub six_absent : List (Option ℤ)
+six_absent = None ∷ None ∷ None ∷ None ∷ None ∷ None ∷ []
+
+-- the place and the value at an index are those of a cell, if it has a value; `next` is the index after them
+abbrev pub FollowedBy : List ℕ → List ℤ → ℕ → ℕ → Option ℤ → ℕ → Type 0
+FollowedBy places values at place None next = next ≡ at
+FollowedBy places values at place (Some v) next = (next ≡ at + 1) × (at < length places) × (at < length values) × (slice_index_or places at 0 ≡ place) × (slice_index_or values at (pos 0) ≡ v)
 
 -- the places of the values that are there; the first place is k
 abbrev pub places_from : ℕ → List (Option ℤ) → List ℕ

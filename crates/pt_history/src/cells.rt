@@ -1,7 +1,7 @@
 //! Groups of nine optional values, stored flat.
 
-ghost use Rattle.std.specs.Prelude.{◌≡◌, ◌+◌, ◌<◌, ◌≤◌, ◌++◌, ◌∷◌, [], OnOk, Some, length, slice_get, pos, slice_index, slice_index_or, slice_set, true, vec_len, vec_capacity};
-ghost use Rattle.pt_history.specs.Cells.{cells_at, cells_of, nonzero, places_from, ports_in, state_in, values_in};
+ghost use Rattle.std.specs.Prelude.{◌≡◌, ◌+◌, ◌<◌, ◌≤◌, ◌++◌, ◌∷◌, [], IfSome, OnOk, Some, drop, false, length, slice_get, pos, slice_index, slice_index_or, slice_set, true, vec_len, vec_capacity};
+ghost use Rattle.pt_history.specs.Cells.{FollowedBy, cells_at, cells_of, six_absent, nonzero, places_from, ports_in, state_in, values_in};
 
 use crate::pieces::{MOST_ITEMS, widened};
 use pt_tags::Memory;
@@ -120,8 +120,87 @@ fn cell(ports: &Ports, last: Option<i64>, number: u32) -> Option<i64>
 }
 
 /// Whether the group at indices from `start` up to, not including, `end` has exactly the values at these ports and
-/// then `last`.
+/// then `last`. Few actors have more than two ports with a value.
+#[inline(always)]
 fn are_cells(
+    places: &[u8],
+    values: &[i64],
+    start: u32,
+    end: u32,
+    ports: &Ports,
+    last: Option<i64>,
+) -> bool
+    requires rises { start ≤ end }
+    requires places { end ≤ length places.now }
+    requires values { end ≤ length values.now }
+    ensures same { result ≡ true → cells_at places.now values.now start end ≡ ports.now ++ last ∷ [] }
+    ensures eight { length ports.now ≡ 8 }
+{
+    if has_later(ports) {
+        return are_all(places, values, start, end, ports, last);
+    }
+    are_three(places, values, start, end, ports.get(0), ports.get(1), last)
+}
+
+/// Whether the group at indices from `start` up to, not including, `end` has exactly these values at port 0 and port 1,
+/// and then `last`.
+#[inline(always)]
+fn are_three(
+    places: &[u8],
+    values: &[i64],
+    start: u32,
+    end: u32,
+    first: Option<i64>,
+    second: Option<i64>,
+    last: Option<i64>,
+) -> bool
+    requires rises { start ≤ end }
+    requires places { end ≤ length places.now }
+    requires values { end ≤ length values.now }
+    ensures { result ≡ true → cells_at places.now values.now start end ≡ first ∷ second ∷ six_absent ++ last ∷ [] }
+{
+    let Some(after_first) = passed(places, values, start, end, 0, first) else {
+        return false;
+    };
+    let Some(after_second) = passed(places, values, after_first, end, 1, second) else {
+        return false;
+    };
+    let Some(after_last) = passed(places, values, after_second, end, 8, last) else {
+        return false;
+    };
+    after_last == end
+}
+
+/// The index after a cell that is stored at index `at`, or `at` if the cell has no value; `None` if another value is there.
+#[inline(always)]
+fn passed(
+    places: &[u8],
+    values: &[i64],
+    at: u32,
+    end: u32,
+    place: u8,
+    cell: Option<i64>,
+) -> Option<u32>
+    requires rises { at ≤ end }
+    requires places { end ≤ length places.now }
+    requires values { end ≤ length values.now }
+    ensures next { IfSome result (λ next. FollowedBy places.now values.now at place cell next) }
+    ensures within { IfSome result (λ next. next ≤ end) }
+{
+    match cell {
+        None => Some(at),
+        Some(value) => {
+            if at >= end || !is_at(places, values, at, place, value) {
+                return None;
+            }
+            Some(at + 1)
+        }
+    }
+}
+
+/// Does the same as `are_cells`, port by port.
+#[inline(never)]
+fn are_all(
     places: &[u8],
     values: &[i64],
     start: u32,
@@ -195,7 +274,34 @@ fn are_eight(ports: &Ports)
     let _values = ports.values();
 }
 
-/// Appends the number and the value of each port that has one. Allocates nothing.
+/// Whether a port after port 1 has a value. The flags of two ports and those of four are added as bytes of a number, so that
+/// two comparisons test all six.
+#[inline(always)]
+fn has_later(ports: &Ports) -> bool
+    ensures eight { length ports.now ≡ 8 }
+    ensures none { result ≡ false → drop 2 ports.now ≡ six_absent }
+{
+    are_eight(ports);
+    if flag(ports.get(2)) + 256 * flag(ports.get(3)) > 0 {
+        return true;
+    }
+    0 < flag(ports.get(4))
+        + 256 * flag(ports.get(5))
+        + 65_536 * flag(ports.get(6))
+        + 16_777_216 * flag(ports.get(7))
+}
+
+/// 1 if there is a value, else 0.
+#[inline(always)]
+fn flag(value: Option<i64>) -> u32
+    ensures none { result ≡ 0 → value ≡ None }
+    ensures bit { result ≤ 1 }
+{
+    if value.is_some() { 1 } else { 0 }
+}
+
+/// Appends the number and the value of each port that has one. Few actors have more than two such ports. Allocates nothing.
+#[inline(always)]
 fn push_ports(places: &mut Vec<u8>, values: &mut Vec<i64>, ports: &Ports)
     requires places { vec_len places.old + 8 ≤ vec_capacity places.old }
     requires values { vec_len values.old + 8 ≤ vec_capacity values.old }
@@ -207,8 +313,27 @@ fn push_ports(places: &mut Vec<u8>, values: &mut Vec<i64>, ports: &Ports)
     ensures few_places { vec_len places.new ≤ vec_len places.old + 8 }
     ensures few_values { vec_len values.new ≤ vec_len values.old + 8 }
 {
+    push_cell(places, values, 0, ports.get(0));
+    push_cell(places, values, 1, ports.get(1));
+    if has_later(ports) {
+        push_later(places, values, ports);
+    }
+}
+
+/// Appends the number and the value of each port after port 1 that has one. Allocates nothing.
+#[inline(never)]
+fn push_later(places: &mut Vec<u8>, values: &mut Vec<i64>, ports: &Ports)
+    requires places { vec_len places.old + 6 ≤ vec_capacity places.old }
+    requires values { vec_len values.old + 6 ≤ vec_capacity values.old }
+    ensures places { places.new.items ≡ places.old.items ++ places_from 2 (drop 2 ports.now) }
+    ensures values { values.new.items ≡ values.old.items ++ values_in (drop 2 ports.now) }
+    ensures places_room { vec_capacity places.old ≤ vec_capacity places.new }
+    ensures values_room { vec_capacity values.old ≤ vec_capacity values.new }
+    ensures few_places { vec_len places.new ≤ vec_len places.old + 6 }
+    ensures few_values { vec_len values.new ≤ vec_len values.old + 6 }
+{
     are_eight(ports);
-    for port in 0..8 {
+    for port in 2..8 {
         push_cell(places, values, port as u8, ports.get(port));
     }
 }

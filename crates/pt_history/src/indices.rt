@@ -102,7 +102,7 @@ impl Indices {
     {
         self.count += 1;
         if self.count % PER_BLOCK == 0 {
-            self.newest = next_block(&mut self.blocks, self.newest, self.last);
+            close_block(&mut self.blocks, &mut self.newest, self.last);
         }
     }
 
@@ -185,7 +185,7 @@ impl Indices {
         self.last += 1;
         self.count += 1;
         if self.count % PER_BLOCK == 0 {
-            self.newest = next_block(&mut self.blocks, self.newest, self.last);
+            close_block(&mut self.blocks, &mut self.newest, self.last);
         }
     }
 
@@ -233,19 +233,19 @@ impl Indices {
     }
 }
 
-/// Appends a full block, whose last index is `last`, and returns the next one. Allocates nothing.
+/// Appends the newest block, which is full and whose last index is `last`, and begins the next one. Allocates nothing.
 #[inline(never)]
-fn next_block(blocks: &mut Vec<Block>, full: Block, last: u32) -> Block
+fn close_block(blocks: &mut Vec<Block>, newest: &mut Block, last: u32)
     requires { vec_len blocks.old < vec_capacity blocks.old }
-    ensures blocks { blocks.new.items ≡ blocks.old.items ++ full ∷ [] }
+    ensures blocks { blocks.new.items ≡ blocks.old.items ++ newest.old ∷ [] }
     ensures room { vec_capacity blocks.old ≤ vec_capacity blocks.new }
-    ensures next { result ≡ record { base = last; bits = 0 } }
+    ensures next { newest.new ≡ record { base = last; bits = 0 } }
 {
-    blocks.push_reserved(full);
-    Block {
+    blocks.push_reserved(*newest);
+    *newest = Block {
         base: last,
         bits: 0,
-    }
+    };
 }
 
 /// A block with one more bit set, above all others.

@@ -110,8 +110,22 @@ fn store_number(numbers: &mut Vec<u64>, count: usize, number: u64)
     numbers.push_reserved(number);
 }
 
-/// The number of mark `index` of `count` marks, of which the last numbers are stored.
+/// The number of mark `index` of `count` marks, of which the last numbers are stored: mostly none.
+#[inline(always)]
 fn number_at(numbers: &[u64], count: usize, index: usize) -> u64
+    requires few { length numbers.now ≤ count }
+    requires inside { index < count }
+    ensures { result ≡ slice_index_or (mark_numbers count numbers.now) index 0 }
+{
+    if numbers.is_empty() {
+        return index as u64;
+    }
+    found_number(numbers, count, index)
+}
+
+/// Does the same as `number_at`, where numbers are stored. Not inlined, since this is rare.
+#[inline(never)]
+fn found_number(numbers: &[u64], count: usize, index: usize) -> u64
     requires few { length numbers.now ≤ count }
     requires inside { index < count }
     ensures { result ≡ slice_index_or (mark_numbers count numbers.now) index 0 }

@@ -76,11 +76,35 @@ impl PastHeads {
         ensures items { self.new.items ≡ self.old.items ++ head ∷ [] }
         ensures room { self.new.spare + 1 ≡ self.old.spare }
     {
-        store(&mut self.lasts, &mut self.newest, head.last);
-        self.runs.begin();
         if let Some(run) = run_of(head) {
-            self.runs.push(run);
+            self.push_run(head.last, run);
+            return;
         }
+        self.push_single(head.last);
+    }
+
+    /// Appends the head of a single turn at a reading, in microseconds. Allocates nothing.
+    #[inline(always)]
+    fn push_single(&mut self, last: u64)
+        requires { 0 < self.old.spare }
+        ensures items { self.new.items ≡ self.old.items ++ single last ∷ [] }
+        ensures room { self.new.spare + 1 ≡ self.old.spare }
+    {
+        self.runs.begin();
+        store(&mut self.lasts, &mut self.newest, last);
+    }
+
+    /// Appends the head with this last reading, in microseconds, and a run. Not inlined, since this is rare. Allocates
+    /// nothing.
+    #[inline(never)]
+    fn push_run(&mut self, last: u64, run: Run)
+        requires { 0 < self.old.spare }
+        ensures items { self.new.items ≡ self.old.items ++ head_with last (run ∷ []) ∷ [] }
+        ensures room { self.new.spare + 1 ≡ self.old.spare }
+    {
+        self.runs.begin();
+        self.runs.push(run);
+        store(&mut self.lasts, &mut self.newest, last);
     }
 
     /// The number of heads.
@@ -100,6 +124,7 @@ impl PastHeads {
 }
 
 /// Appends a reading to the last ones, of which `newest` is the last. That an equal one is only counted saves memory.
+#[inline(always)]
 fn store(lasts: &mut Repeats<u64>, newest: &mut Option<u64>, reading: u64)
     requires room { 0 < lasts.old.spare }
     requires newest { newest.old ≡ slice_get lasts.old.items (length lasts.old.items - 1) }

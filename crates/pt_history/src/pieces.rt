@@ -79,6 +79,7 @@ impl<T: Drop> Pieces<T> {
     }
 
     /// Appends an item to the last list. Allocates nothing.
+    #[inline(always)]
     pub(crate) fn push(&mut self, item: T)
         requires spare { 0 < self.old.spare_items }
         requires begun { 0 < length self.old.lists }
@@ -112,7 +113,8 @@ impl<T: Drop> Pieces<T> {
         self.items.as_slice()
     }
 
-    /// List `number`, counted from 0.
+    /// List `number`, counted from 0. Most lists are empty.
+    #[inline(always)]
     pub fn get(&self, number: usize) -> &[T]
         requires { number < length self.now.lists }
         ensures { slice_get self.now.lists number ≡ Some result.now }
@@ -120,6 +122,15 @@ impl<T: Drop> Pieces<T> {
         if self.ends.is_bare(number) {
             return &[];
         }
+        self.found(number)
+    }
+
+    /// Does the same as `get`, by looking up where the list starts and ends.
+    #[inline(never)]
+    fn found(&self, number: usize) -> &[T]
+        requires { number < length self.now.lists }
+        ensures { slice_get self.now.lists number ≡ Some result.now }
+    {
         part(
             self.items.as_slice(),
             self.ends.start(number),
@@ -129,8 +140,25 @@ impl<T: Drop> Pieces<T> {
 }
 
 impl<T: Copy> Pieces<T> {
-    /// Appends items to the last list. Allocates nothing.
+    /// Appends items to the last list: mostly one. Allocates nothing.
+    #[inline(always)]
     pub fn extend(&mut self, more: &[T])
+        requires spare { length more.now ≤ self.old.spare_items }
+        requires begun { 0 < length self.old.lists }
+        ensures lists { self.new.lists ≡ on_last (λ list. list ++ more.now) self.old.lists }
+        ensures items { self.new.spare_items + length more.now ≡ self.old.spare_items }
+        ensures room { self.new.spare_lists ≡ self.old.spare_lists }
+    {
+        if more.len() == 1 {
+            self.push(more[0]);
+            return;
+        }
+        self.extend_all(more);
+    }
+
+    /// Does the same as `extend`, for any number of items.
+    #[inline(never)]
+    fn extend_all(&mut self, more: &[T])
         requires spare { length more.now ≤ self.old.spare_items }
         requires begun { 0 < length self.old.lists }
         ensures lists { self.new.lists ≡ on_last (λ list. list ++ more.now) self.old.lists }

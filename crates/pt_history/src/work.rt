@@ -104,8 +104,8 @@ impl Work {
         ensures results { self.new.spare_dones + 1 ≡ self.old.spare_dones }
     {
         let source = source_of(&self.claims, &mut self.others, &done.task);
-        self.fired.push(&done.fired.outputs, done.fired.state);
         self.sources.push(source);
+        self.fired.push(&done.fired.outputs, done.fired.state);
         self.spare -= 1;
     }
 

@@ -12,17 +12,17 @@ invariant_of-self c =
     let b = c.self.inside.newest in
     let count = c.self.inside.count in
     let x = c.self.inside.last in
-    let next = c.next_block-self-inside.result in
+    let next = c.close_block.new.newest in
     let adds : Adds blocks b b count x = adds_again blocks b count x c.self.invariant.blocks c.self.invariant.bits c.self.invariant.rises in
-    let many : length c.next_block-self-inside.new.blocks.items ≡ length blocks + 1 = ap length c.next_block-self-inside.ensures.blocks ∙ length_push blocks b in
+    let many : length c.close_block.new.blocks.items ≡ length blocks + 1 = ap length c.close_block.ensures.blocks ∙ length_push blocks b in
     let spare : c.args.self.now.spare ≡ c.self.inside.limit - count = ap (λ (v : RoomyIndices). v.spare) (sym c.self.view_is) in
     record {
       blocks = omega (arith, many, c.self.invariant.blocks, c.if-self-eq0.true);
-      bits = subst (λ (d : Block). d.bits < 2 ^ ((count + 1) % 64)) (sym c.next_block-self-inside.ensures.next) (pow_pos ((count + 1) % 64));
-      rises = subst (λ (d : Block). x ≡ d.base + count_ones d.bits) (sym c.next_block-self-inside.ensures.next) (omega (arith, no_ones));
-      last = last_at (blocks ++ b ∷ []) (indices_from (c.next_block-self-inside.new.blocks.items ++ next ∷ []) 0 (count + 1)) (indices_from (blocks ++ b ∷ []) 0 count) x count refl (closes blocks c.next_block-self-inside.new.blocks.items b b next count x adds c.if-self-eq0.true c.next_block-self-inside.ensures.blocks);
+      bits = subst (λ (d : Block). d.bits < 2 ^ ((count + 1) % 64)) (sym c.close_block.ensures.next) (pow_pos ((count + 1) % 64));
+      rises = subst (λ (d : Block). x ≡ d.base + count_ones d.bits) (sym c.close_block.ensures.next) (omega (arith, no_ones));
+      last = last_at (blocks ++ b ∷ []) (indices_from (c.close_block.new.blocks.items ++ next ∷ []) 0 (count + 1)) (indices_from (blocks ++ b ∷ []) 0 count) x count refl (closes blocks c.close_block.new.blocks.items b b next count x adds c.if-self-eq0.true c.close_block.ensures.blocks);
       count = omega (arith, spare, c.requires);
-      room = omega (arith, c.self.invariant.room, c.next_block-self-inside.ensures.room);
+      room = omega (arith, c.self.invariant.room, c.close_block.ensures.room);
     }
 
 pub invariant_of-self-else-self-eq0 : goal.invariant_of-self-else-self-eq0
@@ -51,7 +51,7 @@ returns-then-self-eq0-clause-indices c =
     let x = c.self.inside.last in
     let adds : Adds blocks b b count x = adds_again blocks b count x c.self.invariant.blocks c.self.invariant.bits c.self.invariant.rises in
     let view : indices_from (blocks ++ b ∷ []) 0 count ≡ c.args.self.now.indices = ap (λ (v : RoomyIndices). v.indices) c.self.view_is in
-    closes blocks c.next_block-self-inside.new.blocks.items b b c.next_block-self-inside.result count x adds c.if-self-eq0.true c.next_block-self-inside.ensures.blocks
+    closes blocks c.close_block.new.blocks.items b b c.close_block.new.newest count x adds c.if-self-eq0.true c.close_block.ensures.blocks
     ∙ ap₂ (λ l y. l ++ y ∷ []) view (last_seen (blocks ++ b ∷ []) c.args.self.now.indices x count view c.self.invariant.last)
 
 pub returns-else-self-eq0-clause-indices : goal.returns-else-self-eq0-clause-indices

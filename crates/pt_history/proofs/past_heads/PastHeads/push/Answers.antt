@@ -1,56 +1,9 @@
-use Rattle.std.proofs.Common.{◌≡◌, ◌+◌, ◌∷◌, ◌++◌, [], List, length, ap, ap₂, sym, ◌∙◌, arith}
-use Rattle.std.proofs.lemmas.List.{length_push}
+use Rattle.std.proofs.Common.{◌∷◌, ◌++◌, [], ap, sym, ◌∙◌}
 use Rattle.pt_history.specs.declared.head.Head.{Head}
-use Rattle.pt_history.specs.declared.past_heads.Run.{Run}
-use Rattle.pt_history.specs.Heads.{heads_of}
-use Rattle.pt_history.specs.Indices.{RoomyItems}
-use Rattle.pt_history.specs.Lists.{on_last}
-use Rattle.pt_history.proofs.HeadLists.{heads_push, last_is}
-use Rattle.pt_history.proofs.LastMember.{on_last-push}
 use Rattle.pt_history.proofs.past_heads.PastHeads.push.Goals as goal
 
-pub invariant_of-self : goal.invariant_of-self
-invariant_of-self c =
-    let add : List Run → List Run = λ (l : List Run). l ++ c.in-Some.run' ∷ [] in
-    let more : c.push.new.self.lists ≡ c.self.inside.runs.lists ++ (c.in-Some.run' ∷ []) ∷ [] = c.push.ensures.lists ∙ ap (λ ls. on_last add ls) c.begin.ensures.lists ∙ on_last-push add c.self.inside.runs.lists [] in
-    let lists : length c.push.new.self.lists ≡ length c.self.inside.runs.lists + 1 = ap length more ∙ length_push c.self.inside.runs.lists (c.in-Some.run' ∷ []) in
-    let lasts : length c.store.new.lasts.items ≡ length c.self.inside.lasts.items + 1 = ap length c.store.ensures.items ∙ length_push c.self.inside.lasts.items c.args.head.last in
-    let spare : c.args.self.now.spare ≡ c.self.inside.lasts.spare = ap (λ (v : RoomyItems Head). v.spare) (sym c.self.view_is) in
-    record {
-      newest = c.store.ensures.newest ∙ sym (last_is c.self.inside.lasts.items c.store.new.lasts.items c.args.head.last c.store.ensures.items);
-      same = omega (arith, lists, lasts, c.self.invariant.same);
-      lists_room = omega (arith, c.store.ensures.room, c.begin.ensures.room, c.push.ensures.room, c.self.invariant.lists_room, spare, c.requires);
-      runs_room = omega (arith, c.store.ensures.room, c.begin.ensures.items, c.push.ensures.items, c.self.invariant.runs_room, spare, c.requires);
-    }
-
-pub invariant_of-self-in_default : goal.invariant_of-self-in_default
-invariant_of-self-in_default c =
-    let lists : length c.begin.new.self.lists ≡ length c.self.inside.runs.lists + 1 = ap length c.begin.ensures.lists ∙ length_push c.self.inside.runs.lists [] in
-    let lasts : length c.store.new.lasts.items ≡ length c.self.inside.lasts.items + 1 = ap length c.store.ensures.items ∙ length_push c.self.inside.lasts.items c.args.head.last in
-    let spare : c.args.self.now.spare ≡ c.self.inside.lasts.spare = ap (λ (v : RoomyItems Head). v.spare) (sym c.self.view_is) in
-    record {
-      newest = c.store.ensures.newest ∙ sym (last_is c.self.inside.lasts.items c.store.new.lasts.items c.args.head.last c.store.ensures.items);
-      same = omega (arith, lists, lasts, c.self.invariant.same);
-      lists_room = omega (arith, c.store.ensures.room, c.begin.ensures.room, c.self.invariant.lists_room, spare, c.requires);
-      runs_room = omega (arith, c.store.ensures.room, c.begin.ensures.items, c.self.invariant.runs_room, spare, c.requires);
-    }
-
 pub returns-in-Some-clause-items : goal.returns-in-Some-clause-items
-returns-in-Some-clause-items c =
-    let lasts = c.self.inside.lasts.items in
-    let lists = c.self.inside.runs.lists in
-    let run = c.in-Some.run' in
-    let add : List Run → List Run = λ (l : List Run). l ++ run ∷ [] in
-    ap₂ heads_of c.store.ensures.items (c.push.ensures.lists ∙ ap (λ ls. on_last add ls) c.begin.ensures.lists ∙ on_last-push add lists [])
-    ∙ heads_push lasts lists c.args.head.last (run ∷ []) c.self.invariant.same
-    ∙ ap (λ (h : Head). heads_of lasts lists ++ h ∷ []) c.in-Some.ensures
-    ∙ ap (λ (v : RoomyItems Head). v.items ++ c.args.head ∷ []) c.self.view_is
+returns-in-Some-clause-items c = c.push_run.ensures.items ∙ ap (λ (h : Head). c.args.self.now.items ++ h ∷ []) c.in-Some.ensures
 
-pub returns-in_default-clause-items : goal.returns-in_default-clause-items
-returns-in_default-clause-items c =
-    let lasts = c.self.inside.lasts.items in
-    let lists = c.self.inside.runs.lists in
-    ap₂ heads_of c.store.ensures.items c.begin.ensures.lists
-    ∙ heads_push lasts lists c.args.head.last [] c.self.invariant.same
-    ∙ ap (λ (h : Head). heads_of lasts lists ++ h ∷ []) (sym c.in_default.ensures)
-    ∙ ap (λ (v : RoomyItems Head). v.items ++ c.args.head ∷ []) c.self.view_is
+pub returns-clause-items : goal.returns-clause-items
+returns-clause-items c = c.push_single.ensures.items ∙ ap (λ (h : Head). c.args.self.now.items ++ h ∷ []) (sym c.in_default.ensures)

@@ -1,6 +1,6 @@
 use Rattle.std.proofs.Common.{◌≤◌, ◌++◌, ◌∷◌, []}
 use Rattle.pt_history.proofs.Matching.{Matches}
-use Rattle.pt_history.proofs.cells.are_cells.Given as goal
+use Rattle.pt_history.proofs.cells.are_all.Given as goal
 
 abbrev pub invariant-loop-number : goal.invariant-loop-number
 invariant-loop-number l = record {

@@ -2,7 +2,7 @@ use Rattle.std.proofs.Common.{◌≡◌, List, ◌++◌, ◌+◌, ◌-◌, ◌<�
 use Rattle.pt_history.specs.Lists.{RoomyLists, pieces, Rises, on_last}
 use Rattle.pt_history.proofs.Cutting.{pieces_extend, rises_extend, length-pieces}
 use Rattle.pt_history.proofs.LastMember.{on_last-nothing}
-use Rattle.pt_history.proofs.pieces.Pieces.extend.Goals as goal
+use Rattle.pt_history.proofs.pieces.Pieces.extend_all.Goals as goal
 
 pub invariant_of-self : goal.invariant_of-self
 invariant_of-self g c =
