@@ -14,11 +14,15 @@ use std::marker::Model;
 /// The number of past heads is less than this, so that the number of all heads is less than 2^32.
 const MOST_PAST: usize = MOST_ITEMS - 2;
 
-/// The last heads, of which two at most can still change. The last is that of a single turn, and only its reading is kept.
+/// The last heads, of which two at most can still change. The last is that of a single turn, as both mostly are; of such a head
+/// only its reading is kept.
 #[derive(Clone, Copy, Debug, PartialEq, Eq)]
 pub(crate) enum Recent {
     Empty,
     One(u64),
+    /// Both are of single turns.
+    TwoSingles(u64, u64),
+    /// The first may be of a run of turns.
     Two(Head, u64),
 }
 
@@ -70,16 +74,36 @@ impl Heads {
     }
 
     /// Appends the head of a single turn at a reading, in microseconds. Allocates nothing.
+    #[inline(always)]
     pub fn push(&mut self, reading: u64)
+        requires { 0 < self.old.spare }
+        ensures items { self.new.items ≡ self.old.items ++ single reading ∷ [] }
+        ensures room { self.old.spare ≤ self.new.spare + 1 }
+    {
+        if let Recent::TwoSingles(before, last) = self.recent {
+            self.recent = Recent::TwoSingles(last, reading);
+            self.past.push_single(before);
+            return;
+        }
+        self.push_after(reading);
+    }
+
+    /// Does the same as `push`, whatever the last two heads are. Not inlined, since mostly both are of single turns.
+    #[inline(never)]
+    fn push_after(&mut self, reading: u64)
         requires { 0 < self.old.spare }
         ensures items { self.new.items ≡ self.old.items ++ single reading ∷ [] }
         ensures room { self.old.spare ≤ self.new.spare + 1 }
     {
         match self.recent {
             Recent::Empty => self.recent = Recent::One(reading),
-            Recent::One(last) => self.recent = Recent::Two(Head::single(last), reading),
+            Recent::One(last) => self.recent = Recent::TwoSingles(last, reading),
+            Recent::TwoSingles(before, last) => {
+                self.recent = Recent::TwoSingles(last, reading);
+                self.past.push_single(before);
+            }
             Recent::Two(before, last) => {
-                self.recent = Recent::Two(Head::single(last), reading);
+                self.recent = Recent::TwoSingles(last, reading);
                 self.past.push(before);
             }
         }
@@ -101,6 +125,7 @@ impl Heads {
         match self.recent {
             Recent::Empty => None,
             Recent::One(_) => None,
+            Recent::TwoSingles(before, last) => Some((Head::single(before), Head::single(last))),
             Recent::Two(before, last) => Some((before, Head::single(last))),
         }
     }
@@ -133,6 +158,7 @@ fn count_of(recent: Recent) -> usize
     match recent {
         Recent::Empty => 0,
         Recent::One(_) => 1,
+        Recent::TwoSingles(_, _) => 2,
         Recent::Two(_, _) => 2,
     }
 }
@@ -145,6 +171,13 @@ fn recent_at(recent: Recent, number: usize) -> Head
     match recent {
         Recent::Empty => unreachable!(),
         Recent::One(reading) => Head::single(reading),
+        Recent::TwoSingles(before, reading) => {
+            if number == 0 {
+                Head::single(before)
+            } else {
+                Head::single(reading)
+            }
+        }
         Recent::Two(before, reading) => {
             if number == 0 {
                 before

@@ -70,7 +70,7 @@ impl PastHeads {
     }
 
     /// Appends a head. Allocates nothing.
-    #[inline(always)]
+    #[inline(never)]
     pub fn push(&mut self, head: Head)
         requires { 0 < self.old.spare }
         ensures items { self.new.items ≡ self.old.items ++ head ∷ [] }
@@ -85,7 +85,7 @@ impl PastHeads {
 
     /// Appends the head of a single turn at a reading, in microseconds. Allocates nothing.
     #[inline(always)]
-    fn push_single(&mut self, last: u64)
+    pub fn push_single(&mut self, last: u64)
         requires { 0 < self.old.spare }
         ensures items { self.new.items ≡ self.old.items ++ single last ∷ [] }
         ensures room { self.new.spare + 1 ≡ self.old.spare }
