@@ -81,3 +81,9 @@ pieces_before {X} from (e ∷ es) xs (suc k) le h =
     let rest : e + length (flat_map (λ (l : List X). l) (take k (pieces e es xs))) ≡ get_or (e ∷ es) k 0 = pieces_before e es xs k (omega arith) h.1 in
     let sum : length (drop from (take e xs) ++ flat_map (λ (l : List X). l) (take k (pieces e es xs))) ≡ length (drop from (take e xs)) + length (flat_map (λ (l : List X). l) (take k (pieces e es xs))) = length-append (drop from (take e xs)) (flat_map (λ (l : List X). l) (take k (pieces e es xs))) in
     omega (arith, first, rest, sum, h.0)
+
+-- a piece that ends where it begins is empty
+pub empty_piece : {X : Type 0} (es : List ℕ) (xs : List X) (n : ℕ) → n < length es → Rises 0 es (length xs) → get_or (0 ∷ es) n 0 ≡ get_or es n 0 → slice_get (pieces 0 es xs) n ≡ Some []
+empty_piece es xs n lt rises same =
+    let none : get_or es n 0 - get_or (0 ∷ es) n 0 ≡ 0 = omega (arith, same) in
+    pieces_get 0 es xs n lt rises ∙ ap (λ k. Some (take k (drop (get_or (0 ∷ es) n 0) xs))) none

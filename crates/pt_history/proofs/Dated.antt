@@ -29,12 +29,12 @@ of_result f turns n = along f (all_dated turns) n ∙ ap (λ l. option_map f (sl
     along f (d ∷ ds) zero = refl
     along f (d ∷ ds) (suc n) = along f ds n
 
-at_left : {X : Type 0} (xs ys : List X) (n : ℕ) → n < length xs → slice_get (xs ++ ys) n ≡ slice_get xs n
+pub at_left : {X : Type 0} (xs ys : List X) (n : ℕ) → n < length xs → slice_get (xs ++ ys) n ≡ slice_get xs n
 at_left [] ys n lt = absurd (omega arith)
 at_left (x ∷ xs) ys zero lt = refl
 at_left (x ∷ xs) ys (suc n) lt = at_left xs ys n (omega arith)
 
-at_right : {X : Type 0} (xs ys : List X) (n m : ℕ) → n ≡ length xs + m → slice_get (xs ++ ys) n ≡ slice_get ys m
+pub at_right : {X : Type 0} (xs ys : List X) (n m : ℕ) → n ≡ length xs + m → slice_get (xs ++ ys) n ≡ slice_get ys m
 at_right [] ys n m is = let same : n ≡ m = omega (arith, is) in ap (slice_get ys) same
 at_right (x ∷ xs) ys zero m is = absurd (omega (arith, is))
 at_right (x ∷ xs) ys (suc n) m is = at_right xs ys n m (omega (arith, is))

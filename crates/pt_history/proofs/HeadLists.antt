@@ -1,9 +1,11 @@
 -- Heads of last readings and runs: one more, and the head of a number.
-use Rattle.std.proofs.Common.{◌≡◌, ℕ, zero, suc, ◌+◌, ◌-◌, Some, List, [], ◌∷◌, ◌++◌, refl, ap, ap₂, ◌∙◌, arith, length}
+use Rattle.std.proofs.Common.{◌≡◌, ℕ, zero, suc, ◌+◌, ◌-◌, ◌<◌, Some, List, [], ◌∷◌, ◌++◌, get_or, refl, sym, ap, ap₂, ◌∙◌, arith, length}
 use Rattle.std.specs.Prelude.{slice_get}
 use Rattle.std.proofs.lemmas.List.{length_push}
+use Rattle.std.proofs.lemmas.Option.{slice_get-get_or}
+use Rattle.pt_history.specs.declared.head.Head.{Head}
 use Rattle.pt_history.specs.declared.past_heads.Run.{Run}
-use Rattle.pt_history.specs.Heads.{head_with, heads_of}
+use Rattle.pt_history.specs.Heads.{head_with, heads_of, single}
 use Rattle.pt_semantics.proofs.Lookups.{none_some, same_some}
 
 pub length-heads : (lasts : List ℕ) (lists : List (List Run)) → length lists ≡ length lasts → length (heads_of lasts lists) ≡ length lasts
@@ -34,3 +36,20 @@ pub last_is : (xs new : List ℕ) (x : ℕ) → new ≡ xs ++ x ∷ [] → slice
 last_is xs new x is =
     let many : length new ≡ length xs + 1 = ap length is ∙ length_push xs x in
     ap (λ l. slice_get l (length new - 1)) is ∙ at_end xs x (length new - 1) (omega (arith, many))
+
+-- the last reading of a head
+last_with : (last : ℕ) (runs : List Run) → (head_with last runs).last ≡ last
+last_with last [] = refl
+last_with last (run ∷ runs) = refl
+
+-- a head with no run, after one with the same last reading
+pub single_after : (lasts : List ℕ) (lists : List (List Run)) (n : ℕ) (head : Head) → length lists ≡ length lasts → n + 1 < length lasts → slice_get lasts (n + 1) ≡ slice_get lasts n → slice_get lists (n + 1) ≡ Some []
+    → slice_get (heads_of lasts lists) n ≡ Some head → slice_get (heads_of lasts lists) (n + 1) ≡ Some (single head.last)
+single_after lasts lists n head many lt same none was =
+    let last = get_or lasts n 0 in
+    let runs = get_or lists n [] in
+    let there : slice_get lasts n ≡ Some last = slice_get-get_or lasts n 0 (omega (arith, lt)) in
+    let list : slice_get lists n ≡ Some runs = slice_get-get_or lists n [] (omega (arith, many, lt)) in
+    let is : head_with last runs ≡ head = same_some (head_with last runs) head (sym (heads_get lasts lists n last runs there list) ∙ was) in
+    let reading : last ≡ head.last = sym (last_with last runs) ∙ ap (λ (h : Head). h.last) is in
+    heads_get lasts lists (n + 1) last [] (same ∙ there) none ∙ ap (λ k. Some (single k)) reading

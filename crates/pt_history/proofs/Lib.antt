@@ -22,3 +22,4 @@ pub mod Starts
 pub mod LastTwo
 pub mod HeadLists
 pub mod Repeating
+pub mod Level

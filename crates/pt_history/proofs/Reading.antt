@@ -4,14 +4,17 @@ use Rattle.std.specs.Prelude.{option_map, slice_get, unwrap_or}
 use Rattle.std.specs.List.{flat_map}
 use Rattle.std.proofs.lemmas.List.{drop_all, drop_more, get_or_past}
 use Rattle.std.proofs.lemmas.Bool.{cases_lt}
-use Rattle.std.proofs.lemmas.Option.{get_or_from_slice_get}
+use Rattle.std.proofs.lemmas.Option.{get_or_from_slice_get, slice_get-get_or}
 use Rattle.pt_types.specs.declared.firing.Done.{Done}
 use Rattle.pt_types.specs.declared.firing.OnLink.{OnLink}
 use Rattle.pt_types.specs.declared.firing.Task.{Task}
 use Rattle.pt_semantics.specs.Turn.{Turn, is_empty}
+use Rattle.pt_semantics.proofs.Lookups.{same_some}
+use Rattle.pt_history.specs.Heads.{single}
+use Rattle.pt_history.specs.Levels.{IsSingleAfter}
 use Rattle.pt_history.specs.declared.head.Head.{Head}
 use Rattle.pt_history.specs.Keeping.{Lists, turn_at, turns_from}
-use Rattle.pt_history.specs.Turns.{claimed_in, posted_in}
+use Rattle.pt_history.specs.Turns.{claimed_in, posted_in, turn_head}
 
 -- a head that stands for none
 abbrev pub no_head : Head
@@ -61,20 +64,36 @@ all_sent p hs e = all_from (λ (turn : Turn). turn.sent) p p.sent 0 hs (λ k h. 
 pub all_posted : (p : Lists) (hs : List Head) → length p.posted ≡ length hs → flat_map (λ (turn : Turn). turn.posted) (turns_from p 0 hs) ≡ flat_map (λ (dones : List Done). dones) p.posted
 all_posted p hs e = all_from (λ (turn : Turn). turn.posted) p p.posted 0 hs (λ k h. refl) (omega arith)
 
--- the results of the first turns
-first_from : (p : Lists) (n i : ℕ) (hs : List Head) → i + length hs ≡ length p.posted → flat_map (λ (turn : Turn). turn.posted) (take n (turns_from p i hs)) ≡ flat_map (λ (dones : List Done). dones) (take n (drop i p.posted))
-first_from p n i [] e = nothing (λ (turn : Turn). turn.posted) n ∙ sym (ap (λ (lists : List (List Done)). flat_map (λ (dones : List Done). dones) (take n lists)) (drop_all i p.posted (omega arith)) ∙ nothing (λ (dones : List Done). dones) n)
+-- the members of one list of the first turns
+first_from : {X : Type 0} (f : Turn → List X) (p : Lists) (lists : List (List X)) (n i : ℕ) (hs : List Head) → ((k : ℕ) (h : Head) → f (turn_at p k h) ≡ get_or lists k []) → i + length hs ≡ length lists
+    → flat_map f (take n (turns_from p i hs)) ≡ flat_map (λ (list : List X). list) (take n (drop i lists))
+first_from {X} f p lists n i [] is e = nothing f n ∙ sym (ap (λ (ls : List (List X)). flat_map (λ (list : List X). list) (take n ls)) (drop_all i lists (omega arith)) ∙ nothing (λ (list : List X). list) n)
   where
     nothing : {X Y : Type 0} (f : X → List Y) (n : ℕ) → flat_map f (take n []) ≡ []
     nothing f zero = refl
     nothing f (suc n) = refl
-first_from p zero i (h ∷ hs) e = sym (ap (λ (lists : List (List Done)). flat_map (λ (dones : List Done). dones) (take zero lists)) (drop_more p.posted i [] (omega arith)))
-first_from p (suc n) i (h ∷ hs) e =
-    ap (λ more. get_or p.posted i [] ++ more) (first_from p n (i + 1) hs (omega arith))
-    ∙ sym (ap (λ (lists : List (List Done)). flat_map (λ (dones : List Done). dones) (take (suc n) lists)) (drop_more p.posted i [] (omega arith)))
+first_from {X} f p lists zero i (h ∷ hs) is e = sym (ap (λ (ls : List (List X)). flat_map (λ (list : List X). list) (take zero ls)) (drop_more lists i [] (omega arith)))
+first_from {X} f p lists (suc n) i (h ∷ hs) is e =
+    ap₂ (λ list more. list ++ more) (is i h) (first_from f p lists n (i + 1) hs is (omega arith))
+    ∙ sym (ap (λ (ls : List (List X)). flat_map (λ (list : List X). list) (take (suc n) ls)) (drop_more lists i [] (omega arith)))
 
+-- the results of the first turns
 pub first_posted : (p : Lists) (n : ℕ) (hs : List Head) → length p.posted ≡ length hs → flat_map (λ (turn : Turn). turn.posted) (take n (turns_from p 0 hs)) ≡ flat_map (λ (dones : List Done). dones) (take n p.posted)
-first_posted p n hs e = first_from p n 0 hs (omega arith)
+first_posted p n hs e = first_from (λ (turn : Turn). turn.posted) p p.posted n 0 hs (λ k h. refl) (omega arith)
+
+-- the claims of the first turns
+pub first_claimed : (p : Lists) (n : ℕ) (hs : List Head) → length p.claimed ≡ length hs → flat_map (λ (turn : Turn). turn.claimed) (take n (turns_from p 0 hs)) ≡ flat_map (λ (tasks : List Task). tasks) (take n p.claimed)
+first_claimed p n hs e = first_from (λ (turn : Turn). turn.claimed) p p.claimed n 0 hs (λ k h. refl) (omega arith)
+
+-- the head of a single turn, after a turn with the same last reading
+pub single_turn : (p : Lists) (hs : List Head) (n : ℕ) (turn : Turn) → IsSingleAfter hs n → slice_get (turns_from p 0 hs) n ≡ Some turn → option_map turn_head (slice_get (turns_from p 0 hs) (n + 1)) ≡ Some (single turn.last)
+single_turn p hs n turn after was =
+    let before : n < length hs = omega (arith, after.next) in
+    let head = get_or hs n no_head in
+    let is : turn_at p n head ≡ turn = same_some (turn_at p n head) turn (sym (get_turn p n hs no_head before) ∙ was) in
+    number_of turn_head (λ (h : Head). h) p (n + 1) hs no_head after.next refl
+    ∙ ap (λ (h : Head). Some h) (get_or_from_slice_get hs (n + 1) (single head.last) no_head (after.is head (slice_get-get_or hs n no_head before)))
+    ∙ ap (λ (t : Turn). Some (single t.last)) is
 
 -- whether a list is empty, by its length
 pub empty_by_length : {X : Type 0} (xs : List X) → is_empty xs ≡ eqb (length xs) 0

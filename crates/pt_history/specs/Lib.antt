@@ -17,3 +17,4 @@ pub mod Heads
 pub mod PastHeadsWhole
 pub mod Recents
 pub mod HeadsWhole
+pub mod Levels

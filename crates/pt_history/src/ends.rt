@@ -1,7 +1,9 @@
 //! Where each of many lists ends that are stored one after another.
 
-ghost use Rattle.std.specs.Prelude.{◌≡◌, ◌+◌, ◌<◌, ◌≤◌, ◌-◌, ◌^◌, ◌++◌, ◌∷◌, [], IsOk, OnErr, OnOk, length, max, replicate, slice_index, slice_set, true};
+ghost use Rattle.std.specs.Prelude.{◌≡◌, ℕ, ◌/◌, ◌+◌, ◌<◌, ◌≤◌, ◌-◌, ◌^◌, ◌++◌, ◌∷◌, [], IsOk, OnErr, OnOk, length, max, replicate, slice_index, slice_set, true};
+ghost use Rattle.pt_history.specs.Levels.{IsLevel};
 
+use crate::levels::Levels;
 use crate::repeats::Repeats;
 use pt_tags::Memory;
 use std::alloc::Global;
@@ -190,6 +192,19 @@ impl Ends {
             return false;
         }
         self.starts.stays(number)
+    }
+
+    /// Which lists of a block of 64 are known to be empty.
+    pub fn levels(&self, block: usize) -> Levels
+        ensures { (n : ℕ) → n / 64 ≡ block → n < length self.now.ends → IsLevel result n → slice_index (0 ∷ self.now.ends) n ≡ slice_index self.now.ends n }
+    {
+        if block > self.starts.len() / 64 {
+            return Levels {
+                bits: 0,
+                limit: usize::MAX,
+            };
+        }
+        self.starts.levels(block)
     }
 }
 

@@ -1,10 +1,12 @@
 //! The heads of recorded turns.
 
-ghost use Rattle.std.specs.Prelude.{◌≡◌, ◌+◌, ◌-◌, ◌<◌, ◌≤◌, ◌++◌, ◌∷◌, [], MatchOption, OnErr, OnOk, Some, length, max, slice_get, slice_set};
+ghost use Rattle.std.specs.Prelude.{◌≡◌, ℕ, ◌/◌, ◌+◌, ◌-◌, ◌<◌, ◌≤◌, ◌++◌, ◌∷◌, [], MatchOption, OnErr, OnOk, Some, length, max, slice_get, slice_set};
 ghost use Rattle.pt_history.specs.Heads.{single};
 ghost use Rattle.pt_history.specs.Recents.{EndWith, heads_in};
+ghost use Rattle.pt_history.specs.Levels.{IsLevelHead, IsSingleAfter};
 
 use crate::head::Head;
+use crate::levels::HeadLevels;
 use crate::past_heads::PastHeads;
 use crate::pieces::MOST_ITEMS;
 use pt_tags::Memory;
@@ -148,6 +150,13 @@ impl Heads {
         } else {
             recent_at(self.recent, number - past)
         }
+    }
+
+    /// What is known of the heads of a block of 64, and the next ones. Nothing is known of the last two.
+    pub fn levels(&self, block: usize) -> HeadLevels
+        ensures { (n : ℕ) → n / 64 ≡ block → IsLevelHead result n → IsSingleAfter self.now.items n }
+    {
+        self.past.levels(block)
     }
 }
 

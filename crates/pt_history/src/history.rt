@@ -8,11 +8,13 @@ ghost use Rattle.pt_semantics.specs.Kept.{kept_with, settled};
 ghost use Rattle.pt_history.specs.Turns.{all_dated, claimed_in, claiming, entering, fresh, turn_head, larger, posted_in, posting, quiet, sending, taking};
 ghost use Rattle.pt_history.specs.Keeping.{Joins};
 ghost use Rattle.pt_history.specs.Tasks.{mark_of};
+ghost use Rattle.pt_history.specs.Levels.{AreLevels};
 
 use crate::Pieces;
 use crate::claims::Mark;
 use crate::head::Head;
 use crate::heads::Heads;
+use crate::levels::TurnLevels;
 use crate::posted_at::PostedAt;
 use crate::room::Room;
 use crate::work_lists::WorkLists;
@@ -427,5 +429,36 @@ impl History {
         ensures { option_map mark_of (slice_get (flat_map (λ turn. turn.claimed) self.now.turns) number) ≡ Some result }
     {
         self.work.mark(number)
+    }
+
+    /// The number of results posted up to the end of a recorded turn.
+    pub fn results_through(&self, turn: usize) -> usize
+        requires { turn < length self.now.turns }
+        ensures { result ≡ length (flat_map (λ turn. turn.posted) (take (turn + 1) self.now.turns)) }
+    {
+        self.work.results_through(turn)
+    }
+
+    /// The number of tasks claimed up to the end of a recorded turn.
+    pub fn claims_through(&self, turn: usize) -> usize
+        requires { turn < length self.now.turns }
+        ensures { result ≡ length (flat_map (λ turn. turn.claimed) (take (turn + 1) self.now.turns)) }
+    {
+        self.work.claims_through(turn)
+    }
+
+    /// What is known of a block of 64 recorded turns: those whose number divided by 64 is `block`. For a reader that goes
+    /// through all turns this is cheaper than to ask about each list of each turn.
+    pub fn levels(&self, block: usize) -> TurnLevels
+        ensures { AreLevels self.now.turns block result }
+    {
+        TurnLevels {
+            heads: self.heads.levels(block),
+            posted: self.work.posted_levels(block),
+            rows: self.rows.levels(block),
+            taken: self.taken.levels(block),
+            claimed: self.work.claimed_levels(block),
+            sent: self.sent.levels(block),
+        }
     }
 }

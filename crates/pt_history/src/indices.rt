@@ -1,8 +1,10 @@
 //! Indices that rise by at most 1 from each to the next.
 
-ghost use Rattle.std.specs.Prelude.{◌≡◌, ◌+◌, ◌-◌, ◌%◌, ◌^◌, ◌<◌, ◌≤◌, ◌++◌, ◌∷◌, [], OnErr, OnOk, length, max, replicate, slice_index_or, true, vec_len, vec_capacity};
+ghost use Rattle.std.specs.Prelude.{◌≡◌, ℕ, ◌/◌, ◌+◌, ◌-◌, ◌%◌, ◌^◌, ◌<◌, ◌≤◌, ◌++◌, ◌∷◌, [], OnErr, OnOk, length, max, replicate, slice_index_or, true, vec_len, vec_capacity};
 ghost use Rattle.pt_history.specs.Indices.{index_in, no_block};
+ghost use Rattle.pt_history.specs.Levels.{IsLevel};
 
+use crate::levels::Levels;
 use crate::pieces::widened;
 use pt_tags::Memory;
 use std::alloc::Global;
@@ -230,6 +232,21 @@ impl Indices {
         }
         let block = block_at(self.blocks.as_slice(), self.newest, number / PER_BLOCK);
         stays_in(block, number % PER_BLOCK)
+    }
+
+    /// Which indices of a block are known to be the same as the next ones. Nothing is known of the newest block.
+    pub fn levels(&self, block: usize) -> Levels
+        ensures next { (n : ℕ) → n / 64 ≡ block → IsLevel result n → n + 1 < length self.now.indices }
+        ensures same { (n : ℕ) → n / 64 ≡ block → IsLevel result n → slice_index_or self.now.indices (n + 1) 0 ≡ slice_index_or self.now.indices n 0 }
+    {
+        if block >= self.count / PER_BLOCK {
+            return Levels { bits: 0, limit: 0 };
+        }
+        let full = block_at(self.blocks.as_slice(), self.newest, block);
+        Levels {
+            bits: full.bits,
+            limit: PER_BLOCK * block + (PER_BLOCK - 1),
+        }
     }
 }
 

@@ -1,9 +1,11 @@
 //! The heads of recorded turns that can't change any more.
 
-ghost use Rattle.std.specs.Prelude.{◌≡◌, ◌+◌, ◌-◌, ◌<◌, ◌++◌, ◌∷◌, [], MatchOption, OnErr, OnOk, Some, length, max, slice_get, true};
+ghost use Rattle.std.specs.Prelude.{◌≡◌, ℕ, ◌/◌, ◌+◌, ◌-◌, ◌<◌, ◌++◌, ◌∷◌, [], MatchOption, OnErr, OnOk, Some, length, max, slice_get, true};
 ghost use Rattle.pt_history.specs.Heads.{head_with, single};
+ghost use Rattle.pt_history.specs.Levels.{IsLevelHead, IsSingleAfter};
 
 use crate::head::Head;
+use crate::levels::HeadLevels;
 use crate::pieces::Pieces;
 use crate::repeats::Repeats;
 use pt_tags::Memory;
@@ -120,6 +122,16 @@ impl PastHeads {
         ensures { slice_get self.now.items number ≡ Some result }
     {
         head_with(self.lasts.get(number), self.runs.get(number))
+    }
+
+    /// What is known of the heads of a block of 64, and the next ones.
+    pub fn levels(&self, block: usize) -> HeadLevels
+        ensures { (n : ℕ) → n / 64 ≡ block → IsLevelHead result n → IsSingleAfter self.now.items n }
+    {
+        HeadLevels {
+            lasts: self.lasts.levels(block),
+            runs: self.runs.levels(block),
+        }
     }
 }
 

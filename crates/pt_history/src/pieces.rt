@@ -1,10 +1,12 @@
 //! A list of lists, stored flat.
 
-ghost use Rattle.std.specs.Prelude.{◌≡◌, ◌+◌, ◌<◌, ◌≤◌, ◌++◌, ◌∷◌, [], IsOk, OnOk, OnErr, MatchResult, Some, length, max, slice_get, slice_range, vec_len, vec_capacity};
+ghost use Rattle.std.specs.Prelude.{◌≡◌, ℕ, ◌/◌, ◌+◌, ◌<◌, ◌≤◌, ◌++◌, ◌∷◌, [], IsOk, OnOk, OnErr, MatchResult, Some, length, max, slice_get, slice_range, vec_len, vec_capacity};
 ghost use Rattle.std.specs.List.{flat_map};
 ghost use Rattle.pt_history.specs.Lists.{on_last};
+ghost use Rattle.pt_history.specs.Levels.{IsLevel};
 
 use crate::ends::Ends;
+use crate::levels::Levels;
 use pt_tags::Memory;
 use std::alloc::Global;
 use std::marker::Model;
@@ -136,6 +138,13 @@ impl<T: Drop> Pieces<T> {
             self.ends.start(number),
             self.ends.end(number),
         )
+    }
+
+    /// Which lists of a block of 64 are known to be empty.
+    pub fn levels(&self, block: usize) -> Levels
+        ensures { (n : ℕ) → n / 64 ≡ block → n < length self.now.lists → IsLevel result n → slice_get self.now.lists n ≡ Some [] }
+    {
+        self.ends.levels(block)
     }
 }
 

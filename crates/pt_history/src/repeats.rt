@@ -1,8 +1,10 @@
 //! A list in which neighbours are often equal.
 
-ghost use Rattle.std.specs.Prelude.{◌≡◌, ◌+◌, ◌-◌, ◌<◌, ◌≤◌, ◌++◌, ◌∷◌, [], IsOk, OnErr, OnOk, Some, length, max, replicate, slice_get, true};
+ghost use Rattle.std.specs.Prelude.{◌≡◌, ℕ, ◌/◌, ◌+◌, ◌-◌, ◌<◌, ◌≤◌, ◌++◌, ◌∷◌, [], IsOk, OnErr, OnOk, Some, length, max, replicate, slice_get, true};
+ghost use Rattle.pt_history.specs.Levels.{IsLevel};
 
 use crate::indices::Indices;
+use crate::levels::Levels;
 use crate::pieces::{MOST_ITEMS, widened};
 use pt_tags::Memory;
 use std::alloc::Global;
@@ -116,6 +118,14 @@ impl<T: Drop> Repeats<T> {
         ensures { result ≡ true → slice_get self.now.items (number + 1) ≡ slice_get self.now.items number }
     {
         self.indices.stays(number)
+    }
+
+    /// Which items of a block of 64 are known to be the same as the next ones.
+    pub fn levels(&self, block: usize) -> Levels
+        ensures next { (n : ℕ) → n / 64 ≡ block → IsLevel result n → n + 1 < length self.now.items }
+        ensures same { (n : ℕ) → n / 64 ≡ block → IsLevel result n → slice_get self.now.items (n + 1) ≡ slice_get self.now.items n }
+    {
+        self.indices.levels(block)
     }
 }
 

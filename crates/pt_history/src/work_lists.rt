@@ -1,13 +1,15 @@
 //! The claims and the results of each turn.
 
-ghost use Rattle.std.specs.Prelude.{◌≡◌, ◌+◌, ◌<◌, ◌≤◌, ◌++◌, ◌∷◌, [], OnOk, Some, length, option_map, slice_get, slice_index_or, take};
+ghost use Rattle.std.specs.Prelude.{◌≡◌, ℕ, ◌/◌, ◌+◌, ◌<◌, ◌≤◌, ◌++◌, ◌∷◌, [], OnOk, Some, length, option_map, slice_get, slice_index_or, take};
 ghost use Rattle.std.specs.List.{flat_map};
 ghost use Rattle.pt_history.specs.Lists.{on_last};
 ghost use Rattle.pt_history.specs.Tasks.{mark_of};
 ghost use Rattle.pt_history.specs.WorkLists.{IsRoomier};
+ghost use Rattle.pt_history.specs.Levels.{IsLevel};
 
 use crate::claims::Mark;
 use crate::ends::Ends;
+use crate::levels::Levels;
 use crate::pieces::MOST_ITEMS;
 use crate::work::Work;
 use pt_tags::Memory;
@@ -207,5 +209,35 @@ impl WorkLists {
         ensures { option_map (λ done. mark_of done.task) (slice_get (slice_index_or self.now.posted.lists list []) number) ≡ Some result }
     {
         self.work.done_mark(self.posted.start(list) + number)
+    }
+
+    /// Which lists of claims, of a block of 64, are known to be empty.
+    pub fn claimed_levels(&self, block: usize) -> Levels
+        ensures { (n : ℕ) → n / 64 ≡ block → n < length self.now.claimed.lists → IsLevel result n → slice_get self.now.claimed.lists n ≡ Some [] }
+    {
+        self.claimed.levels(block)
+    }
+
+    /// Which lists of results, of a block of 64, are known to be empty.
+    pub fn posted_levels(&self, block: usize) -> Levels
+        ensures { (n : ℕ) → n / 64 ≡ block → n < length self.now.posted.lists → IsLevel result n → slice_get self.now.posted.lists n ≡ Some [] }
+    {
+        self.posted.levels(block)
+    }
+
+    /// The number of claims up to the end of a list.
+    pub fn claims_through(&self, list: usize) -> usize
+        requires { list < length self.now.claimed.lists }
+        ensures { result ≡ length (flat_map (λ list. list) (take (list + 1) self.now.claimed.lists)) }
+    {
+        self.claimed.end(list)
+    }
+
+    /// The number of results up to the end of a list.
+    pub fn results_through(&self, list: usize) -> usize
+        requires { list < length self.now.posted.lists }
+        ensures { result ≡ length (flat_map (λ list. list) (take (list + 1) self.now.posted.lists)) }
+    {
+        self.posted.end(list)
     }
 }
