@@ -25,7 +25,7 @@ pub record IsSingleAfter (heads : List Head) (n : ℕ) : Type 0 where
   pub is : (head : Head) → slice_get heads n ≡ Some head → slice_get heads (n + 1) ≡ Some (single head.last)
 
 -- what the levels of a block of 64 turns tell is right
-pub record AreLevels (turns : List Turn) (block : ℕ) (levels : TurnLevels) : Type 0 where
+pub record AreTurnLevels (turns : List Turn) (block : ℕ) (levels : TurnLevels) : Type 0 where
   pub heads : (n : ℕ) (turn : Turn) → n / 64 ≡ block → IsLevelHead levels.heads n → slice_get turns n ≡ Some turn → option_map turn_head (slice_get turns (n + 1)) ≡ Some (single turn.last)
   pub posted : (n : ℕ) → n / 64 ≡ block → n < length turns → IsLevel levels.posted n → option_map (λ (turn : Turn). turn.posted) (slice_get turns n) ≡ Some []
   pub rows : (n : ℕ) → n / 64 ≡ block → n < length turns → IsLevel levels.rows n → option_map (λ (turn : Turn). turn.rows) (slice_get turns n) ≡ Some []

@@ -8,7 +8,7 @@ ghost use Rattle.pt_semantics.specs.Kept.{kept_with, settled};
 ghost use Rattle.pt_history.specs.Turns.{all_dated, claimed_in, claiming, entering, fresh, turn_head, larger, posted_in, posting, quiet, sending, taking};
 ghost use Rattle.pt_history.specs.Keeping.{Joins};
 ghost use Rattle.pt_history.specs.Tasks.{mark_of};
-ghost use Rattle.pt_history.specs.Levels.{AreLevels};
+ghost use Rattle.pt_history.specs.Levels.{AreTurnLevels};
 
 use crate::Pieces;
 use crate::claims::Mark;
@@ -450,7 +450,7 @@ impl History {
     /// What is known of a block of 64 recorded turns: those whose number divided by 64 is `block`. For a reader that goes
     /// through all turns this is cheaper than to ask about each list of each turn.
     pub fn levels(&self, block: usize) -> TurnLevels
-        ensures { AreLevels self.now.turns block result }
+        ensures { AreTurnLevels self.now.turns block result }
     {
         TurnLevels {
             heads: self.heads.levels(block),

@@ -1,7 +1,7 @@
 use Rattle.std.proofs.Common.{◌≡◌, ◌<◌, [], length, refl, subst, arith}
 use Rattle.pt_semantics.specs.Turn.{Turn}
 use Rattle.pt_history.specs.Keeping.{turns_from}
-use Rattle.pt_history.specs.Levels.{AreLevels}
+use Rattle.pt_history.specs.Levels.{AreTurnLevels}
 use Rattle.pt_history.specs.Turns.{RoomyTurns}
 use Rattle.pt_history.specs.Whole.{lists_of}
 use Rattle.pt_history.specs.declared.levels.TurnLevels.{TurnLevels}
@@ -21,7 +21,7 @@ returns c =
       claimed = c.claimed_levels.result;
       sent = c.levels-4.result;
     } in
-    let are : AreLevels turns c.args.block levels = record {
+    let are : AreTurnLevels turns c.args.block levels = record {
       heads = λ n turn at is was. single_turn (lists_of c.self.inside) heads n turn (c.levels.ensures n at is) was;
       posted = λ n at lt is.
           let low : n < length heads = omega (arith, lists, lt) in
@@ -39,4 +39,4 @@ returns c =
           let low : n < length heads = omega (arith, lists, lt) in
           list_of (λ (turn : Turn). turn.sent) (lists_of c.self.inside) c.self.inside.sent.lists n heads no_head [] low refl (c.levels-4.ensures n at (omega (arith, low, c.self.invariant.sent.lists)) is);
     } in
-    subst (λ (v : RoomyTurns). AreLevels v.turns c.args.block levels) c.self.view_is are
+    subst (λ (v : RoomyTurns). AreTurnLevels v.turns c.args.block levels) c.self.view_is are
