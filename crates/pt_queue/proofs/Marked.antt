@@ -1,5 +1,5 @@
 -- The bits that are set where there is a tag.
-use Rattle.std.proofs.Common.{◌≡◌, ◌≢◌, ℕ, ◌+◌, ◌/◌, ◌%◌, ◌<◌, ◌≤◌, ◌⊎◌, List, Option, None, length, replicate, slice_index_or, slice_set, refl, sym, ap, subst, ◌∙◌, ⊎_elim, arith}
+use Rattle.std.proofs.Common.{◌≡◌, ◌≢◌, ℕ, ◌+◌, ◌/◌, ◌%◌, ◌<◌, ◌≤◌, ◌⊎◌, List, Option, None, length, replicate, slice_index_or, slice_set, sym, ap, subst, ◌∙◌, ⊎_elim, arith}
 use Rattle.std.specs.Int.{bit_at}
 use Rattle.std.proofs.lemmas.List.{get_or-replicate, get_or_past, get_or-set_same, get_or-set_other, length-replicate, length-set}
 use Rattle.std.proofs.lemmas.Nat.Bits.{bit_at-zero}
@@ -44,7 +44,3 @@ put_marked tags marks new place tag are there here others len = record {
   where
     either : (n m : ℕ) → (n ≡ m) ⊎ (n ≢ m)
     either n m = grind arith
-
--- a tag was replaced by another, or nothing was removed
-pub still_marked : (tags : List (Option Tag)) (marks : List ℕ) (place : ℕ) (tag : Option Tag) → AreMarked tags marks → place < length tags → one_if (slice_index_or tags place None) ≡ one_if tag → AreMarked (slice_set tags place tag) marks
-still_marked tags marks place tag are there same = put_marked tags marks marks place tag are there (are.marks_are place ∙ same) (λ n ne. refl) refl

@@ -79,6 +79,23 @@ module _ (words : List ℕ) (summary pair : ℕ) (few : pair < 64) (others : (n 
       bit_at_clear_other w64 summary pair few (n / 128) within ne ∙ old)
       (either (n / 128) pair)
 
+-- a word and the other one of its pair are 0
+pub summed_without : (words : List ℕ) (summary index : ℕ) → index < 128 → summary < 2 ^ 64 → AreSummed words summary → slice_index_or words index 0 ≡ 0 → slice_index_or words (4 * (index / 2) + 1 - index) 0 ≡ 0 → AreSummed words (bit_and summary (bit_not w64 (1 * 2 ^ (index / 2) % 2 ^ 64)))
+summed_without words summary index few fits are own partner = ⊎_elim
+    (λ (e : index ≡ 2 * (index / 2)).
+    let other : 4 * (index / 2) + 1 - index ≡ 2 * (index / 2) + 1 = omega (arith, e) in
+    clear (ap (λ k. slice_index_or words k 0) (sym e) ∙ own) (ap (λ k. slice_index_or words k 0) (sym other) ∙ partner))
+    (λ (e : index ≡ 2 * (index / 2) + 1).
+    let other : 4 * (index / 2) + 1 - index ≡ 2 * (index / 2) = omega (arith, e) in
+    clear (ap (λ k. slice_index_or words k 0) (sym other) ∙ partner) (ap (λ k. slice_index_or words k 0) (sym e) ∙ own))
+    (half index)
+  where
+    clear : slice_index_or words (2 * (index / 2)) 0 ≡ 0 → slice_index_or words (2 * (index / 2) + 1) 0 ≡ 0 → AreSummed words (bit_and summary (bit_not w64 (1 * 2 ^ (index / 2) % 2 ^ 64)))
+    clear = summed_clear words summary (index / 2) (omega (arith, few)) (λ n ne one. are n one) fits
+
+    half : (k : ℕ) → (k ≡ 2 * (k / 2)) ⊎ (k ≡ 2 * (k / 2) + 1)
+    half k = grind arith
+
 -- without bits
 zeros : (count k : ℕ) → slice_index_or (replicate {A = ℕ} count 0) k 0 ≡ 0
 zeros count k = ⊎_elim

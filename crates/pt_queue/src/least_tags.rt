@@ -10,7 +10,7 @@ ghost use Rattle.pt_queue.specs.Marks.{AreMarks, IsWaitingAt, most_places, one_i
 ghost use Rattle.pt_queue.specs.Scans.{sooner};
 
 use crate::marks::{
-    Span, clear_bit, first_from, is_only, next_bit, set_bit, span_of, summed, word_at,
+    Span, clear_bit, first_from, is_only, next_bit, set_bit, span_of, without_word, word_at,
 };
 use crate::waiting::Waiting;
 use pt_tags::{Memory, Tag};
@@ -159,13 +159,14 @@ impl LeastTags {
         if !had {
             return;
         }
+        let index = place / 64;
         self.count = self.count.wrapping_sub(1);
         clear_bit(&mut self.marks, place);
-        if self.marks[place / 64] != 0 {
+        if self.marks[index] != 0 {
             return;
         }
-        self.times[place / 64] = u64::MAX;
-        self.summary = summed(self.summary, self.marks.as_slice(), place / 128);
+        self.times[index] = u64::MAX;
+        self.summary = without_word(self.summary, self.marks.as_slice(), index);
     }
 
     /// Sets the tag at a place, or removes it.

@@ -58,18 +58,20 @@ pub fn word_at(words: &[u64], index: usize) -> u64
     words.get(index).copied().unwrap_or(0)
 }
 
-/// The summary after one of two words was changed: those with numbers `2 * pair` and `2 * pair + 1`.
-pub fn summed(summary: u64, words: &[u64], pair: usize) -> u64
-    requires pair { pair < 64 }
-    requires others { (n : ℕ) → n / 128 ≢ pair → bit_of words.now n ≡ 1 → bit_at summary (n / 128) ≡ 1 }
+/// The summary after a word became 0.
+#[inline(always)]
+pub fn without_word(summary: u64, words: &[u64], index: usize) -> u64
+    requires index { index < 128 }
+    requires empty { slice_index_or words.now index 0 ≡ 0 }
+    requires summed { AreSummed words.now summary }
     ensures { AreSummed words.now result }
 {
-    let low = word_at(words, 2 * pair);
-    let high = word_at(words, 2 * pair + 1);
-    if low == 0 && high == 0 {
-        return summary & !(1 << pair);
+    let pair = index / 2;
+    let partner = 4 * pair + 1 - index;
+    if word_at(words, partner) != 0 {
+        return summary;
     }
-    summary | 1 << pair
+    summary & !(1 << pair)
 }
 
 /// The first word, of those from number `index` on, that may have a bit, as far as the summary says. A number that no word has
