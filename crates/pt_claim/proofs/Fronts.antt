@@ -149,16 +149,16 @@ stands_or u a k = ⊎_elim
     same_or : (m n : ℕ) → n ≤ m → (m ≡ n) ⊎ (n < m)
     same_or m n l = grind arith
 
--- units between two places, none of which has an event, are passed over
+-- units between two places, none of which is safe, are passed over
 pub first_pass : (g : Graph) (waits : Values) (busy : Part → Option Task) (r a k b l : ℕ) (cs : List Waiting) → ((x : Part) → StandsBefore x a k → StandsBefore x b l)
-    → ((x : Part) (t : Tag) → IsUnit g x → (StandsBefore x a k → ⊥) → StandsBefore x b l → HasEvent g waits x t → ⊥) → AreFirst g waits busy r a k cs → AreFirst g waits busy r b l cs
+    → ((x : Part) (t : Tag) → IsUnit g x → (StandsBefore x a k → ⊥) → StandsBefore x b l → IsSafe g waits busy r x t → ⊥) → AreFirst g waits busy r a k cs → AreFirst g waits busy r b l cs
 first_pass g waits busy r a k b l cs on none first = record {
   in_order = first.in_order;
   safe = first.safe;
   stand = each_map (λ (d : Waiting). StandsBefore d.unit a k) (λ (d : Waiting). StandsBefore d.unit b l) cs (λ d h. on d.unit h) first.stand;
   among = λ u t own stands safe. ⊎_elim
       (λ (before : StandsBefore u a k). first.among u t own before safe)
-      (λ (not : StandsBefore u a k → ⊥). absurd (none u t own not stands safe.event))
+      (λ (not : StandsBefore u a k → ⊥). absurd (none u t own not stands safe))
       (stands_or u a k);
 }
 

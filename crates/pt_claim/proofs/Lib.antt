@@ -4,6 +4,7 @@ pub mod Fronts
 pub mod Making
 pub mod Cut
 pub mod Passing
+pub mod EarlyWords
 pub mod Least
 pub mod Bounds
 pub mod Units

@@ -1,5 +1,6 @@
 pub mod Safe
 pub mod Fronts
+pub mod Early
 pub mod Claimed
 pub mod Least
 pub mod Closing

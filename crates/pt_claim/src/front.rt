@@ -13,6 +13,7 @@ ghost use Rattle.pt_queue.specs.Events.{waiting_in, IsLeastTag};
 ghost use Rattle.pt_state.specs.State.{busy_in, IsSound};
 ghost use Rattle.pt_claim.specs.Fronts.{AreBothSafe, AreFirst, AreFront, IsNextSafe, IsTaken, one_of};
 
+use crate::early::{next_to_ask, next_word};
 use crate::order::{is_past_all, put};
 use crate::safe::{is_behind, is_due, is_free, is_safe};
 use arrayvec::ArrayVec;
@@ -127,7 +128,8 @@ fn add_unit(
     ahead
 }
 
-/// Replaces the list by the first safe units in order, at most 64. Searches the units that have events.
+/// Replaces the list by the first safe units in order, at most 64. Searches the units that have events, but passes over words of
+/// units none of which is due.
 fn fill(
     fields: &Fields,
     graph: &Graph,
@@ -146,8 +148,13 @@ fn fill(
 {
     units.clear();
     let mut ahead = None;
+    let places = 8 * graph.actors.as_slice().len();
     let mut from = 0usize;
-    while let Some(waiting) = fields.queue.first_waiting(from) {
+    'asked: while from < places {
+        let Some(waiting) = next_to_ask(fields, graph, offsets, reading, from) else {
+            from = next_word(from);
+            continue;
+        };
         ahead = add_unit(
             fields, graph, least, offsets, reading, waiting, ahead, known, units,
         );

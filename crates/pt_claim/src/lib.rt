@@ -14,6 +14,7 @@
 
 mod claiming;
 mod closing;
+mod early;
 mod front;
 mod order;
 mod paced;

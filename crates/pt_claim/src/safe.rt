@@ -26,7 +26,7 @@ use pt_types::{Graph, Unit};
 
 /// Whether the reading has reached the paced reading of a tag at a unit with this offset. All are microseconds.
 /// With offset 10, a tag of time 50 has paced reading 61.
-fn has_reached(offset: Option<i64>, tag: Tag, reading: u64) -> bool
+pub fn has_reached(offset: Option<i64>, tag: Tag, reading: u64) -> bool
     ensures { (result ≡ true) ↔ (paced_by offset tag ≤ reading) }
 {
     match offset {

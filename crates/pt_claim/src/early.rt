@@ -1,0 +1,63 @@
+//! Searching many units: a word of 64 places is passed over if none of its units is due for long.
+//!
+//! Where many units have events, mostly nearly all of them wait for a reading far ahead.
+
+ghost use Rattle.std.specs.Prelude.{◌≡◌, ◌+◌, ◌*◌, ◌/◌, ◌<◌, ◌^◌, true};
+ghost use Rattle.pt_types.specs.Lawful.{IsLawful};
+ghost use Rattle.pt_offsets.specs.Plans.{AreOffsets};
+ghost use Rattle.pt_queue.specs.Events.{waiting_in};
+ghost use Rattle.pt_state.specs.State.{IsSound};
+ghost use Rattle.pt_claim.specs.Early.{IsEarlyWord, IsNextToAsk};
+
+use crate::safe::has_reached;
+use pt_offsets::Offsets;
+use pt_queue::Waiting;
+use pt_state::Fields;
+use pt_tags::Tag;
+use pt_types::Graph;
+
+/// The first place of the next word. Behind place 100 it is 128.
+#[inline(always)]
+pub fn next_word(place: usize) -> usize
+    requires { place < 2 ^ 32 }
+    ensures { result ≡ 64 * (place / 64 + 1) }
+{
+    64 * (place / 64 + 1)
+}
+
+/// Whether no event of the units in a word of 64 places is due at a reading (in microseconds). It may say `false` of such a word.
+#[inline(always)]
+fn is_early(fields: &Fields, graph: &Graph, offsets: &Offsets, reading: u64, word: usize) -> bool
+    requires lawful { IsLawful graph.now }
+    requires sound { IsSound graph.now fields.now }
+    requires offsets { AreOffsets graph.now offsets.now }
+    ensures { result ≡ true → IsEarlyWord graph.now (waiting_in fields.now.queue.events) reading word }
+{
+    let earliest = Tag {
+        time: fields.queue.not_before(word),
+        step: 0,
+    };
+    !has_reached(offsets.least_in_word(word), earliest, reading)
+}
+
+/// The first unit that has events, with its least tag, of those whose place isn't before `from` and is in the same word of 64
+/// places. `None` if there is none, or if none of them is due at the reading (in microseconds), as far as the whole word says: that
+/// is asked only at the first place of a word.
+#[inline(always)]
+pub fn next_to_ask(
+    fields: &Fields,
+    graph: &Graph,
+    offsets: &Offsets,
+    reading: u64,
+    from: usize,
+) -> Option<Waiting>
+    requires lawful { IsLawful graph.now }
+    requires sound { IsSound graph.now fields.now }
+    requires offsets { AreOffsets graph.now offsets.now }
+    ensures { IsNextToAsk graph.now (waiting_in fields.now.queue.events) reading from result }
+{
+    if from % 64 == 0 && is_early(fields, graph, offsets, reading, from / 64) {
+        return None;
+    }
+    fields.queue.next_in_word(from)
+}
