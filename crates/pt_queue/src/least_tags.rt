@@ -86,7 +86,8 @@ pub struct LeastTags {
     /// For each word of `marks` a time in microseconds that no tag of its places is before. It can be less than the least of their
     /// times: setting a tag only lowers it, and it rises, to `u64::MAX`, when the last bit of the word is cleared.
     times: Vec<u64>,
-    /// How many places have a tag. No contract mentions it: it only says which way is faster.
+    /// How many places have a tag; at most `most_places`, so it never wraps. No contract mentions it: it only says which way is
+    /// faster.
     count: usize,
 }
 

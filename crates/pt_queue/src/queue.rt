@@ -200,8 +200,8 @@ impl Queue {
         self.tags.next_in_word(from)
     }
 
-    /// A time in microseconds that no event of a unit with its place in this word of 64 places is before. `u64::MAX` for a word
-    /// where no unit has events; else it can be less than the least of their times.
+    /// A time in microseconds that no event of a unit with its place in this word of 64 places is before. It can be less than the
+    /// least of their times. If none of these units has events it is `u64::MAX`, or 0 for a word past the last one.
     #[inline(always)]
     pub fn not_before(&self, word: usize) -> u64
         ensures { (g : Graph) → AreGroups g self.now.groups → (u : Part) (t : Tag) → HasEvent g (waiting_in self.now.events) u t → unit_place u / 64 ≡ word → result ≤ t.time }
