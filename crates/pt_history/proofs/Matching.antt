@@ -1,7 +1,7 @@
 -- Stored places and values that are those of cells.
-use Rattle.std.proofs.Common.{◌≡◌, ℕ, ◌+◌, ◌-◌, ◌<◌, ◌≤◌, Some, None, Option, ℤ, pos, List, [], ◌∷◌, ◌++◌, append-nil, append_assoc, refl, sym, ap, ap₂, subst, ◌∙◌, arith, length, take, drop, slice_index_or}
+use Rattle.std.proofs.Common.{◌≡◌, ℕ, ◌+◌, ◌-◌, ◌<◌, ◌≤◌, Some, None, Option, ℤ, pos, List, [], ◌∷◌, ◌++◌, append-nil, append_assoc, sym, ap, ap₂, ◌∙◌, arith, length, take, drop, slice_index_or}
 use Rattle.std.proofs.lemmas.List.{drop_all, drop_more, get_or-drop, length-drop, take_more}
-use Rattle.pt_history.specs.Cells.{FollowedBy, cells_at, filled, no_cells, six_absent, places_from, values_in}
+use Rattle.pt_history.specs.Cells.{cells_at, filled, no_cells, places_from, values_in}
 use Rattle.pt_history.proofs.Filling.{fills_all}
 
 -- the cells before a number have these places and values
@@ -51,24 +51,3 @@ matched places values start end number cells nine past m =
     (sym (append-nil (take (end - start) (drop start places))) ∙ ap (λ cs. take (end - start) (drop start places) ++ places_from number cs) (sym none) ∙ m.places_are)
     (sym (append-nil (take (end - start) (drop start values))) ∙ ap (λ cs. take (end - start) (drop start values) ++ values_in cs) (sym none) ∙ m.values_are)
     ∙ fills_all cells nine
-
-pub matches_next : (places : List ℕ) (values : List ℤ) (start at number next : ℕ) (cells : List (Option ℤ)) (cell : Option ℤ) → number < length cells → slice_index_or cells number None ≡ cell → FollowedBy places values at number cell next → Matches places values start at number cells → Matches places values start next (number + 1) cells
-matches_next places values start at number next cells None lt is h m = subst (λ k. Matches places values start k (number + 1) cells) (sym h) (matches_none places values start at number cells lt is m)
-matches_next places values start at number next cells (Some v) lt is h m = subst (λ k. Matches places values start k (number + 1) cells) (sym h.0) (matches_some places values start at number cells v lt is h.1 h.2 h.3 h.4 m)
-
--- two ports and a state
-pub matched_three : (places : List ℕ) (values : List ℤ) (start one two end : ℕ) (first second last : Option ℤ) → FollowedBy places values start 0 first one → FollowedBy places values one 1 second two → FollowedBy places values two 8 last end
-    → cells_at places values start end ≡ first ∷ second ∷ six_absent ++ last ∷ []
-matched_three places values start one two end first second last a b c =
-    let cells : List (Option ℤ) = first ∷ second ∷ six_absent ++ last ∷ [] in
-    let none : start - start ≡ 0 = omega arith in
-    let m : Matches places values start start 0 cells = record {
-      within = omega arith;
-      places_are = ap (λ k. take k (drop start places) ++ places_from 0 cells) none;
-      values_are = ap (λ k. take k (drop start values) ++ values_in cells) none;
-    } in
-    let m1 : Matches places values start one 1 cells = matches_next places values start start 0 one cells first (omega arith) refl a m in
-    let m2 : Matches places values start two 2 cells = matches_next places values start one 1 two cells second (omega arith) refl b m1 in
-    let m8 : Matches places values start two 8 cells = record { within = m2.within; places_are = m2.places_are; values_are = m2.values_are } in
-    let m9 : Matches places values start end 9 cells = matches_next places values start two 8 end cells last (omega arith) refl c m8 in
-    matched places values start end 9 cells refl (omega arith) m9

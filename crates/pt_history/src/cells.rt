@@ -95,7 +95,7 @@ impl Cells {
             start,
             end,
             ports,
-            nonzero(state),
+            state,
         )
     }
 
@@ -120,26 +120,27 @@ fn cell(ports: &Ports, last: Option<i64>, number: u32) -> Option<i64>
 }
 
 /// Whether the group at indices from `start` up to, not including, `end` has exactly the values at these ports and
-/// then `last`. Few actors have more than two ports with a value.
+/// this state. Few actors have more than two ports with a value.
 #[inline(always)]
-fn are_cells(
-    places: &[u8],
-    values: &[i64],
-    start: u32,
-    end: u32,
-    ports: &Ports,
-    last: Option<i64>,
-) -> bool
+fn are_cells(places: &[u8], values: &[i64], start: u32, end: u32, ports: &Ports, state: i64) -> bool
     requires rises { start ≤ end }
     requires places { end ≤ length places.now }
     requires values { end ≤ length values.now }
-    ensures same { result ≡ true → cells_at places.now values.now start end ≡ ports.now ++ last ∷ [] }
+    ensures same { result ≡ true → cells_at places.now values.now start end ≡ cells_of ports.now state }
     ensures eight { length ports.now ≡ 8 }
 {
     if has_later(ports) {
-        return are_all(places, values, start, end, ports, last);
+        return are_all(places, values, start, end, ports, nonzero(state));
     }
-    are_three(places, values, start, end, ports.get(0), ports.get(1), last)
+    are_three(
+        places,
+        values,
+        start,
+        end,
+        ports.get(0),
+        ports.get(1),
+        nonzero(state),
+    )
 }
 
 /// Whether the group at indices from `start` up to, not including, `end` has exactly these values at port 0 and port 1,
@@ -198,7 +199,8 @@ fn passed(
     }
 }
 
-/// Does the same as `are_cells`, port by port.
+/// Whether the group at indices from `start` up to, not including, `end` has exactly the values at these ports and
+/// then `last`.
 #[inline(never)]
 fn are_all(
     places: &[u8],
