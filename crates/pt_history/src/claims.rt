@@ -65,6 +65,7 @@ impl Claims {
     }
 
     /// Appends a claim. Allocates nothing.
+    #[inline(always)]
     pub fn push(&mut self, task: &Task)
         requires { 0 < self.old.spare }
         ensures tasks { self.new.tasks ≡ self.old.tasks ++ task.now ∷ [] }

@@ -72,6 +72,7 @@ impl Work {
     }
 
     /// Appends a claim. Allocates nothing.
+    #[inline(always)]
     fn claim(&mut self, task: &Task)
         requires { 0 < self.old.spare_tasks }
         ensures tasks { self.new.tasks ≡ self.old.tasks ++ task.now ∷ [] }
@@ -84,6 +85,22 @@ impl Work {
 
     /// Appends claims. Allocates nothing.
     pub fn claim_all(&mut self, tasks: &[Task])
+        requires { length tasks.now ≤ self.old.spare_tasks }
+        ensures tasks { self.new.tasks ≡ self.old.tasks ++ tasks.now }
+        ensures dones { self.new.dones ≡ self.old.dones }
+        ensures claims { self.new.spare_tasks + length tasks.now ≡ self.old.spare_tasks }
+        ensures results { self.new.spare_dones ≡ self.old.spare_dones }
+    {
+        if tasks.len() == 1 {
+            self.claim(&tasks[0]);
+            return;
+        }
+        self.claim_each(tasks);
+    }
+
+    /// Does the same as `claim_all`, one by one. Not inlined, since mostly there is one claim.
+    #[inline(never)]
+    fn claim_each(&mut self, tasks: &[Task])
         requires { length tasks.now ≤ self.old.spare_tasks }
         ensures tasks { self.new.tasks ≡ self.old.tasks ++ tasks.now }
         ensures dones { self.new.dones ≡ self.old.dones }
