@@ -18,11 +18,11 @@ use Rattle.pt_offsets.specs.Plans.{Parts}
 use Rattle.pt_state.specs.Sensors.{AreSensors}
 use Rattle.pt_history.specs.declared.history.History.{History}
 use Rattle.pt_state.specs.declared.fields.Fields.{Fields}
-use Rattle.pt_state.specs.State.{rows_at_sensors, state_of, IsSound}
+use Rattle.pt_state.specs.State.{left_in, rows_at_sensors, state_of, IsSound}
 use Rattle.pt_turn.specs.declared.claim_step.Ending.{Ending}
 use Rattle.pt_turn.specs.declared.claim_step.Ending.TheVariants.{Long as LongEnd}
 use Rattle.pt_turn.specs.declared.steps.Lists.{Lists}
-use Rattle.pt_turn.specs.Steps.{AreEmpty, ShowsEnd, took_late as ends_late, turn_of, IsFront}
+use Rattle.pt_turn.specs.Steps.{AreEmpty, NoneSeenBefore, ShowsEnd, took_late as ends_late, turn_of, IsFront}
 use Rattle.pt_turn.specs.declared.fault.TurnFault.{TurnFault}
 use Rattle.pt_turn.specs.declared.room.Room.{Room}
 use Rattle.pt_turn.specs.declared.platform.Platform.TheInside.{Inside}
@@ -76,8 +76,8 @@ is_done_as p v plan reading r most dones messages new history lists fault handed
     let both : (room : Room) × IsRoomy p room × IsEnough reading (length dones) (length messages) most room = both_rooms p p.room (IsEnough reading (length dones) (length messages) most) is.room (subst (λ (w : PlatformView). MatchOption w.room ⊥ (IsEnough reading (length dones) (length messages) most)) (sym view) room) in
     is_done p plan both.0 r most dones messages new history lists fault handed now same both.1 both.2.done kept sound sensors all_rows read claims empty outbox sent fits
 
-abbrev pub after : Inside → Fields → History → Lists → Option TurnFault → Option ℕ → Inside
-after p fields history lists fault next = record { plan = p.plan; number = p.number; closing = p.closing; fields = fields; history = history; lists = lists; fault = fault; room = None; next = next }
+abbrev pub after : Inside → Fields → History → Lists → Option TurnFault → Option ℕ → ℕ → Inside
+after p fields history lists fault next row = record { plan = p.plan; number = p.number; closing = p.closing; fields = fields; history = history; lists = lists; fault = fault; room = None; next = next; next_row = row }
 
 shows_long : (g : Graph) (new : Fields) (taken : List OnLink) (r : ℕ) (ending : Ending) → new.reading ≡ Some r → ShowsEnd g r new ending → ending ≡ LongEnd → ShowsLong g (state_of new taken)
 shows_long g new taken r ending read full is =
@@ -87,8 +87,8 @@ shows_long g new taken r ending read full is =
 taken_is : (p : Inside) (history : History) (turn : Turn) → history.turns ≡ kept_with p.history.turns turn → messages_of history.turns ≡ messages_of p.history.turns ++ turn.taken
 taken_is p history turn is = ap messages_of is ∙ messages_more p.history.turns turn
 
-pub is_again : (p : Inside) (r most : ℕ) (dones : List Done) (messages : List OnLink) (new : Fields) (history : History) (lists : Lists) (fault : Option TurnFault) (next : Option ℕ) (handed now : List Task) → IsPlatform p → p.fault ≡ None → IsDone p r most dones messages new history lists fault handed now → MatchOption next (Unit {0}) (IsNextReading (platform_graph p) p.number (state_of new (messages_of history.turns))) → IsPlatform (after p new history lists fault next)
-is_again p r most dones messages new history lists fault next handed now is on d is_next =
+pub is_again : (p : Inside) (r most : ℕ) (dones : List Done) (messages : List OnLink) (new : Fields) (history : History) (lists : Lists) (fault : Option TurnFault) (next : Option ℕ) (row : ℕ) (handed now : List Task) → IsPlatform p → p.fault ≡ None → IsDone p r most dones messages new history lists fault handed now → MatchOption next (Unit {0}) (IsNextReading (platform_graph p) p.number (state_of new (messages_of history.turns))) → NoneSeenBefore row (left_in new.sensors.items) → IsPlatform (after p new history lists fault next row)
+is_again p r most dones messages new history lists fault next row handed now is on d is_next is_row =
     let k = d.kept in
     let turn : Turn = turn_of r dones k.lists in
     let rows : rows_at_sensors new.sensors.items ≡ rows_at_sensors p.fields.sensors.items = λ i a. d.all_rows a i in
@@ -109,6 +109,7 @@ is_again p r most dones messages new history lists fault next handed now is on d
       sent = d.sent;
       room = tt;
       next = is_next;
+      next_row = is_row;
     }
 
 -- a turn with what it claims and how it ends
@@ -118,9 +119,9 @@ record TurnPart (g : Graph) (level : ℕ → ℕ) (i : ℕ) (s : State) (turn : 
   last : FaultsIfLast fault (IsLast g s turn.last late is.ready)
 
 -- the turn that was made
-pub is_turned : (p : Inside) (r reading most : ℕ) (dones : List Done) (messages : List OnLink) (new : Fields) (history : History) (lists : Lists) (fault : Option TurnFault) (handed now : List Task) → r ≡ raised_to p.fields.reading reading → IsDone p r most dones messages new history lists fault handed now
-    → (made : IsTurned (view_of p) (view_of (after p new history lists fault None)) reading most dones messages) × (now ≡ handed ++ made.turn.claimed) × StaysThere (view_of p) (view_of (after p new history lists fault None))
-is_turned p r reading most dones messages new history lists fault handed now raised d =
+pub is_turned : (p : Inside) (r reading most : ℕ) (dones : List Done) (messages : List OnLink) (new : Fields) (history : History) (lists : Lists) (fault : Option TurnFault) (row : ℕ) (handed now : List Task) → r ≡ raised_to p.fields.reading reading → IsDone p r most dones messages new history lists fault handed now
+    → (made : IsTurned (view_of p) (view_of (after p new history lists fault None row)) reading most dones messages) × (now ≡ handed ++ made.turn.claimed) × StaysThere (view_of p) (view_of (after p new history lists fault None row))
+is_turned p r reading most dones messages new history lists fault row handed now raised d =
     let k = d.kept in
     let g : Graph = platform_graph p in
     let level : ℕ → ℕ = level_of (arc_value p.plan).ranks in

@@ -36,22 +36,9 @@ use Rattle.pt_turn.specs.declared.room.Room.{Room}
 use Rattle.pt_turn.specs.declared.platform.Platform.TheInside.{Inside}
 use Rattle.pt_turn.specs.Platforms.{IsPlatform, IsRoomy, platform_graph, messages_of}
 use Rattle.pt_turn.proofs.Again.{IsDone}
+use Rattle.pt_turn.proofs.NoRows.{none_enters, rows_stay}
 use Rattle.pt_turn.proofs.Readiness.{basis_of}
 use Rattle.pt_types.specs.Limits.{most_claims}
-
--- no row enters where none is due,
-none_enters : (left : ℕ → List Row) (r : ℕ) → ((a : ℕ) → due r (left a) ≡ []) → (xs : List ℕ) → flat_map (λ c. map {B = RowAt} (λ (z : Row). record { sensor = c; row = z }) (due r (left c))) xs ≡ []
-none_enters left r none [] = refl
-none_enters left r none (a ∷ xs) = ap (λ d. map {B = RowAt} (λ (z : Row). record { sensor = a; row = z }) d ++ flat_map (λ c. map {B = RowAt} (λ (z : Row). record { sensor = c; row = z }) (due r (left c))) xs) (none a) ∙ none_enters left r none xs
-
--- and that changes nothing
-rows_stay : (s : State) (r : ℕ) → ((a : ℕ) → due r (s.left a) ≡ []) → after_rows s r ≡ s
-rows_stay s r none =
-    let waits : ◌≡◌ {A = Values} (added s.waits (λ a p t. when (p == 0) (row_at (due r (s.left a)) t))) s.waits =
-    λ k a p t. (ap (λ d. or_else (s.waits a p t) (when (p == 0) (row_at d t))) (none a) ∙ ap (or_else (s.waits a p t)) (when_none ℤ (p == 0)) ∙ or_else_none (s.waits a p t)) k in
-    let left : ◌≡◌ {A = ℕ → List Row} (λ a. not_due r (s.left a)) s.left =
-    λ k a. (sym (ap (λ d. d ++ not_due r (s.left a)) (none a)) ∙ due_split r (s.left a)) k in
-    λ k. record s { waits = waits k; left = left k }
 
 -- a turn in which nothing is done
 record IsQuietTurn (g : Graph) (level : ℕ → ℕ) (i : ℕ) (s : State) (turn : Turn) (new : State) : Type 0 where
@@ -168,4 +155,5 @@ knows_next p next is known = record {
   sent = is.sent;
   room = roomy_still p (Some next) p.room is.room;
   next = known;
+  next_row = is.next_row;
 }

@@ -20,3 +20,4 @@ pub mod Lighter
 pub mod Ends
 pub mod Moving
 pub mod Idling
+pub mod NoRows

@@ -130,6 +130,7 @@ is_lighter p l m outbox history is w =
       sent = omega (arith, w.len, sent, is.sent);
       room = room_still p l m outbox history p.room w is.room;
       next = is.next;
+      next_row = is.next_row;
     }
 
 pub has_gone : (p : Inside) (l : ℕ) (m : OnLink) (outbox : OutboxView) (history : History) → Went p l m outbox history → FirstHasGone (view_of p) (view_of (lighter p outbox history)) l

@@ -20,7 +20,7 @@ use Rattle.pt_queue.specs.Groups.{AreGroups}
 use Rattle.pt_state.specs.declared.fields.Fields.{Fields}
 use Rattle.pt_state.specs.State.{busy_in, left_in, rows_at_sensors, state_of, states_in, IsOpen, IsSound}
 use Rattle.pt_turn.specs.declared.steps.Lists.{Lists}
-use Rattle.pt_turn.specs.Steps.{count_due}
+use Rattle.pt_turn.specs.Steps.{NoneSeenBefore, count_due}
 use Rattle.pt_turn.specs.declared.room.Room.{Room}
 use Rattle.pt_turn.specs.declared.memory.Needs.{Needs}
 use Rattle.pt_turn.specs.declared.platform.Platform.TheInside.{Inside}
@@ -30,7 +30,7 @@ use Rattle.pt_turn.specs.Running.{Ran}
 use Rattle.pt_types.specs.Limits.{most_claims}
 
 abbrev pub wider : Inside → Fields → History → Lists → Option Room → Inside
-wider p fields history lists room = record { plan = p.plan; number = p.number; closing = p.closing; fields = fields; history = history; lists = lists; fault = p.fault; room = room; next = p.next }
+wider p fields history lists room = record { plan = p.plan; number = p.number; closing = p.closing; fields = fields; history = history; lists = lists; fault = p.fault; room = room; next = p.next; next_row = p.next_row }
 
 same_state : (old new : Fields) (taken : List OnLink) → AreWider old new → state_of new taken ≡ state_of old taken
 same_state old new taken w = λ i. record {
@@ -77,6 +77,7 @@ is_wider p fields history lists room is f h l roomy = record {
   sent = omega (arith, ap length f.outbox.items, h.sent, is.sent);
   room = roomy;
   next = subst (λ (s : State). MatchOption p.next (Unit {0}) (IsNextReading (platform_graph p) p.number s)) (sym (ap (λ ts. state_of fields (messages_of ts)) h.turns ∙ same_state p.fields fields (messages_of p.history.turns) f)) is.next;
+  next_row = subst (λ v. NoneSeenBefore p.next_row (left_in v.items)) (sym f.sensors) is.next_row;
 }
 
 -- what there was room for there still is

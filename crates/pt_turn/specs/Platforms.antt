@@ -19,7 +19,7 @@ use Rattle.pt_state.specs.declared.fields.Sensor.{Sensor}
 use Rattle.pt_queue.specs.Events.{waiting_in}
 use Rattle.pt_state.specs.State.{busy_in, left_in, rows_at_sensors, state_of, states_in, IsSound}
 use Rattle.pt_state.specs.Sensors.{AreSensors}
-use Rattle.pt_turn.specs.Steps.{AreEmpty, HasRoom, count_due}
+use Rattle.pt_turn.specs.Steps.{AreEmpty, HasRoom, NoneSeenBefore, count_due}
 use Rattle.pt_turn.specs.declared.fault.TurnFault.{TurnFault}
 use Rattle.pt_turn.specs.declared.room.Room.{Room}
 use Rattle.pt_turn.specs.declared.platform.Platform.TheInside.{Inside}
@@ -119,3 +119,4 @@ pub record IsPlatform (p : Inside) : Type 0 where
   pub sent : length p.fields.outbox.items ≤ p.history.room.sent
   pub room : MatchOption p.room (Unit {0}) (IsRoomy p)
   pub next : MatchOption p.next (Unit {0}) (IsNextReading (platform_graph p) p.number (state_of p.fields (messages_of p.history.turns)))
+  pub next_row : NoneSeenBefore p.next_row (left_in p.fields.sensors.items)

@@ -1,9 +1,10 @@
 -- A turn over the fields of a platform.
-use Rattle.std.specs.Prelude.{◌≡◌, ℕ, ◌+◌, ◌*◌, ◌≤◌, ◌⊎◌, ◌++◌, [], Bool, false, true, List, length, vec_len, vec_capacity}
+use Rattle.std.specs.Prelude.{◌≡◌, ℕ, ◌+◌, ◌*◌, ◌<◌, ◌≤◌, ◌⊎◌, ◌++◌, [], Bool, false, true, List, length, vec_len, vec_capacity}
 use Rattle.pt_types.specs.declared.graph.Graph.{Graph}
 use Rattle.pt_types.specs.declared.firing.Done.{Done}
 use Rattle.pt_types.specs.declared.firing.OnLink.{OnLink}
-use Rattle.pt_semantics.specs.Entering.{all_due}
+use Rattle.pt_types.specs.declared.rows.Row.{Row}
+use Rattle.pt_semantics.specs.Entering.{all_due, due}
 use Rattle.pt_semantics.specs.Floor.{NeverTwice}
 use Rattle.pt_semantics.specs.Safe.{NothingSafe}
 use Rattle.pt_semantics.specs.Turn.{Turn, IsTurn, IsLast}
@@ -33,6 +34,10 @@ pub record AreEmpty (lists : Lists) : Type 0 where
 -- the number of rows seen by a reading
 abbrev pub count_due : Graph → ℕ → Fields → ℕ
 count_due g r f = length (all_due g r (left_in f.sensors.items))
+
+-- no row is seen by a reading below this one
+abbrev pub NoneSeenBefore : ℕ → (ℕ → List Row) → Type 0
+NoneSeenBefore next left = (r a : ℕ) → r < next → due r (left a) ≡ []
 
 -- there is memory for a turn at reading r, with that many results, messages and claims
 pub record HasRoom (g : Graph) (f : Fields) (lists : Lists) (r dones messages most : ℕ) : Type 0 where

@@ -1,9 +1,10 @@
-//! How many rows enter in a turn.
+//! How many rows enter in a turn, and when the next one may.
 
-ghost use Rattle.std.specs.Prelude.{◌≡◌, ◌+◌, ◌≤◌, IfSome, drop, length};
+ghost use Rattle.std.specs.Prelude.{◌≡◌, ℕ, ◌+◌, ◌<◌, ◌≤◌, [], IfSome, drop, length};
 ghost use Rattle.pt_semantics.specs.Entering.{all_due, due};
 ghost use Rattle.pt_state.specs.State.{left_in};
 ghost use Rattle.pt_state.specs.Sensors.{AreSensors};
+ghost use Rattle.pt_turn.specs.Steps.{NoneSeenBefore};
 
 use pt_enter::is_seen;
 use pt_state::Sensor;
@@ -47,4 +48,29 @@ pub fn count_due(graph: &Graph, sensors: &[Sensor], reading: u64) -> Option<usiz
         count = add_seen(count, sensor.rows.as_slice(), sensor.entered, reading)?;
     }
     Some(count)
+}
+
+/// The reading, in microseconds, at which the next row of a sensor is seen; the greatest number if all have entered.
+fn next_of(sensor: &Sensor) -> u64
+    ensures { (r : ℕ) → r < result → due r (drop sensor.now.entered sensor.now.rows) ≡ [] }
+{
+    let rows = sensor.rows.as_slice();
+    if rows.len() <= sensor.entered {
+        return u64::MAX;
+    }
+    rows[sensor.entered].seen
+}
+
+/// The least reading, in microseconds, at which a row is seen that has not entered; the greatest number if all have entered.
+pub fn next_seen(sensors: &[Sensor]) -> u64
+    ensures { NoneSeenBefore result (left_in sensors.now) }
+{
+    let mut least = u64::MAX;
+    for sensor in sensors {
+        let next = next_of(sensor);
+        if next < least {
+            least = next;
+        }
+    }
+    least
 }

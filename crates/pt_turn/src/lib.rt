@@ -11,6 +11,7 @@
 mod all_platforms;
 mod claim_step;
 mod due_rows;
+mod entering;
 mod fault;
 mod finished;
 mod idle;

@@ -2,13 +2,13 @@
 
 ghost use Rattle.std.specs.Prelude.{◌≡◌, ◌+◌, ◌*◌, ◌<◌, ◌≤◌, ◌++◌, ℕ, None, Some, length};
 ghost use Rattle.pt_semantics.specs.Kept.{kept_with};
-ghost use Rattle.pt_state.specs.State.{rows_at_sensors, IsSound};
+ghost use Rattle.pt_state.specs.State.{left_in, rows_at_sensors, IsSound};
 ghost use Rattle.pt_state.specs.Sensors.{AreSensors};
 ghost use Rattle.pt_post.specs.Posted.{ArePlaces};
 ghost use Rattle.pt_take.specs.Taken.{Basis};
 ghost use Rattle.pt_turn.specs.declared.claim_step.Ending.TheVariants.{Late};
 ghost use Rattle.pt_turn.specs.Faults.{IsFaultOf, SomeIsLate};
-ghost use Rattle.pt_turn.specs.Steps.{AreEmpty, turn_of};
+ghost use Rattle.pt_turn.specs.Steps.{AreEmpty, NoneSeenBefore, turn_of};
 ghost use Rattle.pt_turn.specs.Making.{CanKeep, IsRecordedTurn, IsReady};
 ghost use Rattle.pt_types.specs.Limits.{most_claims};
 
@@ -23,7 +23,8 @@ use pt_state::Fields;
 use pt_types::OnLink;
 
 /// Makes a turn at a reading (in microseconds) that is not before the last, records it, and appends its claims to `tasks`.
-/// If the turn has a fault, writes it to `fault`, where there is none yet. Allocates nothing.
+/// If the turn has a fault, writes it to `fault`, where there is none yet. No row is seen by a reading below `next_row`, which
+/// is found anew if rows enter. Allocates nothing.
 pub fn make(
     fields: &mut Fields,
     plan: &Plan,
@@ -37,12 +38,14 @@ pub fn make(
     history: &mut History,
     tasks: &mut Tasks,
     fault: &mut Option<TurnFault>,
+    next_row: &mut u64,
 )
     ghost basis: { Basis }
     requires ready { IsReady plan.now basis number closing reading most dones.now messages.now fields.old lists.old }
     requires keep { CanKeep plan.now reading (length dones.now) (length messages.now) most fields.old history.old.room }
     requires tasks { most ≤ tasks.old.spare }
     requires no_fault { fault.old ≡ None }
+    requires next_row { NoneSeenBefore next_row.old (left_in fields.old.sensors.items) }
     ensures kept { IsRecordedTurn plan.now basis reading most dones.now messages.now fields.old fields.new history.old.turns history.new.turns tasks.old.tasks tasks.new.tasks fault.new }
     ensures sound { IsSound plan.now.graph fields.new }
     ensures sensors { AreSensors plan.now.graph fields.new.sensors.items }
@@ -52,10 +55,11 @@ pub fn make(
     ensures empty { AreEmpty lists.new }
     ensures outbox { length fields.new.outbox.items ≤ length fields.old.outbox.items + length dones.now * length plan.now.graph.links + length plan.now.graph.links }
     ensures sent { history.new.room.sent ≡ history.old.room.sent }
+    ensures next_row { NoneSeenBefore next_row.new (left_in fields.new.sensors.items) }
 {
     let last = fields.reading;
     let ending = turn(
-        fields, plan, number, closing, reading, dones, messages, most, lists,
+        fields, plan, number, closing, reading, dones, messages, most, lists, next_row,
     );
     match ending {
         Ending::On => keep(history, reading, dones, lists, tasks),

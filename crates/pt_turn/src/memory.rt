@@ -46,6 +46,7 @@ pub fn make_room(
 }
 
 /// Reserves the memory needed by the queue, the open claims and the outbox.
+#[inline(always)]
 fn widen_fields(fields: &mut Fields, needs: Needs) -> Result<(), Memory>
     ensures fields { AreWider fields.old fields.new }
     ensures met { OnOk result (FieldsMeet needs fields.new) }

@@ -50,6 +50,7 @@ impl Platform {
             fault: None,
             room: Reserved::none(),
             next: None,
+            next_row: 0,
         })
     }
 

@@ -37,6 +37,8 @@ pub struct Platform {
     pub(crate) room: Reserved,
     /// Its next reading, in microseconds, if it is known.
     pub(crate) next: Option<u64>,
+    /// No row is seen by a reading below this one, in microseconds.
+    pub(crate) next_row: u64,
 }
 
 impl Model for Platform {

@@ -1,8 +1,11 @@
 //! The memory of the next turn.
 
-ghost use Rattle.std.specs.Prelude.{IfSome, ◌≡◌, OnErr, OnOk, Some};
-ghost use Rattle.pt_state.specs.Sensors.{AreSensors};
+ghost use Rattle.std.specs.Prelude.{IfSome, ◌≡◌, ◌≤◌, ℕ, OnErr, OnOk, Some, length};
+ghost use Rattle.pt_semantics.specs.Entering.{all_due};
+ghost use Rattle.pt_state.specs.State.{left_in};
 ghost use Rattle.pt_turn.specs.Growing.{AreEnough};
+ghost use Rattle.pt_turn.specs.Platforms.{raised_to};
+ghost use Rattle.pt_turn.specs.Steps.{count_due};
 
 use crate::due_rows::count_due;
 use crate::kept_turn::raised_to;
@@ -21,15 +24,13 @@ pub struct Room {
     pub most: usize,
 }
 
-/// What a turn at a reading, in microseconds, may need: an event for each wire, row and message, and a message on each
+/// What a turn may need in which at most this many rows enter: an event for each wire, row and message, and a message on each
 /// link for each result and for closing. `None` if 64 bits do not hold a number.
 #[inline(always)]
-pub fn needs_of(plan: &Plan, fields: &Fields, reading: u64, room: Room) -> Option<Needs>
-    requires { AreSensors plan.now.graph fields.now.sensors.items }
-    ensures { IfSome result (AreEnough plan.now.graph fields.now reading room) }
+fn needs_of(plan: &Plan, fields: &Fields, room: Room, rows: usize) -> Option<Needs>
+    ensures { (r : ℕ) → count_due plan.now.graph r fields.now ≤ rows → IfSome result (AreEnough plan.now.graph fields.now r room) }
 {
     let graph = plan.graph();
-    let rows = count_due(graph, fields.sensors.as_slice(), reading)?;
     let links = graph.links.as_slice().len();
     let wires = graph.wires.as_slice().len();
     let messages = room.done.checked_mul(links)?.checked_add(links)?;
@@ -51,8 +52,34 @@ impl Platform {
         ensures room { OnOk result (self.new ≡ record self.old { room = Some room }) }
         ensures refused { OnErr result (self.new ≡ self.old) }
     {
+        if raised_to(self.fields.reading, room.reading) < self.next_row {
+            return self.room_with(room, 0);
+        }
+        self.room_with_rows(room)
+    }
+
+    /// The same where rows may enter. Not inlined, since at most turns none does.
+    #[inline(never)]
+    fn room_with_rows(&mut self, room: Room) -> Result<(), Memory>
+        ensures room { OnOk result (self.new ≡ record self.old { room = Some room }) }
+        ensures refused { OnErr result (self.new ≡ self.old) }
+    {
         let reading = raised_to(self.fields.reading, room.reading);
-        let Some(needs) = needs_of(&self.plan, &self.fields, reading, room) else {
+        let Some(rows) = count_due(self.plan.graph(), self.fields.sensors.as_slice(), reading)
+        else {
+            return Err(Memory);
+        };
+        self.room_with(room, rows)
+    }
+
+    /// The same where at most this many rows enter.
+    #[inline(always)]
+    fn room_with(&mut self, room: Room, rows: usize) -> Result<(), Memory>
+        requires rows { length (all_due self.old.plan.graph (raised_to self.old.reading room.reading) (left_in self.old.sensors)) ≤ rows }
+        ensures room { OnOk result (self.new ≡ record self.old { room = Some room }) }
+        ensures refused { OnErr result (self.new ≡ self.old) }
+    {
+        let Some(needs) = needs_of(&self.plan, &self.fields, room, rows) else {
             return Err(Memory);
         };
         make_room(&mut self.fields, &mut self.lists, &mut self.history, needs)?;

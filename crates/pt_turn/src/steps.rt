@@ -2,17 +2,17 @@
 
 ghost use Rattle.std.specs.Prelude.{◌≡◌, ◌+◌, ◌*◌, ◌≤◌, ℕ, Some, length};
 ghost use Rattle.pt_semantics.specs.Paced.{IsClosing};
-ghost use Rattle.pt_state.specs.State.{rows_at_sensors, IsSound};
+ghost use Rattle.pt_state.specs.State.{left_in, rows_at_sensors, IsSound};
 ghost use Rattle.pt_post.specs.Posted.{AreDone};
 ghost use Rattle.pt_state.specs.Sensors.{AreSensors};
 ghost use Rattle.pt_take.specs.Taken.{Arrive, Basis};
-ghost use Rattle.pt_turn.specs.Steps.{AreEmpty, FitIn, HasRoom, IsGround, IsMade, ShowsEnd};
+ghost use Rattle.pt_turn.specs.Steps.{AreEmpty, FitIn, HasRoom, IsGround, IsMade, NoneSeenBefore, ShowsEnd};
 ghost use Rattle.pt_types.specs.Limits.{most_claims};
 
 use crate::claim_step::{Ending, claim_unless};
+use crate::entering::enter_from;
 use pt_actors::Done;
 use pt_close::close;
-use pt_enter::enter;
 use pt_offsets::Plan;
 use pt_post::posts;
 use pt_state::Fields;
@@ -32,7 +32,8 @@ pub struct Lists {
 /// Makes a turn of platform `number` at a reading that is not before the last, with these results and messages, and claims
 /// at most `most` units. Records what it did in `lists`, which must be empty, and returns whether a turn may follow.
 ///
-/// `closing` is the closing reading of the platform. Readings are microseconds. Allocates nothing.
+/// `closing` is the closing reading of the platform. No row is seen by a reading below `next_row`, which is found anew if rows
+/// enter. Readings are microseconds. Allocates nothing.
 pub fn turn(
     fields: &mut Fields,
     plan: &Plan,
@@ -43,6 +44,7 @@ pub fn turn(
     messages: &[OnLink],
     most: usize,
     lists: &mut Lists,
+    next_row: &mut u64,
 ) -> Ending
     ghost basis: { Basis }
     requires sound { IsSound plan.now.graph fields.old }
@@ -57,6 +59,7 @@ pub fn turn(
     requires claims { fields.old.claims ≤ most_claims }
     requires room { HasRoom plan.now.graph fields.old lists.old reading (length dones.now) (length messages.now) most }
     requires empty { AreEmpty lists.old }
+    requires next_row { NoneSeenBefore next_row.old (left_in fields.old.sensors.items) }
     ensures sound { IsSound plan.now.graph fields.new }
     ensures sensors { AreSensors plan.now.graph fields.new.sensors.items }
     ensures made { IsMade plan.now.graph basis reading most dones.now messages.now fields.old fields.new lists.new result }
@@ -66,10 +69,11 @@ pub fn turn(
     ensures few { FitIn dones.now messages.now most plan.now.graph reading fields.old lists.new }
     ensures full { ShowsEnd plan.now.graph reading fields.new result }
     ensures outbox { length fields.new.outbox.items ≤ length fields.old.outbox.items + length dones.now * length plan.now.graph.links + length plan.now.graph.links }
+    ensures next_row { NoneSeenBefore next_row.new (left_in fields.new.sensors.items) }
 {
     let graph = plan.graph();
     posts(fields, graph, plan.branches(), dones, &mut lists.posted);
-    enter(fields, graph, reading, &mut lists.rows);
+    enter_from(fields, graph, reading, next_row, &mut lists.rows);
     let late = takes(fields, graph, plan.offsets(), messages, &mut lists.taken);
     fields.reading = Some(reading);
     let ending = claim_unless(late, fields, plan, reading, most, &mut lists.claimed);

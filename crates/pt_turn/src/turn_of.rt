@@ -52,6 +52,7 @@ impl Platform {
             &mut self.history,
             tasks,
             &mut self.fault,
+            &mut self.next_row,
         );
         self.room.clear();
         self.next = None;

@@ -17,7 +17,7 @@ returns-in-On-clause-kept g c = record {
   ending = c.turn-ending.result;
   made = c.turn-ending.ensures.made;
   full = c.turn-ending.ensures.full;
-  names = subst (λ (ending : Ending). IsFaultOf c.args.plan.now.graph c.args.fields.now.reading c.turn-ending.new.lists.taken.items ending c.args.fault.now) (sym c.in-On.is) c.requires.1.1.1;
+  names = subst (λ (ending : Ending). IsFaultOf c.args.plan.now.graph c.args.fields.now.reading c.turn-ending.new.lists.taken.items ending c.args.fault.now) (sym c.in-On.is) c.requires.1.1.1.0;
   turns = c.keep.ensures.turns;
   tasks = c.keep.ensures.tasks;
 }

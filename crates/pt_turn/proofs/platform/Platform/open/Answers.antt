@@ -40,4 +40,5 @@ invariant_of-result c =
       sent = omega (arith, none);
       room = no_room _ c.none.result c.none.ensures;
       next = tt;
+      next_row = λ r a lt. absurd (omega (arith, lt));
     }

@@ -1,31 +1,14 @@
-use Rattle.std.proofs.Common.{Option, subst}
-use Rattle.pt_offsets.specs.Plans.{Parts}
+use Rattle.std.proofs.Common.{◌≡◌, ◌≤◌, [], length, sym, ap, subst, ◌∙◌, arith}
+use Rattle.pt_semantics.specs.Entering.{all_due}
+use Rattle.pt_state.specs.State.{left_in}
 use Rattle.pt_turn.specs.declared.platform.Platform.TheInside.{Inside}
-use Rattle.pt_turn.specs.Growing.{AreEnough}
-use Rattle.pt_turn.specs.Platforms.{IsRoomy, platform_graph, raised_to}
-use Rattle.pt_turn.specs.declared.room.Room.{Room}
-use Rattle.pt_turn.proofs.Rooms.{some_room}
-use Rattle.pt_turn.proofs.Wider.{is_roomy, is_wider, room_still, wider}
+use Rattle.pt_turn.specs.Platforms.{PlatformView, platform_graph, raised_to}
+use Rattle.pt_turn.proofs.NoRows.{none_due}
 use Rattle.pt_turn.proofs.platform.Platform.room.Goals as goal
 
-pub invariant_of-self : goal.invariant_of-self
-invariant_of-self c =
+pub room_with-requires : goal.room_with-requires
+room_with-requires c =
     let p : Inside = c.self.inside in
-    let m = c.make_room.ensures in
-    is_wider p c.make_room.new.fields c.make_room.new.history c.make_room.new.lists p.room c.self.invariant m.fields m.history m.lists
-    (room_still p c.make_room.new.fields c.make_room.new.history c.make_room.new.lists p.room p.room m.fields m.history m.lists c.self.invariant.room)
-
-pub invariant_of-self-2 : goal.invariant_of-self-2
-invariant_of-self-2 c =
-    let p : Inside = c.self.inside in
-    let m = c.make_room.ensures in
-    let enough : AreEnough (platform_graph p) p.fields (raised_to p.fields.reading c.args.room.reading) c.args.room c.in-Some.needs =
-    subst (λ r. AreEnough (platform_graph p) p.fields r c.args.room c.in-Some.needs) c.raised_to-reading.ensures
-    (subst (λ (plan : Parts). AreEnough plan.graph p.fields c.raised_to-reading.result c.args.room c.in-Some.needs) c.deref.ensures c.in-Some.ensures) in
-    let room : Option Room = c.set.new.self in
-    is_wider p c.make_room.new.fields c.make_room.new.history c.make_room.new.lists room c.self.invariant m.fields m.history m.lists
-    (some_room (IsRoomy (wider p c.make_room.new.fields c.make_room.new.history c.make_room.new.lists room)) room c.args.room c.set.ensures
-    (is_roomy p c.make_room.new.fields c.make_room.new.history c.make_room.new.lists room c.args.room c.in-Some.needs m.fields enough c.in_ok-make_room.ensures.met.0 c.in_ok-make_room.ensures.met.1 c.in_ok-make_room.ensures.met.2))
-
-pub make_room-requires : goal.make_room-requires
-make_room-requires c = record { empty = c.self.invariant.empty }
+    let none : all_due (platform_graph p) c.raised_to.result (left_in p.fields.sensors.items) ≡ [] = none_due (platform_graph p) c.raised_to.result (left_in p.fields.sensors.items) (λ a. c.self.invariant.next_row c.raised_to.result a c.if-raised_to-self.true) in
+    let count : length (all_due (platform_graph p) (raised_to p.fields.reading c.args.room.reading) (left_in p.fields.sensors.items)) ≡ 0 = ap (λ r. length (all_due (platform_graph p) r (left_in p.fields.sensors.items))) (sym c.raised_to.ensures) ∙ ap length none in
+    record { rows = subst (λ (v : PlatformView). length (all_due v.plan.graph (raised_to v.reading c.args.room.reading) (left_in v.sensors)) ≤ 0) c.self.view_is (omega (arith, count)) }
