@@ -50,16 +50,24 @@ fn are_in_time(graph: &Graph, history: &History, latest: Option<u64>) -> bool
     requires { IfSome latest (λ r. EndBy r history.now.turns) }
     ensures { result ≡ true → AreInTime graph.now history.now.turns }
 {
+    let mut near = 0;
     for number in 0..history.results() {
-        if is_late(graph, history, latest, number) {
+        if is_late(graph, history, latest, number, &mut near) {
             return false;
         }
     }
     true
 }
 
-/// Whether a result of all turns, by its number, is an actuator's, posted past its limit.
-fn is_late(graph: &Graph, history: &History, latest: Option<u64>, number: usize) -> bool
+/// Whether a result of all turns, by its number, is an actuator's, posted past its limit. `near` is a turn that posted an earlier
+/// one.
+fn is_late(
+    graph: &Graph,
+    history: &History,
+    latest: Option<u64>,
+    number: usize,
+    near: &mut usize,
+) -> bool
     requires number { number < length (all_dated history.now.turns) }
     requires latest { IfSome latest (λ r. EndBy r history.now.turns) }
     ensures { result ≡ false → HasNoMiss graph.now (slice_get (all_dated history.now.turns) number) }
@@ -69,14 +77,21 @@ fn is_late(graph: &Graph, history: &History, latest: Option<u64>, number: usize)
         return false;
     };
     match &actor.kind {
-        Kind::Actuator { slack } => is_past(history, latest, number, mark, *slack),
+        Kind::Actuator { slack } => is_past(history, latest, number, mark, *slack, near),
         _ => false,
     }
 }
 
-/// Whether an actuator's result was posted past its limit. To look up when it was posted takes a search among the turns, and
-/// none is needed if not even the latest reading is past the limit.
-fn is_past(history: &History, latest: Option<u64>, number: usize, mark: Mark, slack: u64) -> bool
+/// Whether an actuator's result was posted past its limit. To look up when it was posted takes a search among the turns after the
+/// turn `near`, and none is needed if not even the latest reading is past the limit.
+fn is_past(
+    history: &History,
+    latest: Option<u64>,
+    number: usize,
+    mark: Mark,
+    slack: u64,
+    near: &mut usize,
+) -> bool
     requires number { number < length (all_dated history.now.turns) }
     requires latest { IfSome latest (λ r. EndBy r history.now.turns) }
     ensures { result ≡ false → option_map (λ dated. miss_past dated.reading mark.actor mark.tag slack) (slice_get (all_dated history.now.turns) number) ≡ Some None }
@@ -86,7 +101,9 @@ fn is_past(history: &History, latest: Option<u64>, number: usize, mark: Mark, sl
             return false;
         }
     }
-    miss_past(history.posted_at(number), mark.actor, mark.tag, slack).is_some()
+    let posted = history.posted_at(number, *near);
+    *near = posted.turn;
+    miss_past(posted.reading, mark.actor, mark.tag, slack).is_some()
 }
 
 /// Appends the misses of a history of which no result is a miss: those among its messages.
