@@ -1,6 +1,6 @@
 //! The misses of a history.
 
-ghost use Rattle.std.specs.Prelude.{◌≡◌, ℕ, ◌+◌, ◌<◌, ◌≤◌, ◌++◌, IfSome, None, OnOk, Some, false, filter_map, flat_map, length, option_map, option_to_list, slice_get, take, true};
+ghost use Rattle.std.specs.Prelude.{◌≡◌, ℕ, ◌+◌, ◌*◌, ◌/◌, ◌<◌, ◌≤◌, ◌++◌, IfSome, None, OnOk, Some, false, filter_map, flat_map, length, option_map, option_to_list, slice_get, take, true};
 ghost use Rattle.pt_types.specs.declared.firing.Done.{Done};
 ghost use Rattle.pt_types.specs.declared.graph.Graph.{Graph};
 ghost use Rattle.pt_types.specs.Lookups.{slack_of};
@@ -122,8 +122,8 @@ fn missed_sent(graph: &Graph, history: &History, misses: &mut Vec<Miss>) -> Resu
     Ok(())
 }
 
-/// The next turn, from turn `from` on, after which messages were sent; the number of turns if there is none. A function of its
-/// own, since a loop that only reads is fast, and most turns send nothing.
+/// The next turn, from turn `from` on, after which messages were sent; the number of turns if there is none. Most turns send
+/// nothing, which is known of many at once.
 #[inline(never)]
 fn next_sent(history: &History, from: usize) -> usize
     requires { from ≤ length history.now.turns }
@@ -131,12 +131,36 @@ fn next_sent(history: &History, from: usize) -> usize
     ensures within { result ≤ length history.now.turns }
     ensures skips { (g : Graph) → AreInTime g history.now.turns → flat_map (missed_at g) (take result history.now.turns) ≡ flat_map (missed_at g) (take from history.now.turns) }
 {
-    for number in from..history.turns() {
-        if !history.sent(number).is_empty() {
+    let turns = history.turns();
+    let mut start = from;
+    while start < turns {
+        let end = turns.min(start - start % 64 + 64);
+        let next = next_sent_in_block(history, start, end);
+        if next < end {
+            return next;
+        }
+        start = end;
+    }
+    turns
+}
+
+/// The next turn, from turn `from` up to turn `end` in a block of 64, after which messages were sent; `end` if there is none.
+#[inline(always)]
+fn next_sent_in_block(history: &History, from: usize, end: usize) -> usize
+    requires from { from < end }
+    requires end { end ≤ length history.now.turns }
+    requires block { end ≤ 64 * (from / 64) + 64 }
+    ensures rises { from ≤ result }
+    ensures within { result ≤ end }
+    ensures skips { (g : Graph) → AreInTime g history.now.turns → flat_map (missed_at g) (take result history.now.turns) ≡ flat_map (missed_at g) (take from history.now.turns) }
+{
+    let levels = history.levels(from / 64).sent;
+    for number in from..end {
+        if !levels.is_level(number) && !history.sent(number).is_empty() {
             return number;
         }
     }
-    history.turns()
+    end
 }
 
 /// Appends the misses of a recorded turn.

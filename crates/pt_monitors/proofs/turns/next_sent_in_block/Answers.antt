@@ -1,7 +1,7 @@
 use Rattle.std.proofs.Common.{arith, ◌<◌, ◌∙◌, length, sym, eqb-true}
 use Rattle.pt_monitors.proofs.Missing.{empty_list}
 use Rattle.pt_monitors.proofs.Sent.{skips}
-use Rattle.pt_monitors.proofs.turns.next_sent.Goals as goal
+use Rattle.pt_monitors.proofs.turns.next_sent_in_block.Goals as goal
 
 pub loop-number-preserved : goal.loop-number-preserved
 loop-number-preserved c = λ g fine.
