@@ -8,22 +8,20 @@ use Rattle.pt_types.specs.declared.firing.OnLink.{OnLink}
 use Rattle.pt_types.specs.declared.graph.Graph.{Graph}
 use Rattle.pt_types.specs.declared.graph.Unit.{Unit as Part}
 use Rattle.pt_types.specs.declared.rows.Row.{Row}
-use Rattle.pt_types.specs.Lawful.{IsLawful}
 use Rattle.pt_types.specs.Ports.{when}
 use Rattle.pt_semantics.specs.Lists.{first_of, or_else}
 use Rattle.pt_semantics.specs.Paced.{IsClosing, IsNextReading, IsPaced}
 use Rattle.pt_semantics.specs.Units.{HasEvent}
 use Rattle.pt_semantics.proofs.Least.{paced_meets}
 use Rattle.pt_claim.proofs.Fronts.{event_is_unit}
-use Rattle.pt_claim.proofs.Passing.{group_is_few}
 use Rattle.pt_causality.specs.Units.{IsUnit}
 use Rattle.pt_queue.specs.declared.waiting.Waiting.{Waiting}
-use Rattle.pt_queue.specs.Events.{IsFirstWaiting, IsNextInWord, unit_place, waiting_in}
+use Rattle.pt_queue.specs.Events.{IsFirstWaiting, waiting_in}
 use Rattle.pt_state.specs.declared.fields.Fields.{Fields}
 use Rattle.pt_state.specs.declared.fields.Sensor.{Sensor}
 use Rattle.pt_state.specs.State.{IsSound, busy_in, left_in, rows_left, state_of}
 use Rattle.pt_state.specs.Sensors.{AreSensors, RiseFrom}
-use Rattle.pt_claim.specs.Early.{IsNextToAsk}
+use Rattle.pt_claim.specs.Early.{IsEarlyWord}
 use Rattle.pt_claim.specs.Least.{AtOrIn, Below, IsLeastAmong}
 use Rattle.pt_claim.specs.Next.{no_sensor, IsPacedNext, IsPacedOfSome, IsSeenNext}
 use Rattle.pt_claim.proofs.Least.{least_both, least_none, least_one}
@@ -129,61 +127,45 @@ same_place u v few less is =
     let group : u.group ≡ v.group = omega (arith, few, less, is) in
     λ i. record { actor = actor i; group = group i }
 
--- one unit more, between which and place n no unit has events
-before_one : (g : Graph) (f : Fields) (b c e n : ℕ) (w : Waiting) → IsSound g f → ((x : Part) (t : Tag) → HasEvent g (waiting_in f.queue.events) x t → x.group < 8) → HasEvent g (waiting_in f.queue.events) w.unit w.tag → n ≤ unit_place w.unit
-    → ((x : Part) (t : Tag) → HasEvent g (waiting_in f.queue.events) x t → (unit_place x < n) ⊎ (unit_place w.unit ≤ unit_place x))
+-- one unit more
+pub before_more : (g : Graph) (f : Fields) (b c e n : ℕ) (w : Waiting) → IsSound g f → IsFirstWaiting g (waiting_in f.queue.events) n (Some w)
     → IsLeastAmong (AtOrIn b (PacedBefore g f n)) c → IsLeastAmong (AtOrIn c (IsPacedNext g (waiting_in f.queue.events) (busy_in f.open_claims.items) w.unit)) e → IsLeastAmong (AtOrIn b (PacedBefore g f (8 * w.unit.actor + w.unit.group + 1))) e
-before_one g f b c e n w sound few event le sides = least_both (PacedBefore g f n) (IsPacedNext g (waiting_in f.queue.events) (busy_in f.open_claims.items) w.unit) (PacedBefore g f (8 * w.unit.actor + w.unit.group + 1)) b c e
+before_more g f b c e n w sound next = least_both (PacedBefore g f n) (IsPacedNext g (waiting_in f.queue.events) (busy_in f.open_claims.items) w.unit) (PacedBefore g f (8 * w.unit.actor + w.unit.group + 1)) b c e
     (λ d h.
     let less : 8 * h.0.actor + h.0.group < n = h.2 in
+    let le : n ≤ 8 * w.unit.actor + w.unit.group = next.1 in
     (h.0, h.1, omega (arith, less, le), h.3))
-    (λ d paced. (w.unit, event_is_unit g f w.unit w.tag sound event, omega arith, paced))
+    (λ d paced. (w.unit, event_is_unit g f w.unit w.tag sound next.0.0, omega arith, paced))
     (λ d h.
     let less : 8 * h.0.actor + h.0.group < 8 * w.unit.actor + w.unit.group + 1 = h.2 in
+    let this = next.2 h.0 h.3.0 h.3.1 in
     ⊎_elim
     (λ (l : 8 * h.0.actor + h.0.group < n). inl (h.0, h.1, l, h.3))
     (λ (m : 8 * w.unit.actor + w.unit.group ≤ 8 * h.0.actor + h.0.group).
-    let same : h.0 ≡ w.unit = same_place h.0 w.unit (few h.0 h.3.0 h.3.1) (few w.unit w.tag event) (omega (arith, less, m)) in
+    let same : h.0 ≡ w.unit = same_place h.0 w.unit this.0 (next.2 w.unit w.tag next.0.0).0 (omega (arith, less, m)) in
     inr (subst (λ u. IsPacedNext g (waiting_in f.queue.events) (busy_in f.open_claims.items) u d) same h.3))
-    (sides h.0 h.3.0 h.3.1))
+    this.1)
 
-pub before_more : (g : Graph) (f : Fields) (b c e n : ℕ) (w : Waiting) → IsSound g f → IsFirstWaiting g (waiting_in f.queue.events) n (Some w)
-    → IsLeastAmong (AtOrIn b (PacedBefore g f n)) c → IsLeastAmong (AtOrIn c (IsPacedNext g (waiting_in f.queue.events) (busy_in f.open_claims.items) w.unit)) e → IsLeastAmong (AtOrIn b (PacedBefore g f (8 * w.unit.actor + w.unit.group + 1))) e
-before_more g f b c e n w sound next = before_one g f b c e n w sound (λ x t event. (next.2 x t event).0) next.0.0 next.1 (λ x t event. (next.2 x t event).1)
-
-pub before_asked : (g : Graph) (f : Fields) (b c e n : ℕ) (w : Waiting) → IsLawful g → IsSound g f → IsNextInWord g (waiting_in f.queue.events) n (Some w)
-    → IsLeastAmong (AtOrIn b (PacedBefore g f n)) c → IsLeastAmong (AtOrIn c (IsPacedNext g (waiting_in f.queue.events) (busy_in f.open_claims.items) w.unit)) e → IsLeastAmong (AtOrIn b (PacedBefore g f (8 * w.unit.actor + w.unit.group + 1))) e
-before_asked g f b c e n w lawful sound next = before_one g f b c e n w sound (λ x t event. group_is_few g x lawful (event_is_unit g f x t sound event)) next.0.0 next.1 next.3
-
--- a word none of whose units has a lesser paced reading
-pub before_word : (g : Graph) (f : Fields) (b c r n m : ℕ) → r ≡ c - 1 → m ≡ 64 * (n / 64 + 1) → IsNextToAsk g (waiting_in f.queue.events) r n None → IsLeastAmong (AtOrIn b (PacedBefore g f n)) c → IsLeastAmong (AtOrIn b (PacedBefore g f m)) c
-before_word g f b c r n m just next none least = (
-  ⊎_elim (λ (same : c ≡ b). inl same) (λ (h : PacedBefore g f n c). let less : 8 * h.0.actor + h.0.group < n = h.2 in inr (h.0, h.1, omega (arith, less, next), h.3)) least.0,
-  λ d h. ⊎_elim (λ (same : d ≡ b). least.1 d (inl same))
-      (λ (p : PacedBefore g f m d).
-      let less : 8 * p.0.actor + p.0.group < m = p.2 in
-      ⊎_elim
-      (λ (l : 8 * p.0.actor + p.0.group < n). least.1 d (inr (p.0, p.1, l, p.3)))
-      (λ (from : n ≤ 8 * p.0.actor + p.0.group). ⊎_elim
-      (λ (past : r < d). omega (arith, past, just))
-      (λ (due : d ≤ r). absurd (none p.0 p.3.0 p.3.1 (omega (arith, less, from, next)) from (paced_meets g p.0 p.3.0 d r p.3.4 due)))
-      (below_or r d))
-      (below_or (8 * p.0.actor + p.0.group) n)) h,
-)
+-- the word of the next unit is passed over if none of its units has a lesser paced reading
+pub before_word : (g : Graph) (f : Fields) (b c r n p m : ℕ) (w : Waiting) → r ≡ c - 1 → p ≡ 8 * w.unit.actor + w.unit.group → m ≡ 64 * (p / 64 + 1) → IsFirstWaiting g (waiting_in f.queue.events) n (Some w) → IsEarlyWord g (waiting_in f.queue.events) r (p / 64)
+    → IsLeastAmong (AtOrIn b (PacedBefore g f n)) c → IsLeastAmong (AtOrIn b (PacedBefore g f m)) c
+before_word g f b c r n p m w just at is next early least =
+    let le : n ≤ 8 * w.unit.actor + w.unit.group = next.1 in (
+      ⊎_elim (λ (same : c ≡ b). inl same) (λ (h : PacedBefore g f n c). let less : 8 * h.0.actor + h.0.group < n = h.2 in inr (h.0, h.1, omega (arith, less, le, at, is), h.3)) least.0,
+      λ d h. ⊎_elim (λ (same : d ≡ b). least.1 d (inl same))
+          (λ (q : PacedBefore g f m d).
+          let less : 8 * q.0.actor + q.0.group < m = q.2 in
+          ⊎_elim
+          (λ (l : 8 * q.0.actor + q.0.group < n). least.1 d (inr (q.0, q.1, l, q.3)))
+          (λ (from : 8 * w.unit.actor + w.unit.group ≤ 8 * q.0.actor + q.0.group). ⊎_elim
+          (λ (past : r < d). omega (arith, past, just))
+          (λ (due : d ≤ r). absurd (early q.0 q.3.0 q.3.1 (omega (arith, less, from, at, is)) (paced_meets g q.0 q.3.0 d r q.3.4 due)))
+          (less_or r d))
+          (next.2 q.0 q.3.0 q.3.1).1) h,
+    )
   where
-    below_or : (x y : ℕ) → (x < y) ⊎ (y ≤ x)
-    below_or x y = grind arith
-
--- behind the last place there is no unit
-pub before_last : (g : Graph) (f : Fields) (b r n : ℕ) → IsLawful g → 8 * length g.actors ≤ n → IsLeastAmong (AtOrIn b (PacedBefore g f n)) r → IsLeastAmong (AtOrIn b (PacedNext g f)) r
-before_last g f b r n lawful all least = (
-  ⊎_elim (λ (same : r ≡ b). inl same) (λ (h : PacedBefore g f n r). inr (h.0, h.1, h.3)) least.0,
-  λ d h. ⊎_elim (λ (same : d ≡ b). least.1 d (inl same))
-      (λ (p : PacedNext g f d).
-      let few : p.0.group < 8 = group_is_few g p.0 lawful p.1 in
-      let there : p.0.actor < length g.actors = p.1.0 in
-      least.1 d (inr (p.0, p.1, omega (arith, few, there, all), p.2))) h,
-)
+    less_or : (x y : ℕ) → (x < y) ⊎ (y ≤ x)
+    less_or x y = grind arith
 
 -- behind the last unit that has events there is none
 pub before_all : (g : Graph) (f : Fields) (b r n : ℕ) → IsFirstWaiting g (waiting_in f.queue.events) n None → IsLeastAmong (AtOrIn b (PacedBefore g f n)) r → IsLeastAmong (AtOrIn b (PacedNext g f)) r

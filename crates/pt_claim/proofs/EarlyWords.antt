@@ -5,15 +5,13 @@ use Rattle.pt_tags.specs.declared.tag.Tag.{Tag}
 use Rattle.pt_types.specs.declared.graph.Graph.{Graph}
 use Rattle.pt_types.specs.declared.graph.Unit.{Unit as Part}
 use Rattle.pt_types.specs.Lawful.{IsLawful}
-use Rattle.pt_semantics.specs.Meaning.{Values}
 use Rattle.pt_semantics.specs.Paced.{at_least_zero, paced_by}
 use Rattle.pt_semantics.specs.Units.{HasEvent}
 use Rattle.pt_offsets.specs.Words.{IsLeastInWord}
-use Rattle.pt_queue.specs.declared.waiting.Waiting.{Waiting}
-use Rattle.pt_queue.specs.Events.{IsNextInWord, unit_place, waiting_in}
+use Rattle.pt_queue.specs.Events.{unit_place, waiting_in}
 use Rattle.pt_state.specs.declared.fields.Fields.{Fields}
 use Rattle.pt_state.specs.State.{IsSound}
-use Rattle.pt_claim.specs.Early.{IsEarlyWord, IsNextToAsk}
+use Rattle.pt_claim.specs.Early.{IsEarlyWord}
 use Rattle.pt_claim.proofs.Fronts.{event_is_unit}
 use Rattle.pt_claim.proofs.Passing.{group_is_few}
 use Rattle.pt_claim.proofs.SafeTags.{bounds_paced}
@@ -37,8 +35,3 @@ early_word g f (Some o) w r word lawful sound least early past = λ u t event at
     let reached : paced_by (Some one.0) t ≤ r = bounds_paced g u (Some one.0) t r one.1 due in
     let rises : paced_by (Some o) w ≤ paced_by (Some one.0) t = paced_rises o one.0 w t one.2 (early u t event at) in
     past (omega (arith, reached, rises))
-
--- the next unit with events is the next to ask
-pub to_ask : (g : Graph) (waits : Values) (r n : ℕ) (next : Option Waiting) → IsNextInWord g waits n next → IsNextToAsk g waits r n next
-to_ask g waits r n None next = λ u t event at from due. let less : unit_place u < n = next u t event at in omega (arith, less, from)
-to_ask g waits r n (Some w) next = next

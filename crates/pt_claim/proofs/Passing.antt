@@ -1,6 +1,5 @@
 -- The search goes over the units that have events, and passes over all units between them.
 use Rattle.std.proofs.Common.{◌≡◌, ℕ, ◌+◌, ◌*◌, ◌/◌, ◌%◌, ◌<◌, ◌≤◌, ◌⊎◌, List, Option, Some, None, length, get_or, refl, inl, inr, ⊎_elim, arith}
-use Rattle.pt_tags.specs.declared.tag.Tag.{Tag}
 use Rattle.pt_types.specs.declared.firing.Task.{Task}
 use Rattle.pt_types.specs.declared.graph.Graph.{Graph}
 use Rattle.pt_types.specs.declared.graph.Unit.{Unit as Part}
@@ -8,12 +7,12 @@ use Rattle.pt_types.specs.Groups.{no_actor}
 use Rattle.pt_types.specs.Lawful.{IsLawful}
 use Rattle.pt_types.specs.Lookups.{kind_of}
 use Rattle.pt_semantics.specs.Meaning.{Values}
-use Rattle.pt_semantics.specs.Units.{HasEvent, groups}
+use Rattle.pt_semantics.specs.Units.{groups}
 use Rattle.pt_causality.specs.Units.{IsUnit}
 use Rattle.pt_queue.specs.declared.waiting.Waiting.{Waiting}
-use Rattle.pt_queue.specs.Events.{IsFirstWaiting, IsNextInWord, unit_place}
+use Rattle.pt_queue.specs.Events.{IsFirstWaiting}
 use Rattle.pt_queue.proofs.Tables.{few_groups}
-use Rattle.pt_claim.specs.Early.{IsNextToAsk}
+use Rattle.pt_claim.specs.Early.{IsEarlyWord}
 use Rattle.pt_claim.specs.Fronts.{AreFirst, StandsBefore}
 use Rattle.pt_claim.proofs.Fronts.{first_end, first_pass}
 
@@ -92,77 +91,48 @@ group_is_few g u lawful unit =
     let less : u.group < groups (kind_of g u.actor) = unit.1 in
     omega (arith, few, less)
 
--- before a unit with events, behind which no unit with events is missed, all were passed
-up_to_unit : (g : Graph) (waits : Values) (busy : Part → Option Task) (r n : ℕ) (w : Part) (cs : List Waiting) → ((x : Part) (t : Tag) → IsUnit g x → HasEvent g waits x t → x.group < 8) → w.group < 8 → n ≤ unit_place w
-    → ((x : Part) (t : Tag) → HasEvent g waits x t → (unit_place x < n) ⊎ (unit_place w ≤ unit_place x)) → AreFirst g waits busy r (n / 8) (n % 8) cs → AreFirst g waits busy r w.actor w.group cs
-up_to_unit g waits busy r n w cs all few le sides first =
-    first_pass g waits busy r (n / 8) (n % 8) w.actor w.group cs
-    (λ x stands. to_unit x w n few le stands)
-    (λ x t own not before safe.
-    let own_few : x.group < 8 = all x t own safe.event in
-    ⊎_elim
-    (λ (l : 8 * x.actor + x.group < n). not (from_place x n own_few l))
-    (λ (m : 8 * w.actor + w.group ≤ 8 * x.actor + x.group). not_ahead x w own_few m before)
-    (sides x t safe.event))
-    first
-
--- behind a unit the search goes on at the next place
-behind_unit : (g : Graph) (waits : Values) (busy : Part → Option Task) (r : ℕ) (w : Part) (cs : List Waiting) → ((x : Part) (t : Tag) → IsUnit g x → HasEvent g waits x t → x.group < 8) → w.group < 8
-    → AreFirst g waits busy r w.actor (w.group + 1) cs → AreFirst g waits busy r ((8 * w.actor + w.group + 1) / 8) ((8 * w.actor + w.group + 1) % 8) cs
-behind_unit g waits busy r w cs all few first =
-    first_pass g waits busy r w.actor (w.group + 1) ((8 * w.actor + w.group + 1) / 8) ((8 * w.actor + w.group + 1) % 8) cs
-    (λ x stands. to_next x w few stands)
-    (λ x t own not before safe. not (from_next x w (all x t own safe.event) few before))
-    first
-
 -- before the next unit that has events all units were passed
 pub up_to_next : (g : Graph) (waits : Values) (busy : Part → Option Task) (r n : ℕ) (w : Waiting) (cs : List Waiting) → IsFirstWaiting g waits n (Some w)
     → AreFirst g waits busy r (n / 8) (n % 8) cs → AreFirst g waits busy r w.unit.actor w.unit.group cs
 up_to_next g waits busy r n w cs next first =
-    up_to_unit g waits busy r n w.unit cs (λ x t own event. (next.2 x t event).0) (next.2 w.unit w.tag next.0.0).0 next.1 (λ x t event. (next.2 x t event).1) first
+    let few : w.unit.group < 8 = (next.2 w.unit w.tag next.0.0).0 in
+    first_pass g waits busy r (n / 8) (n % 8) w.unit.actor w.unit.group cs
+    (λ x stands. to_unit x w.unit n few next.1 stands)
+    (λ x t own not before safe.
+    let this = next.2 x t safe.event in
+    ⊎_elim
+    (λ (l : 8 * x.actor + x.group < n). not (from_place x n this.0 l))
+    (λ (m : 8 * w.unit.actor + w.unit.group ≤ 8 * x.actor + x.group). not_ahead x w.unit this.0 m before)
+    this.1)
+    first
 
+-- behind a unit the search goes on at the next place
 pub up_to_behind : (g : Graph) (waits : Values) (busy : Part → Option Task) (r n : ℕ) (w : Waiting) (cs : List Waiting) → IsFirstWaiting g waits n (Some w)
     → AreFirst g waits busy r w.unit.actor (w.unit.group + 1) cs → AreFirst g waits busy r ((8 * w.unit.actor + w.unit.group + 1) / 8) ((8 * w.unit.actor + w.unit.group + 1) % 8) cs
-up_to_behind g waits busy r n w cs next first = behind_unit g waits busy r w.unit cs (λ x t own event. (next.2 x t event).0) (next.2 w.unit w.tag next.0.0).0 first
+up_to_behind g waits busy r n w cs next first =
+    let few : w.unit.group < 8 = (next.2 w.unit w.tag next.0.0).0 in
+    first_pass g waits busy r w.unit.actor (w.unit.group + 1) ((8 * w.unit.actor + w.unit.group + 1) / 8) ((8 * w.unit.actor + w.unit.group + 1) % 8) cs
+    (λ x stands. to_next x w.unit few stands)
+    (λ x t own not before safe. not (from_next x w.unit (next.2 x t safe.event).0 few before))
+    first
 
 -- behind the last unit that has events there is none
 pub up_to_end : (g : Graph) (waits : Values) (busy : Part → Option Task) (r n : ℕ) (cs : List Waiting) → IsFirstWaiting g waits n None
     → AreFirst g waits busy r (n / 8) (n % 8) cs → AreFirst g waits busy r (length g.actors) 0 cs
 up_to_end g waits busy r n cs none first = first_end g waits busy r (n / 8) (n % 8) cs (λ x t own not event. let this = none x t event in not (from_place x n this.0 this.1)) first
 
--- the same word by word
-
-pub up_to_asked : (g : Graph) (waits : Values) (busy : Part → Option Task) (r n : ℕ) (w : Waiting) (cs : List Waiting) → IsLawful g → IsUnit g w.unit → IsNextInWord g waits n (Some w)
-    → AreFirst g waits busy r (n / 8) (n % 8) cs → AreFirst g waits busy r w.unit.actor w.unit.group cs
-up_to_asked g waits busy r n w cs lawful unit next first =
-    up_to_unit g waits busy r n w.unit cs (λ x t own event. group_is_few g x lawful own) (group_is_few g w.unit lawful unit) next.1 next.3 first
-
-pub behind_asked : (g : Graph) (waits : Values) (busy : Part → Option Task) (r : ℕ) (w : Part) (cs : List Waiting) → IsLawful g → IsUnit g w
-    → AreFirst g waits busy r w.actor (w.group + 1) cs → AreFirst g waits busy r ((8 * w.actor + w.group + 1) / 8) ((8 * w.actor + w.group + 1) % 8) cs
-behind_asked g waits busy r w cs lawful unit first = behind_unit g waits busy r w cs (λ x t own event. group_is_few g x lawful own) (group_is_few g w lawful unit) first
-
--- a word none of whose units is due is passed over
-pub behind_word : (g : Graph) (waits : Values) (busy : Part → Option Task) (r n m : ℕ) (cs : List Waiting) → IsLawful g → m ≡ 64 * (n / 64 + 1) → IsNextToAsk g waits r n None
+-- the word of the next unit is passed over if none of its units is due
+pub behind_word : (g : Graph) (waits : Values) (busy : Part → Option Task) (r n p m : ℕ) (w : Waiting) (cs : List Waiting) → p ≡ 8 * w.unit.actor + w.unit.group → m ≡ 64 * (p / 64 + 1) → IsFirstWaiting g waits n (Some w) → IsEarlyWord g waits r (p / 64)
     → AreFirst g waits busy r (n / 8) (n % 8) cs → AreFirst g waits busy r (m / 8) (m % 8) cs
-behind_word g waits busy r n m cs lawful is none first =
+behind_word g waits busy r n p m w cs at is next early first =
+    let le : n ≤ 8 * w.unit.actor + w.unit.group = next.1 in
     first_pass g waits busy r (n / 8) (n % 8) (m / 8) (m % 8) cs
-    (λ x stands. to_later x n m (omega (arith, is)) stands)
+    (λ x stands. to_later x n m (omega (arith, at, is, le)) stands)
     (λ x t own not before safe.
-    let few : x.group < 8 = group_is_few g x lawful own in
-    let less : 8 * x.actor + x.group < m = to_place x m few before in
+    let this = next.2 x t safe.event in
+    let less : 8 * x.actor + x.group < m = to_place x m this.0 before in
     ⊎_elim
-    (λ (l : 8 * x.actor + x.group < n). not (from_place x n few l))
-    (λ (from : n ≤ 8 * x.actor + x.group). none x t safe.event (omega (arith, less, from, is)) from safe.bounds)
-    (below_or (8 * x.actor + x.group) n))
-    first
-
--- behind the last place there is no unit
-pub up_to_last : (g : Graph) (waits : Values) (busy : Part → Option Task) (r n : ℕ) (cs : List Waiting) → IsLawful g → 8 * length g.actors ≤ n
-    → AreFirst g waits busy r (n / 8) (n % 8) cs → AreFirst g waits busy r (length g.actors) 0 cs
-up_to_last g waits busy r n cs lawful all first =
-    first_end g waits busy r (n / 8) (n % 8) cs
-    (λ x t own not event.
-    let few : x.group < 8 = group_is_few g x lawful own in
-    let less : x.actor < length g.actors = own.0 in
-    not (from_place x n few (omega (arith, few, less, all))))
+    (λ (l : 8 * x.actor + x.group < n). not (from_place x n this.0 l))
+    (λ (from : 8 * w.unit.actor + w.unit.group ≤ 8 * x.actor + x.group). early x t safe.event (omega (arith, less, from, at, is)) safe.bounds)
+    this.1)
     first

@@ -1,5 +1,5 @@
 -- Words of units, of which none is due for long.
-use Rattle.std.specs.Prelude.{◌≡◌, ℕ, ◌+◌, ◌/◌, ◌<◌, ◌≤◌, List, Option, None, Some}
+use Rattle.std.specs.Prelude.{◌≡◌, ℕ, ◌+◌, ◌/◌, ◌<◌, List}
 use Rattle.pt_tags.specs.declared.tag.Tag.{Tag}
 use Rattle.pt_types.specs.declared.graph.Graph.{Graph}
 use Rattle.pt_types.specs.declared.graph.Unit.{Unit as Part}
@@ -8,8 +8,7 @@ use Rattle.pt_semantics.specs.Edges.{Edge}
 use Rattle.pt_semantics.specs.Meaning.{Values}
 use Rattle.pt_semantics.specs.Ranks.{sum_along}
 use Rattle.pt_semantics.specs.Units.{HasEvent}
-use Rattle.pt_queue.specs.declared.waiting.Waiting.{Waiting}
-use Rattle.pt_queue.specs.Events.{IsNextInWord, unit_place}
+use Rattle.pt_queue.specs.Events.{unit_place}
 
 -- the reading is so late that no row and no message can still lead to an event at unit u at t or before
 abbrev pub IsDueAt : Graph → ℕ → Part → Tag → Type 0
@@ -18,8 +17,3 @@ IsDueAt g r u t = (x b : ℕ) (path : List Edge) → Feeds g x b path u → t.ti
 -- no event of a unit with its place in this word of 64 places is due at r
 abbrev pub IsEarlyWord : Graph → Values → ℕ → ℕ → Type 0
 IsEarlyWord g waits r word = (u : Part) (t : Tag) → HasEvent g waits u t → unit_place u / 64 ≡ word → IsDueAt g r u t → ⊥
-
--- w is the first unit with events, with its least tag, of those whose place isn't before n and is in the same word of 64 places; or, for None, no event of such a unit is due at r
-abbrev pub IsNextToAsk : Graph → Values → ℕ → ℕ → Option Waiting → Type 0
-IsNextToAsk g waits r n None = (u : Part) (t : Tag) → HasEvent g waits u t → unit_place u / 64 ≡ n / 64 → n ≤ unit_place u → IsDueAt g r u t → ⊥
-IsNextToAsk g waits r n (Some w) = IsNextInWord g waits n (Some w)

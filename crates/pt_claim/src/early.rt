@@ -7,11 +7,10 @@ ghost use Rattle.pt_types.specs.Lawful.{IsLawful};
 ghost use Rattle.pt_offsets.specs.Plans.{AreOffsets};
 ghost use Rattle.pt_queue.specs.Events.{waiting_in};
 ghost use Rattle.pt_state.specs.State.{IsSound};
-ghost use Rattle.pt_claim.specs.Early.{IsEarlyWord, IsNextToAsk};
+ghost use Rattle.pt_claim.specs.Early.{IsEarlyWord};
 
 use crate::safe::has_reached;
 use pt_offsets::Offsets;
-use pt_queue::Waiting;
 use pt_state::Fields;
 use pt_tags::Tag;
 use pt_types::Graph;
@@ -19,7 +18,7 @@ use pt_types::Graph;
 /// The first place of the next word. Behind place 100 it is 128.
 #[inline(always)]
 pub fn next_word(place: usize) -> usize
-    requires { place < 2 ^ 32 }
+    requires { place < 2 ^ 36 }
     ensures { result ≡ 64 * (place / 64 + 1) }
 {
     64 * (place / 64 + 1)
@@ -40,24 +39,21 @@ fn is_early(fields: &Fields, graph: &Graph, offsets: &Offsets, reading: u64, wor
     !has_reached(offsets.least_in_word(word), earliest, reading)
 }
 
-/// The first unit that has events, with its least tag, of those whose place isn't before `from` and is in the same word of 64
-/// places. `None` if there is none, or if none of them is due at the reading (in microseconds), as far as the whole word says: that
-/// is asked only at the first place of a word.
+/// Whether a search from place `from` on, whose first unit with events is at `place`, can pass over the word of that place: no event
+/// of its units is due at the reading (in microseconds). Asked only where the search comes to the word, and not of each unit.
 #[inline(always)]
-pub fn next_to_ask(
+pub fn is_passed_over(
     fields: &Fields,
     graph: &Graph,
     offsets: &Offsets,
     reading: u64,
     from: usize,
-) -> Option<Waiting>
+    place: usize,
+) -> bool
     requires lawful { IsLawful graph.now }
     requires sound { IsSound graph.now fields.now }
     requires offsets { AreOffsets graph.now offsets.now }
-    ensures { IsNextToAsk graph.now (waiting_in fields.now.queue.events) reading from result }
+    ensures { result ≡ true → IsEarlyWord graph.now (waiting_in fields.now.queue.events) reading (place / 64) }
 {
-    if from % 64 == 0 && is_early(fields, graph, offsets, reading, from / 64) {
-        return None;
-    }
-    fields.queue.next_in_word(from)
+    from <= place - place % 64 && is_early(fields, graph, offsets, reading, place / 64)
 }

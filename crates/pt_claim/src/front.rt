@@ -13,7 +13,7 @@ ghost use Rattle.pt_queue.specs.Events.{waiting_in, IsLeastTag};
 ghost use Rattle.pt_state.specs.State.{busy_in, IsSound};
 ghost use Rattle.pt_claim.specs.Fronts.{AreBothSafe, AreFirst, AreFront, IsNextSafe, IsTaken, one_of};
 
-use crate::early::{next_to_ask, next_word};
+use crate::early::{is_passed_over, next_word};
 use crate::order::{is_past_all, put};
 use crate::safe::{is_behind, is_due, is_free, is_safe};
 use arrayvec::ArrayVec;
@@ -148,17 +148,17 @@ fn fill(
 {
     units.clear();
     let mut ahead = None;
-    let places = 8 * graph.actors.as_slice().len();
     let mut from = 0usize;
-    'asked: while from < places {
-        let Some(waiting) = next_to_ask(fields, graph, offsets, reading, from) else {
-            from = next_word(from);
+    while let Some(waiting) = fields.queue.first_waiting(from) {
+        let place = place_of(waiting.unit);
+        if is_passed_over(fields, graph, offsets, reading, from, place) {
+            from = next_word(place);
             continue;
-        };
+        }
         ahead = add_unit(
             fields, graph, least, offsets, reading, waiting, ahead, known, units,
         );
-        from = place_of(waiting.unit) + 1;
+        from = place + 1;
     }
 }
 

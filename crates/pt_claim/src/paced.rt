@@ -7,7 +7,7 @@ ghost use Rattle.pt_state.specs.State.{busy_in, IsSound};
 ghost use Rattle.pt_claim.specs.Least.{AtOrIn, IsLeastAmong};
 ghost use Rattle.pt_claim.specs.Next.{IsPacedNext, IsPacedOfSome};
 
-use crate::early::{next_to_ask, next_word};
+use crate::early::{is_passed_over, next_word};
 use pt_offsets::Plan;
 use pt_queue::{Waiting, place_of};
 use pt_state::Fields;
@@ -69,19 +69,17 @@ fn paced_next_of_many(fields: &Fields, plan: &Plan, so_far: u64) -> u64
     requires sound { IsSound plan.now.graph fields.now }
     ensures { IsLeastAmong (AtOrIn so_far (IsPacedOfSome plan.now.graph (waiting_in fields.now.queue.events) (busy_in fields.now.open_claims.items))) result }
 {
-    let graph = plan.graph();
-    let offsets = plan.offsets();
-    let places = 8 * graph.actors.as_slice().len();
     let mut least = so_far;
     let mut from = 0usize;
-    'asked: while from < places {
-        let just_before = least.saturating_sub(1);
-        let Some(waiting) = next_to_ask(fields, graph, offsets, just_before, from) else {
-            from = next_word(from);
+    while let Some(waiting) = fields.queue.first_waiting(from) {
+        let place = place_of(waiting.unit);
+        let before = least.saturating_sub(1);
+        if is_passed_over(fields, plan.graph(), plan.offsets(), before, from, place) {
+            from = next_word(place);
             continue;
-        };
+        }
         least = sooner_of_unit(fields, plan, waiting, least);
-        from = place_of(waiting.unit) + 1;
+        from = place + 1;
     }
     least
 }

@@ -1,24 +1,41 @@
-use Rattle.std.proofs.Common.{◌≡◌, ◌+◌, None, Some, ap, length, sym, subst, ◌∙◌, arith}
+use Rattle.std.proofs.Common.{◌+◌, ◌/◌, sym, subst, arith}
 use Rattle.pt_types.specs.declared.graph.Graph.{Graph}
-use Rattle.pt_queue.specs.Events.{IsNextInWord, waiting_in}
-use Rattle.pt_claim.specs.Early.{IsNextToAsk}
+use Rattle.pt_queue.specs.Events.{waiting_in}
+use Rattle.pt_claim.specs.Early.{IsEarlyWord}
 use Rattle.pt_claim.specs.Least.{AtOrIn, IsLeastAmong}
-use Rattle.pt_claim.proofs.Candidates.{before_asked, before_last, before_word, PacedBefore}
+use Rattle.pt_claim.proofs.Candidates.{before_all, before_more, before_word, before_none, PacedBefore}
+use Rattle.pt_claim.proofs.Fronts.{event_is_unit}
 use Rattle.pt_claim.proofs.paced.paced_next_of_many.Goals as goal
 
-pub asked-preserved-in_default : goal.asked-preserved-in_default
-asked-preserved-in_default c =
-    before_word c.args.plan.now.graph c.args.fields.now c.args.so_far c.asked.least c.saturating_sub-just_before.result c.asked.from c.next_word-from.result c.saturating_sub-just_before.ensures c.next_word-from.ensures
-    (subst (λ (g : Graph). IsNextToAsk g (waiting_in c.args.fields.now.queue.events) c.saturating_sub-just_before.result c.asked.from None) c.graph-graph.ensures.value c.in_default.ensures)
-    c.asked.invariant
+pub loop-waiting-init : goal.loop-waiting-init
+loop-waiting-init c = before_none c.args.plan.now.graph c.args.fields.now c.args.so_far
 
-pub asked-preserved : goal.asked-preserved
-asked-preserved c =
-    let next = subst (λ (g : Graph). IsNextInWord g (waiting_in c.args.fields.now.queue.events) c.asked.from (Some c.in-Some.waiting)) c.graph-graph.ensures.value c.in-Some.ensures in
-    subst (λ p. IsLeastAmong (AtOrIn c.args.so_far (PacedBefore c.args.plan.now.graph c.args.fields.now (p + 1))) c.sooner_of_unit-least.result) (sym c.place_of-from.ensures)
-    (before_asked c.args.plan.now.graph c.args.fields.now c.args.so_far c.asked.least c.sooner_of_unit-least.result c.asked.from c.in-Some.waiting c.graph-graph.ensures.admitted.lawful c.requires.sound next c.asked.invariant c.sooner_of_unit-least.ensures)
+pub sooner_of_unit-least-requires-clause-tag : goal.sooner_of_unit-least-requires-clause-tag
+sooner_of_unit-least-requires-clause-tag c = (c.in-Some.ensures c.args.plan.now.graph c.requires.sound.groups).0
+
+pub loop-waiting-preserved : goal.loop-waiting-preserved
+loop-waiting-preserved c = subst (λ p. IsLeastAmong (AtOrIn c.args.so_far (PacedBefore c.args.plan.now.graph c.args.fields.now (p + 1))) c.sooner_of_unit-least.result) (sym c.place_of-place.ensures)
+    (before_more c.args.plan.now.graph c.args.fields.now c.args.so_far c.loop-waiting.least c.sooner_of_unit-least.result c.loop-waiting.from c.in-Some.waiting c.requires.sound (c.in-Some.ensures c.args.plan.now.graph c.requires.sound.groups) c.loop-waiting.invariant c.sooner_of_unit-least.ensures)
+
+pub loop-waiting-smaller : goal.loop-waiting-smaller
+loop-waiting-smaller c =
+    let next = c.in-Some.ensures c.args.plan.now.graph c.requires.sound.groups in
+    let unit = event_is_unit c.args.plan.now.graph c.args.fields.now c.in-Some.waiting.unit c.in-Some.waiting.tag c.requires.sound next.0.0 in
+    let few = (next.2 c.in-Some.waiting.unit c.in-Some.waiting.tag next.0.0).0 in
+    omega (arith, next.1, unit.0, few, c.place_of-place.ensures)
 
 pub returns : goal.returns
-returns c =
-    let same : length c.as_slice.result.now ≡ length c.args.plan.now.graph.actors = ap length c.as_slice.ensures ∙ ap (λ (g : Graph). length g.actors) c.graph-graph.ensures.value in
-    before_last c.args.plan.now.graph c.args.fields.now c.args.so_far c.asked.least c.asked.from c.graph-graph.ensures.admitted.lawful (omega (arith, c.asked-test.false, same)) c.asked.invariant
+returns c = before_all c.args.plan.now.graph c.args.fields.now c.args.so_far c.loop-waiting.least c.loop-waiting.from (c.in_default.ensures c.args.plan.now.graph c.requires.sound.groups) c.loop-waiting.invariant
+
+pub loop-waiting-preserved-then-is_passed_over : goal.loop-waiting-preserved-then-is_passed_over
+loop-waiting-preserved-then-is_passed_over c =
+    let early = subst (λ (g : Graph). IsEarlyWord g (waiting_in c.args.fields.now.queue.events) c.saturating_sub-before.result (c.place_of-place.result / 64)) c.graph.ensures.value (c.is_passed_over.ensures c.if-is_passed_over.true) in
+    before_word c.args.plan.now.graph c.args.fields.now c.args.so_far c.loop-waiting.least c.saturating_sub-before.result c.loop-waiting.from c.place_of-place.result c.next_word-from.result c.in-Some.waiting
+    c.saturating_sub-before.ensures c.place_of-place.ensures c.next_word-from.ensures (c.in-Some.ensures c.args.plan.now.graph c.requires.sound.groups) early c.loop-waiting.invariant
+
+pub loop-waiting-smaller-then-is_passed_over : goal.loop-waiting-smaller-then-is_passed_over
+loop-waiting-smaller-then-is_passed_over c =
+    let next = c.in-Some.ensures c.args.plan.now.graph c.requires.sound.groups in
+    let unit = event_is_unit c.args.plan.now.graph c.args.fields.now c.in-Some.waiting.unit c.in-Some.waiting.tag c.requires.sound next.0.0 in
+    let few = (next.2 c.in-Some.waiting.unit c.in-Some.waiting.tag next.0.0).0 in
+    omega (arith, next.1, unit.0, few, c.place_of-place.ensures, c.next_word-from.ensures)

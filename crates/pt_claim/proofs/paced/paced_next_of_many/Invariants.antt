@@ -1,10 +1,10 @@
-use Rattle.std.proofs.Common.{◌+◌, ◌-◌, ◌*◌, length}
+use Rattle.std.proofs.Common.{◌-◌, ◌*◌, length}
 use Rattle.pt_claim.specs.Least.{AtOrIn, IsLeastAmong}
 use Rattle.pt_claim.proofs.Candidates.{PacedBefore}
 use Rattle.pt_claim.proofs.paced.paced_next_of_many.Given as goal
 
-abbrev pub invariant-asked : goal.invariant-asked
-invariant-asked l = IsLeastAmong (AtOrIn l.fn.so_far (PacedBefore l.plan.graph l.fields l.from)) l.least
+abbrev pub invariant-loop-waiting : goal.invariant-loop-waiting
+invariant-loop-waiting l = IsLeastAmong (AtOrIn l.fn.so_far (PacedBefore l.plan.graph l.fields l.from)) l.least
 
-abbrev pub decreases-asked : goal.decreases-asked
-decreases-asked l = 8 * length l.plan.graph.actors + 64 - l.from
+abbrev pub decreases-loop-waiting : goal.decreases-loop-waiting
+decreases-loop-waiting l = 8 * length l.plan.graph.actors - l.from
