@@ -1,27 +1,20 @@
 -- A turn before the next reading, without results and messages.
-use Rattle.std.proofs.Common.{◌≡◌, ℕ, ◌<◌, ◌≤◌, ◌==◌, ◌^◌, true, false, List, [], ◌∷◌, ◌++◌, Option, Some, None, ℤ, length, map, refl, sym, ap, subst, ◌∙◌, inl, inr, ⊎_elim, arith, append-nil}
+use Rattle.std.proofs.Common.{◌≡◌, ℕ, ◌<◌, ◌≤◌, ◌^◌, true, false, List, [], ◌++◌, Option, Some, None, length, refl, sym, ap, subst, ◌∙◌, inl, inr, ⊎_elim, arith, append-nil}
 use Rattle.std.proofs.lemmas.Bool.{false≢true}
 use Rattle.std.specs.Prelude.{MatchOption}
 use Rattle.std.specs.Arc.{arc_value}
-use Rattle.std.specs.List.{flat_map, range_with_len}
+use Rattle.std.specs.List.{range_with_len}
 use Rattle.pt_types.specs.declared.graph.Graph.{Graph}
-use Rattle.pt_types.specs.declared.rows.Row.{Row}
-use Rattle.pt_types.specs.declared.rows.RowAt.{RowAt}
 use Rattle.pt_types.specs.declared.firing.OnLink.{OnLink}
 use Rattle.pt_types.specs.declared.firing.Task.{Task}
-use Rattle.pt_types.specs.Ports.{when}
 use Rattle.pt_semantics.specs.Closing.{CanClose}
-use Rattle.pt_semantics.specs.Entering.{after_rows, due, not_due}
+use Rattle.pt_semantics.specs.Entering.{due}
 use Rattle.pt_semantics.specs.Kept.{kept_with}
-use Rattle.pt_semantics.specs.Lists.{or_else}
-use Rattle.pt_semantics.specs.Meaning.{Values, added, row_at}
 use Rattle.pt_semantics.specs.Paced.{IsNextReading}
 use Rattle.pt_semantics.specs.Platform.{State, raised}
 use Rattle.pt_semantics.specs.Safe.{NothingSafe}
 use Rattle.pt_semantics.specs.Turn.{IsTurn, Turn}
 use Rattle.pt_laws.proofs.Idle.{idle_before}
-use Rattle.pt_semantics.proofs.Lookups.{or_else_none, when_none}
-use Rattle.pt_laws.proofs.Rows.{due_split}
 use Rattle.pt_causality.specs.Ranked.{level_of}
 use Rattle.pt_offsets.specs.Timings.{offset_of}
 use Rattle.pt_history.specs.Turns.{fresh}

@@ -1,4 +1,4 @@
-use Rattle.std.proofs.Common.{◌≡◌, ℕ, ◌<◌, ◌≤◌, [], drop, length, get_or, subst, arith}
+use Rattle.std.proofs.Common.{◌≡◌, ℕ, ◌<◌, ◌≤◌, [], drop, get_or, subst, arith}
 use Rattle.std.proofs.lemmas.List.{get_or_read}
 use Rattle.pt_semantics.specs.Entering.{due}
 use Rattle.pt_state.specs.declared.fields.Sensor.{Sensor}

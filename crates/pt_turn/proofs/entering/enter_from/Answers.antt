@@ -1,4 +1,4 @@
-use Rattle.std.proofs.Common.{◌≡◌, ◌++◌, ℕ, [], length, sym, ap, subst, ◌∙◌, arith, append-nil}
+use Rattle.std.proofs.Common.{◌≡◌, ◌++◌, [], length, sym, ap, subst, ◌∙◌, arith, append-nil}
 use Rattle.pt_semantics.specs.Entering.{all_due}
 use Rattle.pt_state.specs.State.{left_in, state_of}
 use Rattle.pt_turn.specs.Steps.{NoneSeenBefore}
