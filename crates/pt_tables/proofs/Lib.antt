@@ -4,3 +4,4 @@ pub mod Members
 pub mod Placed
 pub mod Written
 pub mod Gathering
+pub mod Parts

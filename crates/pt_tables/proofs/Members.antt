@@ -1,6 +1,5 @@
 -- What holds of each member of a list.
-use Rattle.std.proofs.Common.{◌≡◌, ◌⊎◌, ℕ, zero, suc, ◌+◌, ◌<◌, List, [], ◌∷◌, ◌++◌, Some, length, length-append, ap, refl, sym, subst, ◌∙◌, ⊎_elim, inl, inr, ◌≤◌, arith, map, slice_get}
-use Rattle.std.specs.Prelude.{flat_map, option_map}
+use Rattle.std.proofs.Common.{◌≡◌, ◌⊎◌, ℕ, zero, suc, ◌+◌, ◌<◌, List, [], ◌∷◌, Some, refl, sym, subst, ◌∙◌, ⊎_elim, inl, inr, ◌≤◌, arith, map, slice_get}
 use Rattle.std.proofs.lemmas.Bool.{cases_lt}
 use Rattle.pt_semantics.specs.Lists.{Each}
 use Rattle.pt_semantics.proofs.Lookups.{same_some}
@@ -28,17 +27,3 @@ one_more P xs n x at holds before = one_more_at P xs n (λ y there. subst P (sam
 pub each_mapped : {X Y : Type 0} (f : X → Y) (P : Y → Type 0) (xs : List X) → Each (λ (x : X). P (f x)) xs → Each P (map f xs)
 each_mapped f P [] h = tt
 each_mapped f P (x ∷ xs) h = (h.0, each_mapped f P xs h.1)
-
-empty_of : {Y : Type 0} (ys : List Y) → length ys ≡ 0 → ys ≡ []
-empty_of [] none = refl
-empty_of (y ∷ ys) none = absurd (omega (arith, none))
-
--- where the lists of all members have nothing together, each has nothing
-pub none_in : {X Y : Type 0} (f : X → List Y) (xs : List X) (n : ℕ) → n < length xs → length (flat_map f xs) ≡ 0 → option_map f (slice_get xs n) ≡ Some []
-none_in f [] n lt none = absurd (omega (arith, lt))
-none_in f (x ∷ xs) zero lt none =
-    let all : length (f x ++ flat_map f xs) ≡ 0 = none in
-    ap Some (empty_of (f x) (omega (arith, all, length-append (f x) (flat_map f xs))))
-none_in f (x ∷ xs) (suc n) lt none =
-    let all : length (f x ++ flat_map f xs) ≡ 0 = none in
-    none_in f xs n (omega (arith, lt)) (omega (arith, all, length-append (f x) (flat_map f xs)))

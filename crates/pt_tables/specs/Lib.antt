@@ -6,3 +6,4 @@ pub mod Platforms
 pub mod Margins
 pub mod Gathered
 pub mod TurnLine
+pub mod Walk

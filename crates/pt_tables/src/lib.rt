@@ -21,6 +21,7 @@ mod table;
 mod text;
 mod turn_line;
 mod turns;
+mod walk;
 
 pub use actor_tables::{ActorTables, has_table};
 pub use held::holds;

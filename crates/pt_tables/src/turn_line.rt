@@ -46,6 +46,7 @@ impl TurnLine {
     ) -> Result<(), AllocError>
         requires { IsLineOf (platform_name graph.now platform) self.old }
         ensures line { OnOk result (IsLineOf (platform_name graph.now platform) self.new) }
+        ensures last { OnOk result (self.new.last ≡ head.last) }
         ensures text { OnOk result (string_bytes text.new ≡ string_bytes text.old ++ turn_line (platform_name graph.now platform) head.first head.last head.count) }
     {
         let Head { first, last, count } = head;

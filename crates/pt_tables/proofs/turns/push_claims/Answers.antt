@@ -1,21 +1,17 @@
-use Rattle.std.proofs.Common.{◌≤◌, length, slice_get, string_bytes, sym, ◌∙◌, arith}
-use Rattle.pt_history.specs.Tasks.{mark_of}
+use Rattle.std.proofs.Common.{◌≡◌, ◌++◌, [], append-nil, ap, length, refl, string_bytes, sym, ◌∙◌, arith}
+use Rattle.std.specs.Prelude.{flat_map, unwrap_or}
 use Rattle.pt_history.specs.Turns.{claimed_in}
 use Rattle.pt_tables.specs.Log.{claim_line}
-use Rattle.pt_tables.proofs.Written.{all_put, mapped, next_put}
+use Rattle.pt_tables.proofs.Parts.{claimed_more}
 use Rattle.pt_tables.proofs.turns.push_claims.Goals as goal
 
-pub claim_mark-requires : goal.claim_mark-requires
-claim_mark-requires c = omega (arith, c.loop-number-test.true, c.claimed-number-end.ensures)
+pub returns-then-is_level-clause-claims : goal.returns-then-is_level-clause-claims
+returns-then-is_level-clause-claims c =
+    let turns = c.args.history.now.turns in
+    let none : claimed_in turns c.args.turn ≡ [] = ap (λ o. unwrap_or o []) (c.requires.levels.claimed c.args.turn refl c.requires.turn (c.is_level.ensures c.if-is_level.true)) in
+    omega (arith, c.requires.claims, claimed_more turns c.args.turn c.requires.turn, ap length none)
 
-pub loop-number-preserved : goal.loop-number-preserved
-loop-number-preserved c =
-    let tasks = claimed_in c.args.history.now.turns c.args.turn in
-    let (task, at, is) = mapped mark_of (slice_get tasks c.loop-number.number) c.claim_mark.result c.claim_mark.ensures in
-    next_put (claim_line c.args.graph.now) tasks c.loop-number.number task (string_bytes c.loop-number.text) (string_bytes c.push_claim.new.text) at (c.in_ok-push_claim.ensures task is) ∙ c.loop-number.invariant
-
-pub returns : goal.returns
-returns c =
-    let tasks = claimed_in c.args.history.now.turns c.args.turn in
-    let past : length tasks ≤ c.loop-number.number = omega (arith, c.loop-number-test.false, c.claimed-number-end.ensures) in
-    sym (all_put (claim_line c.args.graph.now) tasks c.loop-number.number (string_bytes c.loop-number.text) past) ∙ c.loop-number.invariant
+pub returns-then-is_level-clause-lines : goal.returns-then-is_level-clause-lines
+returns-then-is_level-clause-lines c =
+    let none : claimed_in c.args.history.now.turns c.args.turn ≡ [] = ap (λ o. unwrap_or o []) (c.requires.levels.claimed c.args.turn refl c.requires.turn (c.is_level.ensures c.if-is_level.true)) in
+    sym (ap (λ tasks. string_bytes c.args.text.now ++ flat_map (claim_line c.args.graph.now) tasks) none ∙ append-nil (string_bytes c.args.text.now))

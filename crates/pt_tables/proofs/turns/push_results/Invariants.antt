@@ -4,7 +4,7 @@ use Rattle.pt_types.specs.declared.firing.Done.{Done}
 use Rattle.pt_history.specs.Turns.{posted_in}
 use Rattle.pt_tables.specs.Held.{IsHeldResult}
 use Rattle.pt_tables.specs.Log.{post_line}
-use Rattle.pt_tables.proofs.turns.push_posts.Given as goal
+use Rattle.pt_tables.proofs.turns.push_results.Given as goal
 
 abbrev pub invariant-loop-number : goal.invariant-loop-number
 invariant-loop-number l = record {
