@@ -19,7 +19,7 @@ ghost use Rattle.pt_claim.specs.Safe.{may_lead_to};
 
 use pt_causality::Least;
 use pt_offsets::Offsets;
-use pt_queue::{Waiting, may_lead, reaches};
+use pt_queue::{Waiting, reaches};
 use pt_state::{Fields, OpenClaim, OpenClaims};
 use pt_tags::Tag;
 use pt_types::{Graph, Unit};
@@ -63,18 +63,7 @@ fn is_held_up(claims: &OpenClaims, least: &Least, unit: Unit, tag: Tag) -> bool
         .any(|claim| leads_to(least, unit, tag, claim))
 }
 
-/// Whether a path may lead from one unit to another, as far as the bits of the units before it say.
-///
-/// A search for what holds up the second unit reads the same bits, while the delays from many units lie far apart in memory.
-fn may_lead_from(least: &Least, from: Unit, to: Unit) -> bool {
-    match least.before(to) {
-        None => true,
-        Some(before) => may_lead(before, from),
-    }
-}
-
-/// Whether an event of the unit `ahead`, at its tag, leads to another unit at the tag or before. It may
-/// say `false` of one that does: then a search finds it.
+/// Whether an event of the unit `ahead`, at its tag, leads to another unit at the tag or before.
 ///
 /// Of many units that wait behind one, only the first is asked what held it up last.
 pub fn is_behind(
@@ -94,7 +83,7 @@ pub fn is_behind(
     let Some(other) = ahead else {
         return false;
     };
-    if other.unit == unit || !may_lead_from(least, other.unit, unit) {
+    if other.unit == unit {
         return false;
     }
     reaches(least.get(other.unit, unit), other.tag, tag)

@@ -1,22 +1,21 @@
 -- What the tags by place say of the events.
-use Rattle.std.proofs.Common.{◌≡◌, ℕ, ◌+◌, ◌*◌, ◌/◌, ◌<◌, ◌≤◌, ◌⊎◌, ◌==◌, Bool, not, true, false, List, [], ◌∷◌, Option, Some, None, if◌then◌else◌, length, refl, sym, ap, subst, ◌∙◌, inl, ⊎_elim, ne_eqb, arith}
+use Rattle.std.proofs.Common.{◌≡◌, ℕ, ◌+◌, ◌*◌, ◌/◌, ◌<◌, ◌≤◌, ◌==◌, Bool, not, true, false, List, [], ◌∷◌, Option, Some, None, if◌then◌else◌, length, refl, sym, ap, subst, ◌∙◌, inl, ⊎_elim, ne_eqb, arith}
 use Rattle.std.specs.Option.{is_some}
 use Rattle.std.proofs.lemmas.Bool.{cases_Bool}
-use Rattle.std.proofs.lemmas.List.{get_or_past}
 use Rattle.pt_tags.specs.declared.tag.Tag.{Tag}
 use Rattle.pt_types.specs.declared.firing.Event.{Event}
 use Rattle.pt_types.specs.declared.graph.Graph.{Graph}
 use Rattle.pt_types.specs.declared.graph.Unit.{Unit as Part}
 use Rattle.pt_semantics.specs.Lists.{Each}
 use Rattle.pt_semantics.specs.Units.{HasEvent, same_part}
-use Rattle.pt_semantics.proofs.Lookups.{none_some, same_part-true}
+use Rattle.pt_semantics.proofs.Lookups.{same_part-true}
 use Rattle.pt_queue.specs.declared.groups.Groups.{Groups}
 use Rattle.pt_queue.specs.declared.waiting.Waiting.{Waiting}
 use Rattle.pt_queue.specs.Groups.{AreGroups, group_in}
-use Rattle.pt_queue.specs.Events.{IsFirstWaiting, IsLeastTag, IsNextInWord, IsOnlyUnit, IsPlaced, unit_place, waiting_in}
-use Rattle.pt_queue.specs.Tagged.{AreTags, FitsIn, IsFirstTag, IsNextTag, IsOnlyTag, tag_in}
+use Rattle.pt_queue.specs.Events.{IsFirstWaiting, IsLeastTag, IsOnlyUnit, IsPlaced, unit_place, waiting_in}
+use Rattle.pt_queue.specs.Tagged.{AreTags, FitsIn, IsFirstTag, IsOnlyTag, tag_in}
 use Rattle.pt_queue.specs.Scans.{is_of, least_from, sooner, sooner_if, unit_in}
-use Rattle.pt_queue.proofs.ByUnit.{has_place, in_place}
+use Rattle.pt_queue.proofs.ByUnit.{has_place}
 use Rattle.pt_queue.proofs.Found.{least_below, least_found, least_is}
 
 -- the tags are those of the events of a graph's units
@@ -36,30 +35,12 @@ module _ (g : Graph) (table : List Groups) (events : List Event) (tags : List (O
   first_is n None first = λ u t event. let tag = has_tag u t event in (has_place tags u tag.0 tag.1, first u tag.0 tag.1)
   first_is n (Some w) first = (tag_is w.unit (Some w.tag) first.0, first.1, λ u t event. let tag = has_tag u t event in (has_place tags u tag.0 tag.1, first.2 u tag.0 tag.1))
 
-  pub next_is : (n : ℕ) (o : Option Waiting) → IsNextTag tags n o → IsNextInWord g (waiting_in events) n o
-  next_is n None next = λ u t event at. let tag = has_tag u t event in next u tag.0 tag.1 at
-  next_is n (Some w) next = (tag_is w.unit (Some w.tag) next.0, next.1, next.2, λ u t event. let tag = has_tag u t event in next.3 u tag.0 tag.1)
-
   -- no event of a word is before a time that no tag is before
   pub floor_is : (word time : ℕ) → ((u : Part) (t : Tag) → tag_in tags u ≡ Some t → unit_place u / 64 ≡ word → time ≤ t.time) → (u : Part) (t : Tag) → HasEvent g (waiting_in events) u t → unit_place u / 64 ≡ word → time ≤ t.time
   floor_is word time below u t event at =
       let tag = has_tag u t event in
       let first = (tag_is u (Some tag.0) tag.1).1 t event in
       omega (arith, below u tag.0 tag.1 at, first.0)
-
-  -- a unit with an event has its place in one of the words
-  pub in_words : (count : ℕ) → length tags ≤ 64 * count → (u : Part) (t : Tag) → HasEvent g (waiting_in events) u t → (u.group < 8) × (unit_place u / 64 < count)
-  in_words count all u t event =
-      let tag = has_tag u t event in
-      let few : u.group < 8 = has_place tags u tag.0 tag.1 in
-      let there : unit_place u < length tags = ⊎_elim
-      (λ (l : unit_place u < length tags). l)
-      (λ (m : length tags ≤ unit_place u). absurd (none_some tag.0 (sym (in_place tags u few ∙ get_or_past tags (unit_place u) None m) ∙ tag.1)))
-      (below_or (unit_place u) (length tags)) in
-      (few, omega (arith, there, all))
-    where
-      below_or : (n m : ℕ) → (n < m) ⊎ (m ≤ n)
-      below_or n m = grind arith
 
   pub only_is : (u : Part) → IsOnlyTag tags u → IsOnlyUnit g (waiting_in events) u
   only_is u only x t event = let tag = has_tag x t event in only x tag.0 tag.1

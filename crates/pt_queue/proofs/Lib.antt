@@ -13,7 +13,6 @@ pub mod Quiet
 pub mod Ports
 pub mod Changing
 pub mod ByUnit
-pub mod Bits
 pub mod Words
 pub mod Summing
 pub mod Marked

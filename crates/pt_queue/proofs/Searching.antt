@@ -1,13 +1,12 @@
 -- What a search for bits says of the tags that they stand for.
-use Rattle.std.proofs.Common.{◌≡◌, ℕ, ◌+◌, ◌*◌, ◌/◌, ◌%◌, ◌<◌, ◌≤◌, ◌⊎◌, List, Option, Some, None, length, slice_index_or, sym, ap, ◌∙◌, inl, inr, ⊎_elim, arith}
-use Rattle.std.specs.Int.{bit_at}
+use Rattle.std.proofs.Common.{◌≡◌, ℕ, ◌+◌, ◌*◌, ◌/◌, ◌%◌, ◌<◌, ◌≤◌, ◌⊎◌, List, Option, Some, None, length, sym, ap, ◌∙◌, inl, inr, ⊎_elim, arith}
 use Rattle.std.proofs.lemmas.List.{get_or_past}
 use Rattle.pt_tags.specs.declared.tag.Tag.{Tag}
 use Rattle.pt_types.specs.declared.graph.Unit.{Unit as Part}
 use Rattle.pt_causality.specs.Before.{bit_of}
 use Rattle.pt_queue.specs.declared.waiting.Waiting.{Waiting}
-use Rattle.pt_queue.specs.Tagged.{IsFirstTag, IsNextTag, IsOnlyTag, tag_in}
-use Rattle.pt_queue.specs.Marks.{AreMarks, IsFirstMark, IsNextBit, IsWaitingAt, one_if, unit_with}
+use Rattle.pt_queue.specs.Tagged.{IsFirstTag, IsOnlyTag, tag_in}
+use Rattle.pt_queue.specs.Marks.{AreMarks, IsFirstMark, IsWaitingAt, one_if, unit_with}
 use Rattle.pt_queue.proofs.ByUnit.{has_place, in_place, tag_with, with_place}
 
 below_or : (n m : ℕ) → (n < m) ⊎ (m ≤ n)
@@ -47,27 +46,6 @@ module _ (tags : List (Option Tag)) (marks : List ℕ) (are : AreMarks tags mark
             (below_or (8 * u.actor + u.group) p)))
             (below_or (8 * u.actor + u.group) n),
       )
-
-  pub next_none : (n word : ℕ) → word ≡ slice_index_or marks (n / 64) 0 → IsNextBit word (n % 64) None → IsNextTag tags n None
-  next_none n word is none u t e at = ⊎_elim
-      (λ (l : 8 * u.actor + u.group < n). l)
-      (λ (m : n ≤ 8 * u.actor + u.group).
-      let set = tagged u t e in
-      let clear : bit_of marks (8 * u.actor + u.group) ≡ 0 = ap (λ k. bit_at (slice_index_or marks k 0) ((8 * u.actor + u.group) % 64)) at ∙ ap (λ w. bit_at w ((8 * u.actor + u.group) % 64)) (sym is) ∙ none ((8 * u.actor + u.group) % 64) (behind (8 * u.actor + u.group) n at m) in
-      absurd (omega (arith, set, clear)))
-      (below_or (8 * u.actor + u.group) n)
-    where
-      behind : (p n : ℕ) → p / 64 ≡ n / 64 → n ≤ p → n % 64 ≤ p % 64
-      behind p n at m = omega (arith, at, m)
-
-  pub next_some : (n p : ℕ) (o : Option Waiting) → p / 64 ≡ n / 64 → IsFirstMark marks n (Some p) → IsWaitingAt tags p o → IsNextTag tags n o
-  next_some n p None at first is = let one : bit_of marks p ≡ 1 = first.1 in let none : bit_of marks p ≡ 0 = are p ∙ ap one_if is in absurd (omega (arith, one, none))
-  next_some n p (Some w) at first is =
-      let both = first_some n p (Some w) first is in
-      let actor : w.unit.actor ≡ p / 8 = ap (λ (x : Part). x.actor) is.0 in
-      let group : w.unit.group ≡ p % 8 = ap (λ (x : Part). x.group) is.0 in
-      let here : 8 * w.unit.actor + w.unit.group ≡ p = omega (arith, actor, group) in
-      (both.0, both.1, ap (λ k. k / 64) here ∙ at, both.2)
 
   pub only_tagged : (u : Part) → u.group < 8 → ((n : ℕ) → bit_of marks n ≡ 1 → n ≡ 8 * u.actor + u.group) → IsOnlyTag tags u
   only_tagged u few only x t e = sym (with_place x (has_place tags x t e)) ∙ ap unit_with (only (8 * x.actor + x.group) (tagged x t e)) ∙ with_place u few

@@ -1,5 +1,5 @@
 -- A list of events, seen as the value that waits at each input and tag.
-use Rattle.std.specs.Prelude.{◌≡◌, ℕ, ◌+◌, ◌*◌, ◌/◌, ◌<◌, ◌≤◌, ◌⊎◌, ◌==◌, ◌&&◌, List, Option, Some, None, length, ◌≢◌}
+use Rattle.std.specs.Prelude.{◌≡◌, ℕ, ◌+◌, ◌*◌, ◌<◌, ◌≤◌, ◌⊎◌, ◌==◌, ◌&&◌, List, Option, Some, None, length, ◌≢◌}
 use Rattle.pt_tags.specs.declared.tag.Tag.{Tag}
 use Rattle.pt_tags.specs.declared.tag.Delay.{Delay}
 use Rattle.pt_tags.specs.Tags.{same_tag, UpTo, Before, plus}
@@ -48,11 +48,6 @@ unit_place u = 8 * u.actor + u.group
 abbrev pub IsFirstWaiting : Graph → Values → ℕ → Option Waiting → Type 0
 IsFirstWaiting g waits n None = (u : Part) (t : Tag) → HasEvent g waits u t → (u.group < 8) × (unit_place u < n)
 IsFirstWaiting g waits n (Some w) = IsLeastTag g waits w.unit (Some w.tag) × (n ≤ unit_place w.unit) × ((u : Part) (t : Tag) → HasEvent g waits u t → (u.group < 8) × ((unit_place u < n) ⊎ (unit_place w.unit ≤ unit_place u)))
-
--- w is the first unit with events, with its least tag, of those whose place isn't before n and is in the same word of 64 places; or, for None, no unit with such a place has events
-abbrev pub IsNextInWord : Graph → Values → ℕ → Option Waiting → Type 0
-IsNextInWord g waits n None = (u : Part) (t : Tag) → HasEvent g waits u t → unit_place u / 64 ≡ n / 64 → unit_place u < n
-IsNextInWord g waits n (Some w) = IsLeastTag g waits w.unit (Some w.tag) × (n ≤ unit_place w.unit) × (unit_place w.unit / 64 ≡ n / 64) × ((u : Part) (t : Tag) → HasEvent g waits u t → (unit_place u < n) ⊎ (unit_place w.unit ≤ unit_place u))
 
 -- no unit but u has events
 abbrev pub IsOnlyUnit : Graph → Values → Part → Type 0

@@ -47,11 +47,6 @@ abbrev pub IsFirstTag : List (Option Tag) → ℕ → Option Waiting → Type 0
 IsFirstTag tags n None = (u : Part) (t : Tag) → tag_in tags u ≡ Some t → unit_place u < n
 IsFirstTag tags n (Some w) = (tag_in tags w.unit ≡ Some w.tag) × (n ≤ unit_place w.unit) × ((u : Part) (t : Tag) → tag_in tags u ≡ Some t → (unit_place u < n) ⊎ (unit_place w.unit ≤ unit_place u))
 
--- w is the first unit with a tag whose place isn't before n and is in the same word of 64 places; or, for None, no unit with such a place has a tag
-abbrev pub IsNextTag : List (Option Tag) → ℕ → Option Waiting → Type 0
-IsNextTag tags n None = (u : Part) (t : Tag) → tag_in tags u ≡ Some t → unit_place u / 64 ≡ n / 64 → unit_place u < n
-IsNextTag tags n (Some w) = (tag_in tags w.unit ≡ Some w.tag) × (n ≤ unit_place w.unit) × (unit_place w.unit / 64 ≡ n / 64) × ((u : Part) (t : Tag) → tag_in tags u ≡ Some t → (unit_place u < n) ⊎ (unit_place w.unit ≤ unit_place u))
-
 -- a time for each word of 64 places: no tag there is before it
 pub record AreFloors (tags : List (Option Tag)) (times : List ℕ) : Type 0 where
   pub floors : (n : ℕ) (t : Tag) → slice_index_or tags n None ≡ Some t → slice_index_or times (n / 64) 0 ≤ t.time

@@ -45,20 +45,6 @@ fn holds_up(table: &[Groups], least: &Least, unit: Unit, tag: Tag, other: &Waiti
     other_holds_up(table, least, unit, tag, other)
 }
 
-/// Whether a unit may be among those with a bit in `before`: its bit is set, or it has none.
-pub fn may_lead(before: &[u64], unit: Unit) -> bool
-    ensures { MayHave before.now unit → result ≡ true }
-{
-    if unit.group >= 8 {
-        return true;
-    }
-    let place = place_of(unit);
-    match before.get(place / 64) {
-        None => true,
-        Some(word) => (*word >> (place % 64)) & 1 == 1,
-    }
-}
-
 /// Whether `other` has events and holds up this unit.
 fn unit_holds_up(
     table: &[Groups],

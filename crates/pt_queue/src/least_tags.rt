@@ -5,13 +5,11 @@ ghost use Rattle.pt_tags.specs.declared.tag.Tag.{Tag};
 ghost use Rattle.pt_types.specs.declared.graph.Unit.{Unit as Part};
 ghost use Rattle.pt_semantics.specs.Units.{same_part};
 ghost use Rattle.pt_queue.specs.Events.{unit_place};
-ghost use Rattle.pt_queue.specs.Tagged.{FitsIn, IsFirstTag, IsNextTag, IsOnlyTag, tag_in};
+ghost use Rattle.pt_queue.specs.Tagged.{FitsIn, IsFirstTag, IsOnlyTag, tag_in};
 ghost use Rattle.pt_queue.specs.Marks.{AreMarks, IsWaitingAt, most_places, one_if, unit_with};
 ghost use Rattle.pt_queue.specs.Scans.{sooner};
 
-use crate::marks::{
-    Span, clear_bit, first_from, is_only, next_bit, set_bit, span_of, without_word, word_at,
-};
+use crate::marks::{Span, clear_bit, first_from, is_only, set_bit, span_of, without_word, word_at};
 use crate::waiting::Waiting;
 use pt_tags::{Memory, Tag};
 use pt_types::Unit;
@@ -237,18 +235,6 @@ impl LeastTags {
         }
     }
 
-    /// The first unit that has a tag, of those whose place isn't before `from` and is in the same word.
-    #[inline(always)]
-    pub fn next_in_word(&self, from: usize) -> Option<Waiting>
-        ensures { IsNextTag self.now from result }
-    {
-        let index = from / 64;
-        match next_bit(word_at(self.marks.as_slice(), index), (from % 64) as u32) {
-            None => None,
-            Some(bit) => self.waiting_at(64 * index + bit as usize),
-        }
-    }
-
     /// A time in microseconds that no tag with its place in this word is before.
     #[inline(always)]
     pub fn not_before(&self, word: usize) -> u64
@@ -276,7 +262,6 @@ impl LeastTags {
     pub fn marks(&self) -> &[u64]
         ensures marks { AreMarks self.now result.now }
         ensures few { 64 * length result.now ≤ 64 + most_places }
-        ensures all { length self.now ≤ 64 * length result.now }
     {
         self.marks.as_slice()
     }

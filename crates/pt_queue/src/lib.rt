@@ -21,7 +21,6 @@ mod queue;
 mod taking;
 mod waiting;
 
-pub use blocked::may_lead;
 pub use events::reaches;
 pub use least_tags::place_of;
 pub use queue::Queue;

@@ -39,7 +39,7 @@ pub fn last_bit(word: u64) -> Option<u32>
 
 /// The lowest bit that is set in a word, of those from number `from` on.
 #[inline(always)]
-pub fn next_bit(word: u64, from: u32) -> Option<u32>
+fn next_bit(word: u64, from: u32) -> Option<u32>
     requires { from < 64 }
     ensures { IsNextBit word from result }
 {

@@ -11,7 +11,7 @@ ghost use Rattle.pt_semantics.specs.Meaning.{added};
 ghost use Rattle.pt_semantics.specs.Units.{HasEvent, unit_inputs};
 ghost use Rattle.pt_causality.specs.Delays.{AreLeast, IsUnit, least_of};
 ghost use Rattle.pt_queue.specs.Groups.{AreGroups};
-ghost use Rattle.pt_queue.specs.Events.{waiting_in, value_in, IsPlaced, IsLeastTag, IsFirstWaiting, IsNextInWord, IsOnlyUnit, IsBlocked, IsClear, unit_place};
+ghost use Rattle.pt_queue.specs.Events.{waiting_in, value_in, IsPlaced, IsLeastTag, IsFirstWaiting, IsOnlyUnit, IsBlocked, IsClear, unit_place};
 
 use crate::blocked::is_blocked;
 use crate::events::unit_of;
@@ -181,23 +181,6 @@ impl Queue {
         ensures { (g : Graph) → AreGroups g self.now.groups → IsFirstWaiting g (waiting_in self.now.events) from result }
     {
         self.tags.first_waiting(from)
-    }
-
-    /// The number of words of 64 places: each unit with events has its place in one of them, and its group is below 8.
-    #[inline(always)]
-    pub fn words(&self) -> usize
-        ensures { (g : Graph) → AreGroups g self.now.groups → (u : Part) (t : Tag) → HasEvent g (waiting_in self.now.events) u t → (u.group < 8) × (unit_place u / 64 < result) }
-    {
-        self.tags.marks().len()
-    }
-
-    /// The first unit that has events, with its least tag, of those whose place isn't before `from` and is in the same word of 64
-    /// places.
-    #[inline(always)]
-    pub fn next_in_word(&self, from: usize) -> Option<Waiting>
-        ensures { (g : Graph) → AreGroups g self.now.groups → IsNextInWord g (waiting_in self.now.events) from result }
-    {
-        self.tags.next_in_word(from)
     }
 
     /// A time in microseconds that no event of a unit with its place in this word of 64 places is before. It can be less than the
