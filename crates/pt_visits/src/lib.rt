@@ -14,4 +14,4 @@ mod visiting;
 pub use desk::Desk;
 pub use firing::fire_one;
 pub use least::lesser;
-pub use visiting::visit;
+pub use visiting::{visit, visit_knowing};

@@ -1,6 +1,8 @@
 //! Pushing the messages of a platform.
 
-ghost use Rattle.std.specs.Prelude.{◌≡◌, ◌<◌, ◌≤◌, [], length};
+ghost use Rattle.std.specs.Prelude.{◌≡◌, ◌<◌, ◌≤◌, [], false, length, true};
+ghost use Rattle.std.specs.List.{list_all};
+ghost use Rattle.pt_semantics.specs.Turn.{is_empty};
 ghost use Rattle.pt_semantics.specs.Closing.{on_link};
 ghost use Rattle.pt_turn.specs.Gone.{last_sent};
 ghost use Rattle.pt_visits.specs.Pushing.{ArePushed, IsPushed};
@@ -23,17 +25,20 @@ fn push_from(platform: &mut Platform, link: u32, pipe: &mut Pipe)
 }
 
 /// Pushes the messages of a platform's outboxes into the pipes, link by link in graph order, each until its outbox is empty
-/// or its pipe is full. Mostly there are none, so the caller only looks for them.
+/// or its pipe is full. Mostly there are none, so the caller only looks for them. If there are, messages may be `under_way`.
 #[inline(always)]
-pub fn push_all(platform: &mut Platform, pipes: &mut [Pipe])
+pub fn push_all(platform: &mut Platform, pipes: &mut [Pipe], under_way: &mut bool)
     requires begun { 0 < length platform.old.turns }
     requires nothing_sent { last_sent platform.old.turns ≡ [] }
     requires few { length pipes.old ≤ 64 }
-    ensures { ArePushed platform.old platform.new pipes.old pipes.new }
+    requires none { under_way.old ≡ false → list_all is_empty pipes.old ≡ true }
+    ensures pushed { ArePushed platform.old platform.new pipes.old pipes.new }
+    ensures none { under_way.new ≡ false → list_all is_empty pipes.new ≡ true }
 {
     if platform.sent_all() {
         return;
     }
+    *under_way = true;
     push_each(platform, pipes);
 }
 

@@ -1,6 +1,6 @@
 //! Taking the messages that have arrived at a platform.
 
-ghost use Rattle.std.specs.Prelude.{◌≡◌, ◌++◌, [], OnOk, length, map};
+ghost use Rattle.std.specs.Prelude.{◌≡◌, ◌++◌, [], OnOk, false, length, map, true};
 ghost use Rattle.std.specs.List.{list_all};
 ghost use Rattle.pt_semantics.specs.Turn.{is_empty};
 ghost use Rattle.pt_types.specs.Lawful.{IsLawful};
@@ -39,20 +39,27 @@ fn are_empty(pipes: &[Pipe]) -> bool
 }
 
 /// Takes all messages from the links that lead to a platform, link by link in graph order. Mostly no link has a message, so
-/// the caller only looks for one.
+/// the caller only looks for one, and not even that unless a message may be `under_way`, which then says what it found.
 #[inline(always)]
 pub fn take_all(
     graph: &Graph,
     number: u32,
     pipes: &mut [Pipe],
     taken: &mut Vec<OnLink>,
+    under_way: &mut bool,
 ) -> Result<(), Memory>
     requires lawful { IsLawful graph.now }
     requires links { length pipes.old ≡ length graph.now.links }
+    requires none { under_way.old ≡ false → list_all is_empty pipes.old ≡ true }
     ensures taken { OnOk result (taken.new.items ≡ taken.old.items ++ arriving graph.now number 0 pipes.old) }
     ensures pipes { OnOk result (pipes.new ≡ emptied graph.now number 0 pipes.old) }
+    ensures none { OnOk result (under_way.new ≡ false → list_all is_empty pipes.new ≡ true) }
 {
+    if !*under_way {
+        return Ok(());
+    }
     if are_empty(pipes) {
+        *under_way = false;
         return Ok(());
     }
     take_each(graph, number, pipes, taken)

@@ -1,7 +1,9 @@
 //! A visit of a platform.
 
 ghost use Rattle.std.specs.Prelude.{◌≡◌, ◌≤◌, [], None, IfOk, OnOk, false, length, true};
+ghost use Rattle.std.specs.List.{list_all};
 ghost use Rattle.pt_post.specs.Posted.{AreDone};
+ghost use Rattle.pt_semantics.specs.Turn.{is_empty};
 ghost use Rattle.pt_turn.specs.Platforms.{level_at, state_at};
 ghost use Rattle.pt_turn.specs.Rested.{HasRested};
 ghost use Rattle.pt_turn.specs.Turned.{MayCome};
@@ -65,9 +67,45 @@ pub fn visit(
         (arriving platform.old.plan.graph platform.old.number 0 pipes.old) }
     ensures visited { OnOk result (IsVisited most reading results.old.items results.new.items platform.old platform.new pipes.old pipes.new) }
 {
+    let mut under_way = true;
+    visit_knowing(
+        platform,
+        pipes,
+        results,
+        desk,
+        blocks,
+        reading,
+        most,
+        &mut under_way,
+    )
+}
+
+/// Visits a platform at a reading, as `visit`. Links are searched only if a message may be `under_way`: otherwise all of them
+/// are empty.
+#[inline(always)]
+pub fn visit_knowing(
+    platform: &mut Platform,
+    pipes: &mut [Pipe],
+    results: &mut Vec<Done>,
+    desk: &mut Desk,
+    blocks: &Blocks,
+    reading: u64,
+    most: usize,
+    under_way: &mut bool,
+) -> Result<(), Memory>
+    requires most { (1 ≤ most) × (most ≤ 64) }
+    requires no_fault { platform.old.fault ≡ None }
+    requires links { length pipes.old ≡ length platform.old.plan.graph.links }
+    requires done { AreDone platform.old.plan.graph results.old.items }
+    requires taken { MayCome platform.old.plan.graph (level_at platform.old) platform.old.number (state_at platform.old)
+        (arriving platform.old.plan.graph platform.old.number 0 pipes.old) }
+    requires none { under_way.old ≡ false → list_all is_empty pipes.old ≡ true }
+    ensures visited { OnOk result (IsVisited most reading results.old.items results.new.items platform.old platform.new pipes.old pipes.new) }
+    ensures none { OnOk result (under_way.new ≡ false → list_all is_empty pipes.new ≡ true) }
+{
     desk.taken.clear();
     let graph = platform.plan().graph();
-    take_all(graph, platform.number(), pipes, &mut desk.taken)?;
+    take_all(graph, platform.number(), pipes, &mut desk.taken, under_way)?;
     let rested = rests(platform, results.as_slice(), desk.taken.as_slice(), reading)?;
     if rested {
         return Ok(());
@@ -87,7 +125,7 @@ pub fn visit(
         most,
         &mut desk.tasks,
     );
-    push_all(platform, pipes);
+    push_all(platform, pipes, under_way);
     fire_all(
         blocks,
         platform.plan().graph(),
