@@ -1,15 +1,16 @@
 //! The misses of a history.
 
-ghost use Rattle.std.specs.Prelude.{◌≡◌, ℕ, ◌+◌, ◌*◌, ◌/◌, ◌<◌, ◌≤◌, ◌++◌, IfSome, None, OnOk, Some, false, filter_map, flat_map, length, option_map, option_to_list, slice_get, take, true};
+ghost use Rattle.std.specs.Prelude.{[], ◌≡◌, ℕ, ◌+◌, ◌*◌, ◌/◌, ◌<◌, ◌≤◌, ◌++◌, IfSome, None, OnOk, Some, false, filter_map, flat_map, length, option_map, option_to_list, slice_get, take, true};
 ghost use Rattle.pt_types.specs.declared.firing.Done.{Done};
 ghost use Rattle.pt_types.specs.declared.graph.Graph.{Graph};
 ghost use Rattle.pt_types.specs.Lookups.{slack_of};
+ghost use Rattle.pt_history.specs.Levels.{AreTurnLevels};
 ghost use Rattle.pt_history.specs.Tasks.{mark_of};
 ghost use Rattle.pt_history.specs.Turns.{all_dated, posted_in};
 ghost use Rattle.pt_monitors.specs.InTime.{AreInTime, EndBy, HasNoMiss};
 ghost use Rattle.pt_monitors.specs.Misses.{AppendsMisses, AppendsSent, IsLastReading, ListsMissed, miss_of_message, miss_of_result, miss_past, missed_at, missed_of};
 
-use pt_history::{History, Mark, Miss};
+use pt_history::{History, Mark, Miss, TurnLevels};
 use pt_tags::{Memory, Message, Tag};
 use pt_types::{Graph, Kind, OnLink};
 
@@ -134,7 +135,7 @@ fn next_sent(history: &History, from: usize) -> usize
     let turns = history.turns();
     let mut start = from;
     while start < turns {
-        let end = turns.min(start - start % 64 + 64);
+        let end = start + (64 - start % 64).min(turns - start);
         let next = next_sent_in_block(history, start, end);
         if next < end {
             return next;
@@ -154,13 +155,26 @@ fn next_sent_in_block(history: &History, from: usize, end: usize) -> usize
     ensures within { result ≤ end }
     ensures skips { (g : Graph) → AreInTime g history.now.turns → flat_map (missed_at g) (take result history.now.turns) ≡ flat_map (missed_at g) (take from history.now.turns) }
 {
-    let levels = history.levels(from / 64).sent;
+    let levels = history.levels(from / 64);
     for number in from..end {
-        if !levels.is_level(number) && !history.sent(number).is_empty() {
+        if !sent_none(history, &levels, number) {
             return number;
         }
     }
     end
+}
+
+/// Whether no messages were sent after a turn.
+#[inline(always)]
+fn sent_none(history: &History, levels: &TurnLevels, number: usize) -> bool
+    requires number { number < length history.now.turns }
+    requires levels { AreTurnLevels history.now.turns (number / 64) levels.now }
+    ensures { result ≡ true → option_map (λ turn. turn.sent) (slice_get history.now.turns number) ≡ Some [] }
+{
+    if levels.sent.is_level(number) {
+        return true;
+    }
+    history.sent(number).is_empty()
 }
 
 /// Appends the misses of a recorded turn.
