@@ -37,8 +37,17 @@ pub fn go_on(
         HaveRun plan (level_of plan.ranks) rows platforms.new fault) }
 {
     let mut reading = begins;
+    let mut under_way = true;
     for _round in 0..MOST_ROUNDS {
-        let quiet = pass(platforms, pipes, results, desk, blocks, reading)?;
+        let quiet = pass(
+            platforms,
+            pipes,
+            results,
+            desk,
+            blocks,
+            reading,
+            &mut under_way,
+        )?;
         if let Some(fault) = first_fault(platforms) {
             return Ok(Some(platforms[fault].number()));
         }
