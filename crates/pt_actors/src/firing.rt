@@ -48,6 +48,7 @@ pub fn fire_onto(
 }
 
 /// Fires the actor of a task, which is of this kind, and writes the result beside the task.
+#[inline(always)]
 fn fire_done(blocks: &Blocks, kind: &Kind, done: &mut Done)
     requires { IsTrue (kind_is_lawful kind.now) }
     ensures task { done.new.task ≡ done.old.task }

@@ -55,6 +55,20 @@ impl Tasks {
         Ok(())
     }
 
+    /// Removes all tasks and reserves room for at least `n`. If memory runs out, they are removed too.
+    #[inline(always)]
+    pub fn renew(&mut self, n: usize) -> Result<(), Memory>
+        ensures tasks { self.new.tasks ≡ [] }
+        ensures spare { OnOk result (n ≤ self.new.spare) }
+    {
+        self.items.clear();
+        if self.items.capacity() < n {
+            self.items.reserve(n)?;
+        }
+        self.room = n;
+        Ok(())
+    }
+
     /// Appends a task, which uses one place of the room. It takes no memory.
     pub fn push(&mut self, task: Task)
         requires { 0 < self.old.spare }

@@ -8,7 +8,7 @@ use Rattle.csv.specs.declared.parser.State.TheVariants as st
 use Rattle.csv.specs.Reading.{strip_bom}
 use Rattle.pt_types.specs.declared.graph.Graph.{Graph}
 use Rattle.pt_semantics.specs.Lists.{Each}
-use Rattle.pt_sensors.specs.Numbers.{at_most, limited, number_of}
+use Rattle.pt_sensors.specs.Numbers.{at_most, limited, field_number}
 use Rattle.pt_sensors.specs.Rows.{Cells, cells}
 use Rattle.pt_sensors.specs.RowsOf.{next}
 use Rattle.pt_air.specs.declared.fault.AirFault.{AirFault}
@@ -47,7 +47,7 @@ about : (n : ℕ) (before : List AirRow) (c : Cells) (row : AirRow) (o : Option 
     → (or_air_fault (fault.Unknown n) o >>= λ s. or_air_fault (fault.Number n) (limited 1000000000000000 c.2) >>= λ time. cond (is_repeated before s) (Err (fault.Repeated n)) (Ok (record { subject = s; time = time }))) ≡ Ok row → IsRow row
 about n before c row None h = absurd cc
 about n before c row (Some s) h =
-    timed n before s row (limited 1000000000000000 c.2) (λ time it. limited-le 1000000000000000 (number_of c.2) time it) h
+    timed n before s row (limited 1000000000000000 c.2) (λ time it. limited-le 1000000000000000 (field_number c.2) time it) h
 
 celled : (g : Graph) (n : ℕ) (before : List AirRow) (row : AirRow) (o : Option Cells)
     → (or_air_fault (fault.Form n) o >>= λ c. or_air_fault (fault.Unknown n) (subject_of g c) >>= λ s. or_air_fault (fault.Number n) (limited 1000000000000000 c.2) >>= λ time. cond (is_repeated before s) (Err (fault.Repeated n)) (Ok (record { subject = s; time = time }))) ≡ Ok row → IsRow row

@@ -23,6 +23,10 @@ AreLeast g least = (x a : Part) → IsUnit g x → IsUnit g a → HasLeast g x a
 abbrev pub AreSmall : (Part → Part → Option Delay) → Type 0
 AreSmall least = (x a : Part) → IfSome (least x a) (λ (d : Delay). (d.time < 2 ^ 62) × (d.step < 2 ^ 62))
 
+-- the number of a unit in a table of least delays
+abbrev pub number_of : Least → Part → ℕ
+number_of l x = number_in l.numbers.firsts.items x
+
 -- the delays in a table of least delays
 abbrev pub least_of : Least → Part → Part → Option Delay
 least_of l x a = delay_at (delay_row_at l.rows.items (number_in l.numbers.firsts.items x)) (number_in l.numbers.firsts.items a)

@@ -27,7 +27,9 @@ pub struct Least {
 }
 
 impl Least {
-    ghost use Rattle.pt_causality.specs.Delays.{least_of, AreLeast, AreSmall, HasAllBefore};
+    ghost use Rattle.std.specs.Prelude.{ℕ};
+    ghost use Rattle.pt_types.specs.declared.graph.Unit.{Unit as Part};
+    ghost use Rattle.pt_causality.specs.Delays.{least_of, number_of, AreLeast, AreSmall, HasAllBefore};
 
     /// Computes all least delays of a graph.
     pub(crate) fn new(alloc: Global, graph: &Graph) -> Result<Least, AllocError>
@@ -67,7 +69,22 @@ impl Least {
     pub fn get(&self, x: Unit, a: Unit) -> Option<Delay>
         ensures { result ≡ least_of self.now x a }
     {
-        let row = self.rows.get(self.numbers.of(x))?;
+        self.get_from(self.number(x), a)
+    }
+
+    /// The number of a unit: who asks for many delays from one unit looks it up once.
+    pub fn number(&self, x: Unit) -> usize
+        ensures { result ≡ number_of self.now x }
+    {
+        self.numbers.of(x)
+    }
+
+    /// The least delay of all paths from the unit with this number to `a`; `None` if no path leads there.
+    #[inline(always)]
+    pub fn get_from(&self, number: usize, a: Unit) -> Option<Delay>
+        ensures { (x : Part) → number ≡ number_of self.now x → result ≡ least_of self.now x a }
+    {
+        let row = self.rows.get(number)?;
         row.get(self.numbers.of(a))
     }
 

@@ -14,6 +14,7 @@
 
 mod arcs;
 mod before;
+mod bits;
 mod both;
 mod branches;
 mod cycle;
@@ -33,6 +34,7 @@ mod shortest;
 mod table;
 mod units;
 
+pub use bits::{clear_bit, set_bit};
 pub use both::causality;
 pub use branches::{Branches, find_branches};
 pub use cycle::CycleFault;

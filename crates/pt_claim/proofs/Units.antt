@@ -1,5 +1,5 @@
 -- The paced reading of a unit.
-use Rattle.std.proofs.Common.{◌≡◌, ℕ, ◌≤◌, Option, Some, None, ℤ, min, refl, subst, arith}
+use Rattle.std.proofs.Common.{◌≡◌, ℕ, ◌≤◌, List, [], ◌∷◌, length, Option, Some, None, ℤ, min, refl, subst, arith}
 use Rattle.pt_tags.specs.declared.tag.Tag.{Tag}
 use Rattle.pt_types.specs.declared.firing.Task.{Task}
 use Rattle.pt_types.specs.declared.graph.Graph.{Graph}
@@ -9,10 +9,17 @@ use Rattle.pt_semantics.specs.Offsets.{HasOffset}
 use Rattle.pt_semantics.specs.Paced.{paced_by}
 use Rattle.pt_semantics.proofs.Least.{paced_meets}
 use Rattle.pt_queue.specs.Events.{IsLeastTag}
+use Rattle.pt_state.specs.declared.fields.OpenClaim.{OpenClaim}
+use Rattle.pt_state.specs.State.{busy_in}
 use Rattle.pt_claim.proofs.SafeTags.{same_tags, bounds_paced}
 use Rattle.pt_claim.specs.Least.{AtOrIn, IsLeastAmong}
 use Rattle.pt_claim.specs.Next.{IsPacedNext}
 use Rattle.pt_claim.proofs.Least.{least_one}
+
+-- without open claims no unit has one
+pub none_busy : (claims : List OpenClaim) (u : Part) → length claims ≡ 0 → busy_in claims u ≡ None
+none_busy [] u none = refl
+none_busy (claim ∷ claims) u none = absurd (omega (arith, none))
 
 -- a unit has no open claim, and t is the least tag of its events
 pub paced_one : (g : Graph) (waits : Values) (busy : Part → Option Task) (u : Part) (t : Tag) (o : Option ℤ) (b r : ℕ) → busy u ≡ None → IsLeastTag g waits u (Some t) → HasOffset g u o → r ≡ min b (paced_by o t) → IsLeastAmong (AtOrIn b (IsPacedNext g waits busy u)) r

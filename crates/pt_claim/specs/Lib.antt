@@ -1,4 +1,5 @@
 pub mod Safe
+pub mod Ahead
 pub mod Fronts
 pub mod Early
 pub mod Claimed

@@ -2,11 +2,9 @@
 
 ghost use Rattle.std.specs.Prelude.{IfSome, ◌≡◌, ◌+◌, ◌<◌, ◌≤◌, ◌∷◌, [], None, false, List as Sequence, length, vec_len, vec_capacity};
 ghost use Rattle.pt_types.specs.declared.firing.OnLink.{OnLink};
-ghost use Rattle.pt_types.specs.Lawful.{IsLawful};
 ghost use Rattle.pt_semantics.specs.Claiming.{after_claim};
 ghost use Rattle.pt_semantics.specs.Units.{HasEvent};
-ghost use Rattle.pt_causality.specs.Delays.{AreLeast, IsUnit, least_of};
-ghost use Rattle.pt_offsets.specs.Plans.{AreOffsets};
+ghost use Rattle.pt_causality.specs.Delays.{IsUnit};
 ghost use Rattle.pt_queue.specs.Events.{waiting_in};
 ghost use Rattle.pt_state.specs.State.{busy_in, state_of, states_in, IsSound};
 ghost use Rattle.pt_claim.specs.Claimed.{AreClaimed, IsTaskOf, OthersStay};
@@ -14,11 +12,10 @@ ghost use Rattle.pt_claim.specs.Fronts.{AreBothSafe, AreFront};
 ghost use Rattle.pt_types.specs.Limits.{most_claims};
 
 use crate::front::{Front, Several, alone};
-use pt_causality::Least;
-use pt_offsets::Offsets;
+use pt_offsets::Plan;
 use pt_queue::Waiting;
 use pt_state::{Fields, OpenClaim};
-use pt_types::{Graph, MOST_CLAIMS, Task, Unit};
+use pt_types::{MOST_CLAIMS, Task, Unit};
 
 /// The state of an actor.
 fn state_at(states: &[i64], actor: u32) -> i64
@@ -37,16 +34,16 @@ fn open_claim(unit: Unit, task: &Task) -> OpenClaim
 
 /// Claims the events of a unit at a tag: makes them an open claim, and returns its task. Allocates nothing.
 #[inline(always)]
-pub fn claim(fields: &mut Fields, graph: &Graph, next: Waiting) -> Task
-    requires sound { IsSound graph.now fields.old }
-    requires unit { IsUnit graph.now next.unit }
-    requires event { HasEvent graph.now (waiting_in fields.old.queue.events) next.unit next.tag }
+pub fn claim(fields: &mut Fields, plan: &Plan, next: Waiting) -> Task
+    requires sound { IsSound plan.now.graph fields.old }
+    requires unit { IsUnit plan.now.graph next.unit }
+    requires event { HasEvent plan.now.graph (waiting_in fields.old.queue.events) next.unit next.tag }
     requires free { busy_in fields.old.open_claims.items next.unit ≡ None }
     requires room { 0 < fields.old.open_claims.spare }
     requires claims { fields.old.claims < most_claims }
-    ensures task { IsTaskOf graph.now fields.old next.unit next.tag result }
-    ensures after { (taken : Sequence OnLink) → state_of fields.new taken ≡ after_claim graph.now (state_of fields.old taken) next.unit result }
-    ensures sound { IsSound graph.now fields.new }
+    ensures task { IsTaskOf plan.now.graph fields.old next.unit next.tag result }
+    ensures after { (taken : Sequence OnLink) → state_of fields.new taken ≡ after_claim plan.now.graph (state_of fields.old taken) next.unit result }
+    ensures sound { IsSound plan.now.graph fields.new }
     ensures others { OthersStay fields.old fields.new }
     ensures claims { fields.new.claims ≡ fields.old.claims + 1 }
     ensures open_claims { fields.new.open_claims.spare + 1 ≡ fields.old.open_claims.spare }
@@ -70,107 +67,82 @@ pub fn claim(fields: &mut Fields, graph: &Graph, next: Waiting) -> Task
 ///
 /// Stops once no unit is safe at this reading (in microseconds), after `most` claims, or when the platform has made 200,000
 /// in all. Allocates nothing.
-pub fn claims(
-    fields: &mut Fields,
-    graph: &Graph,
-    least: &Least,
-    offsets: &Offsets,
-    reading: u64,
-    most: usize,
-    tasks: &mut Vec<Task>,
-)
-    requires lawful { IsLawful graph.now }
-    requires sound { IsSound graph.now fields.old }
-    requires least { AreLeast graph.now (least_of least.now) }
-    requires offsets { AreOffsets graph.now offsets.now }
+pub fn claims(fields: &mut Fields, plan: &Plan, reading: u64, most: usize, tasks: &mut Vec<Task>)
+    requires sound { IsSound plan.now.graph fields.old }
     requires claims { fields.old.claims ≤ most_claims }
     requires room { most ≤ fields.old.open_claims.spare }
     requires tasks { vec_len tasks.old + most ≤ vec_capacity tasks.old }
-    ensures claimed { AreClaimed graph.now reading most fields.old fields.new tasks.old.items tasks.new.items }
-    ensures sound { IsSound graph.now fields.new }
+    ensures claimed { AreClaimed plan.now.graph reading most fields.old fields.new tasks.old.items tasks.new.items }
+    ensures sound { IsSound plan.now.graph fields.new }
     ensures others { OthersStay fields.old fields.new }
     ensures tasks { vec_capacity tasks.old ≤ vec_capacity tasks.new }
 {
     if fields.queue.are_many() {
-        claim_several(fields, graph, least, offsets, reading, most, None, tasks);
+        claim_several(fields, plan, reading, most, None, tasks);
         return;
     }
-    match alone(fields, graph, least, offsets, reading) {
+    match alone(fields, plan, reading) {
         Ok(None) => (),
-        Ok(Some(next)) => claim_alone(fields, graph, reading, most, next, tasks),
-        Err(several) => claim_several(
-            fields,
-            graph,
-            least,
-            offsets,
-            reading,
-            most,
-            Some(several),
-            tasks,
-        ),
+        Ok(Some(next)) => claim_alone(fields, plan, reading, most, next, tasks),
+        Err(several) => claim_several(fields, plan, reading, most, Some(several), tasks),
     }
 }
 
 /// Claims the only safe unit, unless `most` is 0 or the platform has made 200,000 claims.
 fn claim_alone(
     fields: &mut Fields,
-    graph: &Graph,
+    plan: &Plan,
     reading: u64,
     most: usize,
     next: Waiting,
     tasks: &mut Vec<Task>,
 )
-    requires sound { IsSound graph.now fields.old }
+    requires sound { IsSound plan.now.graph fields.old }
     requires claims { fields.old.claims ≤ most_claims }
     requires room { most ≤ fields.old.open_claims.spare }
     requires tasks { vec_len tasks.old + most ≤ vec_capacity tasks.old }
-    requires front { AreFront graph.now (waiting_in fields.old.queue.events) (busy_in fields.old.open_claims.items) reading false (next ∷ []) }
-    ensures claimed { AreClaimed graph.now reading most fields.old fields.new tasks.old.items tasks.new.items }
-    ensures sound { IsSound graph.now fields.new }
+    requires front { AreFront plan.now.graph (waiting_in fields.old.queue.events) (busy_in fields.old.open_claims.items) reading false (next ∷ []) }
+    ensures claimed { AreClaimed plan.now.graph reading most fields.old fields.new tasks.old.items tasks.new.items }
+    ensures sound { IsSound plan.now.graph fields.new }
     ensures others { OthersStay fields.old fields.new }
     ensures tasks { vec_capacity tasks.old ≤ vec_capacity tasks.new }
 {
     if most == 0 || fields.claims >= MOST_CLAIMS {
         return;
     }
-    let task = claim(fields, graph, next);
+    let task = claim(fields, plan, next);
     tasks.push_reserved(task);
 }
 
 /// Claims safe units in order, as `claims` does, however many they are. Two of them may be `known` already.
 fn claim_several(
     fields: &mut Fields,
-    graph: &Graph,
-    least: &Least,
-    offsets: &Offsets,
+    plan: &Plan,
     reading: u64,
     most: usize,
     known: Option<Several>,
     tasks: &mut Vec<Task>,
 )
-    requires lawful { IsLawful graph.now }
-    requires sound { IsSound graph.now fields.old }
-    requires least { AreLeast graph.now (least_of least.now) }
-    requires offsets { AreOffsets graph.now offsets.now }
+    requires sound { IsSound plan.now.graph fields.old }
     requires claims { fields.old.claims ≤ most_claims }
     requires room { most ≤ fields.old.open_claims.spare }
     requires tasks { vec_len tasks.old + most ≤ vec_capacity tasks.old }
-    requires known { IfSome known (AreBothSafe graph.now (waiting_in fields.old.queue.events) (busy_in fields.old.open_claims.items) reading) }
-    ensures claimed { AreClaimed graph.now reading most fields.old fields.new tasks.old.items tasks.new.items }
-    ensures sound { IsSound graph.now fields.new }
+    requires known { IfSome known (AreBothSafe plan.now.graph (waiting_in fields.old.queue.events) (busy_in fields.old.open_claims.items) reading) }
+    ensures claimed { AreClaimed plan.now.graph reading most fields.old fields.new tasks.old.items tasks.new.items }
+    ensures sound { IsSound plan.now.graph fields.new }
     ensures others { OthersStay fields.old fields.new }
     ensures tasks { vec_capacity tasks.old ≤ vec_capacity tasks.new }
 {
     let mut front = Front::new();
-    front.refill(fields, graph, least, offsets, reading, known);
+    front.refill(fields, plan, reading, known);
     for _ in 0..most {
         if fields.claims >= MOST_CLAIMS {
             return;
         }
-        match front.take(fields, graph, least, offsets, reading) {
+        match front.take(fields, plan, reading) {
             None => return,
             Some(next) => {
-                let task = claim(fields, graph, next);
+                let task = claim(fields, plan, next);
                 tasks.push_reserved(task);
             }
         }

@@ -3,17 +3,14 @@
 //! Where many units have events, mostly nearly all of them wait for a reading far ahead.
 
 ghost use Rattle.std.specs.Prelude.{◌≡◌, ◌+◌, ◌*◌, ◌/◌, ◌<◌, ◌^◌, true};
-ghost use Rattle.pt_types.specs.Lawful.{IsLawful};
-ghost use Rattle.pt_offsets.specs.Plans.{AreOffsets};
 ghost use Rattle.pt_queue.specs.Events.{waiting_in};
 ghost use Rattle.pt_state.specs.State.{IsSound};
 ghost use Rattle.pt_claim.specs.Early.{IsEarlyWord};
 
 use crate::safe::has_reached;
-use pt_offsets::Offsets;
+use pt_offsets::Plan;
 use pt_state::Fields;
 use pt_tags::Tag;
-use pt_types::Graph;
 
 /// The first place of the next word. Behind place 100 it is 128.
 #[inline(always)]
@@ -26,34 +23,23 @@ pub fn next_word(place: usize) -> usize
 
 /// Whether no event of the units in a word of 64 places is due at a reading (in microseconds). It may say `false` of such a word.
 #[inline(always)]
-fn is_early(fields: &Fields, graph: &Graph, offsets: &Offsets, reading: u64, word: usize) -> bool
-    requires lawful { IsLawful graph.now }
-    requires sound { IsSound graph.now fields.now }
-    requires offsets { AreOffsets graph.now offsets.now }
-    ensures { result ≡ true → IsEarlyWord graph.now (waiting_in fields.now.queue.events) reading word }
+fn is_early(fields: &Fields, plan: &Plan, reading: u64, word: usize) -> bool
+    requires sound { IsSound plan.now.graph fields.now }
+    ensures { result ≡ true → IsEarlyWord plan.now.graph (waiting_in fields.now.queue.events) reading word }
 {
     let earliest = Tag {
         time: fields.queue.not_before(word),
         step: 0,
     };
-    !has_reached(offsets.least_in_word(word), earliest, reading)
+    !has_reached(plan.offsets().least_in_word(word), earliest, reading)
 }
 
 /// Whether a search from place `from` on, whose first unit with events is at `place`, can pass over the word of that place: no event
 /// of its units is due at the reading (in microseconds). Asked only where the search comes to the word, and not of each unit.
 #[inline(always)]
-pub fn is_passed_over(
-    fields: &Fields,
-    graph: &Graph,
-    offsets: &Offsets,
-    reading: u64,
-    from: usize,
-    place: usize,
-) -> bool
-    requires lawful { IsLawful graph.now }
-    requires sound { IsSound graph.now fields.now }
-    requires offsets { AreOffsets graph.now offsets.now }
-    ensures { result ≡ true → IsEarlyWord graph.now (waiting_in fields.now.queue.events) reading (place / 64) }
+pub fn is_passed_over(fields: &Fields, plan: &Plan, reading: u64, from: usize, place: usize) -> bool
+    requires sound { IsSound plan.now.graph fields.now }
+    ensures { result ≡ true → IsEarlyWord plan.now.graph (waiting_in fields.now.queue.events) reading (place / 64) }
 {
-    from <= place - place % 64 && is_early(fields, graph, offsets, reading, place / 64)
+    from <= place - place % 64 && is_early(fields, plan, reading, place / 64)
 }

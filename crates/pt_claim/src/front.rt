@@ -1,28 +1,26 @@
 //! The safe units to claim next.
 
 ghost use Rattle.std.specs.Prelude.{◌≡◌, ◌<◌, ◌+◌, ◌⊎◌, ◌↔◌, ℕ, List as Sequence, [], Some, IfErr, IfOk, IfSome, true, false, drop, length};
-ghost use Rattle.pt_types.specs.Lawful.{IsLawful};
 ghost use Rattle.pt_semantics.specs.Bounds.{Feeds};
 ghost use Rattle.pt_semantics.specs.Edges.{Edge};
 ghost use Rattle.pt_semantics.specs.Ranks.{sum_along};
 ghost use Rattle.pt_semantics.specs.Safe.{IsSafe};
-ghost use Rattle.pt_semantics.specs.Units.{HasEvent};
-ghost use Rattle.pt_causality.specs.Delays.{AreLeast, IsUnit, least_of};
-ghost use Rattle.pt_offsets.specs.Plans.{AreOffsets};
+ghost use Rattle.pt_causality.specs.Delays.{IsUnit};
 ghost use Rattle.pt_queue.specs.Events.{waiting_in, IsLeastTag};
 ghost use Rattle.pt_state.specs.State.{busy_in, IsSound};
+ghost use Rattle.pt_claim.specs.Ahead.{HasEventAhead};
 ghost use Rattle.pt_claim.specs.Fronts.{AreBothSafe, AreFirst, AreFront, IsNextSafe, IsTaken, one_of};
 
+use crate::ahead::{Ahead, holder_of, is_behind};
 use crate::early::{is_passed_over, next_word};
 use crate::order::{is_past_all, put};
-use crate::safe::{is_behind, is_due, is_free, is_safe};
+use crate::safe::{is_due, is_free, is_safe};
 use arrayvec::ArrayVec;
-use pt_causality::Least;
-use pt_offsets::Offsets;
+use pt_offsets::Plan;
 use pt_queue::{Waiting, place_of};
 use pt_state::Fields;
 use pt_tags::Tag;
-use pt_types::{Graph, Unit};
+use pt_types::Unit;
 
 /// The safe units to claim next, in order, at most 64, and how many of them are taken.
 #[derive(Drop)]
@@ -31,16 +29,6 @@ pub struct Front {
     pub taken: usize,
     /// Whether there may be more safe units after these.
     pub more: bool,
-}
-
-/// The unit that was last found to hold up another one, if it has events, with its least tag.
-fn holder_of(fields: &Fields, graph: &Graph, unit: Unit) -> Option<Waiting>
-    requires sound { IsSound graph.now fields.now }
-    ensures { IfSome result (λ w. HasEvent graph.now (waiting_in fields.now.queue.events) w.unit w.tag) }
-{
-    let holder = fields.queue.last_holder(unit)?;
-    let tag = fields.queue.least(holder)?;
-    Some(Waiting { unit: holder, tag })
 }
 
 /// The first two safe units that a search met.
@@ -60,28 +48,25 @@ fn is_one_of(several: Several, unit: Unit) -> bool
 /// Whether a unit that is due is safe. Of two units that are `known` to be safe this isn't searched again.
 fn is_free_or_known(
     fields: &Fields,
-    graph: &Graph,
-    least: &Least,
+    plan: &Plan,
     reading: u64,
     unit: Unit,
     tag: Tag,
     known: Option<Several>,
 ) -> bool
-    requires lawful { IsLawful graph.now }
-    requires sound { IsSound graph.now fields.now }
-    requires least { AreLeast graph.now (least_of least.now) }
-    requires unit { IsUnit graph.now unit }
-    requires tag { IsLeastTag graph.now (waiting_in fields.now.queue.events) unit (Some tag) }
-    requires due { (x b : ℕ) (path : Sequence Edge) → Feeds graph.now x b path unit → tag.time + b < reading + (sum_along path).time }
-    requires known { IfSome known (AreBothSafe graph.now (waiting_in fields.now.queue.events) (busy_in fields.now.open_claims.items) reading) }
-    ensures { (result ≡ true) ↔ IsSafe graph.now (waiting_in fields.now.queue.events) (busy_in fields.now.open_claims.items) reading unit tag }
+    requires sound { IsSound plan.now.graph fields.now }
+    requires unit { IsUnit plan.now.graph unit }
+    requires tag { IsLeastTag plan.now.graph (waiting_in fields.now.queue.events) unit (Some tag) }
+    requires due { (x b : ℕ) (path : Sequence Edge) → Feeds plan.now.graph x b path unit → tag.time + b < reading + (sum_along path).time }
+    requires known { IfSome known (AreBothSafe plan.now.graph (waiting_in fields.now.queue.events) (busy_in fields.now.open_claims.items) reading) }
+    ensures { (result ≡ true) ↔ IsSafe plan.now.graph (waiting_in fields.now.queue.events) (busy_in fields.now.open_claims.items) reading unit tag }
 {
     if let Some(several) = known {
         if is_one_of(several, unit) {
             return true;
         }
     }
-    is_free(fields, graph, least, reading, unit, tag)
+    is_free(fields, plan, reading, unit, tag)
 }
 
 /// Adds a unit that has events, if it is safe, to those to claim next. A unit that 64 of these come before isn't asked.
@@ -90,39 +75,34 @@ fn is_free_or_known(
 /// to hold up any. A safe unit mostly holds up none of the next ones. Units that are `known` to be safe aren't searched again.
 fn add_unit(
     fields: &Fields,
-    graph: &Graph,
-    least: &Least,
-    offsets: &Offsets,
+    plan: &Plan,
     reading: u64,
     waiting: Waiting,
-    ahead: Option<Waiting>,
+    ahead: Option<Ahead>,
     known: Option<Several>,
     units: &mut ArrayVec<Waiting, 64>,
-) -> Option<Waiting>
-    requires lawful { IsLawful graph.now }
-    requires sound { IsSound graph.now fields.now }
-    requires least { AreLeast graph.now (least_of least.now) }
-    requires offsets { AreOffsets graph.now offsets.now }
-    requires unit { IsUnit graph.now waiting.unit }
-    requires tag { IsLeastTag graph.now (waiting_in fields.now.queue.events) waiting.unit (Some waiting.tag) }
-    requires ahead { IfSome ahead (λ w. HasEvent graph.now (waiting_in fields.now.queue.events) w.unit w.tag) }
-    requires known { IfSome known (AreBothSafe graph.now (waiting_in fields.now.queue.events) (busy_in fields.now.open_claims.items) reading) }
-    requires first { AreFirst graph.now (waiting_in fields.now.queue.events) (busy_in fields.now.open_claims.items) reading waiting.unit.actor waiting.unit.group units.old.items }
-    ensures first { AreFirst graph.now (waiting_in fields.now.queue.events) (busy_in fields.now.open_claims.items) reading waiting.unit.actor (waiting.unit.group + 1) units.new.items }
-    ensures ahead { IfSome result (λ w. HasEvent graph.now (waiting_in fields.now.queue.events) w.unit w.tag) }
+) -> Option<Ahead>
+    requires sound { IsSound plan.now.graph fields.now }
+    requires unit { IsUnit plan.now.graph waiting.unit }
+    requires tag { IsLeastTag plan.now.graph (waiting_in fields.now.queue.events) waiting.unit (Some waiting.tag) }
+    requires ahead { IfSome ahead (HasEventAhead plan.now.graph (waiting_in fields.now.queue.events) plan.now.least) }
+    requires known { IfSome known (AreBothSafe plan.now.graph (waiting_in fields.now.queue.events) (busy_in fields.now.open_claims.items) reading) }
+    requires first { AreFirst plan.now.graph (waiting_in fields.now.queue.events) (busy_in fields.now.open_claims.items) reading waiting.unit.actor waiting.unit.group units.old.items }
+    ensures first { AreFirst plan.now.graph (waiting_in fields.now.queue.events) (busy_in fields.now.open_claims.items) reading waiting.unit.actor (waiting.unit.group + 1) units.new.items }
+    ensures ahead { IfSome result (HasEventAhead plan.now.graph (waiting_in fields.now.queue.events) plan.now.least) }
 {
     if is_past_all(units, waiting) {
         return ahead;
     }
     let Waiting { unit, tag } = waiting;
-    if !is_due(graph, offsets, reading, unit, tag) {
+    if !is_due(plan, reading, unit, tag) {
         return ahead;
     }
-    if is_behind(fields, graph, least, unit, tag, ahead) {
+    if is_behind(fields, plan, unit, tag, ahead) {
         return ahead;
     }
-    if !is_free_or_known(fields, graph, least, reading, unit, tag, known) {
-        return holder_of(fields, graph, unit);
+    if !is_free_or_known(fields, plan, reading, unit, tag, known) {
+        return holder_of(fields, plan, unit);
     }
     put(units, waiting);
     ahead
@@ -132,32 +112,25 @@ fn add_unit(
 /// units none of which is due.
 fn fill(
     fields: &Fields,
-    graph: &Graph,
-    least: &Least,
-    offsets: &Offsets,
+    plan: &Plan,
     reading: u64,
     known: Option<Several>,
     units: &mut ArrayVec<Waiting, 64>,
 )
-    requires lawful { IsLawful graph.now }
-    requires sound { IsSound graph.now fields.now }
-    requires least { AreLeast graph.now (least_of least.now) }
-    requires offsets { AreOffsets graph.now offsets.now }
-    requires known { IfSome known (AreBothSafe graph.now (waiting_in fields.now.queue.events) (busy_in fields.now.open_claims.items) reading) }
-    ensures { AreFirst graph.now (waiting_in fields.now.queue.events) (busy_in fields.now.open_claims.items) reading (length graph.now.actors) 0 units.new.items }
+    requires sound { IsSound plan.now.graph fields.now }
+    requires known { IfSome known (AreBothSafe plan.now.graph (waiting_in fields.now.queue.events) (busy_in fields.now.open_claims.items) reading) }
+    ensures { AreFirst plan.now.graph (waiting_in fields.now.queue.events) (busy_in fields.now.open_claims.items) reading (length plan.now.graph.actors) 0 units.new.items }
 {
     units.clear();
     let mut ahead = None;
     let mut from = 0usize;
     while let Some(waiting) = fields.queue.first_waiting(from) {
         let place = place_of(waiting.unit);
-        if is_passed_over(fields, graph, offsets, reading, from, place) {
+        if is_passed_over(fields, plan, reading, from, place) {
             from = next_word(place);
             continue;
         }
-        ahead = add_unit(
-            fields, graph, least, offsets, reading, waiting, ahead, known, units,
-        );
+        ahead = add_unit(fields, plan, reading, waiting, ahead, known, units);
         from = place + 1;
     }
 }
@@ -165,25 +138,20 @@ fn fill(
 /// The safe unit so far, after one more unit that has events.
 fn alone_with(
     fields: &Fields,
-    graph: &Graph,
-    least: &Least,
-    offsets: &Offsets,
+    plan: &Plan,
     reading: u64,
     waiting: Waiting,
     alone: Option<Waiting>,
 ) -> Result<Option<Waiting>, Several>
-    requires lawful { IsLawful graph.now }
-    requires sound { IsSound graph.now fields.now }
-    requires least { AreLeast graph.now (least_of least.now) }
-    requires offsets { AreOffsets graph.now offsets.now }
-    requires unit { IsUnit graph.now waiting.unit }
-    requires tag { IsLeastTag graph.now (waiting_in fields.now.queue.events) waiting.unit (Some waiting.tag) }
-    requires first { AreFirst graph.now (waiting_in fields.now.queue.events) (busy_in fields.now.open_claims.items) reading waiting.unit.actor waiting.unit.group (one_of alone) }
-    ensures alone { IfOk result (λ alone. AreFirst graph.now (waiting_in fields.now.queue.events) (busy_in fields.now.open_claims.items) reading waiting.unit.actor (waiting.unit.group + 1) (one_of alone)) }
-    ensures several { IfErr result (AreBothSafe graph.now (waiting_in fields.now.queue.events) (busy_in fields.now.open_claims.items) reading) }
+    requires sound { IsSound plan.now.graph fields.now }
+    requires unit { IsUnit plan.now.graph waiting.unit }
+    requires tag { IsLeastTag plan.now.graph (waiting_in fields.now.queue.events) waiting.unit (Some waiting.tag) }
+    requires first { AreFirst plan.now.graph (waiting_in fields.now.queue.events) (busy_in fields.now.open_claims.items) reading waiting.unit.actor waiting.unit.group (one_of alone) }
+    ensures alone { IfOk result (λ alone. AreFirst plan.now.graph (waiting_in fields.now.queue.events) (busy_in fields.now.open_claims.items) reading waiting.unit.actor (waiting.unit.group + 1) (one_of alone)) }
+    ensures several { IfErr result (AreBothSafe plan.now.graph (waiting_in fields.now.queue.events) (busy_in fields.now.open_claims.items) reading) }
 {
     let Waiting { unit, tag } = waiting;
-    if !is_safe(fields, graph, least, offsets, reading, unit, tag) {
+    if !is_safe(fields, plan, reading, unit, tag) {
         return Ok(alone);
     }
     match alone {
@@ -198,24 +166,15 @@ fn alone_with(
 /// The only safe unit, or `None` if no unit is safe. Stops at the second safe one.
 ///
 /// Where few units have events mostly at most one is safe, and then no front is needed.
-pub fn alone(
-    fields: &Fields,
-    graph: &Graph,
-    least: &Least,
-    offsets: &Offsets,
-    reading: u64,
-) -> Result<Option<Waiting>, Several>
-    requires lawful { IsLawful graph.now }
-    requires sound { IsSound graph.now fields.now }
-    requires least { AreLeast graph.now (least_of least.now) }
-    requires offsets { AreOffsets graph.now offsets.now }
-    ensures alone { IfOk result (λ alone. AreFront graph.now (waiting_in fields.now.queue.events) (busy_in fields.now.open_claims.items) reading false (one_of alone)) }
-    ensures several { IfErr result (AreBothSafe graph.now (waiting_in fields.now.queue.events) (busy_in fields.now.open_claims.items) reading) }
+pub fn alone(fields: &Fields, plan: &Plan, reading: u64) -> Result<Option<Waiting>, Several>
+    requires sound { IsSound plan.now.graph fields.now }
+    ensures alone { IfOk result (λ alone. AreFront plan.now.graph (waiting_in fields.now.queue.events) (busy_in fields.now.open_claims.items) reading false (one_of alone)) }
+    ensures several { IfErr result (AreBothSafe plan.now.graph (waiting_in fields.now.queue.events) (busy_in fields.now.open_claims.items) reading) }
 {
     let mut alone = None;
     let mut from = 0usize;
     while let Some(waiting) = fields.queue.first_waiting(from) {
-        alone = alone_with(fields, graph, least, offsets, reading, waiting, alone)?;
+        alone = alone_with(fields, plan, reading, waiting, alone)?;
         from = place_of(waiting.unit) + 1;
     }
     Ok(alone)
@@ -236,55 +195,26 @@ impl Front {
 
     /// Searches again. Not inlined, so that a unit that was found already is taken without a call.
     #[inline(never)]
-    pub fn refill(
-        &mut self,
-        fields: &Fields,
-        graph: &Graph,
-        least: &Least,
-        offsets: &Offsets,
-        reading: u64,
-        known: Option<Several>,
-    )
-        requires lawful { IsLawful graph.now }
-        requires sound { IsSound graph.now fields.now }
-        requires least { AreLeast graph.now (least_of least.now) }
-        requires offsets { AreOffsets graph.now offsets.now }
-        requires known { IfSome known (AreBothSafe graph.now (waiting_in fields.now.queue.events) (busy_in fields.now.open_claims.items) reading) }
-        ensures front { AreFront graph.now (waiting_in fields.now.queue.events) (busy_in fields.now.open_claims.items) reading self.new.more (drop self.new.taken self.new.units.items) }
+    pub fn refill(&mut self, fields: &Fields, plan: &Plan, reading: u64, known: Option<Several>)
+        requires sound { IsSound plan.now.graph fields.now }
+        requires known { IfSome known (AreBothSafe plan.now.graph (waiting_in fields.now.queue.events) (busy_in fields.now.open_claims.items) reading) }
+        ensures front { AreFront plan.now.graph (waiting_in fields.now.queue.events) (busy_in fields.now.open_claims.items) reading self.new.more (drop self.new.taken self.new.units.items) }
         ensures some { (self.new.taken < length self.new.units.items) ⊎ (self.new.more ≡ false) }
     {
-        fill(
-            fields,
-            graph,
-            least,
-            offsets,
-            reading,
-            known,
-            &mut self.units,
-        );
+        fill(fields, plan, reading, known, &mut self.units);
         self.taken = 0;
         self.more = self.units.is_full();
     }
 
     /// Takes the first safe unit; `None` if no unit is safe.
     #[inline(always)]
-    pub fn take(
-        &mut self,
-        fields: &Fields,
-        graph: &Graph,
-        least: &Least,
-        offsets: &Offsets,
-        reading: u64,
-    ) -> Option<Waiting>
-        requires lawful { IsLawful graph.now }
-        requires sound { IsSound graph.now fields.now }
-        requires least { AreLeast graph.now (least_of least.now) }
-        requires offsets { AreOffsets graph.now offsets.now }
-        requires front { AreFront graph.now (waiting_in fields.now.queue.events) (busy_in fields.now.open_claims.items) reading self.old.more (drop self.old.taken self.old.units.items) }
-        ensures { IsTaken graph.now (waiting_in fields.now.queue.events) (busy_in fields.now.open_claims.items) reading self.new.more (drop self.new.taken self.new.units.items) result }
+    pub fn take(&mut self, fields: &Fields, plan: &Plan, reading: u64) -> Option<Waiting>
+        requires sound { IsSound plan.now.graph fields.now }
+        requires front { AreFront plan.now.graph (waiting_in fields.now.queue.events) (busy_in fields.now.open_claims.items) reading self.old.more (drop self.old.taken self.old.units.items) }
+        ensures { IsTaken plan.now.graph (waiting_in fields.now.queue.events) (busy_in fields.now.open_claims.items) reading self.new.more (drop self.new.taken self.new.units.items) result }
     {
         if self.taken >= self.units.len() && self.more {
-            self.refill(fields, graph, least, offsets, reading, None);
+            self.refill(fields, plan, reading, None);
         }
         if self.taken >= self.units.len() {
             return None;
@@ -298,19 +228,10 @@ impl Front {
 /// The unit that is safe at this reading with the least tag, actor and group; `None` if none is safe.
 ///
 /// The reading is in microseconds. Searches the units that have events.
-pub fn next_safe(
-    fields: &Fields,
-    graph: &Graph,
-    least: &Least,
-    offsets: &Offsets,
-    reading: u64,
-) -> Option<Waiting>
-    requires lawful { IsLawful graph.now }
-    requires sound { IsSound graph.now fields.now }
-    requires least { AreLeast graph.now (least_of least.now) }
-    requires offsets { AreOffsets graph.now offsets.now }
-    ensures { IsNextSafe graph.now (waiting_in fields.now.queue.events) (busy_in fields.now.open_claims.items) reading result }
+pub fn next_safe(fields: &Fields, plan: &Plan, reading: u64) -> Option<Waiting>
+    requires sound { IsSound plan.now.graph fields.now }
+    ensures { IsNextSafe plan.now.graph (waiting_in fields.now.queue.events) (busy_in fields.now.open_claims.items) reading result }
 {
     let mut front = Front::new();
-    front.take(fields, graph, least, offsets, reading)
+    front.take(fields, plan, reading)
 }

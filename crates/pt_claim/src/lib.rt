@@ -12,6 +12,7 @@
 //! Read first: `claims`, `is_safe` and `next_reading`, then `IsNextReading` in `specs/Paced.antt` of pt_semantics.
 #![tactic(auto)]
 
+mod ahead;
 mod claiming;
 mod closing;
 mod early;

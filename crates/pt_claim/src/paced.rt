@@ -1,6 +1,6 @@
 //! The paced readings of units.
 
-ghost use Rattle.std.specs.Prelude.{◌≡◌, ◌+ℤ◌, ◌-◌, ◌^◌, Some, min, pos};
+ghost use Rattle.std.specs.Prelude.{◌≡◌, ◌+ℤ◌, ◌-◌, ◌^◌, None, Some, min, pos};
 ghost use Rattle.pt_semantics.specs.Paced.{at_least_zero, paced_by};
 ghost use Rattle.pt_queue.specs.Events.{waiting_in, IsLeastTag};
 ghost use Rattle.pt_state.specs.State.{busy_in, IsSound};
@@ -43,10 +43,23 @@ fn sooner_of_unit(fields: &Fields, plan: &Plan, waiting: Waiting, so_far: u64) -
     if fields.open_claims.has(waiting.unit) {
         return so_far;
     }
+    sooner_of_free_unit(fields, plan, waiting, so_far)
+}
+
+/// The lesser of `so_far` and the paced reading of a unit without an open claim at its least tag.
+#[inline(always)]
+fn sooner_of_free_unit(fields: &Fields, plan: &Plan, waiting: Waiting, so_far: u64) -> u64
+    requires sound { IsSound plan.now.graph fields.now }
+    requires tag { IsLeastTag plan.now.graph (waiting_in fields.now.queue.events) waiting.unit (Some waiting.tag) }
+    requires free { busy_in fields.now.open_claims.items waiting.unit ≡ None }
+    ensures { IsLeastAmong (AtOrIn so_far (IsPacedNext plan.now.graph (waiting_in fields.now.queue.events) (busy_in fields.now.open_claims.items) waiting.unit)) result }
+{
     sooner_paced(plan.offsets().of_unit(waiting.unit), waiting.tag, so_far)
 }
 
-/// The least of `so_far` and the paced readings of all units that have events and no open claim.
+/// The least of `so_far` and the paced readings of all units that have events and no open claim. Mostly few units have events
+/// and no claim is open.
+#[inline(always)]
 pub fn paced_next(fields: &Fields, plan: &Plan, so_far: u64) -> u64
     requires sound { IsSound plan.now.graph fields.now }
     ensures { IsLeastAmong (AtOrIn so_far (IsPacedOfSome plan.now.graph (waiting_in fields.now.queue.events) (busy_in fields.now.open_claims.items))) result }
@@ -54,16 +67,20 @@ pub fn paced_next(fields: &Fields, plan: &Plan, so_far: u64) -> u64
     if fields.queue.are_many() {
         return paced_next_of_many(fields, plan, so_far);
     }
+    if !fields.open_claims.is_empty() {
+        return paced_next_of_many(fields, plan, so_far);
+    }
     let mut least = so_far;
     let mut from = 0usize;
     while let Some(waiting) = fields.queue.first_waiting(from) {
-        least = sooner_of_unit(fields, plan, waiting, least);
+        least = sooner_of_free_unit(fields, plan, waiting, least);
         from = place_of(waiting.unit) + 1;
     }
     least
 }
 
-/// As `paced_next`, where many units have events: passes over words of units none of which has a lesser paced reading.
+/// As `paced_next`, where many units have events or claims are open: passes over words of units none of which has a lesser
+/// paced reading.
 #[inline(never)]
 fn paced_next_of_many(fields: &Fields, plan: &Plan, so_far: u64) -> u64
     requires sound { IsSound plan.now.graph fields.now }
@@ -74,7 +91,7 @@ fn paced_next_of_many(fields: &Fields, plan: &Plan, so_far: u64) -> u64
     while let Some(waiting) = fields.queue.first_waiting(from) {
         let place = place_of(waiting.unit);
         let before = least.saturating_sub(1);
-        if is_passed_over(fields, plan.graph(), plan.offsets(), before, from, place) {
+        if is_passed_over(fields, plan, before, from, place) {
             from = next_word(place);
             continue;
         }

@@ -1,28 +1,23 @@
 //! Whether a unit is safe.
 
-ghost use Rattle.std.specs.Prelude.{◌≡◌, ◌+◌, ◌<◌, ◌≤◌, ◌↔◌, ℕ, IfSome, List as Sequence, Option, Some, true};
+ghost use Rattle.std.specs.Prelude.{◌≡◌, ◌+◌, ◌<◌, ◌≤◌, ◌↔◌, ℕ, List as Sequence, Some, true};
 ghost use Rattle.std.specs.List.{list_any};
-ghost use Rattle.pt_types.specs.Lawful.{IsLawful};
-ghost use Rattle.pt_types.specs.declared.firing.Task.{Task};
-ghost use Rattle.pt_types.specs.declared.graph.Unit.{Unit as Part};
 ghost use Rattle.pt_semantics.specs.Bounds.{Feeds};
 ghost use Rattle.pt_semantics.specs.Edges.{Edge};
 ghost use Rattle.pt_semantics.specs.Paced.{paced_by};
 ghost use Rattle.pt_semantics.specs.Ranks.{sum_along};
 ghost use Rattle.pt_semantics.specs.Safe.{IsSafe};
-ghost use Rattle.pt_semantics.specs.Units.{HasEvent};
-ghost use Rattle.pt_causality.specs.Delays.{AreLeast, IsUnit, least_of};
-ghost use Rattle.pt_offsets.specs.Plans.{AreOffsets};
+ghost use Rattle.pt_causality.specs.Delays.{IsUnit, least_of};
 ghost use Rattle.pt_queue.specs.Events.{waiting_in, IsLeastTag};
 ghost use Rattle.pt_state.specs.State.{busy_in, IsSound};
 ghost use Rattle.pt_claim.specs.Safe.{may_lead_to};
 
 use pt_causality::Least;
-use pt_offsets::Offsets;
-use pt_queue::{Waiting, reaches};
+use pt_offsets::Plan;
+use pt_queue::reaches;
 use pt_state::{Fields, OpenClaim, OpenClaims};
 use pt_tags::Tag;
-use pt_types::{Graph, Unit};
+use pt_types::Unit;
 
 /// Whether the reading has reached the paced reading of a tag at a unit with this offset. All are microseconds.
 /// With offset 10, a tag of time 50 has paced reading 61.
@@ -38,11 +33,10 @@ pub fn has_reached(offset: Option<i64>, tag: Tag, reading: u64) -> bool
 /// Whether a unit is due at a reading (in microseconds): no row and no message can still lead to an event there at the tag or
 /// before.
 #[inline(always)]
-pub fn is_due(graph: &Graph, offsets: &Offsets, reading: u64, unit: Unit, tag: Tag) -> bool
-    requires offsets { AreOffsets graph.now offsets.now }
-    ensures { (result ≡ true) ↔ ((x b : ℕ) (path : Sequence Edge) → Feeds graph.now x b path unit → tag.time + b < reading + (sum_along path).time) }
+pub fn is_due(plan: &Plan, reading: u64, unit: Unit, tag: Tag) -> bool
+    ensures { (result ≡ true) ↔ ((x b : ℕ) (path : Sequence Edge) → Feeds plan.now.graph x b path unit → tag.time + b < reading + (sum_along path).time) }
 {
-    has_reached(offsets.of_unit(unit), tag, reading)
+    has_reached(plan.offsets().of_unit(unit), tag, reading)
 }
 
 /// Whether an open claim can lead to a unit at the tag or before.
@@ -63,53 +57,19 @@ fn is_held_up(claims: &OpenClaims, least: &Least, unit: Unit, tag: Tag) -> bool
         .any(|claim| leads_to(least, unit, tag, claim))
 }
 
-/// Whether an event of the unit `ahead`, at its tag, leads to another unit at the tag or before.
-///
-/// Of many units that wait behind one, only the first is asked what held it up last.
-pub fn is_behind(
-    fields: &Fields,
-    graph: &Graph,
-    least: &Least,
-    unit: Unit,
-    tag: Tag,
-    ahead: Option<Waiting>,
-) -> bool
-    requires sound { IsSound graph.now fields.now }
-    requires least { AreLeast graph.now (least_of least.now) }
-    requires unit { IsUnit graph.now unit }
-    requires ahead { IfSome ahead (λ w. HasEvent graph.now (waiting_in fields.now.queue.events) w.unit w.tag) }
-    ensures { (busy : Part → Option Task) → (r : ℕ) → result ≡ true → IsSafe graph.now (waiting_in fields.now.queue.events) busy r unit tag → ⊥ }
-{
-    let Some(other) = ahead else {
-        return false;
-    };
-    if other.unit == unit {
-        return false;
-    }
-    reaches(least.get(other.unit, unit), other.tag, tag)
-}
-
 /// As `is_free`, where claims may be open. Not inlined, since mostly none is open where units are asked.
 #[inline(never)]
-fn is_free_of_claims(
-    fields: &Fields,
-    graph: &Graph,
-    least: &Least,
-    reading: u64,
-    unit: Unit,
-    tag: Tag,
-) -> bool
-    requires lawful { IsLawful graph.now }
-    requires sound { IsSound graph.now fields.now }
-    requires least { AreLeast graph.now (least_of least.now) }
-    requires unit { IsUnit graph.now unit }
-    requires tag { IsLeastTag graph.now (waiting_in fields.now.queue.events) unit (Some tag) }
-    requires due { (x b : ℕ) (path : Sequence Edge) → Feeds graph.now x b path unit → tag.time + b < reading + (sum_along path).time }
-    ensures { (result ≡ true) ↔ IsSafe graph.now (waiting_in fields.now.queue.events) (busy_in fields.now.open_claims.items) reading unit tag }
+fn is_free_of_claims(fields: &Fields, plan: &Plan, reading: u64, unit: Unit, tag: Tag) -> bool
+    requires sound { IsSound plan.now.graph fields.now }
+    requires unit { IsUnit plan.now.graph unit }
+    requires tag { IsLeastTag plan.now.graph (waiting_in fields.now.queue.events) unit (Some tag) }
+    requires due { (x b : ℕ) (path : Sequence Edge) → Feeds plan.now.graph x b path unit → tag.time + b < reading + (sum_along path).time }
+    ensures { (result ≡ true) ↔ IsSafe plan.now.graph (waiting_in fields.now.queue.events) (busy_in fields.now.open_claims.items) reading unit tag }
 {
     if fields.open_claims.has(unit) {
         return false;
     }
+    let least = plan.least();
     if fields.queue.blocked(unit, tag, least) {
         return false;
     }
@@ -120,29 +80,20 @@ fn is_free_of_claims(
 ///
 /// Inlined up to the test whether it is the only unit that has events: nothing else can lead to it then.
 #[inline(always)]
-pub fn is_free(
-    fields: &Fields,
-    graph: &Graph,
-    least: &Least,
-    reading: u64,
-    unit: Unit,
-    tag: Tag,
-) -> bool
-    requires lawful { IsLawful graph.now }
-    requires sound { IsSound graph.now fields.now }
-    requires least { AreLeast graph.now (least_of least.now) }
-    requires unit { IsUnit graph.now unit }
-    requires tag { IsLeastTag graph.now (waiting_in fields.now.queue.events) unit (Some tag) }
-    requires due { (x b : ℕ) (path : Sequence Edge) → Feeds graph.now x b path unit → tag.time + b < reading + (sum_along path).time }
-    ensures { (result ≡ true) ↔ IsSafe graph.now (waiting_in fields.now.queue.events) (busy_in fields.now.open_claims.items) reading unit tag }
+pub fn is_free(fields: &Fields, plan: &Plan, reading: u64, unit: Unit, tag: Tag) -> bool
+    requires sound { IsSound plan.now.graph fields.now }
+    requires unit { IsUnit plan.now.graph unit }
+    requires tag { IsLeastTag plan.now.graph (waiting_in fields.now.queue.events) unit (Some tag) }
+    requires due { (x b : ℕ) (path : Sequence Edge) → Feeds plan.now.graph x b path unit → tag.time + b < reading + (sum_along path).time }
+    ensures { (result ≡ true) ↔ IsSafe plan.now.graph (waiting_in fields.now.queue.events) (busy_in fields.now.open_claims.items) reading unit tag }
 {
     if !fields.open_claims.is_empty() {
-        return is_free_of_claims(fields, graph, least, reading, unit, tag);
+        return is_free_of_claims(fields, plan, reading, unit, tag);
     }
     if fields.queue.is_only(unit) {
         return true;
     }
-    !fields.queue.blocked(unit, tag, least)
+    !fields.queue.blocked(unit, tag, plan.least())
 }
 
 /// Whether a unit is safe to process at a reading (in microseconds), where `tag` is the least tag of its events.
@@ -152,25 +103,14 @@ pub fn is_free(
 /// (That a unit waits for its offset is from RTAS 2009, and that it waits for what leads to it from RTAS 2007; that it waits
 /// for an equal tag too is this project's own choice.)
 #[inline(always)]
-pub fn is_safe(
-    fields: &Fields,
-    graph: &Graph,
-    least: &Least,
-    offsets: &Offsets,
-    reading: u64,
-    unit: Unit,
-    tag: Tag,
-) -> bool
-    requires lawful { IsLawful graph.now }
-    requires sound { IsSound graph.now fields.now }
-    requires least { AreLeast graph.now (least_of least.now) }
-    requires offsets { AreOffsets graph.now offsets.now }
-    requires unit { IsUnit graph.now unit }
-    requires tag { IsLeastTag graph.now (waiting_in fields.now.queue.events) unit (Some tag) }
-    ensures { (result ≡ true) ↔ IsSafe graph.now (waiting_in fields.now.queue.events) (busy_in fields.now.open_claims.items) reading unit tag }
+pub fn is_safe(fields: &Fields, plan: &Plan, reading: u64, unit: Unit, tag: Tag) -> bool
+    requires sound { IsSound plan.now.graph fields.now }
+    requires unit { IsUnit plan.now.graph unit }
+    requires tag { IsLeastTag plan.now.graph (waiting_in fields.now.queue.events) unit (Some tag) }
+    ensures { (result ≡ true) ↔ IsSafe plan.now.graph (waiting_in fields.now.queue.events) (busy_in fields.now.open_claims.items) reading unit tag }
 {
-    if !is_due(graph, offsets, reading, unit, tag) {
+    if !is_due(plan, reading, unit, tag) {
         return false;
     }
-    is_free(fields, graph, least, reading, unit, tag)
+    is_free(fields, plan, reading, unit, tag)
 }

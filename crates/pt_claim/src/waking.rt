@@ -13,6 +13,7 @@ use pt_state::Fields;
 
 /// The least reading at which something can happen on a platform: a row is seen, a unit without an open claim reaches its
 /// paced reading, or the platform can close, at its closing reading. All are microseconds.
+#[inline(always)]
 pub fn next_reading(fields: &Fields, plan: &Plan, platform: u32, closing: u64) -> u64
     requires sound { IsSound plan.now.graph fields.now }
     requires sensors { AreSensors plan.now.graph fields.now.sensors.items }

@@ -22,7 +22,7 @@ fn in_places<J: Run, C: Clock>(
     let mut places = empty_places(alloc, stations.len())?;
     while let Some(station) = stations.pop() {
         let number = station.platform().number() as usize;
-        places[number] = Some(station);
+        drop(places[number].replace(station));
     }
     Ok(places)
 }

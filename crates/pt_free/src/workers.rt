@@ -347,7 +347,10 @@ pub(crate) fn lock_all<J: Run, L: Ledger, B: Boards, C: Clock>(
             unreachable!()
         };
         let mut site = board.with_station(alloc, station);
-        staff(&mut site, crews)?;
+        if let Err(fault) = staff(&mut site, crews) {
+            drop(site);
+            return Err(fault);
+        }
         let mut share = rest.split_off(1, 0);
         book.add(&mut share, power(site.platform().number()));
         bays.push_reserved(Mutex::new(Bay { site, share }));

@@ -11,6 +11,7 @@ pub mod Filling
 pub mod FirstTwo
 pub mod CellLists
 pub mod MarkLists
+pub mod SourceLists
 pub mod TaskLists
 pub mod DoneLists
 pub mod Ended

@@ -7,7 +7,7 @@ use Rattle.pt_history.specs.declared.claims.Mark.{Mark}
 use Rattle.pt_history.specs.Marks.{marks_of, numbers_from, mark_numbers}
 
 -- numbers in a row
-length-from : (k n : ℕ) → length (numbers_from k n) ≡ n
+pub length-from : (k n : ℕ) → length (numbers_from k n) ≡ n
 length-from k zero = refl
 length-from k (suc n) = ap suc (length-from (k + 1) n)
 
@@ -17,7 +17,7 @@ from_next k (suc n) =
     let next : k + 1 + n ≡ k + suc n = omega arith in
     ap (λ l. k ∷ l) (from_next (k + 1) n ∙ ap (λ i. numbers_from (k + 1) n ++ i ∷ []) next)
 
-from_more : (k n : ℕ) → numbers_from k (n + 1) ≡ numbers_from k n ++ (k + n) ∷ []
+pub from_more : (k n : ℕ) → numbers_from k (n + 1) ≡ numbers_from k n ++ (k + n) ∷ []
 from_more k n = let more : n + 1 ≡ suc n = omega arith in ap (numbers_from k) more ∙ from_next k n
 
 from_get : (k n i : ℕ) → i < n → get_or (numbers_from k n) i 0 ≡ k + i

@@ -9,6 +9,7 @@ pub mod MarksWhole
 pub mod Tasks
 pub mod Works
 pub mod WorkWhole
+pub mod Sources
 pub mod SourcesWhole
 pub mod WorkLists
 pub mod Indices

@@ -6,4 +6,4 @@ use Rattle.pt_history.specs.declared.sources.Sources.TheInside.{Inside}
 pub record AreStoredSources (s : Inside) : Type 0 where
   pub claims : vec_len s.claims + s.spare ≤ vec_capacity s.claims
   pub rest : vec_len s.rest + s.spare ≤ vec_capacity s.rest
-  pub fits : length s.claims.items + length s.rest.items + s.spare < 2 ^ 32
+  pub fits : s.in_order + length s.claims.items + length s.rest.items + s.spare < 2 ^ 32

@@ -51,7 +51,7 @@ impl Claims {
         }
     }
 
-    /// Reserves room for at least `claims` more claims. It fails if memory runs out.
+    /// Reserves room for at least `claims` more claims. It fails if memory runs out, or if the number of claims could reach 2^32.
     pub fn reserve(&mut self, claims: usize) -> Result<(), Memory>
         ensures tasks { self.new.tasks ≡ self.old.tasks }
         ensures kept { self.old.spare ≤ self.new.spare }

@@ -2,7 +2,8 @@
 //!
 //! Each of the five lists is stored flat for all turns: its items one after another, and the index at which each turn's
 //! part starts (`Ends`). Of claims and results only the values that are there are stored, and a result refers to its claim
-//! (`Work`). Readings and starts mostly repeat those of the turn before, and equal neighbours are stored once (`Repeats`).
+//! (`Work`). Readings and starts mostly repeat those of the turn before, and tags those of the claim before, and equal
+//! neighbours are stored once (`Repeats`).
 //! Most heads are of single turns, of which only the reading is stored (`PastHeads`).
 //! A run of quiet turns is stored as one turn: `begin` joins the last two as defined in pt_semantics.
 //! Memory is reserved before a turn, so that a turn allocates nothing.

@@ -5,6 +5,7 @@ ghost use Rattle.pt_history.specs.Marks.{mark_numbers};
 
 use crate::claims::Mark;
 use crate::pieces::widened;
+use crate::repeats::Repeats;
 use pt_tags::{Memory, Tag};
 use std::alloc::Global;
 use std::marker::Model;
@@ -12,10 +13,12 @@ use std::marker::Model;
 /// A list of marks, and room reserved for more. Contracts see `items` and `spare`.
 ///
 /// The number of a claim is its index, in each history that a platform makes. So numbers are stored only from the first
-/// one on that is another: the numbers 0, 1, 7 and 8 are stored as 7 and 8. A mark takes 20 bytes.
+/// one on that is another: the numbers 0, 1, 7 and 8 are stored as 7 and 8. Neighbouring claims mostly have the same tag,
+/// which is stored once. So a mark mostly takes 4 bytes and a few bits, and 16 bytes more where the tag is another one than
+/// before.
 #[derive(Drop)]
 pub(crate) struct Marks {
-    tags: Vec<Tag>,
+    tags: Repeats<Tag>,
     actors: Vec<u32>,
     /// The numbers of the last marks.
     numbers: Vec<u64>,
@@ -43,20 +46,21 @@ impl Marks {
         ensures spare { result.spare ≡ 0 }
     {
         Marks {
-            tags: Vec::new(alloc),
+            tags: Repeats::new(alloc),
             actors: Vec::new(alloc),
             numbers: Vec::new(alloc),
             spare: 0,
         }
     }
 
-    /// Reserves room for at least `marks` more marks. It fails if memory runs out.
+    /// Reserves room for at least `marks` more marks. It fails if memory runs out, or if the number of different tags could
+    /// reach 2^32.
     pub fn reserve(&mut self, marks: usize) -> Result<(), Memory>
         ensures items { self.new.items ≡ self.old.items }
         ensures kept { self.old.spare ≤ self.new.spare }
         ensures room { OnOk result (marks ≤ self.new.spare) }
     {
-        widened(&mut self.tags, self.spare, marks)?;
+        self.tags.reserve(marks)?;
         widened(&mut self.actors, self.spare, marks)?;
         widened(&mut self.numbers, self.spare, marks)?;
         self.spare = self.spare.max(marks);
@@ -70,7 +74,7 @@ impl Marks {
         ensures room { self.new.spare + 1 ≡ self.old.spare }
     {
         store_number(&mut self.numbers, self.tags.len(), mark.number);
-        self.tags.push_reserved(mark.tag);
+        store_tag(&mut self.tags, mark.tag);
         self.actors.push_reserved(mark.actor);
         self.spare -= 1;
     }
@@ -88,11 +92,27 @@ impl Marks {
         ensures { slice_get self.now.items index ≡ Some result }
     {
         Mark {
-            tag: self.tags[index],
+            tag: self.tags.get(index),
             number: number_at(self.numbers.as_slice(), self.tags.len(), index),
             actor: self.actors[index],
         }
     }
+}
+
+/// Appends a tag. That one which equals the last is only counted saves memory.
+#[inline(always)]
+fn store_tag(tags: &mut Repeats<Tag>, tag: Tag)
+    requires { 0 < tags.old.spare }
+    ensures items { tags.new.items ≡ tags.old.items ++ tag ∷ [] }
+    ensures room { tags.new.spare + 1 ≡ tags.old.spare }
+{
+    if let Some(last) = tags.last() {
+        if last == tag {
+            tags.again();
+            return;
+        }
+    }
+    tags.push(tag);
 }
 
 /// Appends the number of a mark before which there are `count`, unless it is its index and so are all before it.

@@ -137,4 +137,15 @@ impl<T: Copy> Repeats<T> {
     {
         self.values[self.indices.get(number)]
     }
+
+    /// The last item; `None` if there are no items.
+    #[inline(always)]
+    pub fn last(&self) -> Option<T>
+        ensures { result ≡ slice_get self.now.items (length self.now.items - 1) }
+    {
+        if self.indices.len() == 0 {
+            return None;
+        }
+        Some(self.values[self.values.len() - 1])
+    }
 }

@@ -1,7 +1,8 @@
 //! Where the tasks of results are stored.
 
-ghost use Rattle.std.specs.Prelude.{◌≡◌, ◌+◌, ◌<◌, ◌≤◌, ◌++◌, ◌∷◌, [], OnOk, Some, length, map, slice_get, vec_len, vec_capacity};
+ghost use Rattle.std.specs.Prelude.{◌≡◌, ◌+◌, ◌<◌, ◌≤◌, ◌-◌, ◌++◌, ◌∷◌, [], OnOk, Some, length, map, slice_get, vec_len, vec_capacity};
 ghost use Rattle.pt_history.specs.declared.sources.Source.TheVariants.{Claim};
+ghost use Rattle.pt_history.specs.Sources.{claim_numbers, sources_of};
 
 use crate::pieces::{MOST_ITEMS, widened};
 use pt_tags::Memory;
@@ -19,27 +20,29 @@ pub(crate) enum Source {
 
 /// A list of sources, and room reserved for more. Contracts see `items` and `spare`.
 ///
-/// In each history that a platform makes all sources are claims. So only their indices are stored, in 4 bytes each, up to
-/// the first source that is no claim; the sources from that one on are stored whole.
+/// In each history that a platform makes all sources are claims, and mostly each is the claim with its own index. So the
+/// first sources are only counted, up to the first that is another; of the next ones the indices of their claims are stored,
+/// in 4 bytes each, up to the first source that is no claim; the sources from that one on are stored whole.
 #[derive(Drop)]
 pub(crate) struct Sources {
-    /// The indices of the first sources, which are claims.
+    /// The number of first sources of which each is the claim with its own index.
+    in_order: usize,
+    /// The indices of the sources after them, which are claims.
     claims: Vec<u32>,
-    /// The sources after them.
+    /// The sources after those.
     rest: Vec<Source>,
     spare: usize,
 }
 
 impl Model for Sources {
-    ghost use Rattle.std.specs.Prelude.{◌++◌, map};
     ghost use Rattle.pt_history.specs.declared.sources.Source.{Source};
-    ghost use Rattle.pt_history.specs.declared.sources.Source.TheVariants.{Claim};
     ghost use Rattle.pt_history.specs.Indices.{RoomyItems};
+    ghost use Rattle.pt_history.specs.Sources.{sources_of};
     ghost use Rattle.pt_history.specs.SourcesWhole.{AreStoredSources};
 
     ghost Value = { RoomyItems Source };
 
-    ghost view = { λ s. record { items = map Claim s.claims.items ++ s.rest.items; spare = s.spare } };
+    ghost view = { λ s. record { items = sources_of s.in_order s.claims.items s.rest.items; spare = s.spare } };
 
     ghost invariant = { AreStoredSources };
 }
@@ -51,6 +54,7 @@ impl Sources {
         ensures spare { result.spare ≡ 0 }
     {
         Sources {
+            in_order: 0,
             claims: Vec::new(alloc),
             rest: Vec::new(alloc),
             spare: 0,
@@ -79,7 +83,7 @@ impl Sources {
         ensures items { self.new.items ≡ self.old.items ++ source ∷ [] }
         ensures room { self.new.spare + 1 ≡ self.old.spare }
     {
-        store(&mut self.claims, &mut self.rest, source);
+        store(&mut self.in_order, &mut self.claims, &mut self.rest, source);
         self.spare -= 1;
     }
 
@@ -87,7 +91,7 @@ impl Sources {
     pub fn len(&self) -> usize
         ensures { result ≡ length self.now.items }
     {
-        self.claims.len() + self.rest.len()
+        self.in_order + self.claims.len() + self.rest.len()
     }
 
     /// Source `number`, counted from 0.
@@ -95,31 +99,61 @@ impl Sources {
         requires { number < length self.now.items }
         ensures { slice_get self.now.items number ≡ Some result }
     {
-        let claims = self.claims.len();
-        if number < claims {
-            Source::Claim(self.claims[number])
-        } else {
-            self.rest[number - claims]
+        if number < self.in_order {
+            return Source::Claim(number as u32);
         }
+        stored(
+            self.claims.as_slice(),
+            self.rest.as_slice(),
+            number - self.in_order,
+        )
+    }
+}
+
+/// Source `number` of those that are stored, counted from 0.
+fn stored(claims: &[u32], rest: &[Source], number: usize) -> Source
+    requires { number < length claims.now + length rest.now }
+    ensures { slice_get (map Claim claims.now ++ rest.now) number ≡ Some result }
+{
+    if number < claims.len() {
+        Source::Claim(claims[number])
+    } else {
+        rest[number - claims.len()]
     }
 }
 
 /// Appends a source: to the first ones if it is a claim and so are all others, or else to the rest. Only memory is saved by
 /// that: `rest` alone would be right too.
-fn store(claims: &mut Vec<u32>, rest: &mut Vec<Source>, source: Source)
+fn store(in_order: &mut usize, claims: &mut Vec<u32>, rest: &mut Vec<Source>, source: Source)
     requires claims { vec_len claims.old < vec_capacity claims.old }
     requires rest { vec_len rest.old < vec_capacity rest.old }
-    ensures items { map Claim claims.new.items ++ rest.new.items ≡ (map Claim claims.old.items ++ rest.old.items) ++ source ∷ [] }
+    ensures items { sources_of in_order.new claims.new.items rest.new.items ≡ sources_of in_order.old claims.old.items rest.old.items ++ source ∷ [] }
     ensures claims_room { vec_capacity claims.old ≤ vec_capacity claims.new }
     ensures rest_room { vec_capacity rest.old ≤ vec_capacity rest.new }
     ensures few_claims { vec_len claims.new ≤ vec_len claims.old + 1 }
     ensures few_rest { vec_len rest.new ≤ vec_len rest.old + 1 }
+    ensures few { in_order.new + vec_len claims.new + vec_len rest.new ≤ in_order.old + vec_len claims.old + vec_len rest.old + 1 }
 {
     if rest.is_empty() {
         if let Source::Claim(number) = source {
-            claims.push_reserved(number);
+            store_claim(in_order, claims, number);
             return;
         }
     }
     rest.push_reserved(source);
+}
+
+/// Appends the index of a claim. It is only counted if it is the number of indices before it, and so are all of those.
+fn store_claim(in_order: &mut usize, claims: &mut Vec<u32>, number: u32)
+    requires { vec_len claims.old < vec_capacity claims.old }
+    ensures numbers { claim_numbers in_order.new claims.new.items ≡ claim_numbers in_order.old claims.old.items ++ number ∷ [] }
+    ensures room { vec_capacity claims.old ≤ vec_capacity claims.new }
+    ensures few_claims { vec_len claims.new ≤ vec_len claims.old + 1 }
+    ensures few { in_order.new + vec_len claims.new ≤ in_order.old + vec_len claims.old + 1 }
+{
+    if claims.is_empty() && number as usize == *in_order {
+        *in_order += 1;
+        return;
+    }
+    claims.push_reserved(number);
 }

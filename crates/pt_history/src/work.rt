@@ -52,7 +52,8 @@ impl Work {
         }
     }
 
-    /// Reserves room for at least this many more claims and results. It fails if memory runs out.
+    /// Reserves room for at least this many more claims and results. It fails if memory runs out, or if the number of claims or
+    /// that of results could reach 2^32.
     pub fn reserve(&mut self, claims: usize, results: usize) -> Result<(), Memory>
         ensures tasks { self.new.tasks ≡ self.old.tasks }
         ensures dones { self.new.dones ≡ self.old.dones }

@@ -10,7 +10,7 @@ pub mod Earlies
 pub mod Opens
 pub mod FiredOn
 pub mod Runnable
-pub mod Cleared
+pub mod Lowest
 pub mod Standings
 pub mod Readies
 pub mod Currents

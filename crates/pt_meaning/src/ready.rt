@@ -5,7 +5,8 @@ ghost use Rattle.pt_types.specs.Ports.{at_port, eight, nothing};
 ghost use Rattle.pt_semantics.specs.Firing.{any_present};
 ghost use Rattle.pt_meaning.specs.Ready.{ports_at, IsFirstReady};
 
-use crate::bits::{clear_bit, first_set, set_bit};
+use crate::bits::first_set;
+use pt_causality::{clear_bit, set_bit};
 use pt_tags::Memory;
 use pt_types::Ports;
 use std::alloc::{AllocError, Global};

@@ -1,5 +1,6 @@
 pub mod InTime
 pub mod Latest
+pub mod Levels
 pub mod Members
 pub mod Missing
 pub mod Sent

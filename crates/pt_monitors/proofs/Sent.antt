@@ -1,12 +1,14 @@
 -- Turns without messages and without late results have no misses.
-use Rattle.std.proofs.Common.{◌≡◌, ℕ, ◌+◌, ◌<◌, List, [], ◌∷◌, ◌++◌, Option, Some, length, slice_get, take, refl, sym, ap, ◌∙◌}
+use Rattle.std.proofs.Common.{◌≡◌, ℕ, zero, suc, ◌+◌, ◌-◌, ◌*◌, ◌<◌, ◌≤◌, List, [], ◌∷◌, ◌++◌, Option, Some, length, slice_get, take, refl, sym, ap, ◌∙◌, arith}
 use Rattle.std.specs.Prelude.{filter_map, flat_map, option_map}
 use Rattle.std.proofs.lemmas.List.{append-nil}
 use Rattle.pt_types.specs.declared.firing.OnLink.{OnLink}
 use Rattle.pt_types.specs.declared.graph.Graph.{Graph}
 use Rattle.pt_semantics.specs.Turn.{Turn}
 use Rattle.pt_semantics.proofs.Lookups.{same_some}
+use Rattle.pt_history.specs.Levels.{AreTurnLevels, IsLevel}
 use Rattle.pt_history.specs.Turns.{posted_in}
+use Rattle.pt_history.specs.declared.levels.TurnLevels.{TurnLevels}
 use Rattle.pt_history.specs.declared.miss.Miss.{Miss}
 use Rattle.pt_history.proofs.Along.{grows}
 use Rattle.pt_history.proofs.InTurn.{posted_is}
@@ -33,8 +35,25 @@ none_sent g o old sent are none = λ turn at.
     sym (append-nil old) ∙ ap (λ s. old ++ filter_map (miss_of_message g turn.last) s) (sym (same ∙ none))
 
 -- so a turn more changes nothing
-pub skips : (g : Graph) (turns : List Turn) (number : ℕ) (sent : List OnLink) → AreInTime g turns → number < length turns → option_map (λ (turn : Turn). turn.sent) (slice_get turns number) ≡ Some sent → sent ≡ []
+skips : (g : Graph) (turns : List Turn) (number : ℕ) → AreInTime g turns → number < length turns → option_map (λ (turn : Turn). turn.sent) (slice_get turns number) ≡ Some []
     → flat_map (missed_at g) (take (number + 1) turns) ≡ flat_map (missed_at g) (take number turns)
-skips g turns number sent fine lt are none =
+skips g turns number fine lt none =
     let old = flat_map (missed_at g) (take number turns) in
-    sym (with_sent g turns number [] old old fine lt refl (none_sent g (slice_get turns number) old sent are none))
+    sym (with_sent g turns number [] old old fine lt refl (none_sent g (slice_get turns number) old [] none refl))
+
+skips_to : (g : Graph) (turns : List Turn) (from more : ℕ) → AreInTime g turns → from + more ≤ length turns → ((n : ℕ) → from ≤ n → n < from + more → option_map (λ (turn : Turn). turn.sent) (slice_get turns n) ≡ Some [])
+    → flat_map (missed_at g) (take (from + more) turns) ≡ flat_map (missed_at g) (take from turns)
+skips_to g turns from zero fine le none = let same : from + zero ≡ from = omega arith in ap (λ k. flat_map (missed_at g) (take k turns)) same
+skips_to g turns from (suc more) fine le none =
+    let next : from + suc more ≡ from + more + 1 = omega arith in
+    ap (λ k. flat_map (missed_at g) (take k turns)) next
+    ∙ (skips g turns (from + more) fine (omega (arith, le)) (none (from + more) (omega arith) (omega arith))
+    ∙ skips_to g turns from more fine (omega (arith, le)) (λ n after before. none n after (omega (arith, before))))
+
+-- nor do turns of a block that are known to have sent nothing
+pub skips_level : (g : Graph) (turns : List Turn) (levels : TurnLevels) (block from to : ℕ) → AreInTime g turns → AreTurnLevels turns block levels → from ≤ to → to ≤ length turns → 64 * block ≤ from → to ≤ 64 * block + 64
+    → ((n : ℕ) → from ≤ n → n < to → IsLevel levels.sent n) → flat_map (missed_at g) (take to turns) ≡ flat_map (missed_at g) (take from turns)
+skips_level g turns levels block from to fine right rises within low high level =
+    let all : to ≡ from + (to - from) = omega (arith, rises) in
+    ap (λ k. flat_map (missed_at g) (take k turns)) all
+    ∙ skips_to g turns from (to - from) fine (omega (arith, rises, within)) (λ n after before. right.sent n (omega (arith, low, high, after, before, rises)) (omega (arith, before, rises, within)) (level n after (omega (arith, before, rises))))

@@ -1,5 +1,5 @@
 -- The misses of recorded turns, in order.
-use Rattle.std.specs.Prelude.{◌≡◌, ◌+◌, ◌++◌, ◌↔◌, ℕ, List, None, Option, Some, filter_map, flat_map, nat_lt, option_map, slice_get}
+use Rattle.std.specs.Prelude.{◌≡◌, ◌+◌, ◌++◌, ◌↔◌, ℕ, List, None, Option, Some, filter_map, flat_map, nat_lt, option_map, slice_get, take}
 use Rattle.pt_tags.specs.declared.message.Message.{Message}
 use Rattle.pt_tags.specs.declared.message.Message.TheVariants.{Event}
 use Rattle.pt_tags.specs.declared.tag.Tag.{Tag}
@@ -60,6 +60,11 @@ AppendsSent g o old new = (turn : Turn) → o ≡ Some turn → new ≡ old ++ f
 -- the misses of all turns, in order
 abbrev pub missed_of : Graph → List Turn → List Miss
 missed_of g turns = flat_map (missed_at g) turns
+
+-- the misses of the turns from turn `from` up to turn `end` were appended to those of the turns before
+abbrev pub AppendsUpTo : Graph → List Turn → ℕ → ℕ → List Miss → List Miss → Type 0
+AppendsUpTo g turns from end old new =
+    (start : List Miss) → old ≡ start ++ flat_map (missed_at g) (take from turns) → new ≡ start ++ flat_map (missed_at g) (take end turns)
 
 -- the list has exactly the misses of these turns, each with its turn's reading
 abbrev pub ListsMissed : Graph → List Turn → List Miss → Type 0

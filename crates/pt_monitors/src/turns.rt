@@ -4,11 +4,11 @@ ghost use Rattle.std.specs.Prelude.{[], ◌≡◌, ℕ, ◌+◌, ◌*◌, ◌/�
 ghost use Rattle.pt_types.specs.declared.firing.Done.{Done};
 ghost use Rattle.pt_types.specs.declared.graph.Graph.{Graph};
 ghost use Rattle.pt_types.specs.Lookups.{slack_of};
-ghost use Rattle.pt_history.specs.Levels.{AreTurnLevels};
+ghost use Rattle.pt_history.specs.Levels.{IsLevel};
 ghost use Rattle.pt_history.specs.Tasks.{mark_of};
 ghost use Rattle.pt_history.specs.Turns.{all_dated, posted_in};
 ghost use Rattle.pt_monitors.specs.InTime.{AreInTime, EndBy, HasNoMiss};
-ghost use Rattle.pt_monitors.specs.Misses.{AppendsMisses, AppendsSent, IsLastReading, ListsMissed, miss_of_message, miss_of_result, miss_past, missed_at, missed_of};
+ghost use Rattle.pt_monitors.specs.Misses.{AppendsMisses, AppendsSent, AppendsUpTo, IsLastReading, ListsMissed, miss_of_message, miss_of_result, miss_past, missed_at, missed_of};
 
 use pt_history::{History, Mark, Miss, TurnLevels};
 use pt_tags::{Memory, Message, Tag};
@@ -107,7 +107,7 @@ fn is_past(
     miss_past(posted.reading, mark.actor, mark.tag, slack).is_some()
 }
 
-/// Appends the misses of a history of which no result is a miss: those among its messages.
+/// Appends the misses of a history of which no result is a miss: those among its messages. Goes block by block through the turns.
 fn missed_sent(graph: &Graph, history: &History, misses: &mut Vec<Miss>) -> Result<(), Memory>
     requires in_time { AreInTime graph.now history.now.turns }
     ensures { OnOk result (misses.new.items ≡ misses.old.items ++ missed_of graph.now history.now.turns) }
@@ -115,66 +115,58 @@ fn missed_sent(graph: &Graph, history: &History, misses: &mut Vec<Miss>) -> Resu
     if history.all_sent().is_empty() {
         return Ok(());
     }
-    let mut number = next_sent(history, 0);
-    while number < history.turns() {
-        missed_after(graph, history, number, misses)?;
-        number = next_sent(history, number + 1);
+    let turns = history.turns();
+    let mut start = 0;
+    while start < turns {
+        let end = start + (64 - start % 64).min(turns - start);
+        missed_in_block(graph, history, start, end, misses)?;
+        start = end;
     }
     Ok(())
 }
 
-/// The next turn, from turn `from` on, after which messages were sent; the number of turns if there is none. Most turns send
-/// nothing, which is known of many at once.
-#[inline(never)]
-fn next_sent(history: &History, from: usize) -> usize
-    requires { from ≤ length history.now.turns }
-    ensures rises { from ≤ result }
-    ensures within { result ≤ length history.now.turns }
-    ensures skips { (g : Graph) → AreInTime g history.now.turns → flat_map (missed_at g) (take result history.now.turns) ≡ flat_map (missed_at g) (take from history.now.turns) }
-{
-    let turns = history.turns();
-    let mut start = from;
-    while start < turns {
-        let end = start + (64 - start % 64).min(turns - start);
-        let next = next_sent_in_block(history, start, end);
-        if next < end {
-            return next;
-        }
-        start = end;
-    }
-    turns
-}
-
-/// The next turn, from turn `from` up to turn `end` in a block of 64, after which messages were sent; `end` if there is none.
-#[inline(always)]
-fn next_sent_in_block(history: &History, from: usize, end: usize) -> usize
+/// Appends the misses among the messages that were sent after the turns from turn `from` up to turn `end` in a block of 64, of
+/// which no result is a miss. Most turns send nothing, which is known of the whole block at once.
+fn missed_in_block(
+    graph: &Graph,
+    history: &History,
+    from: usize,
+    end: usize,
+    misses: &mut Vec<Miss>,
+) -> Result<(), Memory>
     requires from { from < end }
     requires end { end ≤ length history.now.turns }
     requires block { end ≤ 64 * (from / 64) + 64 }
-    ensures rises { from ≤ result }
-    ensures within { result ≤ end }
-    ensures skips { (g : Graph) → AreInTime g history.now.turns → flat_map (missed_at g) (take result history.now.turns) ≡ flat_map (missed_at g) (take from history.now.turns) }
+    requires in_time { AreInTime graph.now history.now.turns }
+    ensures { OnOk result (AppendsUpTo graph.now history.now.turns from end misses.old.items misses.new.items) }
 {
     let levels = history.levels(from / 64);
-    for number in from..end {
-        if !sent_none(history, &levels, number) {
-            return number;
-        }
+    let mut number = next_unknown(&levels, from, end);
+    while number < end {
+        missed_after(graph, history, number, misses)?;
+        number = next_unknown(&levels, number + 1, end);
     }
-    end
+    Ok(())
 }
 
-/// Whether no messages were sent after a turn.
+/// The next turn, from turn `from` up to turn `end` in a block of 64, after which messages may have been sent; `end` if none were
+/// sent after any of them.
 #[inline(always)]
-fn sent_none(history: &History, levels: &TurnLevels, number: usize) -> bool
-    requires number { number < length history.now.turns }
-    requires levels { AreTurnLevels history.now.turns (number / 64) levels.now }
-    ensures { result ≡ true → option_map (λ turn. turn.sent) (slice_get history.now.turns number) ≡ Some [] }
+fn next_unknown(levels: &TurnLevels, from: usize, end: usize) -> usize
+    requires within { from ≤ end }
+    requires block { end ≤ 64 * (from / 64) + 64 }
+    ensures rises { from ≤ result }
+    ensures within { result ≤ end }
+    ensures level { (n : ℕ) → from ≤ n → n < result → IsLevel levels.now.sent n }
 {
-    if levels.sent.is_level(number) {
-        return true;
+    if levels.sent.limit < end {
+        return from;
     }
-    history.sent(number).is_empty()
+    let others = (levels.sent.bits >> (from % 64)) / 2;
+    if others == 0 {
+        return end;
+    }
+    from + (others.trailing_zeros() as usize).min(end - from)
 }
 
 /// Appends the misses of a recorded turn.

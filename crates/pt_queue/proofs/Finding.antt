@@ -17,7 +17,8 @@ use Rattle.pt_queue.specs.Tagged.{tag_holds_up, tag_in, unit_holds_up}
 use Rattle.pt_queue.specs.Marks.{AreMarks, IsHolder, IsHolderAmong, IsHolderIn, one_if, unit_with}
 use Rattle.pt_queue.proofs.ByUnit.{no_place, tag_with, with_place}
 use Rattle.pt_queue.proofs.Holding.{holder_has}
-use Rattle.pt_queue.proofs.Words.{at_word, past_words, top_above, top_below}
+use Rattle.pt_causality.proofs.Marks.{at_word, past_words}
+use Rattle.pt_queue.proofs.Words.{top_above, top_below}
 
 pub below_or : (n m : ℕ) → (n < m) ⊎ (m ≤ n)
 below_or n m = grind arith

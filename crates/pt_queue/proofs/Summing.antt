@@ -8,7 +8,7 @@ use Rattle.std.proofs.lemmas.Nat.{pow-add}
 use Rattle.std.proofs.lemmas.Nat.Bits.{bit_at_above, bit_at_clear_other, bit_at_set_other, bit_at_set_same, bit_at-lt, bit_at-pow_other, bit_at-zero}
 use Rattle.pt_causality.specs.Before.{bit_of}
 use Rattle.pt_queue.specs.Marks.{AreSummed, IsFirstMark, IsNextBit, IsTopBit}
-use Rattle.pt_queue.proofs.Words.{at_word, past_words}
+use Rattle.pt_causality.proofs.Marks.{at_word, past_words}
 
 pub below_or : (n m : ℕ) → (n < m) ⊎ (m ≤ n)
 below_or n m = grind arith

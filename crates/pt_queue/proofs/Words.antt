@@ -1,52 +1,11 @@
--- Bits, 64 in a word: one that is set or cleared, and the highest.
-use Rattle.std.proofs.Common.{◌≡◌, ◌≢◌, ℕ, ◌+◌, ◌-◌, ◌*◌, ◌/◌, ◌%◌, ◌^◌, ◌<◌, ◌≤◌, ◌⊎◌, List, length, max, slice_index_or, slice_set, sym, ap, ◌∙◌, ⊎_elim, arith}
-use Rattle.std.specs.Int.{bit_at, bit_not, w64}
+-- Bits, 64 in a word: the highest of a word, and those that words share.
+use Rattle.std.proofs.Common.{◌≡◌, ◌≢◌, ℕ, ◌+◌, ◌-◌, ◌*◌, ◌/◌, ◌%◌, ◌^◌, ◌<◌, ◌≤◌, ◌⊎◌, List, length, max, slice_index_or, sym, ap, ◌∙◌, ⊎_elim, arith}
+use Rattle.std.specs.Int.{bit_at}
 use Rattle.std.specs.Int.RustNames.{bit_and, bit_or}
-use Rattle.std.proofs.lemmas.List.{get_or-set_same, get_or-set_other, get_or_past}
-use Rattle.std.proofs.lemmas.Nat.Bits.{bit_at_above, bit_at_cat_low, bit_at_clear_other, bit_at_clear_same, bit_at_or, bit_at-zero}
-use Rattle.pt_causality.specs.Before.{bit_of}
-
-either : (n m : ℕ) → (n ≡ m) ⊎ (n ≢ m)
-either n m = grind arith
+use Rattle.std.proofs.lemmas.Nat.Bits.{bit_at_above, bit_at_cat_low, bit_at_or}
 
 below_or : (n m : ℕ) → (n < m) ⊎ (m ≤ n)
 below_or n m = grind arith
-
-in_word : (n : ℕ) → n % 64 < 64
-in_word n = omega arith
-
--- the words with bit n cleared
-abbrev pub without_bit : List ℕ → ℕ → List ℕ
-without_bit words n = slice_set words (n / 64) (bit_and (slice_index_or words (n / 64) 0) (bit_not w64 (1 * 2 ^ (n % 64) % 2 ^ 64)))
-
-pub clear_here : (words : List ℕ) (n : ℕ) → n / 64 < length words → bit_of (without_bit words n) n ≡ 0
-clear_here words n l =
-    ap (λ w. bit_at w (n % 64)) (get_or-set_same words (n / 64) (bit_and (slice_index_or words (n / 64) 0) (bit_not w64 (1 * 2 ^ (n % 64) % 2 ^ 64))) 0 l)
-    ∙ bit_at_clear_same w64 (slice_index_or words (n / 64) 0) (n % 64) (in_word n)
-
-pub clear_other : (words : List ℕ) (n m : ℕ) → n / 64 < length words → m ≢ n → bit_of (without_bit words n) m ≡ bit_of words m
-clear_other words n m l ne = ⊎_elim
-    (λ (e : m / 64 ≡ n / 64).
-    ap (λ k. bit_at (slice_index_or (without_bit words n) k 0) (m % 64)) e
-    ∙ ap (λ w. bit_at w (m % 64)) (get_or-set_same words (n / 64) (bit_and (slice_index_or words (n / 64) 0) (bit_not w64 (1 * 2 ^ (n % 64) % 2 ^ 64))) 0 l)
-    ∙ bit_at_clear_other w64 (slice_index_or words (n / 64) 0) (n % 64) (in_word n) (m % 64) (in_word m) (apart e)
-    ∙ sym (ap (λ k. bit_at (slice_index_or words k 0) (m % 64)) e))
-    (λ (d : m / 64 ≢ n / 64). ap (λ w. bit_at w (m % 64)) (get_or-set_other words (n / 64) (m / 64) (bit_and (slice_index_or words (n / 64) 0) (bit_not w64 (1 * 2 ^ (n % 64) % 2 ^ 64))) 0 d))
-    (either (m / 64) (n / 64))
-  where
-    apart : m / 64 ≡ n / 64 → m % 64 ≢ n % 64
-    apart e same = ne (omega (arith, e, same))
-
--- bit n is that of its word
-pub at_word : (words : List ℕ) (n index i : ℕ) → i < 64 → n ≡ 64 * index + i → bit_of words n ≡ bit_at (slice_index_or words index 0) i
-at_word words n index i l is =
-    let word : n / 64 ≡ index = omega (arith, l, is) in
-    let bit : n % 64 ≡ i = omega (arith, l, is) in
-    ap (λ k. bit_at (slice_index_or words k 0) (n % 64)) word ∙ ap (bit_at (slice_index_or words index 0)) bit
-
--- past the words no bit is set
-pub past_words : (words : List ℕ) (n : ℕ) → length words ≤ n / 64 → bit_of words n ≡ 0
-past_words words n l = ap (λ w. bit_at w (n % 64)) (get_or_past words (n / 64) 0 l) ∙ bit_at-zero (n % 64)
 
 -- the bits of a word whose highest bit is k, without that bit
 

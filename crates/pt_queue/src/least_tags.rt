@@ -9,8 +9,9 @@ ghost use Rattle.pt_queue.specs.Tagged.{FitsIn, IsFirstTag, IsOnlyTag, tag_in};
 ghost use Rattle.pt_queue.specs.Marks.{AreMarks, IsWaitingAt, most_places, one_if, unit_with};
 ghost use Rattle.pt_queue.specs.Scans.{sooner};
 
-use crate::marks::{Span, clear_bit, first_from, is_only, set_bit, span_of, without_word, word_at};
+use crate::marks::{Span, first_from, is_only, span_of, without_word, word_at};
 use crate::waiting::Waiting;
+use pt_causality::{clear_bit, set_bit};
 use pt_tags::{Memory, Tag};
 use pt_types::Unit;
 use std::alloc::{AllocError, Global};

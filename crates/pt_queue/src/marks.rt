@@ -1,31 +1,9 @@
 //! Bits, 64 in a word, and a summary of the words: a bit for each two of them, which is set if one of the two isn't 0.
 
-ghost use Rattle.std.specs.Prelude.{◌≡◌, ◌≢◌, ◌+◌, ◌*◌, ◌/◌, ◌<◌, ◌≤◌, ℕ, true, length, slice_index_or};
+ghost use Rattle.std.specs.Prelude.{◌≡◌, ◌+◌, ◌*◌, ◌/◌, ◌<◌, ◌≤◌, ℕ, true, length, slice_index_or};
 ghost use Rattle.std.specs.Int.{bit_at};
 ghost use Rattle.pt_causality.specs.Before.{bit_of};
 ghost use Rattle.pt_queue.specs.Marks.{AreSummed, IsFirstMark, IsNextBit, IsTopBit, most_places};
-
-/// Sets a bit.
-#[inline(always)]
-pub fn set_bit(words: &mut Vec<u64>, place: usize)
-    requires { place < 64 * length words.old.items }
-    ensures here { bit_of words.new.items place ≡ 1 }
-    ensures others { (n : ℕ) → n ≢ place → bit_of words.new.items n ≡ bit_of words.old.items n }
-    ensures len { length words.new.items ≡ length words.old.items }
-{
-    words[place / 64] |= 1 << (place % 64);
-}
-
-/// Clears a bit.
-#[inline(always)]
-pub fn clear_bit(words: &mut Vec<u64>, place: usize)
-    requires { place < 64 * length words.old.items }
-    ensures here { bit_of words.new.items place ≡ 0 }
-    ensures others { (n : ℕ) → n ≢ place → bit_of words.new.items n ≡ bit_of words.old.items n }
-    ensures len { length words.new.items ≡ length words.old.items }
-{
-    words[place / 64] &= !(1 << (place % 64));
-}
 
 /// The highest bit that is set in a word.
 pub fn last_bit(word: u64) -> Option<u32>

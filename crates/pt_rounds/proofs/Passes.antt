@@ -37,6 +37,14 @@ fault_is None e = inl refl
 fault_is (Some (Late actor tag reading limit)) e = absurd (false≢true (sym e))
 fault_is (Some Long) e = inr (refl, refl)
 
+-- where no platform has a fault, none has one after one of them is replaced by one without
+pub fine_with : (platforms : List PlatformView) (n : ℕ) (v w : PlatformView) → slice_get platforms n ≡ Some v → w.fault ≡ None → HaveNoFault platforms → HaveNoFault (set platforms n w)
+fine_with platforms n v w there none before j u at =
+    ⊎_elim
+    (λ (here : j ≡ n). ap (λ (z : PlatformView). z.fault) (is_new platforms n v w there j u here at) ∙ none)
+    (λ (other : j ≢ n). before j u (is_old platforms n v w there j u other at))
+    (cases_same j n)
+
 module _ (plan : Parts) (rows : ℕ → List Row) (count c : ℕ) (olds : List PlatformView) (old_pipes : List (List Message)) (old_results : List (List Done)) (s : IsBeforeRound plan rows count c olds old_pipes old_results) where
   pub none_passed : HavePassed plan rows c s.together 0 olds old_pipes old_results true
   none_passed = record {

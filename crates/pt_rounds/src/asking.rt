@@ -1,14 +1,15 @@
 //! What the engine asks the platforms between rounds.
 
-ghost use Rattle.std.specs.Prelude.{◌≡◌, MatchOption, length};
+ghost use Rattle.std.specs.Prelude.{◌≡◌, MatchOption, false, length};
 ghost use Rattle.pt_rounds.specs.Asked.{IsFirstFault, IsLeastOf, NoneIsOpen};
 ghost use Rattle.pt_together.specs.Asked.{HaveNoFault};
 
 use pt_turn::Platform;
 use pt_visits::lesser;
 
-/// The first platform that has a fault.
-pub fn first_fault(platforms: &[Platform]) -> Option<usize>
+/// The first platform that has a fault. Not inlined, since mostly none has one.
+#[inline(never)]
+fn first_fault(platforms: &[Platform]) -> Option<usize>
     ensures { MatchOption result (HaveNoFault platforms.now) (IsFirstFault platforms.now) }
 {
     for i in 0..platforms.len() {
@@ -17,6 +18,18 @@ pub fn first_fault(platforms: &[Platform]) -> Option<usize>
         }
     }
     None
+}
+
+/// The first platform that has a fault; none has one unless one is `faulty`.
+#[inline(always)]
+pub fn fault_of(platforms: &[Platform], faulty: bool) -> Option<usize>
+    requires { faulty ≡ false → HaveNoFault platforms.now }
+    ensures { MatchOption result (HaveNoFault platforms.now) (IsFirstFault platforms.now) }
+{
+    if !faulty {
+        return None;
+    }
+    first_fault(platforms)
 }
 
 /// The least next reading of the platforms that are not closed, in microseconds; `None` if all are closed.

@@ -8,7 +8,7 @@ ghost use Rattle.pt_rounds.specs.HaveRun.{HaveRun};
 ghost use Rattle.pt_together.specs.Asked.{result_lists};
 ghost use Rattle.pt_rounds.specs.Passing.{IsBeforeRound};
 
-use crate::asking::{first_fault, next_reading};
+use crate::asking::{fault_of, next_reading};
 use crate::passing::pass;
 use pt_actors::Done;
 use pt_blocks::Blocks;
@@ -39,6 +39,7 @@ pub fn go_on(
     let mut reading = begins;
     let mut under_way = true;
     for _round in 0..MOST_ROUNDS {
+        let mut faulty = false;
         let quiet = pass(
             platforms,
             pipes,
@@ -47,8 +48,9 @@ pub fn go_on(
             blocks,
             reading,
             &mut under_way,
+            &mut faulty,
         )?;
-        if let Some(fault) = first_fault(platforms) {
+        if let Some(fault) = fault_of(platforms, faulty) {
             return Ok(Some(platforms[fault].number()));
         }
         if are_finished(platforms) {

@@ -9,7 +9,7 @@ ghost use Rattle.pt_semantics.specs.Turn.{is_empty};
 ghost use Rattle.pt_turn.specs.Platforms.{level_at, state_at};
 ghost use Rattle.pt_turn.specs.Turned.{MayCome};
 ghost use Rattle.pt_visits.specs.Pipes.{arriving};
-ghost use Rattle.pt_together.specs.Asked.{result_lists};
+ghost use Rattle.pt_together.specs.Asked.{HaveNoFault, result_lists};
 ghost use Rattle.pt_rounds.specs.Passing.{HavePassed, IsBeforeRound, WasVisitedInRound};
 
 use pt_actors::Done;
@@ -49,8 +49,16 @@ fn visit_one(
     Ok(platform.closed() == closed && was_quiet(platform))
 }
 
+/// Whether a platform has a fault, or another one had.
+#[inline(always)]
+fn or_faulty(faulty: bool, platform: &Platform) -> bool
+    ensures { result ≡ false → (faulty ≡ false) × (platform.now.fault ≡ None) }
+{
+    faulty || platform.fault().is_some()
+}
+
 /// A round at a common reading, in microseconds: visits each platform that is not finished, in order. Returns whether the
-/// round was quiet. Unless a message may be `under_way`, all links are empty.
+/// round was quiet. Unless a message may be `under_way`, all links are empty. Unless one is `faulty`, no platform has a fault.
 pub fn pass(
     platforms: &mut [Platform],
     pipes: &mut [Pipe],
@@ -59,12 +67,14 @@ pub fn pass(
     blocks: &Blocks,
     reading: u64,
     under_way: &mut bool,
+    faulty: &mut bool,
 ) -> Result<bool, Memory>
     requires begun { (plan : Parts) × (rows : ℕ → List Row) × (count : ℕ) × IsBeforeRound plan rows count reading platforms.old pipes.old (result_lists results.old) }
     requires none { under_way.old ≡ false → list_all is_empty pipes.old ≡ true }
     ensures passed { IfOk result (λ quiet. (plan : Parts) (rows : ℕ → List Row) (count : ℕ) (s : IsBeforeRound plan rows count reading platforms.old pipes.old (result_lists results.old)) →
         HavePassed plan rows reading s.together (length platforms.old) platforms.new pipes.new (result_lists results.new) quiet) }
     ensures none { OnOk result (under_way.new ≡ false → list_all is_empty pipes.new ≡ true) }
+    ensures faults { OnOk result (faulty.new ≡ false → HaveNoFault platforms.new) }
 {
     let mut quiet = true;
     for i in 0..platforms.len() {
@@ -80,6 +90,7 @@ pub fn pass(
             reading,
             under_way,
         )?;
+        *faulty = or_faulty(*faulty, &platforms[i]);
         quiet = quiet && still;
     }
     Ok(quiet)

@@ -9,7 +9,7 @@ use Rattle.csv.specs.Reading.{strip_bom}
 use Rattle.pt_types.specs.declared.rows.Row.{Row}
 use Rattle.pt_sensors.specs.declared.fault.RowFault.{RowFault}
 use Rattle.pt_sensors.specs.declared.fault.RowFault.TheVariants as fault
-use Rattle.pt_sensors.specs.Numbers.{at_most, limited, number_of, signed}
+use Rattle.pt_sensors.specs.Numbers.{at_most, limited, field_number, signed}
 use Rattle.pt_sensors.specs.Rows.{Cells, cells, numbers_of, order_fault, or_row_fault, unless, row_of, is_header, ◌>>=◌}
 use Rattle.pt_sensors.specs.RowsOf.{next, row_in_front, goes_on, ends, rows_from, rows_of, rows_in, after_header, GivesRows}
 use Rattle.pt_sensors.specs.Order.{RowFollows, IsRow, RowsInOrder, RowsAreInOrder}
@@ -30,7 +30,7 @@ numbers_of-bounds : (c : Cells) (row : Row) → numbers_of c ≡ Some row → (r
 unfolding numbers_of
 numbers_of-bounds c row h =
     let p = parts (limited 1000000000000000 c.0) (limited 10000000000000000 c.1) (signed c.2) row h in
-    (limited-le _ (number_of c.0) _ p.0, limited-le _ (number_of c.1) _ p.1)
+    (limited-le _ (field_number c.0) _ p.0, limited-le _ (field_number c.1) _ p.1)
 
 order_fault-none : (n : ℕ) (before : Option Row) (row : Row) → order_fault n before row ≡ None → (row.time ≤ row.seen) × RowFollows before row
 order_fault-none n None row h = (grind (arith, nat_tests), tt)

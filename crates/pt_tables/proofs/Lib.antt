@@ -5,3 +5,4 @@ pub mod Placed
 pub mod Written
 pub mod Gathering
 pub mod Parts
+pub mod Works

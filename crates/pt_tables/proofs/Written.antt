@@ -1,6 +1,7 @@
 -- A turn's lines, written one list after another.
-use Rattle.std.proofs.Common.{◌≡◌, ℕ, ◌+◌, ◌≤◌, List, ◌++◌, Option, Some, None, append-nil, drop, length, slice_get, refl, sym, ap, ◌∙◌}
-use Rattle.std.specs.Prelude.{flat_map, option_map}
+use Rattle.std.proofs.Common.{◌≡◌, ℕ, ◌+◌, ◌≤◌, List, [], ◌∷◌, ◌++◌, Option, Some, None, append-nil, drop, length, slice_get, refl, sym, ap, ◌∙◌}
+use Rattle.std.specs.Fmt.{decimal}
+use Rattle.std.specs.Prelude.{codes, flat_map, option_map}
 use Rattle.std.proofs.lemmas.List.{append_assoc, drop_all}
 use Rattle.pt_types.specs.declared.firing.Done.{Done}
 use Rattle.pt_types.specs.declared.firing.OnLink.{OnLink}
@@ -53,6 +54,17 @@ lists_written g (Some turn) posted rows taken claimed sent old reads =
     ap Some
     (λ i. regroup old (flat_map post_line (p i)) (flat_map (row_line g) (r i)) (flat_map (take_line g) (t i)) (flat_map (claim_line g) (c i)) (flat_map (sent_line g) (s i)) i)
 
+-- the line of a turn, written from its end
+pub turn_put : (platform : List ℕ) (first last count : ℕ) → (codes "turn," ++ platform ++ 44 ∷ []) ++ (decimal first ++ (44 ∷ (decimal last ++ (44 ∷ (decimal count ++ (10 ∷ [])))))) ≡ turn_line platform first last count
+turn_put platform first last count = simp append_assoc
+
+-- what is appended to a text list by list, where some lists are empty, and as one piece
+pub as_one : (text b e : List ℕ) → ((((text ++ b) ++ []) ++ []) ++ e) ++ [] ≡ text ++ (b ++ e)
+as_one text b e =
+    append-nil ((((text ++ b) ++ []) ++ []) ++ e)
+    ∙ ap (λ l. l ++ e) (append-nil ((text ++ b) ++ []) ∙ append-nil (text ++ b))
+    ∙ append_assoc text b e
+
 -- a turn's first line, and then those of its lists
 pub turn_written : (g : Graph) (platform : ℕ) (o : Option Turn) (first last count : ℕ) (old mid new : List ℕ) → ReadsHead o first last count
     → mid ≡ old ++ turn_line (platform_name g platform) first last count → option_map (λ (turn : Turn). mid ++ list_lines g turn) o ≡ Some new
@@ -70,6 +82,16 @@ turn_written g platform (Some turn) first last count old mid new reads head list
 pub next_put : {X : Type 0} (f : X → List ℕ) (xs : List X) (n : ℕ) (x : X) (old new : List ℕ) → slice_get xs n ≡ Some x → new ≡ old ++ f x → new ++ flat_map f (drop (n + 1) xs) ≡ old ++ flat_map f (drop n xs)
 next_put f xs n x old new at put =
     ap (λ l. l ++ flat_map f (drop (n + 1) xs)) put ∙ append_assoc old (f x) (flat_map f (drop (n + 1) xs)) ∙ ap (λ l. old ++ flat_map f l) (sym (drop_next xs n x at))
+
+-- the line of the only item
+pub all_of_one : {X : Type 0} (f : X → List ℕ) (xs : List X) (x : X) → xs ≡ x ∷ [] → f x ≡ flat_map f xs
+all_of_one f xs x is = sym (ap (flat_map f) is ∙ append-nil (f x))
+
+-- the line of a result, put before other lines
+pub post_before : (done : Done) (old : List ℕ) → codes "post," ++ decimal done.task.number ++ 10 ∷ old ≡ post_line done ++ old
+post_before done old =
+    ap (λ l. codes "post," ++ l) (sym (append_assoc (decimal done.task.number) (10 ∷ []) old))
+    ∙ sym (append_assoc (codes "post,") (decimal done.task.number ++ 10 ∷ []) old)
 
 -- no items are left
 pub all_put : {X : Type 0} (f : X → List ℕ) (xs : List X) (n : ℕ) (text : List ℕ) → length xs ≤ n → text ++ flat_map f (drop n xs) ≡ text

@@ -3,6 +3,7 @@ use Rattle.std.specs.Prelude.{ℕ, ◌+◌, ◌++◌, ◌∷◌, [], List, codes
 use Rattle.std.specs.Fmt.{decimal, signed_decimal}
 use Rattle.pt_tags.specs.declared.message.Message.{Message}
 use Rattle.pt_tags.specs.declared.message.Message.TheVariants.{End, Event}
+use Rattle.pt_tags.specs.declared.tag.Tag.{Tag}
 use Rattle.pt_types.specs.declared.firing.Done.{Done}
 use Rattle.pt_types.specs.declared.firing.OnLink.{OnLink}
 use Rattle.pt_types.specs.declared.firing.Task.{Task}
@@ -32,6 +33,10 @@ message_line word name End = word ++ 44 ∷ name ++ codes ",end" ++ 10 ∷ []
 -- take,RECEIVER,..
 abbrev pub take_line : Graph → OnLink → List ℕ
 take_line g taken = message_line (codes "take") (receiver_name g (slice_get g.links taken.link)) taken.message
+
+-- the end of the line of a claim with this tag: ,TIME,STEP
+abbrev pub claim_end : Tag → List ℕ
+claim_end tag = 44 ∷ decimal tag.time ++ 44 ∷ decimal tag.step ++ 10 ∷ []
 
 -- claim,NUMBER,ACTOR,TIME,STEP
 abbrev pub claim_line : Graph → Task → List ℕ

@@ -1,8 +1,9 @@
 -- The line of a turn, stored with the numbers in it.
-use Rattle.std.specs.Prelude.{◌≡◌, ℕ, List, string_bytes}
+use Rattle.std.specs.Prelude.{◌≡◌, ◌≤◌, ◌++◌, ◌∷◌, [], codes, length, true}
 use Rattle.pt_tables.specs.declared.turn_line.TurnLine.{TurnLine}
 use Rattle.pt_tables.specs.Log.{turn_line}
 
--- the stored text is the line of a turn of this platform with the stored numbers
-abbrev pub IsLineOf : List ℕ → TurnLine → Type 0
-IsLineOf platform line = string_bytes line.text ≡ turn_line platform line.first line.last line.count
+-- what a stored line begins with is right, and if a line is stored, it is that of a turn of its platform with the stored numbers
+pub record IsKeptLine (t : TurnLine) : Type 0 where
+  pub head : length t.platform.now ≤ 58 → t.head ≡ codes "turn," ++ t.platform.now ++ 44 ∷ []
+  pub line : t.stored ≡ true → t.line ≡ turn_line t.platform.now t.first t.last t.count

@@ -9,6 +9,7 @@
 #![tactic(auto)]
 
 mod actor_tables;
+mod claim_end;
 mod held;
 mod line;
 mod lines;
@@ -16,6 +17,8 @@ mod margin_lines;
 mod meaning;
 mod miss;
 mod names;
+mod pen;
+mod piece;
 mod platforms;
 mod table;
 mod text;

@@ -10,8 +10,11 @@ use std::marker::Model;
 /// The longest line, in bytes. It has room for three numbers and a name of some 60 bytes.
 const ROOM: usize = 128;
 
-/// A line, or the end of one. It is written from its last byte to its first, as the digits of a number are, and appended to a
-/// text as one piece: that is faster than one piece for each field. Contracts see its bytes.
+/// How many bytes a short line may have: its copy takes few instructions.
+const SHORT: usize = 64;
+
+/// A line, the end of one, or some lines. It is written from its last byte to its first, as the digits of a number are, and
+/// appended to a text as one piece: that is faster than one piece for each field. Contracts see its bytes.
 #[derive(Drop)]
 pub(crate) struct Line {
     bytes: [u8; ROOM],
@@ -31,17 +34,52 @@ impl Model for Line {
 }
 
 impl Line {
+    /// No bytes.
+    #[inline(always)]
+    pub(crate) fn empty() -> Line
+        ensures { result ≡ [] }
+    {
+        Line {
+            bytes: [0; ROOM],
+            start: ROOM,
+        }
+    }
+
     /// The end of a line.
     #[inline(always)]
     pub(crate) fn new() -> Line
         ensures { result ≡ 10 ∷ [] }
     {
-        let mut line = Line {
-            bytes: [0; ROOM],
-            start: ROOM,
-        };
+        let mut line = Line::empty();
         line.put(b'\n');
         line
+    }
+
+    /// Takes all bytes away.
+    #[inline(always)]
+    pub(crate) fn clear(&mut self)
+        ensures { self.new ≡ [] }
+    {
+        self.start = ROOM;
+    }
+
+    /// Becomes the end of a line. What was written before is gone: a line that is used again need not be made anew.
+    #[inline(always)]
+    pub(crate) fn end(&mut self)
+        ensures { self.new ≡ 10 ∷ [] }
+    {
+        self.clear();
+        self.put(b'\n');
+    }
+
+    /// Becomes a copy of a short line.
+    #[inline(always)]
+    pub(crate) fn copy_short(&mut self, short: &Line)
+        requires { length short.now ≤ 64 }
+        ensures { self.new ≡ short.now }
+    {
+        self.bytes[SHORT..].copy_from_slice(&short.bytes[SHORT..]);
+        self.start = short.start;
     }
 
     /// How many bytes there is room for.
@@ -115,6 +153,34 @@ impl Line {
         self.start = start;
     }
 
+    /// Puts a line before this one.
+    #[inline(always)]
+    pub(crate) fn put_line(&mut self, line: &Line)
+        requires { length line.now + length self.old ≤ 128 }
+        ensures { self.new ≡ line.now ++ self.old }
+    {
+        if line.room() < SHORT {
+            return self.text(line.as_str());
+        }
+        if self.room() < SHORT {
+            return self.text(line.as_str());
+        }
+        self.put_short(line);
+    }
+
+    /// Puts a short line before this one. The line's bytes are copied with the unused ones before them, which are overwritten
+    /// later: a copy whose size is known takes few instructions.
+    #[inline(always)]
+    pub(crate) fn put_short(&mut self, short: &Line)
+        requires short { length short.now ≤ 64 }
+        requires room { length self.old ≤ 64 }
+        ensures { self.new ≡ short.now ++ self.old }
+    {
+        let from = self.start - SHORT;
+        self.bytes[from..self.start].copy_from_slice(&short.bytes[SHORT..]);
+        self.start = from + (short.start - SHORT);
+    }
+
     /// The line as a text.
     #[inline(always)]
     pub(crate) fn as_str(&self) -> &str
@@ -143,6 +209,34 @@ impl Line {
         self.text(word);
         text.push_str(self.as_str())
     }
+
+    /// Appends a line and then this one, or these, to a text: as one piece, if there is room for it.
+    #[inline(always)]
+    pub(crate) fn push_after_line(
+        &mut self,
+        text: &mut String,
+        line: &Line,
+    ) -> Result<(), AllocError>
+        ensures { OnOk result (string_bytes text.new ≡ (string_bytes text.old ++ line.now) ++ self.old) }
+    {
+        if self.start == ROOM {
+            return text.push_str(line.as_str());
+        }
+        if self.start + line.start < ROOM {
+            return push_both(text, line.as_str(), self.as_str());
+        }
+        self.put_line(line);
+        text.push_str(self.as_str())
+    }
+}
+
+/// Appends two texts. Not inlined, since most lines are appended as one piece.
+#[inline(never)]
+fn push_both(text: &mut String, first: &str, second: &str) -> Result<(), AllocError>
+    ensures { OnOk result (string_bytes text.new ≡ (string_bytes text.old ++ first.now) ++ second.now) }
+{
+    text.push_str(first)?;
+    text.push_str(second)
 }
 
 /// Appends a word, a comma, a name, and the rest of a line. Not inlined, since most lines are appended as one piece.

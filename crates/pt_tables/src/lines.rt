@@ -1,6 +1,6 @@
 //! Single lines of the log.
 
-ghost use Rattle.std.specs.Prelude.{◌≡◌, ◌++◌, ◌∷◌, [], OnOk, codes, string_bytes};
+ghost use Rattle.std.specs.Prelude.{◌≡◌, ◌+◌, ◌≤◌, ◌++◌, ◌∷◌, [], OnOk, codes, length, string_bytes, true};
 ghost use Rattle.std.specs.Fmt.{decimal};
 ghost use Rattle.pt_types.specs.declared.firing.Done.{Done};
 ghost use Rattle.pt_types.specs.declared.firing.Task.{Task};
@@ -9,13 +9,15 @@ ghost use Rattle.pt_tables.specs.Log.{claim_line, message_line, post_line, row_l
 
 use crate::line::{Line, push_pieces};
 use crate::names::{receiver_name, sender_name};
+use crate::pen::Pen;
 use pt_history::Mark;
 use pt_tags::{Message, Tag};
 use pt_types::{Graph, OnLink, Row, RowAt};
 use std::alloc::AllocError;
 
-/// The most bytes of a claim's line before its actor's name: `claim,`, a number of 20 digits, and a comma.
-const CLAIM_ROOM: usize = 27;
+/// The most bytes before the actor's name in a claim's line, and in the line of a result before it: `claim,` and `post,`, two
+/// numbers of 20 digits, a comma and the end of a line.
+const CLAIM_ROOM: usize = 53;
 
 /// Appends the line of a turn, or of a run of quiet turns: `turn,PLATFORM,FIRST,LAST,COUNT`.
 pub fn push_turn_line(
@@ -35,22 +37,39 @@ pub fn push_turn_line(
 }
 
 /// Appends the line of the posted result of a task, which is given without its inputs: `post,NUMBER`.
-pub(crate) fn push_post(text: &mut String, task: Mark) -> Result<(), AllocError>
+#[inline(always)]
+pub(crate) fn push_post(text: &mut String, line: &mut Line, task: Mark) -> Result<(), AllocError>
     ensures { (done : Done) → mark_of done.task ≡ task → OnOk result (string_bytes text.new ≡ string_bytes text.old ++ post_line done) }
 {
-    let mut line = Line::new();
-    line.number(task.number);
-    line.text("post,");
+    line.clear();
+    put_post(line, task.number);
     text.push_str(line.as_str())
 }
 
+/// Puts the line of the posted result of task `number` before a line.
+#[inline(always)]
+pub(crate) fn put_post(line: &mut Line, number: u64)
+    requires { length line.old + 26 ≤ 128 }
+    ensures { line.new ≡ codes "post," ++ decimal number ++ 10 ∷ line.old }
+{
+    line.put(b'\n');
+    line.number(number);
+    line.text("post,");
+}
+
 /// Appends the line of a row that entered: `row,SENSOR,TIME,SEEN,VALUE`.
-pub(crate) fn push_row(text: &mut String, graph: &Graph, at: &RowAt) -> Result<(), AllocError>
+#[inline(always)]
+pub(crate) fn push_row(
+    text: &mut String,
+    line: &mut Line,
+    graph: &Graph,
+    at: &RowAt,
+) -> Result<(), AllocError>
     ensures { OnOk result (string_bytes text.new ≡ string_bytes text.old ++ row_line graph.now at.now) }
 {
     let RowAt { sensor, row } = *at;
     let Row { time, seen, value } = row;
-    let mut line = Line::new();
+    line.end();
     line.value(value);
     line.field(seen);
     line.field(time);
@@ -58,11 +77,17 @@ pub(crate) fn push_row(text: &mut String, graph: &Graph, at: &RowAt) -> Result<(
 }
 
 /// Appends the line of a message taken: `take,RECEIVER,TIME,STEP,VALUE` or `take,RECEIVER,end`.
-pub(crate) fn push_taken(text: &mut String, graph: &Graph, taken: &OnLink) -> Result<(), AllocError>
+pub(crate) fn push_taken(
+    text: &mut String,
+    line: &mut Line,
+    graph: &Graph,
+    taken: &OnLink,
+) -> Result<(), AllocError>
     ensures { OnOk result (string_bytes text.new ≡ string_bytes text.old ++ take_line graph.now taken.now) }
 {
     push_message(
         text,
+        line,
         "take",
         receiver_name(graph, taken.link),
         taken.message,
@@ -70,21 +95,41 @@ pub(crate) fn push_taken(text: &mut String, graph: &Graph, taken: &OnLink) -> Re
 }
 
 /// Appends the line of a claim, which is given without its inputs: `claim,NUMBER,ACTOR,TIME,STEP`.
-pub(crate) fn push_claim(text: &mut String, graph: &Graph, claim: Mark) -> Result<(), AllocError>
+#[inline(always)]
+pub(crate) fn push_claim(
+    text: &mut String,
+    pen: &mut Pen,
+    graph: &Graph,
+    claim: Mark,
+) -> Result<(), AllocError>
     ensures { (task : Task) → mark_of task ≡ claim → OnOk result (string_bytes text.new ≡ string_bytes text.old ++ claim_line graph.now task) }
 {
-    let name = graph.actor_name(claim.actor);
-    let mut line = Line::new();
-    line.field(claim.tag.step);
-    line.field(claim.tag.time);
-    if line.room() < name.len() + CLAIM_ROOM {
-        return push_long_claim(text, claim.number, name, line.as_str());
+    if !write_claim(pen, graph, claim) {
+        let name = graph.actor_name(claim.actor);
+        return push_long_claim(text, claim.number, name, pen.end.line().as_str());
     }
-    line.text(name);
-    line.put(b',');
-    line.number(claim.number);
-    line.text("claim,");
-    text.push_str(line.as_str())
+    text.push_str(pen.line.as_str())
+}
+
+/// Writes the line of a claim, which is given without its inputs, if there is room for it and for the line of a result before
+/// it. Returns whether there is.
+#[inline(always)]
+pub(crate) fn write_claim(pen: &mut Pen, graph: &Graph, claim: Mark) -> bool
+    ensures end { pen.new.end ≡ claim.tag }
+    ensures line { result ≡ true → (task : Task) → mark_of task ≡ claim → pen.new.line ≡ claim_line graph.now task }
+    ensures room { result ≡ true → length pen.new.line + 26 ≤ 128 }
+{
+    pen.end.renew(claim.tag);
+    pen.line.copy_short(pen.end.line());
+    let name = graph.actor_name(claim.actor);
+    if pen.line.room() < name.len() + CLAIM_ROOM {
+        return false;
+    }
+    pen.line.text(name);
+    pen.line.put(b',');
+    pen.line.number(claim.number);
+    pen.line.text("claim,");
+    true
 }
 
 /// Appends the line of a claim by an actor with a long name, where the rest of the line is given.
@@ -96,16 +141,28 @@ fn push_long_claim(text: &mut String, number: u64, name: &str, rest: &str) -> Re
 }
 
 /// Appends the line of a message sent: `sent,SENDER,TIME,STEP,VALUE` or `sent,SENDER,end`.
-pub(crate) fn push_sent(text: &mut String, graph: &Graph, sent: &OnLink) -> Result<(), AllocError>
+pub(crate) fn push_sent(
+    text: &mut String,
+    line: &mut Line,
+    graph: &Graph,
+    sent: &OnLink,
+) -> Result<(), AllocError>
     ensures { OnOk result (string_bytes text.new ≡ string_bytes text.old ++ sent_line graph.now sent.now) }
 {
-    push_message(text, "sent", sender_name(graph, sent.link), sent.message)
+    push_message(
+        text,
+        line,
+        "sent",
+        sender_name(graph, sent.link),
+        sent.message,
+    )
 }
 
 /// Appends the line of a message at one end of a link.
 #[inline(always)]
 fn push_message(
     text: &mut String,
+    line: &mut Line,
     word: &str,
     name: &str,
     message: Message,
@@ -113,7 +170,7 @@ fn push_message(
     ensures { OnOk result (string_bytes text.new ≡ string_bytes text.old ++ message_line word.now name.now message) }
 {
     match message {
-        Message::Event { tag, value } => push_event(text, word, name, tag, value),
+        Message::Event { tag, value } => push_event(text, line, word, name, tag, value),
         Message::End => push_last(text, word, name),
     }
 }
@@ -122,6 +179,7 @@ fn push_message(
 #[inline(always)]
 fn push_event(
     text: &mut String,
+    line: &mut Line,
     word: &str,
     name: &str,
     tag: Tag,
@@ -129,7 +187,7 @@ fn push_event(
 ) -> Result<(), AllocError>
     ensures { OnOk result (string_bytes text.new ≡ string_bytes text.old ++ message_line word.now name.now (Message.Event tag value)) }
 {
-    let mut line = Line::new();
+    line.end();
     line.value(value);
     line.field(tag.step);
     line.field(tag.time);

@@ -1,77 +1,133 @@
 //! The first line of a turn, which many turns have in common.
 
-ghost use Rattle.std.specs.Prelude.{◌≡◌, ◌++◌, IfOk, OnOk, string_bytes};
+ghost use Rattle.std.specs.Prelude.{◌≡◌, ◌≤◌, ◌++◌, ◌∷◌, [], List, ℕ, OnOk, codes, length, string_bytes};
 ghost use Rattle.pt_tables.specs.Log.{turn_line};
-ghost use Rattle.pt_tables.specs.TurnLine.{IsLineOf};
-ghost use Rattle.pt_types.specs.Lookups.{platform_name};
+ghost use Rattle.pt_tables.specs.TurnLine.{IsKeptLine};
 
+use crate::line::Line;
 use crate::lines::push_turn_line;
 use pt_history::Head;
-use pt_types::Graph;
-use std::alloc::{AllocError, Global};
+use std::alloc::AllocError;
+
+/// The longest name of a platform, in bytes, whose lines are stored.
+const LONGEST: usize = 58;
 
 /// The first line of some turn of a platform. Most turns have the same readings and count as the turn before, so that this
 /// line is copied as a whole.
 #[derive(Drop)]
-pub(crate) struct TurnLine {
+pub(crate) struct TurnLine<'a> {
+    pub platform: &'a str,
+    /// What the lines of its turns begin with.
+    pub head: Line,
     pub first: u64,
     pub last: u64,
     pub count: u64,
-    pub text: String,
+    /// Whether the line is stored. One with a long name has no room.
+    pub stored: bool,
+    pub line: Line,
 }
 
-impl TurnLine {
-    /// A line with no turn's numbers.
-    pub(crate) fn new(alloc: Global, platform: &str) -> Result<TurnLine, AllocError>
-        ensures { IfOk result (λ line. IsLineOf platform.now line) }
+impl<'a> TurnLine<'a> {
+    /// A line with no turn's numbers, which is not stored.
+    pub(crate) fn new(platform: &'a str) -> TurnLine<'a>
+        ensures platform { result.platform.now ≡ platform.now }
+        ensures stored { IsKeptLine result }
     {
-        let mut text = String::new(alloc);
-        push_turn_line(&mut text, platform, 0, 0, 0)?;
-        Ok(TurnLine {
+        TurnLine {
+            platform,
+            head: head_of(platform),
             first: 0,
             last: 0,
             count: 0,
-            text,
-        })
-    }
-
-    /// Appends the line of a turn of a platform with these readings and this count to a text.
-    #[inline(always)]
-    pub(crate) fn push(
-        &mut self,
-        text: &mut String,
-        graph: &Graph,
-        platform: u32,
-        head: Head,
-    ) -> Result<(), AllocError>
-        requires { IsLineOf (platform_name graph.now platform) self.old }
-        ensures line { OnOk result (IsLineOf (platform_name graph.now platform) self.new) }
-        ensures last { OnOk result (self.new.last ≡ head.last) }
-        ensures text { OnOk result (string_bytes text.new ≡ string_bytes text.old ++ turn_line (platform_name graph.now platform) head.first head.last head.count) }
-    {
-        let Head { first, last, count } = head;
-        if self.first != first || self.last != last || self.count != count {
-            self.replace(graph.platform_name(platform), first, last, count)?;
+            stored: false,
+            line: Line::empty(),
         }
-        text.push_str(self.text.as_str())
     }
 
     /// Becomes the line of a turn with these readings and this count.
+    #[inline(always)]
+    pub(crate) fn renew(&mut self, head: Head)
+        requires { IsKeptLine self.old }
+        ensures platform { self.new.platform.now ≡ self.old.platform.now }
+        ensures stored { IsKeptLine self.new }
+        ensures first { self.new.first ≡ head.first }
+        ensures last { self.new.last ≡ head.last }
+        ensures count { self.new.count ≡ head.count }
+    {
+        let Head { first, last, count } = head;
+        if self.first != first || self.last != last || self.count != count {
+            self.replace(first, last, count);
+        }
+    }
+
+    /// Becomes the line of a turn with these readings and this count, which are other ones.
     #[inline(never)]
-    fn replace(
-        &mut self,
-        platform: &str,
-        first: u64,
-        last: u64,
-        count: u64,
-    ) -> Result<(), AllocError>
-        ensures numbers { OnOk result ((self.new.first ≡ first) × (self.new.last ≡ last) × (self.new.count ≡ count)) }
-        ensures text { OnOk result (string_bytes self.new.text ≡ turn_line platform.now first last count) }
+    fn replace(&mut self, first: u64, last: u64, count: u64)
+        requires { IsKeptLine self.old }
+        ensures platform { self.new.platform.now ≡ self.old.platform.now }
+        ensures stored { IsKeptLine self.new }
+        ensures first { self.new.first ≡ first }
+        ensures last { self.new.last ≡ last }
+        ensures count { self.new.count ≡ count }
     {
         self.first = first;
         self.last = last;
         self.count = count;
-        self.text.clear();
-        push_turn_line(&mut self.text, platform, first, last, count)
+        self.stored = self.platform.len() <= LONGEST;
+        if self.stored {
+            write_turn_line(&mut self.line, &self.head, first, last, count);
+        }
     }
+
+    /// Appends the line to a text.
+    #[inline(always)]
+    pub(crate) fn push(&self, text: &mut String) -> Result<(), AllocError>
+        requires { IsKeptLine self.now }
+        ensures { OnOk result (string_bytes text.new ≡ string_bytes text.old ++ turn_line self.now.platform.now self.now.first self.now.last self.now.count) }
+    {
+        if !self.stored {
+            return push_turn_line(text, self.platform, self.first, self.last, self.count);
+        }
+        text.push_str(self.line.as_str())
+    }
+
+    /// Appends the line and the lines after it to a text: as one piece, if there is room for it.
+    #[inline(always)]
+    pub(crate) fn push_before(&self, text: &mut String, after: &mut Line) -> Result<(), AllocError>
+        requires { IsKeptLine self.now }
+        ensures { OnOk result (string_bytes text.new ≡ (string_bytes text.old ++ turn_line self.now.platform.now self.now.first self.now.last self.now.count) ++ after.old) }
+    {
+        if !self.stored {
+            self.push(text)?;
+            return text.push_str(after.as_str());
+        }
+        after.push_after_line(text, &self.line)
+    }
+}
+
+/// What the lines of the turns of a platform begin with, if its name is not long: `turn,PLATFORM,`.
+fn head_of(platform: &str) -> Line
+    ensures { length platform.now ≤ 58 → result ≡ codes "turn," ++ platform.now ++ 44 ∷ [] }
+{
+    let mut head = Line::empty();
+    if platform.len() > LONGEST {
+        return head;
+    }
+    head.put(b',');
+    head.text(platform);
+    head.text("turn,");
+    head
+}
+
+/// Writes the line of a turn, or of a run of quiet turns, where what it begins with is given.
+#[inline(always)]
+fn write_turn_line(line: &mut Line, head: &Line, first: u64, last: u64, count: u64)
+    requires { length head.now ≤ 64 }
+    ensures { (platform : List ℕ) → head.now ≡ codes "turn," ++ platform ++ 44 ∷ [] → line.new ≡ turn_line platform first last count }
+{
+    line.end();
+    line.field(count);
+    line.field(last);
+    line.number(first);
+    line.put_short(head);
 }

@@ -1,21 +1,26 @@
 //! The log lines of turns.
 
-ghost use Rattle.std.specs.Prelude.{◌≡◌, ◌+◌, ◌/◌, ◌++◌, ◌∷◌, ◌<◌, [], List, OnOk, Some, length, option_map, slice_get, string_bytes, take};
+ghost use Rattle.std.specs.Prelude.{◌≡◌, ◌+◌, ◌/◌, ◌++◌, ◌∷◌, ◌<◌, [], List, ℕ, OnOk, Some, length, option_map, slice_get, string_bytes, take};
 ghost use Rattle.std.specs.List.{flat_map};
 ghost use Rattle.pt_semantics.specs.Lists.{Each};
 ghost use Rattle.pt_semantics.specs.Turn.{Turn};
 ghost use Rattle.pt_history.specs.Levels.{AreTurnLevels};
 ghost use Rattle.pt_history.specs.Turns.{claimed_in, posted_in};
 ghost use Rattle.pt_tables.specs.Held.{HasHeldLists, IsHeldMessage, IsHeldResult, IsHeldTurn};
-ghost use Rattle.pt_tables.specs.Log.{claim_line, history_lines, list_lines, log_head, log_text, post_line, row_line, sent_line, take_line, turn_lines};
-ghost use Rattle.pt_tables.specs.TurnLine.{IsLineOf};
-ghost use Rattle.pt_tables.specs.Walk.{IsAtTurn, IsLastBefore};
+ghost use Rattle.pt_tables.specs.Log.{claim_line, history_lines, list_lines, log_head, log_text, post_line, row_line, sent_line, take_line, turn_line, turn_lines};
+ghost use Rattle.pt_tables.specs.TurnLine.{IsKeptLine};
+ghost use Rattle.pt_tables.specs.Walk.{HasWorksOnly, IsAtTurn, IsLastBefore};
 ghost use Rattle.pt_types.specs.Lookups.{platform_name};
 
 use crate::held::holds;
+use crate::line::Line;
 use crate::lines::{push_claim, push_post, push_row, push_sent, push_taken};
+use crate::pen::Pen;
+use crate::piece::{put_posts, write_claims};
 use crate::turn_line::TurnLine;
-use crate::walk::{Walk, head_after, renew, rows_in, sent_in, taken_in};
+use crate::walk::{
+    Walk, claims_after, head_after, renew, results_after, rows_in, sent_in, taken_in,
+};
 use pt_history::{History, TurnLevels};
 use pt_types::{Graph, OnLink, RowAt};
 use std::alloc::AllocError;
@@ -40,10 +45,11 @@ pub fn push_history(
     ensures log { OnOk result ((before : List (List Turn)) → length before ≡ platform → string_bytes text.old ≡ log_text graph.now before → string_bytes text.new ≡ log_text graph.now (before ++ history.now.turns ∷ [])) }
     ensures held { OnOk result (Each IsHeldTurn history.now.turns) }
 {
-    let mut line = TurnLine::new(*text.allocator(), graph.platform_name(platform))?;
+    let mut line = TurnLine::new(graph.platform_name(platform));
     let mut walk = Walk::new(history);
+    let mut pen = Pen::new();
     for number in 0..history.turns() {
-        push_next(text, &mut line, &mut walk, graph, platform, history, number)?;
+        push_next(text, &mut line, &mut walk, &mut pen, graph, history, number)?;
     }
     Ok(())
 }
@@ -53,26 +59,109 @@ pub fn push_history(
 #[inline(always)]
 fn push_next(
     text: &mut String,
-    line: &mut TurnLine,
+    line: &mut TurnLine<'_>,
     walk: &mut Walk,
+    pen: &mut Pen,
     graph: &Graph,
-    platform: u32,
     history: &History,
     number: usize,
 ) -> Result<(), AllocError>
     requires number { number < length history.now.turns }
-    requires line { IsLineOf (platform_name graph.now platform) line.old }
+    requires line { IsKeptLine line.old }
     requires last { IsLastBefore history.now.turns number line.old.last }
     requires walk { IsAtTurn history.now.turns number walk.old }
-    ensures line { OnOk result (IsLineOf (platform_name graph.now platform) line.new) }
+    ensures platform { OnOk result (line.new.platform.now ≡ line.old.platform.now) }
+    ensures line { OnOk result (IsKeptLine line.new) }
     ensures last { OnOk result (IsLastBefore history.now.turns (number + 1) line.new.last) }
     ensures walk { OnOk result (IsAtTurn history.now.turns (number + 1) walk.new) }
-    ensures lines { OnOk result (option_map (λ turn. string_bytes text.old ++ turn_lines graph.now platform turn) (slice_get history.now.turns number) ≡ Some (string_bytes text.new)) }
+    ensures lines { OnOk result ((platform : ℕ) → line.old.platform.now ≡ platform_name graph.now platform → option_map (λ turn. string_bytes text.old ++ turn_lines graph.now platform turn) (slice_get history.now.turns number) ≡ Some (string_bytes text.new)) }
     ensures held { OnOk result ((turn : Turn) → slice_get history.now.turns number ≡ Some turn → IsHeldTurn turn) }
 {
     let head = head_after(history, &walk.levels, line.last, number);
-    line.push(text, graph, platform, head)?;
-    push_lists_at(text, walk, graph, history, number)
+    line.renew(head);
+    push_turn(text, line, walk, pen, graph, history, number)
+}
+
+/// Appends the lines of the recorded turn to which a walk has come, where `line` is its first. The walk goes on to the next turn.
+/// Most turns have few lines, which are appended as one piece.
+#[inline(always)]
+fn push_turn(
+    text: &mut String,
+    line: &TurnLine<'_>,
+    walk: &mut Walk,
+    pen: &mut Pen,
+    graph: &Graph,
+    history: &History,
+    number: usize,
+) -> Result<(), AllocError>
+    requires number { number < length history.now.turns }
+    requires line { IsKeptLine line.now }
+    requires walk { IsAtTurn history.now.turns number walk.old }
+    ensures walk { OnOk result (IsAtTurn history.now.turns (number + 1) walk.new) }
+    ensures lines { OnOk result (option_map (λ turn. (string_bytes text.old ++ turn_line line.now.platform.now line.now.first line.now.last line.now.count) ++ list_lines graph.now turn) (slice_get history.now.turns number) ≡ Some (string_bytes text.new)) }
+    ensures held { OnOk result ((turn : Turn) → slice_get history.now.turns number ≡ Some turn → HasHeldLists turn) }
+{
+    if walk.works.is_level(number) {
+        return push_works(text, line, walk, pen, graph, history, number);
+    }
+    push_apart(text, line, walk, pen, graph, history, number)
+}
+
+/// Appends the lines of a turn as in `push_turn`, where nothing entered, was taken or was sent.
+#[inline(always)]
+fn push_works(
+    text: &mut String,
+    line: &TurnLine<'_>,
+    walk: &mut Walk,
+    pen: &mut Pen,
+    graph: &Graph,
+    history: &History,
+    number: usize,
+) -> Result<(), AllocError>
+    requires number { number < length history.now.turns }
+    requires line { IsKeptLine line.now }
+    requires walk { IsAtTurn history.now.turns number walk.old }
+    requires only { HasWorksOnly walk.old.levels number }
+    ensures walk { OnOk result (IsAtTurn history.now.turns (number + 1) walk.new) }
+    ensures lines { OnOk result (option_map (λ turn. (string_bytes text.old ++ turn_line line.now.platform.now line.now.first line.now.last line.now.count) ++ list_lines graph.now turn) (slice_get history.now.turns number) ≡ Some (string_bytes text.new)) }
+    ensures held { OnOk result ((turn : Turn) → slice_get history.now.turns number ≡ Some turn → HasHeldLists turn) }
+{
+    let results = results_after(history, &walk.levels, walk.results, number);
+    let claims = claims_after(history, &walk.levels, walk.claims, number);
+    if results - walk.results > 1 {
+        return push_apart(text, line, walk, pen, graph, history, number);
+    }
+    if !write_claims(pen, graph, history, number, walk.claims, claims) {
+        return push_apart(text, line, walk, pen, graph, history, number);
+    }
+    put_posts(&mut pen.line, history, number, walk.results, results);
+    line.push_before(text, &mut pen.line)?;
+    walk.results = results;
+    walk.claims = claims;
+    renew(walk, history, number);
+    Ok(())
+}
+
+/// Appends the lines of a turn as in `push_turn`, one by one.
+#[inline(never)]
+fn push_apart(
+    text: &mut String,
+    line: &TurnLine<'_>,
+    walk: &mut Walk,
+    pen: &mut Pen,
+    graph: &Graph,
+    history: &History,
+    number: usize,
+) -> Result<(), AllocError>
+    requires number { number < length history.now.turns }
+    requires line { IsKeptLine line.now }
+    requires walk { IsAtTurn history.now.turns number walk.old }
+    ensures walk { OnOk result (IsAtTurn history.now.turns (number + 1) walk.new) }
+    ensures lines { OnOk result (option_map (λ turn. (string_bytes text.old ++ turn_line line.now.platform.now line.now.first line.now.last line.now.count) ++ list_lines graph.now turn) (slice_get history.now.turns number) ≡ Some (string_bytes text.new)) }
+    ensures held { OnOk result ((turn : Turn) → slice_get history.now.turns number ≡ Some turn → HasHeldLists turn) }
+{
+    line.push(text)?;
+    push_lists_at(text, walk, pen, graph, history, number)
 }
 
 /// Appends the lines of the lists of one recorded turn: all its lines but the first.
@@ -87,7 +176,8 @@ pub fn push_lists(
     ensures held { OnOk result ((turn : Turn) → slice_get history.now.turns number ≡ Some turn → HasHeldLists turn) }
 {
     let mut walk = Walk::at(history, number);
-    push_lists_at(text, &mut walk, graph, history, number)
+    let mut pen = Pen::new();
+    push_lists_at(text, &mut walk, &mut pen, graph, history, number)
 }
 
 /// Appends the lines of the lists of the recorded turn to which a walk has come. The walk goes on to the next turn.
@@ -95,6 +185,7 @@ pub fn push_lists(
 fn push_lists_at(
     text: &mut String,
     walk: &mut Walk,
+    pen: &mut Pen,
     graph: &Graph,
     history: &History,
     number: usize,
@@ -105,12 +196,42 @@ fn push_lists_at(
     ensures lines { OnOk result (option_map (λ turn. string_bytes text.old ++ list_lines graph.now turn) (slice_get history.now.turns number) ≡ Some (string_bytes text.new)) }
     ensures held { OnOk result ((turn : Turn) → slice_get history.now.turns number ≡ Some turn → HasHeldLists turn) }
 {
-    push_posts(text, history, &walk.levels, &mut walk.results, number)?;
-    push_rows(text, graph, rows_in(history, &walk.levels, number))?;
-    push_all_taken(text, graph, taken_in(history, &walk.levels, number))?;
-    push_claims(text, graph, history, &walk.levels, &mut walk.claims, number)?;
-    push_all_sent(text, graph, sent_in(history, &walk.levels, number))?;
-    renew(&mut walk.levels, history, number);
+    push_posts(
+        text,
+        &mut pen.line,
+        history,
+        &walk.levels,
+        &mut walk.results,
+        number,
+    )?;
+    push_rows(
+        text,
+        &mut pen.line,
+        graph,
+        rows_in(history, &walk.levels, number),
+    )?;
+    push_all_taken(
+        text,
+        &mut pen.line,
+        graph,
+        taken_in(history, &walk.levels, number),
+    )?;
+    push_claims(
+        text,
+        pen,
+        graph,
+        history,
+        &walk.levels,
+        &mut walk.claims,
+        number,
+    )?;
+    push_all_sent(
+        text,
+        &mut pen.line,
+        graph,
+        sent_in(history, &walk.levels, number),
+    )?;
+    renew(walk, history, number);
     Ok(())
 }
 
@@ -119,6 +240,7 @@ fn push_lists_at(
 #[inline(always)]
 fn push_posts(
     text: &mut String,
+    line: &mut Line,
     history: &History,
     levels: &TurnLevels,
     results: &mut usize,
@@ -131,12 +253,9 @@ fn push_posts(
     ensures lines { OnOk result (string_bytes text.new ≡ string_bytes text.old ++ flat_map post_line (posted_in history.now.turns turn)) }
     ensures held { OnOk result (Each IsHeldResult (posted_in history.now.turns turn)) }
 {
-    if levels.posted.is_level(turn) {
-        return Ok(());
-    }
     let from = *results;
-    *results = history.results_through(turn);
-    push_results(text, history, turn, from, *results)
+    *results = results_after(history, levels, from, turn);
+    push_results(text, line, history, turn, from, *results)
 }
 
 /// Appends the lines of the results from `from` up to, not including, `end`, of those of all recorded turns: the ones that a turn
@@ -144,6 +263,7 @@ fn push_posts(
 #[inline(always)]
 fn push_results(
     text: &mut String,
+    line: &mut Line,
     history: &History,
     turn: usize,
     from: usize,
@@ -156,31 +276,41 @@ fn push_results(
     ensures held { OnOk result (Each IsHeldResult (posted_in history.now.turns turn)) }
 {
     for number in 0..end - from {
-        push_post(text, history.result_mark(from + number))?;
+        push_post(text, line, history.result_mark(from + number))?;
     }
     Ok(())
 }
 
 /// Appends the lines of rows that entered.
 #[inline(always)]
-fn push_rows(text: &mut String, graph: &Graph, rows: &[RowAt]) -> Result<(), AllocError>
+fn push_rows(
+    text: &mut String,
+    line: &mut Line,
+    graph: &Graph,
+    rows: &[RowAt],
+) -> Result<(), AllocError>
     ensures { OnOk result (string_bytes text.new ≡ string_bytes text.old ++ flat_map (row_line graph.now) rows.now) }
 {
     for row in rows {
-        push_row(text, graph, row)?;
+        push_row(text, line, graph, row)?;
     }
     Ok(())
 }
 
 /// Appends the lines of messages taken.
 #[inline(always)]
-fn push_all_taken(text: &mut String, graph: &Graph, taken: &[OnLink]) -> Result<(), AllocError>
+fn push_all_taken(
+    text: &mut String,
+    line: &mut Line,
+    graph: &Graph,
+    taken: &[OnLink],
+) -> Result<(), AllocError>
     ensures lines { OnOk result (string_bytes text.new ≡ string_bytes text.old ++ flat_map (take_line graph.now) taken.now) }
     ensures held { OnOk result (Each IsHeldMessage taken.now) }
 {
     for message in taken {
         holds(message.message);
-        push_taken(text, graph, message)?;
+        push_taken(text, line, graph, message)?;
     }
     Ok(())
 }
@@ -190,6 +320,7 @@ fn push_all_taken(text: &mut String, graph: &Graph, taken: &[OnLink]) -> Result<
 #[inline(always)]
 fn push_claims(
     text: &mut String,
+    pen: &mut Pen,
     graph: &Graph,
     history: &History,
     levels: &TurnLevels,
@@ -202,12 +333,9 @@ fn push_claims(
     ensures claims { OnOk result (claims.new ≡ length (flat_map (λ turn. turn.claimed) (take (turn + 1) history.now.turns))) }
     ensures lines { OnOk result (string_bytes text.new ≡ string_bytes text.old ++ flat_map (claim_line graph.now) (claimed_in history.now.turns turn)) }
 {
-    if levels.claimed.is_level(turn) {
-        return Ok(());
-    }
     let from = *claims;
-    *claims = history.claims_through(turn);
-    push_tasks(text, graph, history, turn, from, *claims)
+    *claims = claims_after(history, levels, from, turn);
+    push_tasks(text, pen, graph, history, turn, from, *claims)
 }
 
 /// Appends the lines of the claims from `from` up to, not including, `end`, of those of all recorded turns: the ones that a turn
@@ -215,6 +343,7 @@ fn push_claims(
 #[inline(always)]
 fn push_tasks(
     text: &mut String,
+    pen: &mut Pen,
     graph: &Graph,
     history: &History,
     turn: usize,
@@ -227,20 +356,25 @@ fn push_tasks(
     ensures { OnOk result (string_bytes text.new ≡ string_bytes text.old ++ flat_map (claim_line graph.now) (claimed_in history.now.turns turn)) }
 {
     for number in 0..end - from {
-        push_claim(text, graph, history.mark(from + number))?;
+        push_claim(text, pen, graph, history.mark(from + number))?;
     }
     Ok(())
 }
 
 /// Appends the lines of messages sent.
 #[inline(always)]
-fn push_all_sent(text: &mut String, graph: &Graph, sent: &[OnLink]) -> Result<(), AllocError>
+fn push_all_sent(
+    text: &mut String,
+    line: &mut Line,
+    graph: &Graph,
+    sent: &[OnLink],
+) -> Result<(), AllocError>
     ensures lines { OnOk result (string_bytes text.new ≡ string_bytes text.old ++ flat_map (sent_line graph.now) sent.now) }
     ensures held { OnOk result (Each IsHeldMessage sent.now) }
 {
     for message in sent {
         holds(message.message);
-        push_sent(text, graph, message)?;
+        push_sent(text, line, graph, message)?;
     }
     Ok(())
 }

@@ -1,10 +1,10 @@
 //! A walk through the turns of a history.
 
-ghost use Rattle.std.specs.Prelude.{◌≡◌, ℕ, ◌+◌, ◌/◌, ◌<◌, List, Some, length, option_map, slice_get};
-ghost use Rattle.pt_history.specs.Levels.{AreTurnLevels};
+ghost use Rattle.std.specs.Prelude.{◌≡◌, ℕ, ◌+◌, ◌/◌, ◌<◌, ◌≤◌, List, Some, flat_map, length, option_map, slice_get, take};
+ghost use Rattle.pt_history.specs.Levels.{AreTurnLevels, IsLevel};
 ghost use Rattle.pt_history.specs.Turns.{turn_head};
 ghost use Rattle.pt_semantics.specs.Turn.{Turn};
-ghost use Rattle.pt_tables.specs.Walk.{IsAtTurn, IsLastBefore};
+ghost use Rattle.pt_tables.specs.Walk.{AreWorks, HasWorksOnly, IsAtTurn, IsLastBefore};
 
 use pt_history::{Head, HeadLevels, History, Levels, TurnLevels};
 use pt_types::{OnLink, RowAt};
@@ -14,6 +14,8 @@ use pt_types::{OnLink, RowAt};
 pub(crate) struct Walk {
     /// What is known of the 64 turns among which that turn is.
     pub levels: TurnLevels,
+    /// Which of them are known to have posted and claimed at most.
+    pub works: Levels,
     /// How many results the turns before it posted.
     pub results: usize,
     /// How many tasks the turns before it claimed.
@@ -28,8 +30,10 @@ impl Walk {
     pub(crate) fn new(history: &History) -> Walk
         ensures { IsAtTurn history.now.turns 0 result }
     {
+        let levels = history.levels(0);
         Walk {
-            levels: history.levels(0),
+            levels,
+            works: works_of(&levels),
             results: 0,
             claims: 0,
         }
@@ -40,8 +44,10 @@ impl Walk {
         requires { number < length history.now.turns }
         ensures { IsAtTurn history.now.turns number result }
     {
+        let levels = unknown();
         Walk {
-            levels: unknown(),
+            levels,
+            works: works_of(&levels),
             results: history.results_through(number) - history.posted(number),
             claims: history.claims_through(number) - history.claimed(number),
         }
@@ -66,14 +72,19 @@ fn unknown() -> TurnLevels
     }
 }
 
-/// Goes on from a turn to the next one.
+/// Goes on from a turn to the next one. What is counted stays.
 #[inline(always)]
-pub(crate) fn renew(levels: &mut TurnLevels, history: &History, number: usize)
-    requires { AreTurnLevels history.now.turns (number / 64) levels.old }
-    ensures { AreTurnLevels history.now.turns ((number + 1) / 64) levels.new }
+pub(crate) fn renew(walk: &mut Walk, history: &History, number: usize)
+    requires levels { AreTurnLevels history.now.turns (number / 64) walk.old.levels }
+    requires works { AreWorks walk.old }
+    ensures levels { AreTurnLevels history.now.turns ((number + 1) / 64) walk.new.levels }
+    ensures works { AreWorks walk.new }
+    ensures results { walk.new.results ≡ walk.old.results }
+    ensures claims { walk.new.claims ≡ walk.old.claims }
 {
     if number % 64 == 63 {
-        *levels = history.levels(number / 64 + 1);
+        walk.levels = history.levels(number / 64 + 1);
+        walk.works = works_of(&walk.levels);
     }
 }
 
@@ -133,4 +144,71 @@ pub(crate) fn sent_in<'a>(history: &'a History, levels: &TurnLevels, number: usi
         return &[];
     }
     history.sent(number)
+}
+
+/// How many results the turns up to one posted, where `results` counts those of the turns before it.
+#[inline(always)]
+pub(crate) fn results_after(
+    history: &History,
+    levels: &TurnLevels,
+    results: usize,
+    turn: usize,
+) -> usize
+    requires turn { turn < length history.now.turns }
+    requires levels { AreTurnLevels history.now.turns (turn / 64) levels.now }
+    requires results { results ≡ length (flat_map (λ turn. turn.posted) (take turn history.now.turns)) }
+    ensures { result ≡ length (flat_map (λ turn. turn.posted) (take (turn + 1) history.now.turns)) }
+{
+    if levels.posted.is_level(turn) {
+        return results;
+    }
+    history.results_through(turn)
+}
+
+/// How many tasks the turns up to one claimed, where `claims` counts those of the turns before it.
+#[inline(always)]
+pub(crate) fn claims_after(
+    history: &History,
+    levels: &TurnLevels,
+    claims: usize,
+    turn: usize,
+) -> usize
+    requires turn { turn < length history.now.turns }
+    requires levels { AreTurnLevels history.now.turns (turn / 64) levels.now }
+    requires claims { claims ≡ length (flat_map (λ turn. turn.claimed) (take turn history.now.turns)) }
+    ensures { result ≡ length (flat_map (λ turn. turn.claimed) (take (turn + 1) history.now.turns)) }
+{
+    if levels.claimed.is_level(turn) {
+        return claims;
+    }
+    history.claims_through(turn)
+}
+
+/// Which of 64 turns are known to have posted and claimed at most: no row entered, and no message was taken or sent.
+fn works_of(levels: &TurnLevels) -> Levels
+    ensures { (n : ℕ) → IsLevel result n → HasWorksOnly levels.now n }
+{
+    both(both(levels.rows, levels.taken), levels.sent)
+}
+
+/// What is known of two lists at once: an item is level here if it is in both.
+#[inline(always)]
+fn both(a: Levels, b: Levels) -> Levels
+    ensures { (n : ℕ) → IsLevel result n → IsLevel a n × IsLevel b n }
+{
+    Levels {
+        bits: a.bits | b.bits,
+        limit: lesser(a.limit, b.limit),
+    }
+}
+
+/// The lesser of two numbers.
+#[inline(always)]
+fn lesser(a: usize, b: usize) -> usize
+    ensures { (result ≤ a) × (result ≤ b) }
+{
+    if a < b {
+        return a;
+    }
+    b
 }

@@ -46,8 +46,14 @@ pub(crate) fn make_stations<J: Run, C: Clock>(
             unreachable!()
         };
         let number = platform.number();
-        let sending = collect(alloc, sides.senders.as_slice(), number, &mut outlets)?;
-        let taking = collect(alloc, sides.receivers.as_slice(), number, &mut inlets)?;
+        let Ok(sending) = collect(alloc, sides.senders.as_slice(), number, &mut outlets) else {
+            drop(platform);
+            return Err(Memory);
+        };
+        let Ok(taking) = collect(alloc, sides.receivers.as_slice(), number, &mut inlets) else {
+            drop(platform);
+            return Err(Memory);
+        };
         stations.push_reserved(Station::new(platform, clock, sending, taking));
     }
     stations.as_mut_slice().reverse();

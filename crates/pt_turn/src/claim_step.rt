@@ -46,15 +46,7 @@ pub fn claim_unless(
     if fields.claims >= MOST_CLAIMS {
         return full(fields, plan, reading);
     }
-    claims(
-        fields,
-        plan.graph(),
-        plan.least(),
-        plan.offsets(),
-        reading,
-        most,
-        tasks,
-    );
+    claims(fields, plan, reading, most, tasks);
     Ending::On
 }
 
@@ -63,7 +55,7 @@ fn full(fields: &Fields, plan: &Plan, reading: u64) -> Ending
     requires sound { IsSound plan.now.graph fields.now }
     ensures { EndsFull plan.now.graph fields.now reading result }
 {
-    match next_safe(fields, plan.graph(), plan.least(), plan.offsets(), reading) {
+    match next_safe(fields, plan, reading) {
         None => Ending::On,
         Some(_) => Ending::Long,
     }

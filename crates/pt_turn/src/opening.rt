@@ -64,7 +64,15 @@ impl Platform {
         }
         match self.next {
             Some(next) => Some(next),
-            None => Some(next_reading(&self.fields, &self.plan, self.number, self.closing)),
+            None => Some(self.search_next()),
         }
+    }
+
+    /// The next reading, in microseconds, by a search. Not inlined, since mostly it is known.
+    #[inline(never)]
+    fn search_next(&self) -> u64
+        ensures { IsNextReading self.now.plan.graph self.now.number (state_at self.now) result }
+    {
+        next_reading(&self.fields, &self.plan, self.number, self.closing)
     }
 }

@@ -55,19 +55,31 @@ impl Platform {
         if raised_to(self.fields.reading, room.reading) < self.next_row {
             return self.room_with(room, 0);
         }
-        self.room_with_rows(room)
+        self.room_with_rows(room.reading, room.done, room.taken, room.most)
     }
 
-    /// The same where rows may enter. Not inlined, since at most turns none does.
+    /// The same where rows may enter. Not inlined, since at most turns none does. Takes the parts of a room, so that at those turns
+    /// no room is written to memory.
     #[inline(never)]
-    fn room_with_rows(&mut self, room: Room) -> Result<(), Memory>
-        ensures room { OnOk result (self.new ≡ record self.old { room = Some room }) }
+    fn room_with_rows(
+        &mut self,
+        reading: u64,
+        done: usize,
+        taken: usize,
+        most: usize,
+    ) -> Result<(), Memory>
+        ensures room { OnOk result (self.new ≡ record self.old { room = Some (record { reading = reading; done = done; taken = taken; most = most }) }) }
         ensures refused { OnErr result (self.new ≡ self.old) }
     {
-        let reading = raised_to(self.fields.reading, room.reading);
-        let Some(rows) = count_due(self.plan.graph(), self.fields.sensors.as_slice(), reading)
-        else {
+        let raised = raised_to(self.fields.reading, reading);
+        let Some(rows) = count_due(self.plan.graph(), self.fields.sensors.as_slice(), raised) else {
             return Err(Memory);
+        };
+        let room = Room {
+            reading,
+            done,
+            taken,
+            most,
         };
         self.room_with(room, rows)
     }

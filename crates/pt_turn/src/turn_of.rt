@@ -19,6 +19,7 @@ impl Platform {
     ///
     /// If a message was late, or 200,000 claims were made before it and a unit is safe, the platform then has a `fault`. From
     /// then on a turn changes nothing. Allocates nothing: `room` has reserved the memory.
+    #[inline(always)]
     pub fn turn(
         &mut self,
         reading: u64,

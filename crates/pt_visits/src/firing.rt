@@ -40,8 +40,7 @@ fn fire_next(
     }
 }
 
-/// Fires these tasks in order, and replaces `results` by their results. Many turns claim nothing, so the caller looks for
-/// tasks first.
+/// Fires these tasks in order, and replaces `results` by their results.
 #[inline(always)]
 pub fn fire_all(
     blocks: &Blocks,
@@ -60,8 +59,8 @@ pub fn fire_all(
     fire_each(blocks, graph, tasks, results)
 }
 
-/// Fires these tasks in order, and appends their results to the empty list `results`.
-#[inline(never)]
+/// Fires these tasks in order, and appends their results to the empty list `results`. Inlined, since mostly there is one task.
+#[inline(always)]
 fn fire_each(
     blocks: &Blocks,
     graph: &Graph,

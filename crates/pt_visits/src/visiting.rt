@@ -110,8 +110,7 @@ pub fn visit_knowing(
     if rested {
         return Ok(());
     }
-    desk.tasks.clear();
-    desk.tasks.reserve(most)?;
+    desk.tasks.renew(most)?;
     platform.room(Room {
         reading,
         done: results.len(),

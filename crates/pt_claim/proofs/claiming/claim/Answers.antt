@@ -13,10 +13,10 @@ use Rattle.pt_claim.proofs.claiming.claim.Goals as goal
 
 pub returns-clause-task : goal.returns-clause-task
 returns-clause-task c =
-    let inputs = c.take.ensures.inputs c.args.graph.now c.requires.sound.groups in
+    let inputs = c.take.ensures.inputs c.args.plan.now.graph c.requires.sound.groups in
     record {
-      unit = ap (λ xs. at_input c.args.graph.now c.args.next.unit.actor (first_port xs)) inputs
-          ∙ unit_is c.args.graph.now (waiting_in c.args.fields.now.queue.events) c.args.next.unit c.args.next.tag c.requires.event;
+      unit = ap (λ xs. at_input c.args.plan.now.graph c.args.next.unit.actor (first_port xs)) inputs
+          ∙ unit_is c.args.plan.now.graph (waiting_in c.args.fields.now.queue.events) c.args.next.unit c.args.next.tag c.requires.event;
       actor = refl;
       tag = refl;
       inputs = inputs;
@@ -27,7 +27,7 @@ returns-clause-task c =
 pub returns-clause-after : goal.returns-clause-after
 returns-clause-after c = λ taken.
     let busy = c.add.ensures.busy ∙ ap (λ (o : OpenClaim). put_busy (busy_in c.args.fields.now.open_claims.items) o.unit (Some o.task)) c.open_claim.ensures in
-    let waits = c.take.ensures.waits c.args.graph.now c.requires.sound.groups in
+    let waits = c.take.ensures.waits c.args.plan.now.graph c.requires.sound.groups in
     λ i. record {
       waits = waits i;
       busy = busy i;
@@ -42,7 +42,7 @@ returns-clause-after c = λ taken.
 
 pub returns-clause-sound : goal.returns-clause-sound
 returns-clause-sound c =
-    let g = c.args.graph.now in
+    let g = c.args.plan.now.graph in
     let old = waiting_in c.args.fields.now.queue.events in
     let unit = ap (λ xs. at_input g c.args.next.unit.actor (first_port xs)) (c.take.ensures.inputs g c.requires.sound.groups) ∙ unit_is g old c.args.next.unit c.args.next.tag c.requires.event in
     let waits = c.take.ensures.waits g c.requires.sound.groups in

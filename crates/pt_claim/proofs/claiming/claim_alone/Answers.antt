@@ -28,23 +28,23 @@ returns-then-most-eq0-clause-claimed c = record {
 pub returns-clause-claimed : goal.returns-clause-claimed
 returns-clause-claimed c =
     let items : c.push_reserved.new.self.items ≡ c.args.tasks.now.items ++ c.claim-task.result ∷ [] = search rules in
-    let front : AreFront c.args.graph.now (waiting_in c.args.fields.now.queue.events) (busy_in c.args.fields.now.open_claims.items) c.args.reading false (c.args.next ∷ []) = c.requires.front in
-    let left : AreFront c.args.graph.now (waiting_in c.claim-task.new.fields.queue.events) (busy_in c.claim-task.new.fields.open_claims.items) c.args.reading false [] =
-    subst (λ (new : State). AreFront c.args.graph.now new.waits new.busy c.args.reading false []) (sym (c.claim-task.ensures.after []))
-    (front_claimed c.args.graph.now (state_of c.args.fields.now []) c.args.reading false c.args.next [] c.claim-task.result c.claim-task.ensures.task.tag front) in
+    let front : AreFront c.args.plan.now.graph (waiting_in c.args.fields.now.queue.events) (busy_in c.args.fields.now.open_claims.items) c.args.reading false (c.args.next ∷ []) = c.requires.front in
+    let left : AreFront c.args.plan.now.graph (waiting_in c.claim-task.new.fields.queue.events) (busy_in c.claim-task.new.fields.open_claims.items) c.args.reading false [] =
+    subst (λ (new : State). AreFront c.args.plan.now.graph new.waits new.busy c.args.reading false []) (sym (c.claim-task.ensures.after []))
+    (front_claimed c.args.plan.now.graph (state_of c.args.fields.now []) c.args.reading false c.args.next [] c.claim-task.result c.claim-task.ensures.task.tag front) in
     record {
       claimed = c.claim-task.result ∷ [];
       appended = items;
       claims = λ taken.
-          subst (Claims c.args.graph.now c.args.reading (state_of c.args.fields.now taken) (c.claim-task.result ∷ []))
-          (ap (λ u. after_claim c.args.graph.now (state_of c.args.fields.now taken) u c.claim-task.result) c.claim-task.ensures.task.unit ∙ sym (c.claim-task.ensures.after taken))
-          (claims_push c.args.graph.now c.args.reading (state_of c.args.fields.now taken) (state_of c.args.fields.now taken) [] c.claim-task.result refl
-          (is_next c.args.graph.now c.args.fields.now taken c.args.reading c.args.next.unit c.args.next.tag c.claim-task.result front.safe.0.safe
-          (front_first c.args.graph.now (waiting_in c.args.fields.now.queue.events) (busy_in c.args.fields.now.open_claims.items) c.args.reading false c.args.next [] front)
+          subst (Claims c.args.plan.now.graph c.args.reading (state_of c.args.fields.now taken) (c.claim-task.result ∷ []))
+          (ap (λ u. after_claim c.args.plan.now.graph (state_of c.args.fields.now taken) u c.claim-task.result) c.claim-task.ensures.task.unit ∙ sym (c.claim-task.ensures.after taken))
+          (claims_push c.args.plan.now.graph c.args.reading (state_of c.args.fields.now taken) (state_of c.args.fields.now taken) [] c.claim-task.result refl
+          (is_next c.args.plan.now.graph c.args.fields.now taken c.args.reading c.args.next.unit c.args.next.tag c.claim-task.result front.safe.0.safe
+          (front_first c.args.plan.now.graph (waiting_in c.args.fields.now.queue.events) (busy_in c.args.fields.now.open_claims.items) c.args.reading false c.args.next [] front)
           c.claim-task.ensures.task));
       at_most = omega (arith, c.if-most-eq0.false);
       count = c.claim-task.ensures.claims;
       open_claims = c.claim-task.ensures.open_claims;
       in_all = omega (arith, c.claim-task.ensures.claims, c.if-fields-ge-MOST_CLAIMS.false);
-      all_or = inl (nothing_left c.args.graph.now (waiting_in c.claim-task.new.fields.queue.events) (busy_in c.claim-task.new.fields.open_claims.items) c.args.reading false [] left refl refl);
+      all_or = inl (nothing_left c.args.plan.now.graph (waiting_in c.claim-task.new.fields.queue.events) (busy_in c.claim-task.new.fields.open_claims.items) c.args.reading false [] left refl refl);
     }

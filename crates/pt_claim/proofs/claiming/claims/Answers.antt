@@ -15,5 +15,5 @@ returns-in-Ok-None-clause-claimed c = record {
   count = omega arith;
   open_claims = omega arith;
   in_all = c.requires.claims;
-  all_or = inl (nothing_left c.args.graph.now (waiting_in c.args.fields.now.queue.events) (busy_in c.args.fields.now.open_claims.items) c.args.reading false [] (subst (λ o. AreFront c.args.graph.now (waiting_in c.args.fields.now.queue.events) (busy_in c.args.fields.now.open_claims.items) c.args.reading false (one_of o)) c.in-Ok-None.field-0-is c.in-Ok-None.ensures.alone) refl refl);
+  all_or = inl (nothing_left c.args.plan.now.graph (waiting_in c.args.fields.now.queue.events) (busy_in c.args.fields.now.open_claims.items) c.args.reading false [] (subst (λ o. AreFront c.args.plan.now.graph (waiting_in c.args.fields.now.queue.events) (busy_in c.args.fields.now.open_claims.items) c.args.reading false (one_of o)) c.in-Ok-None.field-0-is c.in-Ok-None.ensures.alone) refl refl);
 }

@@ -5,7 +5,7 @@ use Rattle.pt_claim.specs.Fronts.{AreFirst, one_of}
 use Rattle.pt_claim.proofs.front.alone.Given as goal
 
 abbrev pub invariant-loop-waiting : goal.invariant-loop-waiting
-invariant-loop-waiting l = AreFirst l.graph (waiting_in l.fields.queue.events) (busy_in l.fields.open_claims.items) l.reading (l.from / 8) (l.from % 8) (one_of l.alone)
+invariant-loop-waiting l = AreFirst l.plan.graph (waiting_in l.fields.queue.events) (busy_in l.fields.open_claims.items) l.reading (l.from / 8) (l.from % 8) (one_of l.alone)
 
 abbrev pub decreases-loop-waiting : goal.decreases-loop-waiting
-decreases-loop-waiting l = 8 * length l.graph.actors - l.from
+decreases-loop-waiting l = 8 * length l.plan.graph.actors - l.from

@@ -9,7 +9,7 @@ use Rattle.pt_claim.proofs.front.is_free_or_known.Goals as goal
 
 pub returns-then-is_one_of : goal.returns-then-is_one_of
 returns-then-is_one_of c =
-    let g = c.args.graph.now in
+    let g = c.args.plan.now.graph in
     let waits = waiting_in c.args.fields.now.queue.events in
     let busy = busy_in c.args.fields.now.open_claims.items in
     let r = c.args.reading in

@@ -1,7 +1,4 @@
-use Rattle.std.proofs.Common.{◌+◌, ◌/◌, sym, subst, arith}
-use Rattle.pt_types.specs.declared.graph.Graph.{Graph}
-use Rattle.pt_queue.specs.Events.{waiting_in}
-use Rattle.pt_claim.specs.Early.{IsEarlyWord}
+use Rattle.std.proofs.Common.{◌+◌, sym, subst, arith}
 use Rattle.pt_claim.specs.Least.{AtOrIn, IsLeastAmong}
 use Rattle.pt_claim.proofs.Candidates.{before_all, before_more, before_word, before_none, PacedBefore}
 use Rattle.pt_claim.proofs.Fronts.{event_is_unit}
@@ -29,9 +26,8 @@ returns c = before_all c.args.plan.now.graph c.args.fields.now c.args.so_far c.l
 
 pub loop-waiting-preserved-then-is_passed_over : goal.loop-waiting-preserved-then-is_passed_over
 loop-waiting-preserved-then-is_passed_over c =
-    let early = subst (λ (g : Graph). IsEarlyWord g (waiting_in c.args.fields.now.queue.events) c.saturating_sub-before.result (c.place_of-place.result / 64)) c.graph.ensures.value (c.is_passed_over.ensures c.if-is_passed_over.true) in
     before_word c.args.plan.now.graph c.args.fields.now c.args.so_far c.loop-waiting.least c.saturating_sub-before.result c.loop-waiting.from c.place_of-place.result c.next_word-from.result c.in-Some.waiting
-    c.saturating_sub-before.ensures c.place_of-place.ensures c.next_word-from.ensures (c.in-Some.ensures c.args.plan.now.graph c.requires.sound.groups) early c.loop-waiting.invariant
+    c.saturating_sub-before.ensures c.place_of-place.ensures c.next_word-from.ensures (c.in-Some.ensures c.args.plan.now.graph c.requires.sound.groups) (c.is_passed_over.ensures c.if-is_passed_over.true) c.loop-waiting.invariant
 
 pub loop-waiting-smaller-then-is_passed_over : goal.loop-waiting-smaller-then-is_passed_over
 loop-waiting-smaller-then-is_passed_over c =

@@ -1,4 +1,4 @@
-use Rattle.std.proofs.Common.{◌≡◌, inr, ⊎_elim, vec_len, length, ap, sym, ◌∙◌, arith}
+use Rattle.std.proofs.Common.{◌≡◌, ◌<◌, ◌⊎◌, ℕ, Option, inr, ⊎_elim, vec_len, length, slice_set, ap, sym, subst, ◌∙◌, arith}
 use Rattle.std.proofs.lemmas.List.{length-map}
 use Rattle.pt_turn.specs.Platforms.{PlatformView}
 use Rattle.pt_pool.specs.Station.{StationView}
@@ -15,18 +15,12 @@ loop-station-init g c =
       each = λ w low. inr (each_among (vec_len c.args.stations) (numbers xs) c.requires.weight len w low);
     }
 
-pub loop-station-preserved-in-Some : goal.loop-station-preserved-in-Some
-loop-station-preserved-in-Some g c =
-    let inv = c.loop-station.invariant in record {
-      places = inv.places;
-      each = placed (vec_len c.args.stations) c.number-number.result c.loop-station.places.items c.pop.new.self.items c.loop-station.stations.items c.in-Some.station c.in-Some.ensures.items (c.number-number.ensures ∙ ap (λ (v : PlatformView). v.number) c.platform.ensures.platform) (omega (arith, c.number-number.ensures, c.platform.ensures.below, c.loop-station.places.ok.0, c.requires.count)) inv.each;
-    }
-
 pub loop-station-preserved : goal.loop-station-preserved
 loop-station-preserved g c =
     let inv = c.loop-station.invariant in record {
       places = inv.places;
-      each = placed (vec_len c.args.stations) c.number-number.result c.loop-station.places.items c.pop.new.self.items c.loop-station.stations.items c.in-Some.station c.in-Some.ensures.items (c.number-number.ensures ∙ ap (λ (v : PlatformView). v.number) c.platform.ensures.platform) (omega (arith, c.number-number.ensures, c.platform.ensures.below, c.loop-station.places.ok.0, c.requires.count)) inv.each;
+      each = subst (λ (place : Option StationView). (w : ℕ) → w < vec_len c.args.stations → HasAt (slice_set c.loop-station.places.items c.number-number.result place) w ⊎ Among w (numbers c.pop.new.self.items)) (sym c.replace.ensures.after)
+          (placed (vec_len c.args.stations) c.number-number.result c.loop-station.places.items c.pop.new.self.items c.loop-station.stations.items c.in-Some.station c.in-Some.ensures.items (c.number-number.ensures ∙ ap (λ (v : PlatformView). v.number) c.platform.ensures.platform) (omega (arith, c.number-number.ensures, c.platform.ensures.below, c.loop-station.places.ok.0, c.requires.count)) inv.each);
     }
 
 -- no station is left, so each number below the count has its place

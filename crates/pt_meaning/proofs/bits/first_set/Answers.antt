@@ -1,5 +1,5 @@
 use Rattle.std.proofs.Common.{arith, refl}
-use Rattle.pt_meaning.proofs.Cleared.{first_here, none_here, none_set}
+use Rattle.pt_meaning.proofs.Lowest.{first_here, none_here, none_set}
 use Rattle.pt_meaning.proofs.bits.first_set.Goals as goal
 
 pub loop-index-preserved : goal.loop-index-preserved

@@ -1,6 +1,6 @@
 use Rattle.std.proofs.Common.{◌+◌, ◌*◌, ◌<◌, ◌≤◌, ⊎_elim, refl, arith}
 use Rattle.pt_queue.proofs.Summing.{below_or, first_in_word, none_more, none_words}
-use Rattle.pt_queue.proofs.Words.{past_words}
+use Rattle.pt_causality.proofs.Marks.{past_words}
 use Rattle.pt_queue.proofs.marks.first_behind.Goals as goal
 
 pub loop-index-init : goal.loop-index-init

@@ -1,7 +1,7 @@
-use Rattle.std.proofs.Common.{◌≡◌, ◌∙◌, ◌<◌, ℕ, suc, List, get_or, set, length, add-one, sym, ap, subst, arith, inl, inr}
+use Rattle.std.proofs.Common.{◌≡◌, ◌∙◌, ◌<◌, ℕ, suc, List, get_or, set, length, slice_get, Some, add-one, sym, ap, subst, arith, inl, inr}
 use Rattle.std.proofs.lemmas.Bool.{false≢true}
 use Rattle.std.proofs.lemmas.List.{length-map, map-set}
-use Rattle.std.proofs.lemmas.Option.{slice_get-get_or}
+use Rattle.std.proofs.lemmas.Option.{slice_get-get_or, slice_get_within}
 use Rattle.std.specs.Global.{Vec}
 use Rattle.pt_types.specs.declared.firing.Done.{Done}
 use Rattle.pt_semantics.specs.Linked.{IsFinished}
@@ -11,9 +11,10 @@ use Rattle.pt_offsets.specs.Plans.{Parts}
 use Rattle.pt_turn.specs.Platforms.{PlatformView, state_at}
 use Rattle.pt_together.specs.Asked.{result_lists}
 use Rattle.pt_rounds.specs.Passing.{HavePassed}
+use Rattle.pt_together.proofs.Changed.{set_here}
 use Rattle.pt_together.proofs.Listed.{list_at}
 use Rattle.pt_rounds.proofs.Showing.{may_come}
-use Rattle.pt_rounds.proofs.Passes.{none_passed, not_faulty, one_by, one_visited, passed_onward}
+use Rattle.pt_rounds.proofs.Passes.{fine_with, none_passed, not_faulty, one_by, one_visited, passed_onward}
 use Rattle.pt_rounds.proofs.passing.pass.Goals as goal
 use Rattle.pt_rounds.proofs.passing.pass.Goals.{then-quiet, else-quiet}
 
@@ -21,8 +22,14 @@ use Rattle.pt_rounds.proofs.passing.pass.Goals.{then-quiet, else-quiet}
 here : (platforms : List PlatformView) (i : ℕ) (v d : PlatformView) → i < length platforms → get_or platforms i v ≡ get_or platforms i d
 here platforms i v d lt = same_some (get_or platforms i v) (get_or platforms i d) (sym (slice_get-get_or platforms i v lt) ∙ slice_get-get_or platforms i d lt)
 
+-- where a platform was replaced, the new one stands
+replaced : (platforms : List PlatformView) (i : ℕ) (v w d : PlatformView) → slice_get platforms i ≡ Some v → get_or (set platforms i w) i d ≡ w
+replaced platforms i v w d there =
+    let at = set_here platforms i w v there in
+    same_some (get_or (set platforms i w) i d) w (sym (slice_get-get_or (set platforms i w) i d (slice_get_within (set platforms i w) i w at)) ∙ at)
+
 pub loop-i-init : goal.loop-i-init
-loop-i-init g c = record { passed = λ plan rows count s. none_passed plan rows count c.args.reading c.args.platforms.now c.args.pipes.now (result_lists c.args.results.now) s; none = c.requires.none }
+loop-i-init g c = record { passed = λ plan rows count s. none_passed plan rows count c.args.reading c.args.platforms.now c.args.pipes.now (result_lists c.args.results.now) s; none = c.requires.none; faults = λ _. let (plan, rows, count, s) = c.requires.begun in s.no_fault }
 
 pub loop-i-preserved-then-finished : goal.loop-i-preserved-then-finished
 loop-i-preserved-then-finished g c = record {
@@ -34,6 +41,7 @@ loop-i-preserved-then-finished g c = record {
       (slice_get-get_or c.loop-i.platforms c.loop-i.i c.index-platforms-i.result lt)
       (c.finished.ensures.0 c.if-finished.true));
   none = c.loop-i.invariant.none;
+  faults = c.loop-i.invariant.faults;
 }
 
 pub visit_one-requires-clause-no_fault : goal.visit_one-requires-clause-no_fault
@@ -96,6 +104,13 @@ loop-i-preserved g c = record {
       (elim c.if-quiet.branch [ then-quiet w ↦ λ e. (w.if-quiet.true, sym w.quiet-is ∙ e) | else-quiet w ↦ λ e. absurd (false≢true (sym w.if-quiet.false ∙ (sym w.quiet-is ∙ e))) ])
       (elim c.if-quiet.branch [ then-quiet w ↦ λ e. inr (sym w.quiet-is ∙ e) | else-quiet w ↦ λ e. inl w.if-quiet.false ])));
   none = c.in_ok-still.ensures.none;
+  faults = λ e.
+      let lt : c.loop-i.i < length c.loop-i.platforms = omega (arith, c.loop-i-test.true, c.loop-i.auto.platforms) in
+      let v = get_or c.loop-i.platforms c.loop-i.i c.index-platforms-i-in-loop-i.result in
+      let there = slice_get-get_or c.loop-i.platforms c.loop-i.i c.index-platforms-i-in-loop-i.result lt in
+      let same = replaced c.loop-i.platforms c.loop-i.i v c.visit_one.new.platform c.index-platforms-i-in-loop-i-2.result there in
+      fine_with c.loop-i.platforms c.loop-i.i v c.visit_one.new.platform there (ap (λ (z : PlatformView). z.fault) (sym same) ∙ (c.or_faulty.ensures e).1)
+      (c.loop-i.invariant.faults (c.or_faulty.ensures e).0);
 }
 
 pub returns : goal.returns
@@ -104,4 +119,5 @@ returns g c = record {
       let e : c.loop-i.i ≡ length c.args.platforms.now = omega (arith, c.loop-i-test.false, c.loop-i.auto.i-end) in
       subst (λ k. HavePassed plan rows c.args.reading s.together k c.loop-i.platforms c.loop-i.pipes (result_lists c.loop-i.results) c.loop-i.quiet) e (c.loop-i.invariant.passed plan rows count s);
   none = c.loop-i.invariant.none;
+  faults = c.loop-i.invariant.faults;
 }

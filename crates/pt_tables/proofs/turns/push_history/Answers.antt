@@ -11,12 +11,13 @@ use Rattle.pt_tables.proofs.turns.push_history.Goals as goal
 
 pub loop-number-preserved : goal.loop-number-preserved
 loop-number-preserved c = record {
+  platform = c.in_ok-push_next.ensures.platform ∙ c.loop-number.invariant.platform;
   line = c.in_ok-push_next.ensures.line;
   last = c.in_ok-push_next.ensures.last;
   walk = c.in_ok-push_next.ensures.walk;
   lines =
       grows (turn_lines c.args.graph.now c.args.platform) c.args.history.now.turns c.loop-number.number (string_bytes c.args.text.now) (string_bytes c.loop-number.text) (string_bytes c.push_next.new.text)
-      c.loop-number.invariant.lines c.in_ok-push_next.ensures.lines;
+      c.loop-number.invariant.lines (c.in_ok-push_next.ensures.lines c.args.platform c.loop-number.invariant.platform);
   held = one_more_at IsHeldTurn c.args.history.now.turns c.loop-number.number c.in_ok-push_next.ensures.held c.loop-number.invariant.held;
 }
 

@@ -3,14 +3,15 @@ use Rattle.std.specs.List.{flat_map}
 use Rattle.pt_semantics.specs.Turn.{Turn}
 use Rattle.pt_tables.specs.Held.{IsHeldTurn}
 use Rattle.pt_tables.specs.Log.{turn_lines}
-use Rattle.pt_tables.specs.TurnLine.{IsLineOf}
+use Rattle.pt_tables.specs.TurnLine.{IsKeptLine}
 use Rattle.pt_tables.specs.Walk.{IsAtTurn, IsLastBefore}
 use Rattle.pt_types.specs.Lookups.{platform_name}
 use Rattle.pt_tables.proofs.turns.push_history.Given as goal
 
 abbrev pub invariant-loop-number : goal.invariant-loop-number
 invariant-loop-number l = record {
-  line : IsLineOf (platform_name l.graph l.platform) l.line;
+  platform : l.line.platform.now ≡ platform_name l.graph l.platform;
+  line : IsKeptLine l.line;
   last : IsLastBefore l.history.turns l.number l.line.last;
   walk : IsAtTurn l.history.turns l.number l.walk;
   lines : string_bytes l.text ≡ string_bytes l.fn.text ++ flat_map (turn_lines l.graph l.platform) (take l.number l.history.turns);

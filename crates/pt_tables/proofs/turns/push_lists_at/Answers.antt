@@ -41,7 +41,8 @@ returns-clause-held c =
 
 pub returns-clause-walk : goal.returns-clause-walk
 returns-clause-walk c = record {
-  levels = c.renew.ensures;
-  results = c.in_ok-push_posts.ensures.results;
-  claims = c.in_ok-push_claims.ensures.claims;
+  levels = c.renew.ensures.levels;
+  works = c.renew.ensures.works;
+  results = c.renew.ensures.results ∙ c.in_ok-push_posts.ensures.results;
+  claims = c.renew.ensures.claims ∙ c.in_ok-push_claims.ensures.claims;
 }

@@ -75,9 +75,9 @@ new-requires g c =
       kept = of_run plan r.plan c.requires.plan r.rows r.link c.args.ends.outlets.items c.args.ends.inlets.items c.requires.open c.requires.named senders receivers
           (subst (λ (h : Graph). AreOwners h leaves (length h.links) senders) c.graph.ensures.value c.in_ok-sides.ensures.senders)
           (subst (λ (h : Graph). AreOwners h receiving_platform (length h.links) receivers) c.graph.ensures.value c.in_ok-sides.ensures.receivers)
-          n m c.in-Some.ensures.cases c.loop-platform.outlets.items c.loop-platform.inlets.items inv.sending inv.taking c.in_ok-sending.sending.items c.in_ok-taking.taking.items
-          (collected_as c.as_slice.result.now senders c.number-number.result n c.loop-platform.outlets.items c.in_ok-sending.sending.items c.as_slice.ensures.value num c.in_ok-sending.ensures.collected)
-          (collected_as c.as_slice-in-Some.result.now receivers c.number-number.result n c.loop-platform.inlets.items c.in_ok-taking.taking.items c.as_slice-in-Some.ensures.value num c.in_ok-taking.ensures.collected)
+          n m c.in-Some.ensures.cases c.loop-platform.outlets.items c.loop-platform.inlets.items inv.sending inv.taking c.in-Ok.sending.items c.in-Ok-collect.taking.items
+          (collected_as c.as_slice.result.now senders c.number-number.result n c.loop-platform.outlets.items c.in-Ok.sending.items c.as_slice.ensures.value num c.in-Ok.ensures.collected)
+          (collected_as c.as_slice-in-Some.result.now receivers c.number-number.result n c.loop-platform.inlets.items c.in-Ok-collect.taking.items c.as_slice-in-Some.ensures.value num c.in-Ok-collect.ensures.collected)
           p (c.requires.all.plans k p is) mine (c.requires.fresh.turns k p is) below (λ a home. c.requires.all.opened k a p is (home ∙ c.pop.new.self.ok.0))
           (r.began p.number) (g.C.Clock.told c.in-Some-pop.clock) (r.fixed p.number) (g.C.Clock.ahead c.in-Some-pop.clock)
           (ap r.began (sym same) ∙ tells.0) (ap r.fixed (sym same) ∙ tells.1);
@@ -100,10 +100,10 @@ loop-platform-preserved g c =
       front = (p ∷ inv.front.0, more_left c.pop.new.self.items c.loop-platform.platforms.items inv.front.0 c.args.platforms.items p c.in-Some.ensures.items inv.front.1);
       clock_front = (c.in-Some-pop.clock ∷ inv.clock_front.0, more_left c.pop-in-Some.new.self.items c.loop-platform.clocks.items inv.clock_front.0 c.args.clocks.items c.in-Some-pop.clock c.in-Some-pop.ensures.items inv.clock_front.1);
       sending = left_after senders n m c.args.ends.outlets.items c.loop-platform.outlets.items c.collect.new.places.items c.in-Some.ensures.cases inv.sending
-          (λ l e. c.in_ok-sending.ensures.others l (λ at. e (owner_as c.as_slice.result.now senders c.number-number.result n l c.as_slice.ensures.value num at)));
+          (λ l e. c.in-Ok.ensures.others l (λ at. e (owner_as c.as_slice.result.now senders c.number-number.result n l c.as_slice.ensures.value num at)));
       taking = left_after receivers n m c.args.ends.inlets.items c.loop-platform.inlets.items c.collect-in-Some.new.places.items c.in-Some.ensures.cases inv.taking
-          (λ l e. c.in_ok-taking.ensures.others l (λ at. e (owner_as c.as_slice-in-Some.result.now receivers c.number-number.result n l c.as_slice-in-Some.ensures.value num at)));
-      count = (c.in_ok-sending.ensures.count ∙ inv.count.0, c.in_ok-taking.ensures.count ∙ inv.count.1);
+          (λ l e. c.in-Ok-collect.ensures.others l (λ at. e (owner_as c.as_slice-in-Some.result.now receivers c.number-number.result n l c.as_slice-in-Some.ensures.value num at)));
+      count = (c.in-Ok.ensures.count ∙ inv.count.0, c.in-Ok-collect.ensures.count ∙ inv.count.1);
       room = (omega (arith, c.push_reserved.ensures.len, inv.room.0, c.in-Some.ensures.cases), c.push_reserved.ensures.capacity ∙ inv.room.1);
       order = ap (λ (xs : List StationView). count_up n ++ numbers (reverse xs)) c.push_reserved.ensures.items
           ∙ numbered_more n m (vec_len c.args.platforms) c.loop-platform.stations.items c.new.result c.in-Some.ensures.cases (ap (λ (s : StationView). s.platform.number) c.new.ensures ∙ mine) inv.order;

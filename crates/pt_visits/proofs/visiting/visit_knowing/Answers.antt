@@ -48,15 +48,15 @@ returns g c =
     let no_fault : c.room.new.self.fault ≡ None = ap (λ (v : PlatformView). v.fault) room ∙ c.requires.no_fault in
     let graph : c.graph-graph.result.now ≡ c.args.platform.now.plan.graph = c.graph-graph.ensures.value ∙ ap (λ (p : Parts). p.graph) (c.deref.ensures ∙ c.plan.ensures) in
     let messages : c.as_slice-4.result.now ≡ arriving c.args.platform.now.plan.graph c.args.platform.now.number 0 c.args.pipes.now = arrived c.graph-graph.result.now c.args.platform.now.plan.graph c.number.result c.args.platform.now.number c.args.pipes.now c.clear.new.self.items c.as_slice-4.result.now c.take_all.new.taken.items c.as_slice-4.ensures.value c.in_ok-take_all.ensures.taken c.clear.ensures.items graph c.number.ensures in
-    let turned : MakesTurn c.args.most c.args.platform.now c.turn.new.self c.args.reading c.as_slice-3.result.now c.as_slice-4.result.now c.reserve.new.self.tasks c.turn.new.tasks.tasks =
-    without_room c.args.most c.args.platform.now c.turn.new.self (Some (record { reading = c.args.reading; done = c.len.result; taken = c.len-2.result; most = c.args.most })) c.args.reading c.as_slice-3.result.now c.as_slice-4.result.now c.reserve.new.self.tasks c.turn.new.tasks.tasks
-    (subst (λ (v : PlatformView). MakesTurn c.args.most v c.turn.new.self c.args.reading c.as_slice-3.result.now c.as_slice-4.result.now c.reserve.new.self.tasks c.turn.new.tasks.tasks) room (c.turn.ensures.turned no_fault)) in
-    let handed : c.reserve.new.self.tasks ≡ [] = c.reserve.ensures.tasks ∙ c.clear-2.ensures.tasks in
+    let turned : MakesTurn c.args.most c.args.platform.now c.turn.new.self c.args.reading c.as_slice-3.result.now c.as_slice-4.result.now c.renew.new.self.tasks c.turn.new.tasks.tasks =
+    without_room c.args.most c.args.platform.now c.turn.new.self (Some (record { reading = c.args.reading; done = c.len.result; taken = c.len-2.result; most = c.args.most })) c.args.reading c.as_slice-3.result.now c.as_slice-4.result.now c.renew.new.self.tasks c.turn.new.tasks.tasks
+    (subst (λ (v : PlatformView). MakesTurn c.args.most v c.turn.new.self c.args.reading c.as_slice-3.result.now c.as_slice-4.result.now c.renew.new.self.tasks c.turn.new.tasks.tasks) room (c.turn.ensures.turned no_fault)) in
+    let handed : c.renew.new.self.tasks ≡ [] = c.renew.ensures.tasks in
     let between : c.take_all.new.pipes ≡ emptied c.args.platform.now.plan.graph c.args.platform.now.number 0 c.args.pipes.now = c.in_ok-take_all.ensures.pipes ∙ ap₂ (λ (a : Graph) (k : ℕ). emptied a k 0 c.args.pipes.now) graph c.number.ensures in
     let graph_now : c.graph.result.now ≡ c.push_all.new.platform.plan.graph = c.graph.ensures.value ∙ ap (λ (p : Parts). p.graph) (c.deref-2.ensures ∙ c.plan-2.ensures) in
     record {
       visited = both_ok c.fire_all.result
-          (λ fired done. is_visited c.args.most c.args.reading c.args.results.now.items c.as_slice-3.result.now c.fire_all.new.results.items c.args.platform.now c.turn.new.self c.push_all.new.platform c.args.pipes.now c.take_all.new.pipes c.push_all.new.pipes c.as_slice-4.result.now c.reserve.new.self.tasks c.turn.new.tasks.tasks
+          (λ fired done. is_visited c.args.most c.args.reading c.args.results.now.items c.as_slice-3.result.now c.fire_all.new.results.items c.args.platform.now c.turn.new.self c.push_all.new.platform c.args.pipes.now c.take_all.new.pipes c.push_all.new.pipes c.as_slice-4.result.now c.renew.new.self.tasks c.turn.new.tasks.tasks
           turned c.as_slice-3.ensures.value messages handed c.push_all.ensures.pushed between (fired ∙ c.as_slice-5.ensures) (subst (λ (a : Graph). AreDone a c.fire_all.new.results.items) graph_now done))
           c.fire_all.ensures.tasks c.fire_all.ensures.done;
       none = always c.fire_all.result c.push_all.ensures.none;

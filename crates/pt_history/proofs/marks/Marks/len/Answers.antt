@@ -12,4 +12,4 @@ returns c =
     let numbers = mark_numbers (length tags) c.self.inside.numbers.items in
     let many : length numbers ≡ length tags = length-numbers (length tags) c.self.inside.numbers.items c.self.invariant.numbers in
     let lists : length c.args.self.now.items ≡ length tags = ap (λ (v : RoomyItems Mark). length v.items) (sym c.self.view_is) ∙ length-marks tags actors numbers c.self.invariant.actors many in
-    c.len.ensures ∙ c.self.inside.tags.ok.0 ∙ sym lists
+    c.len.ensures ∙ sym lists

@@ -10,7 +10,8 @@ overflow_sub-result-2 c = omega (arith, c.claimed.ensures, c.claims_through.ensu
 
 pub returns : goal.returns
 returns c = record {
-  levels = c.unknown.ensures c.args.history.now.turns (c.args.number / 64);
+  levels = c.unknown-levels.ensures c.args.history.now.turns (c.args.number / 64);
+  works = c.works_of.ensures;
   results = omega (arith, c.posted.ensures, c.results_through.ensures, posted_more c.args.history.now.turns c.args.number c.requires);
   claims = omega (arith, c.claimed.ensures, c.claims_through.ensures, claimed_more c.args.history.now.turns c.args.number c.requires);
 }

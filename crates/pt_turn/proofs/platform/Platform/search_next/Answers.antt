@@ -1,0 +1,12 @@
+use Rattle.std.proofs.Common.{subst}
+use Rattle.pt_semantics.specs.Paced.{IsNextReading}
+use Rattle.pt_offsets.specs.Plans.{Parts}
+use Rattle.pt_turn.specs.declared.platform.Platform.TheInside.{Inside}
+use Rattle.pt_turn.specs.Platforms.{PlatformView, messages_of, state_at, view_of}
+use Rattle.pt_turn.proofs.platform.Platform.search_next.Goals as goal
+
+pub returns : goal.returns
+returns c =
+    let p : Inside = c.self.inside in
+    subst (λ (v : PlatformView). IsNextReading v.plan.graph v.number (state_at v) c.next_reading.result) c.self.view_is
+    (subst (λ (plan : Parts). IsNextReading plan.graph p.number (state_at (view_of p)) c.next_reading.result) c.deref.ensures (c.next_reading.ensures (messages_of p.history.turns)))
