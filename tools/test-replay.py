@@ -12,10 +12,10 @@ sys.path.insert(0, os.path.join(os.path.dirname(os.path.abspath(__file__)), "tes
 import airs  # noqa: E402
 import judges  # noqa: E402
 import testers  # noqa: E402
-from slow_logs import Cost, every, ring, write_graph  # noqa: E402
+from slow_logs import Cost, beside, every, ring, write_graph  # noqa: E402
 
 HEAD = b"what,name,value\n"
-MOST_TIME, MOST_MEMORY = 2.0, 2.0
+MOST_TIME, MOST_MEMORY = 2.5, 2.0
 
 
 class Tester(testers.Tester):
@@ -288,10 +288,10 @@ def test_costs(tester):
             folder = row(tester, 20_000)
         with open(tester.air, "wb") as file:
             file.write(airs.spelled([("transit", name, number % 3 * 20 if times == 3 else 0) for number in range(20_000) for name in airs.Network(graph_of(folder)).delays]))
-        costs = {name: [Cost(tester, folder, words, os.path.join(tester.work, "output")) for _ in range(3)]
-                 for name, words in (("run", ["run", "graph.json"]), ("replay", ["replay", "graph.json", tester.air]))}
-        run, replay = (min(found, key=lambda cost: cost.seconds) for found in costs.values())
-        tester.expect(f"{what}: statuses", [run.status], sorted({cost.status for found in costs.values() for cost in found}))
+        output = os.path.join(tester.work, "output")
+        run, replay, statuses = beside(lambda folder=folder: Cost(tester, folder, ["run", "graph.json"], output),
+                                       lambda folder=folder: Cost(tester, folder, ["replay", "graph.json", tester.air], output), MOST_TIME)
+        tester.expect(f"{what}: statuses", [run.status], statuses)
         time, memory = replay.seconds / run.seconds, replay.memory / run.memory
         print(f"{what}: run {run}; replay {replay}; {time:.2f} times as long, {memory:.2f} times as much memory", flush=True)
         tester.expect(f"{what}: at most {MOST_TIME} times as long", True, time <= MOST_TIME)

@@ -12,7 +12,7 @@
 #   Of all these the log is lawful, and the output is the same by 1 and by 64 workers.
 #   Many messages: 500 that arrive at once are taken 64 a turn. Transits of 0 and 10^15, lags of 10^15 on all platforms.
 #   Faults: files with one mistake, or that are spelled oddly, beside the plain reader; which of several faults is reported; words.
-#   Costs: time and memory beside those of `run`: at most 2 and 2 times as much.
+#   Costs: time and memory beside those of `run`: at most 2.5 and 2 times as much.
 #
 # TIMES says how many times as many graphs and files there are, 1 if it is unset, and SEED which: the random graphs are those of
 # tools/make-random-graph.py with the seeds SEED, SEED + 1 .., 1 if it is unset. It needs python3. If the program has no command
