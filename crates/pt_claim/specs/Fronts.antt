@@ -11,7 +11,9 @@ use Rattle.pt_semantics.specs.Safe.{IsSafe, NothingSafe}
 use Rattle.pt_semantics.specs.Claiming.{NoLater}
 use Rattle.pt_causality.specs.Delays.{IsUnit}
 use Rattle.pt_queue.specs.declared.waiting.Waiting.{Waiting}
+use Rattle.pt_queue.specs.Events.{IsFirstWaiting}
 use Rattle.pt_claim.specs.declared.front.Several.{Several}
+use Rattle.pt_claim.specs.Early.{IsDueAt}
 
 -- c comes before d by tag, actor and group
 abbrev pub IsAhead : Waiting → Waiting → Type 0
@@ -65,6 +67,18 @@ pub record AreFirst (g : Graph) (waits : Values) (busy : Part → Option Task) (
   pub safe : Each (IsSafeUnit g waits busy r) cs
   pub stand : Each (λ (c : Waiting). StandsBefore c.unit a k) cs
   pub among : (u : Part) (t : Tag) → IsUnit g u → StandsBefore u a k → IsSafe g waits busy r u t → IsAmong u t cs
+
+-- the same before this unit; or, for None, of all safe units
+abbrev pub AreFirstUpTo : Graph → Values → (Part → Option Task) → ℕ → Option Waiting → List Waiting → Type 0
+AreFirstUpTo g waits busy r None cs = AreFirst g waits busy r (length g.actors) 0 cs
+AreFirstUpTo g waits busy r (Some c) cs = AreFirst g waits busy r c.unit.actor c.unit.group cs
+
+-- a unit that is due, and the first with events from some place on, which isn't before n
+pub record IsAsked (g : Graph) (waits : Values) (r n : ℕ) (c : Waiting) : Type 0 where
+  pub place : ℕ
+  pub later : n ≤ place
+  pub next : IsFirstWaiting g waits place (Some c)
+  pub due : IsDueAt g r c.unit c.tag
 
 -- the first safe units in order: every other one comes after them all, and there is none unless `more` is true
 pub record AreFront (g : Graph) (waits : Values) (busy : Part → Option Task) (r : ℕ) (more : Bool) (cs : List Waiting) : Type 0 where

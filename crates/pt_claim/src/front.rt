@@ -9,12 +9,13 @@ ghost use Rattle.pt_causality.specs.Delays.{IsUnit};
 ghost use Rattle.pt_queue.specs.Events.{waiting_in, IsLeastTag};
 ghost use Rattle.pt_state.specs.State.{busy_in, IsSound};
 ghost use Rattle.pt_claim.specs.Ahead.{HasEventAhead};
+ghost use Rattle.pt_claim.specs.Early.{IsDueAt};
 ghost use Rattle.pt_claim.specs.Fronts.{AreBothSafe, AreFirst, AreFront, IsNextSafe, IsTaken, one_of};
 
-use crate::ahead::{Ahead, holder_of, is_behind};
-use crate::early::{is_passed_over, next_word};
+use crate::ahead::{Ahead, holder_of};
+use crate::asked::next_asked;
 use crate::order::{is_past_all, put};
-use crate::safe::{is_due, is_free, is_safe};
+use crate::safe::{is_free, is_safe};
 use arrayvec::ArrayVec;
 use pt_offsets::Plan;
 use pt_queue::{Waiting, place_of};
@@ -69,10 +70,10 @@ fn is_free_or_known(
     is_free(fields, plan, reading, unit, tag)
 }
 
-/// Adds a unit that has events, if it is safe, to those to claim next. A unit that 64 of these come before isn't asked.
+/// Adds a unit that is due, if it is safe, to those to claim next. A unit that 64 of these come before isn't asked.
 ///
-/// `ahead` is a unit with events that may hold up this one, and so is the result for the next unit: the one that was last found
-/// to hold up any. A safe unit mostly holds up none of the next ones. Units that are `known` to be safe aren't searched again.
+/// `ahead` is a unit with events that may hold up others, and so is the result, for the search for the next one: the one that was
+/// last found to hold up any. A safe unit mostly holds up none of the next ones. Units that are `known` to be safe aren't searched again.
 fn add_unit(
     fields: &Fields,
     plan: &Plan,
@@ -85,6 +86,7 @@ fn add_unit(
     requires sound { IsSound plan.now.graph fields.now }
     requires unit { IsUnit plan.now.graph waiting.unit }
     requires tag { IsLeastTag plan.now.graph (waiting_in fields.now.queue.events) waiting.unit (Some waiting.tag) }
+    requires due { IsDueAt plan.now.graph reading waiting.unit waiting.tag }
     requires ahead { IfSome ahead (HasEventAhead plan.now.graph (waiting_in fields.now.queue.events) plan.now.least) }
     requires known { IfSome known (AreBothSafe plan.now.graph (waiting_in fields.now.queue.events) (busy_in fields.now.open_claims.items) reading) }
     requires first { AreFirst plan.now.graph (waiting_in fields.now.queue.events) (busy_in fields.now.open_claims.items) reading waiting.unit.actor waiting.unit.group units.old.items }
@@ -95,12 +97,6 @@ fn add_unit(
         return ahead;
     }
     let Waiting { unit, tag } = waiting;
-    if !is_due(plan, reading, unit, tag) {
-        return ahead;
-    }
-    if is_behind(fields, plan, unit, tag, ahead) {
-        return ahead;
-    }
     if !is_free_or_known(fields, plan, reading, unit, tag, known) {
         return holder_of(fields, plan, unit);
     }
@@ -108,8 +104,7 @@ fn add_unit(
     ahead
 }
 
-/// Replaces the list by the first safe units in order, at most 64. Searches the units that have events, but passes over words of
-/// units none of which is due.
+/// Replaces the list by the first safe units in order, at most 64. Searches the units that have events.
 fn fill(
     fields: &Fields,
     plan: &Plan,
@@ -124,14 +119,9 @@ fn fill(
     units.clear();
     let mut ahead = None;
     let mut from = 0usize;
-    while let Some(waiting) = fields.queue.first_waiting(from) {
-        let place = place_of(waiting.unit);
-        if is_passed_over(fields, plan, reading, from, place) {
-            from = next_word(place);
-            continue;
-        }
+    while let Some(waiting) = next_asked(fields, plan, reading, ahead, from) {
         ahead = add_unit(fields, plan, reading, waiting, ahead, known, units);
-        from = place + 1;
+        from = place_of(waiting.unit) + 1;
     }
 }
 

@@ -13,6 +13,7 @@
 #![tactic(auto)]
 
 mod ahead;
+mod asked;
 mod claiming;
 mod closing;
 mod early;

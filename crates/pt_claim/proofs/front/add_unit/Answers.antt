@@ -12,21 +12,6 @@ returns-then-is_past_all-clause-first c = first_past c.args.plan.now.graph (wait
     (c.is_past_all.ensures c.if-is_past_all.true)
     (λ t safe. only_tag c.args.plan.now.graph (waiting_in c.args.fields.now.queue.events) (busy_in c.args.fields.now.open_claims.items) c.args.reading c.args.waiting.unit t c.args.waiting.tag safe c.requires.tag)
 
-pub returns-then-not-is_due-clause-first : goal.returns-then-not-is_due-clause-first
-returns-then-not-is_due-clause-first c = first_skip c.args.plan.now.graph (waiting_in c.args.fields.now.queue.events) (busy_in c.args.fields.now.open_claims.items) c.args.reading c.args.waiting.unit.actor c.args.waiting.unit.group c.args.units.now.items c.requires.first
-    (λ t safe.
-    let same = only_tag c.args.plan.now.graph (waiting_in c.args.fields.now.queue.events) (busy_in c.args.fields.now.open_claims.items) c.args.reading c.args.waiting.unit t c.args.waiting.tag safe c.requires.tag in
-    false≢true (sym c.if-not-is_due.true ∙ c.is_due.ensures.1 (subst (IsSafe c.args.plan.now.graph (waiting_in c.args.fields.now.queue.events) (busy_in c.args.fields.now.open_claims.items) c.args.reading c.args.waiting.unit) same safe).bounds))
-
-pub returns-then-is_behind-clause-first : goal.returns-then-is_behind-clause-first
-returns-then-is_behind-clause-first c = first_skip c.args.plan.now.graph (waiting_in c.args.fields.now.queue.events) (busy_in c.args.fields.now.open_claims.items) c.args.reading c.args.waiting.unit.actor c.args.waiting.unit.group c.args.units.now.items c.requires.first
-    (λ t safe.
-    let same = only_tag c.args.plan.now.graph (waiting_in c.args.fields.now.queue.events) (busy_in c.args.fields.now.open_claims.items) c.args.reading c.args.waiting.unit t c.args.waiting.tag safe c.requires.tag in
-    c.is_behind.ensures (busy_in c.args.fields.now.open_claims.items) c.args.reading c.if-is_behind.true (subst (IsSafe c.args.plan.now.graph (waiting_in c.args.fields.now.queue.events) (busy_in c.args.fields.now.open_claims.items) c.args.reading c.args.waiting.unit) same safe))
-
-pub is_free_or_known-requires-clause-due : goal.is_free_or_known-requires-clause-due
-is_free_or_known-requires-clause-due c = c.is_due.ensures.0 c.if-not-is_due.false
-
 pub returns-then-not-is_free_or_known-clause-first : goal.returns-then-not-is_free_or_known-clause-first
 returns-then-not-is_free_or_known-clause-first c = first_skip c.args.plan.now.graph (waiting_in c.args.fields.now.queue.events) (busy_in c.args.fields.now.open_claims.items) c.args.reading c.args.waiting.unit.actor c.args.waiting.unit.group c.args.units.now.items c.requires.first
     (λ t safe.
