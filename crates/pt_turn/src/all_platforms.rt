@@ -36,9 +36,7 @@ pub fn open_all(
         let rows = all_cut(alloc, graph, own)?;
         let plan = Arc::clone(plan)?;
         let platform = Platform::open(alloc, plan, number, rows)?;
-        if platforms.push(platform).is_err() {
-            return Err(Memory);
-        }
+        platforms.push(platform)?;
     }
     Ok(platforms)
 }

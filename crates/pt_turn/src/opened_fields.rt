@@ -37,10 +37,11 @@ pub fn open_fields(
     ensures closed { IfOk result (λ fields. fields.closed ≡ false) }
     ensures claims { IfOk result (λ fields. fields.claims ≡ 0) }
 {
-    let queue = starting(alloc, plan.graph(), platform)?;
-    let states = first_states(alloc, plan.graph())?;
+    let graph = plan.graph();
     let sensors = all_unentered(alloc, rows)?;
-    let outbox = Outbox::new(alloc, plan.graph().links.as_slice().len())?;
+    let states = first_states(alloc, graph)?;
+    let outbox = Outbox::new(alloc, graph.links.as_slice().len())?;
+    let queue = starting(alloc, graph, platform)?;
     Ok(Fields {
         queue,
         open_claims: OpenClaims::new(alloc),

@@ -50,7 +50,10 @@ pub fn starting(alloc: Global, graph: &Graph, platform: u32) -> Result<Queue, Me
     ensures waits { IfOk result (λ queue. waiting_in queue.events ≡ starting graph.now platform) }
 {
     let mut queue = Queue::new(alloc, graph)?;
-    queue.reserve(graph.actors.as_slice().len())?;
+    let Ok(()) = queue.reserve(graph.actors.as_slice().len()) else {
+        drop(queue);
+        return Err(Memory);
+    };
     for (number, actor) in graph.actors.as_slice().iter().enumerate() {
         if actor.platform == platform {
             begin(&mut queue, graph, number as u32, &actor.kind);

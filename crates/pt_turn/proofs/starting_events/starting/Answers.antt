@@ -14,9 +14,9 @@ begin-requires-clause-absent c = λ t. starts_free c.args.graph.now c.args.platf
 
 pub loop-number-init : goal.loop-number-init
 loop-number-init c = record {
-  groups = subst (AreGroups c.args.graph.now) (sym c.in_ok-reserve.ensures.groups) c.in_ok-queue.ensures.groups;
-  spare = omega (arith, c.in_ok-reserve.ensures.spare, ap length c.as_slice.ensures);
-  waits = starts_none c.args.graph.now c.args.platform (waiting_in c.reserve.new.self.events) (ap waiting_in (c.in_ok-reserve.ensures.events ∙ c.in_ok-queue.ensures.empty));
+  groups = subst (AreGroups c.args.graph.now) (sym c.in-Ok.ensures.groups) c.in_ok-queue.ensures.groups;
+  spare = omega (arith, c.in-Ok.ensures.spare, ap length c.as_slice.ensures);
+  waits = starts_none c.args.graph.now c.args.platform (waiting_in c.reserve.new.self.events) (ap waiting_in (c.in-Ok.ensures.events ∙ c.in_ok-queue.ensures.empty));
 }
 
 pub loop-number-preserved : goal.loop-number-preserved
