@@ -1,6 +1,6 @@
 -- Platforms that have finished a run.
-use Rattle.std.proofs.Common.{◌≡◌, ◌++◌, ℕ, Bool, true, false, List, Option, None, Some, Result, Ok, Err, IfOk, IfErr, refl, sym, ap, subst, ◌∙◌, append-nil}
-use Rattle.std.specs.Prelude.{◌↔◌, flat_map}
+use Rattle.std.proofs.Common.{◌≡◌, ◌++◌, ℕ, Bool, true, false, List, [], Option, None, Some, Result, Ok, Err, IfOk, IfErr, refl, sym, ap, subst, ◌∙◌, append-nil}
+use Rattle.std.specs.Prelude.{◌↔◌, flat_map, is_some}
 use Rattle.pt_types.specs.declared.rows.Row.{Row}
 use Rattle.pt_types.specs.declared.graph.Graph.{Graph}
 use Rattle.pt_types.specs.declared.firing.ActorFiring.{ActorFiring}
@@ -13,8 +13,10 @@ use Rattle.pt_semantics.specs.Tables.{tables_text}
 use Rattle.pt_causality.specs.Ranked.{level_of, rank_of}
 use Rattle.pt_turn.specs.Platforms.{PlatformView}
 use Rattle.pt_turn.specs.All.{AreAll, AreReady}
-use Rattle.pt_tables.specs.Log.{log_text}
-use Rattle.pt_tables.specs.Platforms.{AreInOrder, histories}
+use Rattle.pt_tables.specs.declared.store.LogStore.{LogStore}
+use Rattle.pt_tables.specs.Log.{log_head, log_text}
+use Rattle.pt_tables.specs.Platforms.{AreInOrder, histories, platform_lines}
+use Rattle.pt_tables.proofs.InOrder.{in_order as lines_in_order}
 use Rattle.pt_monitors.specs.Platforms.{missed_by}
 use Rattle.pt_confluence.specs.Gathered.{AreTables, HaveFinished}
 use Rattle.pt_rounds.specs.HaveRun.{HaveRun}
@@ -23,11 +25,11 @@ use Rattle.pt_sensors.specs.Places.{of_run}
 use Rattle.pt_offsets.specs.Plans.{IsAdmitted, Parts}
 use Rattle.pt_turn.specs.declared.fault.TurnFault.{TurnFault}
 use Rattle.pt_turn.specs.declared.fault.TurnFault.TheVariants as turn
-use Rattle.pt_run.specs.declared.finished_run.Ran.{Ran}
+use Rattle.pt_run.specs.declared.outputs.Ran.{Ran}
 use Rattle.pt_run.specs.declared.plan_run.RunFault.{RunFault}
 use Rattle.pt_run.specs.declared.plan_run.RunFault.TheVariants as stop
 use Rattle.pt_run.specs.Readings.{Clocking}
-use Rattle.pt_run.specs.Runs.{AreHeldIf, CauseOfStop, HasOpened, HasRun, IsKept, IsOutput, HasOutputs, IsStop, IsText, IsTold, WentBy, log_if}
+use Rattle.pt_run.specs.Runs.{AreHeldIf, CauseOfStop, HasOpened, HasRun, IsKept, IsOutput, HasOutputs, IsStop, IsText, IsTold, WentBy, log_if, stored_log}
 use Rattle.pt_run.proofs.Missed.{missed_in}
 
 pub in_order : (plan : Parts) (rows : ℕ → List Row) (platforms : List PlatformView) → AreAll plan rows platforms → AreInOrder plan.graph platforms
@@ -43,6 +45,15 @@ pub with_log : (plan : Parts) (platforms : List PlatformView) (front text : List
     → ((g : Graph) → AreInOrder g platforms → text ≡ front ++ log_text g (histories platforms)) → IsText plan true platforms text
 with_log plan platforms front text tables logged rows finished =
     let are = tables rows finished in (are.firings, are.meaning, logged plan.graph (in_order plan rows platforms finished.all) ∙ ap (λ z. z ++ log_text plan.graph (histories platforms)) are.written)
+
+-- so it is by what is stored
+pub told_text : (plan : Parts) (log : Bool) (platforms : List PlatformView) (store : Option LogStore) (front : List ℕ) → ((rows : ℕ → List Row) → HaveFinished plan rows platforms → AreTables plan rows front) → is_some store ≡ log
+    → IsText plan log platforms (front ++ stored_log store platforms)
+told_text plan log platforms None front tables is =
+    subst (λ asked. IsText plan asked platforms (front ++ [])) is (subst (IsText plan false platforms) (sym (append-nil front)) (without_log plan platforms front tables))
+told_text plan log platforms (Some store) front tables is =
+    subst (λ asked. IsText plan asked platforms (front ++ (log_head ++ flat_map platform_lines platforms))) is
+    (with_log plan platforms front (front ++ (log_head ++ flat_map platform_lines platforms)) tables (λ g are. ap (λ lines. front ++ (log_head ++ lines)) (lines_in_order g platforms are)))
 
 pub have_finished : (plan : Parts) (rows : ℕ → List Row) (platforms : List PlatformView) → FitRows plan.graph rows → HaveRun plan (level_of plan.ranks) rows platforms None → HaveFinished plan rows platforms
 have_finished plan rows platforms fit run = record { all = run.all; fit = fit; finished = λ i v at. (run.ends i v at).1; linked = run.linked refl }

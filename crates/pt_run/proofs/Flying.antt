@@ -1,6 +1,6 @@
 -- How a replay over a graph ends, by how it ends over its plan.
 use Rattle.std.proofs.Common.{◌≡◌, ◌≢◌, ◌↔◌, ℕ, ◌+◌, Bool, true, false, cond, List, [], Option, Some, None, Result, Ok, Err, IfErr, IfOk, IfSome, length, take, refl, sym, ap, subst, ◌∙◌, inl, inr, ⊎_elim, arith}
-use Rattle.std.specs.Prelude.{nat_lt, string_bytes}
+use Rattle.std.specs.Prelude.{nat_lt}
 use Rattle.std.proofs.lemmas.Bool.Decides.{nat_tests}
 use Rattle.std.proofs.lemmas.List.{length-take, take_all}
 use Rattle.pt_io.specs.Causes.{Appends, AppendsPart, Rose}
@@ -30,7 +30,7 @@ use Rattle.pt_air.specs.Rows.{◌>>=◌}
 use Rattle.pt_aired.specs.HaveFlown.{HaveFlown}
 use Rattle.pt_run.specs.declared.fault.Fault.{Fault}
 use Rattle.pt_run.specs.declared.fault.Fault.TheVariants as fault
-use Rattle.pt_run.specs.declared.finished_run.Ran.{Ran}
+use Rattle.pt_run.specs.declared.outputs.Ran.{Ran}
 use Rattle.pt_run.specs.declared.outcome.Ending.{Ending}
 use Rattle.pt_run.specs.declared.plan_run.RunFault.{RunFault}
 use Rattle.pt_run.specs.declared.plan_run.RunFault.TheVariants as stop
@@ -41,7 +41,7 @@ use Rattle.pt_run.specs.Faults.{fault_of_air}
 use Rattle.pt_run.specs.Flown.{EndsAsReplayed, FinishedReplay, HasReplayed, IsOfReplay, IsRecorded, NamesRow, StopsInAir}
 use Rattle.pt_run.specs.Leaving.{PutsMeaning}
 use Rattle.pt_run.specs.Replaying.{LeavesReplay, NamesBreach, OnAir, has_replayed, stop_of_replay}
-use Rattle.pt_run.specs.Runs.{IsOutput, IsStop, IsTold, RunOver}
+use Rattle.pt_run.specs.Runs.{IsOutput, IsStop, IsTold, RunOver, ran_text}
 use Rattle.pt_run.specs.Texts.{LeftAll, WroteRun, left_by, left_by_run}
 use Rattle.pt_run.specs.Written.{Leaves}
 use Rattle.pt_run.proofs.Ending.{has_nothing}
@@ -125,7 +125,7 @@ names_row (stop.Long platform left) p rows recorded bounds k = tt
 names_row stop.Memory p rows recorded bounds k = tt
 
 -- what was put is the tables of the meaning, and the log if it is asked for
-puts : (log : Bool) (ran : Ran) (p : Parts) (rows : ℕ → List Row) (recorded : Air) (Put : List ℕ → Type 0) → FinishedReplay log ran p rows recorded → Put (string_bytes ran.text) → PutsMeaning p rows log ran.platforms.items Put
+puts : (log : Bool) (ran : Ran) (p : Parts) (rows : ℕ → List Row) (recorded : Air) (Put : List ℕ → Type 0) → FinishedReplay log ran p rows recorded → Put (ran_text ran) → PutsMeaning p rows log ran.platforms.items Put
 puts log ran p rows recorded Put (flown, told) put =
     let finished : HaveFinished p rows ran.platforms.items = record { all = flown.all; fit = flown.fit; finished = λ i v at. (flown.ends i v at).1; linked = flown.linked refl } in
     let text = told.text rows finished in
@@ -155,7 +155,7 @@ module _ (air : List ℕ) (log : Bool) (tells : Contents) (p : Parts) (r : Readi
       (λ part. subst (Due o.fault) (sym part.1) (subst (λ f. Due f (left_by_run [] ran.platforms.items)) (sym part.0) (partly part.2 part.3)))
       h
     where
-      done : Appends w.written_before w.written_now (string_bytes ran.text) → Due None (left_by_run ran.misses.items ran.platforms.items)
+      done : Appends w.written_before w.written_now (ran_text ran) → Due None (left_by_run ran.misses.items ran.platforms.items)
       done put = flew None (left_by_run ran.misses.items ran.platforms.items) (FinishedReplay log ran) run refl (λ e. absurd cc) (λ rows recorded k. record {
         flown = k.0;
         written = λ e. puts log ran p rows recorded (Appends w.written_before w.written_now) k put;
@@ -166,7 +166,7 @@ module _ (air : List ℕ) (log : Bool) (tells : Contents) (p : Parts) (r : Readi
         breach = tt;
       })
 
-      partly : Rose w.before w.now → AppendsPart w.written_before w.written_now (string_bytes ran.text) → Due (Some fault.Write) (left_by_run [] ran.platforms.items)
+      partly : Rose w.before w.now → AppendsPart w.written_before w.written_now (ran_text ran) → Due (Some fault.Write) (left_by_run [] ran.platforms.items)
       partly rose put = flew (Some fault.Write) (left_by_run [] ran.platforms.items) (FinishedReplay log ran) run refl (λ e. rose) (λ rows recorded k. record {
         flown = k.0;
         written = λ e. absurd cc;

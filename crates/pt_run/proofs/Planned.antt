@@ -1,6 +1,5 @@
 -- How a run over a graph ends, by how it ends over its plan.
 use Rattle.std.proofs.Common.{◌≡◌, ◌≢◌, ◌⊎◌, ℕ, ℤ, Bool, true, false, List, [], length, Option, Some, None, Result, Ok, Err, IfOk, IfErr, refl, sym, ap, subst, ◌∙◌, inl, inr, ⊎_elim}
-use Rattle.std.specs.Prelude.{string_bytes}
 use Rattle.pt_io.specs.Causes.{Appends, AppendsPart, Rose}
 use Rattle.pt_types.specs.declared.graph.Graph.{Graph}
 use Rattle.pt_types.specs.declared.rows.Row.{Row}
@@ -20,9 +19,9 @@ use Rattle.pt_turn.specs.Platforms.{PlatformView}
 use Rattle.pt_sensors.specs.Recorded.{CauseOfRows, SensorUnread}
 use Rattle.pt_run.specs.declared.plan_run.RunFault.{RunFault}
 use Rattle.pt_run.specs.declared.plan_run.RunFault.TheVariants as stop
-use Rattle.pt_run.specs.declared.finished_run.Ran.{Ran}
+use Rattle.pt_run.specs.declared.outputs.Ran.{Ran}
 use Rattle.pt_run.specs.Readings.{Clocking}
-use Rattle.pt_run.specs.Runs.{CauseOfStop, HasOutputs, HasRun, IsFinishedRun}
+use Rattle.pt_run.specs.Runs.{CauseOfStop, HasOutputs, HasRun, IsFinishedRun, ran_text}
 use Rattle.pt_run.specs.declared.fault.Fault.{Fault}
 use Rattle.pt_run.specs.declared.fault.Fault.TheVariants as fault
 use Rattle.pt_io.specs.Told.{ClockView}
@@ -86,8 +85,8 @@ module _ (workers : ℕ) (clock : ClockChoice) (log : Bool) (tells : Contents) (
   wrote_plan : (ran : Ran) (o : Ending) (before now : List ClockView) → HasOutputs tells (record { choice = clock; workers = workers; before = before; now = now }) plan log ran → WroteRun ran o w → Due o.fault (left_with o before now)
   wrote_plan ran o before now run h =
       ⊎_elim
-      (λ all. subst (λ left. Due o.fault (over left before now)) (sym all.1) (subst (λ f. Due f (over (left_by_run ran.misses.items ran.platforms.items) before now)) (sym all.0) (finished (over (left_by_run ran.misses.items ran.platforms.items) before now) (string_bytes ran.text) run.0 all.2)))
-      (λ part. subst (λ left. Due o.fault (over left before now)) (sym part.1) (subst (λ f. Due f (over (left_by_run [] ran.platforms.items) before now)) (sym part.0) (partly (over (left_by_run [] ran.platforms.items) before now) ran.misses.items (string_bytes ran.text) run.0 refl part.2 part.3)))
+      (λ all. subst (λ left. Due o.fault (over left before now)) (sym all.1) (subst (λ f. Due f (over (left_by_run ran.misses.items ran.platforms.items) before now)) (sym all.0) (finished (over (left_by_run ran.misses.items ran.platforms.items) before now) (ran_text ran) run.0 all.2)))
+      (λ part. subst (λ left. Due o.fault (over left before now)) (sym part.1) (subst (λ f. Due f (over (left_by_run [] ran.platforms.items) before now)) (sym part.0) (partly (over (left_by_run [] ran.platforms.items) before now) ran.misses.items (ran_text ran) run.0 refl part.2 part.3)))
       h
 
   -- its platforms were stopped

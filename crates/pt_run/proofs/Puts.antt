@@ -1,13 +1,8 @@
 -- One put after another.
-use Rattle.std.proofs.Common.{◌≡◌, ℕ, List, ◌++◌, Option, Some, None, append_assoc, ap, sym, ◌∙◌, take, drop, length, ◌+◌, ◌≤◌, arith, length-append}
-use Rattle.std.proofs.lemmas.List.{take-append-drop, take-append-le}
-use Rattle.std.proofs.lemmas.Grind.{common_steps}
+use Rattle.std.proofs.Common.{◌≡◌, ℕ, List, ◌++◌, Option, Some, None, append_assoc, ap, sym, subst, ◌∙◌, take, drop, length, ◌+◌, ◌≤◌, arith, length-append}
+use Rattle.std.proofs.lemmas.List.{take_all, take-append-drop, take-append-le}
 use Rattle.std.proofs.Math.Seq.{take-append-add}
-use Rattle.pt_io.specs.Causes.{Appends, AppendsPart, Rose}
-
-pub appends_twice : (a b c : Option (List ℕ)) (xs ys : List ℕ) → Appends a b xs → Appends b c ys → Appends a c (xs ++ ys)
-appends_twice None b c xs ys p q = tt
-appends_twice (Some w) b c xs ys p q = rw (← append_assoc) (rw p at q)
+use Rattle.pt_io.specs.Causes.{Appends, AppendsPart, Keeps}
 
 pub joined : (front rest text : List ℕ) (n : ℕ) → front ++ rest ≡ text → (front ++ take n rest) ++ drop n rest ≡ text
 joined front rest text n h = append_assoc front (take n rest) (drop n rest) ∙ rw take-append-drop h
@@ -25,6 +20,14 @@ part_after (Some w) b c front rest text n h p q =
     let long : length front + k ≤ length text = rw whole (omega (arith, length-append front (take n rest ++ drop n rest), length-append (take n rest) (drop n rest))) in
     (length front + k, long, q'.2 ∙ ap (λ t. Some t) (append_assoc w front (take k (take n rest)) ∙ ap (λ t. w ++ t) (sym taken)))
 
--- a count that rose later rose
-pub rose_later : (first before now : ℕ) → first ≤ before → Rose before now → Rose first now
-rose_later first before now grew rose = grind (arith, common_steps)
+-- what was put stays put when a sink is flushed,
+pub kept_all : (a b c : Option (List ℕ)) (xs : List ℕ) → Appends a b xs → Keeps b c → Appends a c xs
+kept_all None b c xs p q = tt
+kept_all (Some w) b c xs p q = subst (λ z. Keeps z c) p q
+
+-- and is a prefix of itself, if the flush fails
+pub kept_part : (a b c : Option (List ℕ)) (xs : List ℕ) → Appends a b xs → Keeps b c → AppendsPart a c xs
+kept_part None b c xs p q = tt
+kept_part (Some w) b c xs p q =
+    let all : length xs ≤ length xs = omega arith in
+    (length xs, all, subst (λ z. Keeps z c) p q ∙ ap (λ l. Some (w ++ l)) (sym (take_all (length xs) xs all)))

@@ -20,9 +20,10 @@ use Rattle.pt_turn.specs.Platforms.{PlatformView, state_at}
 use Rattle.pt_together.specs.Asked.{EndsAt}
 use Rattle.pt_monitors.specs.Platforms.{missed_by}
 use Rattle.pt_tables.specs.Held.{IsHeldTurn}
-use Rattle.pt_tables.specs.Log.{log_text}
+use Rattle.pt_tables.specs.Log.{log_head, log_text}
 use Rattle.pt_tables.specs.Misses.{miss_line}
-use Rattle.pt_tables.specs.Platforms.{histories}
+use Rattle.pt_tables.specs.Platforms.{histories, platform_lines}
+use Rattle.pt_tables.specs.declared.store.LogStore.{LogStore}
 use Rattle.pt_confluence.specs.Gathered.{HaveFinished}
 use Rattle.pt_rounds.specs.HaveRun.{HaveRun}
 use Rattle.pt_sensors.specs.declared.recorded_fault.LateRows.TheVariants.{Refused}
@@ -33,7 +34,7 @@ use Rattle.pt_words.specs.declared.orders.ClockChoice.{ClockChoice}
 use Rattle.pt_words.specs.declared.orders.ClockChoice.TheVariants.{Machine, Paced, Step}
 use Rattle.pt_run.specs.declared.plan_run.RunFault.{RunFault}
 use Rattle.pt_run.specs.declared.plan_run.RunFault.TheVariants as fault
-use Rattle.pt_run.specs.declared.finished_run.Ran.{Ran}
+use Rattle.pt_run.specs.declared.outputs.Ran.{Ran}
 use Rattle.pt_io.specs.Told.{ClockView}
 use Rattle.pt_run.specs.Readings.{Clocking, EachOf, ReadBy, read_by}
 
@@ -109,6 +110,15 @@ pub record IsFinishedRun (tells : Contents) (c : Clocking) (plan : Parts) (log :
   -- in a paced run the misses are exactly the firings of actuators whose paced reading is past their tag's time plus slack
   pub missed_as_meant : c.choice ≡ Paced → (m : Miss) → IsIn m misses ↔ IsMissedByMeaning plan.graph firings m.actor m.tag m.reading m.limit
 
+-- the log of platforms, if it is stored
+abbrev pub stored_log : Option LogStore → List PlatformView → List ℕ
+stored_log None platforms = []
+stored_log (Some store) platforms = log_head ++ flat_map platform_lines platforms
+
+-- the text that a run puts: its tables and, if it is stored, the log
+abbrev pub ran_text : Ran → List ℕ
+ran_text ran = string_bytes ran.tables ++ stored_log ran.log ran.platforms.items
+
 -- the text of finished platforms
 abbrev pub IsText : Parts → Bool → List PlatformView → List ℕ → Type 0
 IsText plan log platforms text = (rows : ℕ → List Row) → HaveFinished plan rows platforms →
@@ -117,14 +127,14 @@ IsText plan log platforms text = (rows : ℕ → List Row) → HaveFinished plan
 -- all outputs of finished platforms
 pub record IsTold (plan : Parts) (log : Bool) (platforms : List PlatformView) (ran : Ran) : Type 0 where
   pub platforms_are : ran.platforms.items ≡ platforms
-  pub text : IsText plan log platforms (string_bytes ran.text)
+  pub text : IsText plan log platforms (ran_text ran)
   pub held : AreHeldIf log platforms
   pub misses : ran.misses.items ≡ flat_map missed_by platforms
   pub lines : string_bytes ran.lines ≡ flat_map (miss_line plan.graph) ran.misses.items
 
 -- what a finished run returns: its platforms, its text, its misses and their lines
 abbrev pub HasOutputs : Contents → Clocking → Parts → Bool → Ran → Type 0
-HasOutputs tells c plan log ran = IsFinishedRun tells c plan log ran.platforms.items ran.misses.items (string_bytes ran.text) × (string_bytes ran.lines ≡ flat_map (miss_line plan.graph) ran.misses.items)
+HasOutputs tells c plan log ran = IsFinishedRun tells c plan log ran.platforms.items ran.misses.items (ran_text ran) × (string_bytes ran.lines ≡ flat_map (miss_line plan.graph) ran.misses.items)
 
 -- the outputs of platforms after a run without a fault
 abbrev pub IsOutput : Option (ℕ × TurnFault) → Parts → Bool → List PlatformView → Ran → Type 0

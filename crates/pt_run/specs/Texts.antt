@@ -1,12 +1,12 @@
 -- How a call ends.
-use Rattle.std.specs.Prelude.{◌≡◌, ◌⊎◌, ℕ, List, [], Option, Some, None, Result, Ok, Err, string_bytes}
+use Rattle.std.specs.Prelude.{◌≡◌, ◌⊎◌, ℕ, List, [], Option, Some, None, Result, Ok, Err}
 use Rattle.pt_io.specs.Causes.{Rose, Appends, AppendsPart}
 use Rattle.pt_history.specs.declared.miss.Miss.{Miss}
 use Rattle.pt_io.specs.Told.{ClockView}
 use Rattle.pt_turn.specs.Platforms.{PlatformView}
 use Rattle.pt_run.specs.declared.plan_run.RunFault.{RunFault}
 use Rattle.pt_run.specs.declared.plan_run.RunFault.TheVariants as stop
-use Rattle.pt_run.specs.declared.finished_run.Ran.{Ran}
+use Rattle.pt_run.specs.declared.outputs.Ran.{Ran}
 use Rattle.pt_run.specs.declared.fault.Fault.{Fault}
 use Rattle.pt_run.specs.declared.fault.Fault.TheVariants as fault
 use Rattle.pt_run.specs.declared.outcome.Ending.{Ending}
@@ -17,6 +17,7 @@ use Rattle.pt_run.specs.Faults.{fault_of_rows}
 use Rattle.pt_words.specs.declared.orders.Command.{Command}
 use Rattle.pt_run.specs.Written.{Leaves, leaves_nothing}
 use Rattle.pt_run.specs.Causes.{Writing}
+use Rattle.pt_run.specs.Runs.{ran_text}
 
 -- what a call that ended so leaves, with what the clocks that its run read showed before it and after it
 abbrev pub left_with : Ending → List ClockView → List ClockView → Leaves
@@ -59,8 +60,8 @@ left_by_run misses platforms = record { misses = misses; platforms = platforms; 
 -- the text of a run that finished was put, all of it or a prefix; if all of it, the outcome has its misses
 abbrev pub WroteRun : Ran → Ending → Writing → Type 0
 WroteRun ran o w =
-    ((o.fault ≡ None) × (left_by o ≡ left_by_run ran.misses.items ran.platforms.items) × Appends w.written_before w.written_now (string_bytes ran.text))
-    ⊎ ((o.fault ≡ Some fault.Write) × (left_by o ≡ left_by_run [] ran.platforms.items) × Rose w.before w.now × AppendsPart w.written_before w.written_now (string_bytes ran.text))
+    ((o.fault ≡ None) × (left_by o ≡ left_by_run ran.misses.items ran.platforms.items) × Appends w.written_before w.written_now (ran_text ran))
+    ⊎ ((o.fault ≡ Some fault.Write) × (left_by o ≡ left_by_run [] ran.platforms.items) × Rose w.before w.now × AppendsPart w.written_before w.written_now (ran_text ran))
 
 -- the fault of a call, from that of a run, with the platforms that the run leaves
 abbrev pub IsFaultOfRun : RunFault → Fault → List PlatformView → Type 0

@@ -1,41 +1,33 @@
 //! The outputs of a run whose platforms are finished.
 
-ghost use Rattle.std.specs.Prelude.{◌≡◌, IfOk, flat_map, string_bytes};
+ghost use Rattle.std.specs.Prelude.{◌≡◌, IfOk, IfSome, OnOk, flat_map, is_some, string_bytes};
 ghost use Rattle.std.specs.Arc.{arc_value};
 ghost use Rattle.pt_tables.specs.Misses.{miss_line};
-ghost use Rattle.pt_run.specs.Runs.{AreHeldIf, IsText, IsTold};
+ghost use Rattle.pt_tables.specs.Platforms.{IsStoreOf};
+ghost use Rattle.pt_run.specs.Runs.{AreHeldIf, IsTold};
 
+use crate::outputs::Ran;
 use pt_confluence::tables_of;
 use pt_history::Miss;
 use pt_monitors::missed;
 use pt_offsets::Plan;
-use pt_tables::{miss_lines, push_log};
+use pt_tables::{LogStore, log_store, miss_lines};
 use pt_tags::Memory;
 use pt_turn::Platform;
 use std::alloc::Global;
 use std::sync::Arc;
 
-/// A run that finished: its text, its misses and their lines, and its platforms.
-#[derive(Drop)]
-pub struct Ran {
-    /// The tables of the actuators and, if asked for, the log.
-    pub text: String,
-    pub misses: Vec<Miss>,
-    /// A line for each miss.
-    pub lines: String,
-    pub platforms: Vec<Platform>,
-}
-
-/// The tables of finished platforms and, if asked for, their log.
-fn text_of(alloc: Global, plan: &Plan, platforms: &[Platform], log: bool) -> Result<String, Memory>
-    ensures text { IfOk result (λ text. IsText plan.now log platforms.now (string_bytes text)) }
-    ensures held { IfOk result (λ text. AreHeldIf log platforms.now) }
+/// What the log of platforms is put with, if it is asked for.
+fn store_if(alloc: Global, platforms: &[Platform], log: bool) -> Result<Option<LogStore>, Memory>
+    ensures asked { IfOk result (λ store. is_some store ≡ log) }
+    ensures stored { IfOk result (λ store. IfSome store (IsStoreOf platforms.now)) }
+    ensures held { OnOk result (AreHeldIf log platforms.now) }
 {
-    let mut text = tables_of(alloc, plan, platforms)?;
-    if log && push_log(&mut text, platforms).is_err() {
-        return Err(Memory);
+    if !log {
+        return Ok(None);
     }
-    Ok(text)
+    let store = log_store(alloc, platforms)?;
+    Ok(Some(store))
 }
 
 /// The lines of misses.
@@ -56,11 +48,13 @@ pub fn told(
 ) -> Result<Ran, Memory>
     ensures { IfOk result (IsTold (arc_value plan.now) log platforms.items) }
 {
-    let text = text_of(alloc, plan, platforms.as_slice(), log)?;
+    let tables = tables_of(alloc, plan, platforms.as_slice())?;
+    let log = store_if(alloc, platforms.as_slice(), log)?;
     let misses = missed(alloc, platforms.as_slice())?;
     let lines = lines_of(alloc, plan, misses.as_slice())?;
     Ok(Ran {
-        text,
+        tables,
+        log,
         misses,
         lines,
         platforms,

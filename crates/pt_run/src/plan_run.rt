@@ -7,7 +7,7 @@ ghost use Rattle.pt_run.specs.Asks.{AsksStopped, all_sensors};
 ghost use Rattle.pt_run.specs.Readings.{Clocking};
 ghost use Rattle.pt_run.specs.Runs.{CauseOfStop, HasOpened, HasOutputs, paced_clocking};
 
-use crate::finished_run::Ran;
+use crate::outputs::Ran;
 use crate::went::{go_paced, outputs_of};
 use pt_blocks::Blocks;
 use pt_io::Source;

@@ -16,7 +16,7 @@ ghost use Rattle.pt_run.specs.Texts.{HasEnded, IsFaultOfRun, IsStopped, LeftAll,
 use crate::fault::{Fault, fault_of_plan, fault_of_rows};
 use crate::notes::{tell, tell_write};
 use crate::outcome::Ending;
-use crate::output::{put_text, put_whole};
+use crate::output::{put_run, put_whole};
 use crate::{Ran, RunFault, run_of};
 use pt_blocks::Blocks;
 use pt_io::{Sink, Source};
@@ -121,12 +121,13 @@ pub fn write_run<K: Sink, E: Sink>(
         (record { before = E.faults notes.old; now = E.faults notes.new; written_before = E.written notes.old; written_now = E.written notes.new }) }
 {
     let Ran {
-        text,
+        tables,
+        log,
         misses,
         lines,
         platforms,
     } = ran;
-    if put_text(out, text.as_str().as_bytes()).is_err() {
+    if put_run(out, tables.as_str().as_bytes(), log, platforms.as_slice()).is_err() {
         tell_write(notes);
         return Ending::stopped(alloc, Fault::Write, platforms);
     }

@@ -9,7 +9,8 @@ ghost use Rattle.pt_confluence.specs.Gathered.{AreLegal};
 ghost use Rattle.pt_run.specs.Went.{IsFaultAt};
 ghost use Rattle.pt_run.specs.Runs.{IsOutput, IsStop, WentBy, paced_clocking};
 
-use crate::finished_run::{Ran, told};
+use crate::finished_run::told;
+use crate::outputs::Ran;
 use crate::plan_run::RunFault;
 use pt_blocks::Blocks;
 use pt_offsets::Plan;

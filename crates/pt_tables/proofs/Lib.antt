@@ -1,8 +1,11 @@
-pub mod Histories
 pub mod InOrder
+pub mod OfPlatforms
 pub mod Members
 pub mod Placed
 pub mod Written
 pub mod Gathering
 pub mod Parts
 pub mod Works
+pub mod Kept
+pub mod Out
+pub mod Short

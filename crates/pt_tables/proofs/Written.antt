@@ -13,21 +13,15 @@ use Rattle.pt_semantics.proofs.Lookups.{none_some, same_some}
 use Rattle.pt_history.specs.Turns.{turn_head}
 use Rattle.pt_history.specs.declared.head.Head.{Head}
 use Rattle.pt_history.proofs.InTurn.{drop_next}
-use Rattle.pt_tables.specs.Log.{claim_line, list_lines, post_line, row_line, sent_line, take_line, turn_line, turn_lines}
-use Rattle.pt_types.specs.Lookups.{platform_name}
+use Rattle.pt_tables.specs.Log.{claim_line, list_lines, post_line, row_line, sent_line, take_line, turn_line}
+use Rattle.pt_tables.specs.Long.{named_lines}
 
--- what is read of a turn's first line
-pub record ReadsHead (o : Option Turn) (first last count : ℕ) : Type 0 where
-  pub the_first : option_map (λ (turn : Turn). turn.first) o ≡ Some first
-  pub the_last : option_map (λ (turn : Turn). turn.last) o ≡ Some last
-  pub the_count : option_map (λ (turn : Turn). turn.count) o ≡ Some count
+-- a head with these numbers
+abbrev pub head_with : ℕ → ℕ → ℕ → Head
+head_with first last count = record { first = first; last = last; count = count }
 
--- which is what its head has
-pub head_read : (o : Option Turn) (head : Head) → option_map turn_head o ≡ Some head → ReadsHead o head.first head.last head.count
-head_read None head is = absurd (none_some head is)
-head_read (Some turn) head is =
-    let same : turn_head turn ≡ head = same_some (turn_head turn) head is in
-    record { the_first = ap (λ (h : Head). Some h.first) same; the_last = ap (λ (h : Head). Some h.last) same; the_count = ap (λ (h : Head). Some h.count) same }
+pub head_is : (o : Option Turn) (head : Head) (first last count : ℕ) → option_map turn_head o ≡ Some head → first ≡ head.first → last ≡ head.last → count ≡ head.count → option_map turn_head o ≡ Some (head_with first last count)
+head_is o head first last count is f l n = is ∙ (λ i. Some (head_with (sym f i) (sym l i) (sym n i)))
 
 -- what is read of a turn's lists
 pub record ReadsLists (o : Option Turn) (posted : List Done) (rows : List RowAt) (taken : List OnLink) (claimed : List Task) (sent : List OnLink) : Type 0 where
@@ -66,17 +60,26 @@ as_one text b e =
     ∙ append_assoc text b e
 
 -- a turn's first line, and then those of its lists
-pub turn_written : (g : Graph) (platform : ℕ) (o : Option Turn) (first last count : ℕ) (old mid new : List ℕ) → ReadsHead o first last count
-    → mid ≡ old ++ turn_line (platform_name g platform) first last count → option_map (λ (turn : Turn). mid ++ list_lines g turn) o ≡ Some new
-    → option_map (λ (turn : Turn). old ++ turn_lines g platform turn) o ≡ Some new
-turn_written g platform None first last count old mid new reads head lists = absurd (none_some first reads.the_first)
-turn_written g platform (Some turn) first last count old mid new reads head lists =
-    let f : turn.first ≡ first = same_some turn.first first reads.the_first in
-    let l : turn.last ≡ last = same_some turn.last last reads.the_last in
-    let n : turn.count ≡ count = same_some turn.count count reads.the_count in
-    let line : turn_line (platform_name g platform) turn.first turn.last turn.count ≡ turn_line (platform_name g platform) first last count = λ i. turn_line (platform_name g platform) (f i) (l i) (n i) in
-    ap Some (sym (append_assoc old (turn_line (platform_name g platform) turn.first turn.last turn.count) (list_lines g turn))
-    ∙ ap (λ text. (old ++ text) ++ list_lines g turn) line ∙ ap (λ text. text ++ list_lines g turn) (sym head)) ∙ lists
+pub turn_written : (g : Graph) (name : List ℕ) (o : Option Turn) (first last count : ℕ) (old new : List ℕ) → option_map turn_head o ≡ Some (head_with first last count)
+    → option_map (λ (turn : Turn). (old ++ turn_line name first last count) ++ list_lines g turn) o ≡ Some new → option_map (λ (turn : Turn). old ++ named_lines g name turn) o ≡ Some new
+turn_written g name None first last count old new head lists = absurd (none_some new lists)
+turn_written g name (Some turn) first last count old new head lists =
+    let same : turn_head turn ≡ head_with first last count = same_some (turn_head turn) (head_with first last count) head in
+    let f : turn.first ≡ first = ap (λ (h : Head). h.first) same in
+    let l : turn.last ≡ last = ap (λ (h : Head). h.last) same in
+    let n : turn.count ≡ count = ap (λ (h : Head). h.count) same in
+    ap Some (sym (append_assoc old (turn_line name turn.first turn.last turn.count) (list_lines g turn)) ∙ (λ i. (old ++ turn_line name (f i) (l i) (n i)) ++ list_lines g turn)) ∙ lists
+
+-- what was appended are the lines of the turn
+pub appended : (g : Graph) (name : List ℕ) (o : Option Turn) (old new : List ℕ) → option_map (λ (turn : Turn). old ++ named_lines g name turn) o ≡ Some new
+    → (own : List ℕ) × (option_map (named_lines g name) o ≡ Some own) × (old ++ own ≡ new)
+appended g name None old new is = absurd (none_some new is)
+appended g name (Some turn) old new is = (named_lines g name turn, refl, same_some (old ++ named_lines g name turn) new is)
+
+-- what is read of a turn, after other bytes
+pub written_after : {X : Type 0} (f : X → List ℕ) (o : Option X) (front own : List ℕ) → option_map f o ≡ Some own → option_map (λ (x : X). front ++ f x) o ≡ Some (front ++ own)
+written_after f None front own is = absurd (none_some own is)
+written_after f (Some x) front own is = ap (λ l. Some (front ++ l)) (same_some (f x) own is)
 
 -- the line of an item, and then those of the items after it
 pub next_put : {X : Type 0} (f : X → List ℕ) (xs : List X) (n : ℕ) (x : X) (old new : List ℕ) → slice_get xs n ≡ Some x → new ≡ old ++ f x → new ++ flat_map f (drop (n + 1) xs) ≡ old ++ flat_map f (drop n xs)
@@ -96,11 +99,6 @@ post_before done old =
 -- no items are left
 pub all_put : {X : Type 0} (f : X → List ℕ) (xs : List X) (n : ℕ) (text : List ℕ) → length xs ≤ n → text ++ flat_map f (drop n xs) ≡ text
 all_put f xs n text past = ap (λ l. text ++ flat_map f l) (drop_all n xs past) ∙ append-nil text
-
--- what a function gives of a value that is there
-pub mapped : {X Y : Type 0} (f : X → Y) (o : Option X) (y : Y) → option_map f o ≡ Some y → (x : X) × (o ≡ Some x) × (f x ≡ y)
-mapped f None y is = absurd (none_some y is)
-mapped f (Some x) y is = (x, refl, same_some (f x) y is)
 
 -- what is read of a turn that is there
 pub read_of : {X Y : Type 0} (f : X → Y) (o : Option X) (x : X) (y : Y) → o ≡ Some x → option_map f o ≡ Some y → y ≡ f x

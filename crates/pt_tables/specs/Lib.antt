@@ -1,4 +1,5 @@
 pub mod Held
+pub mod Long
 pub mod Log
 pub mod Misses
 pub mod Names
@@ -6,4 +7,6 @@ pub mod Platforms
 pub mod Margins
 pub mod Gathered
 pub mod TurnLine
+pub mod TurnLines
+pub mod Putting
 pub mod Walk

@@ -24,7 +24,7 @@ impl Model for ClaimEnd {
 
     ghost view = { λ e. e.tag };
 
-    ghost invariant = { λ e. (e.line ≡ claim_end e.tag) × (length e.line ≤ 64) };
+    ghost invariant = { λ e. (e.line ≡ claim_end e.tag) × (length e.line ≤ 43) };
 }
 
 impl ClaimEnd {
@@ -51,7 +51,7 @@ impl ClaimEnd {
     #[inline(always)]
     pub(crate) fn line(&self) -> &Line
         ensures line { result.now ≡ claim_end self.now }
-        ensures length { length result.now ≤ 64 }
+        ensures length { length result.now ≤ 43 }
     {
         &self.line
     }
@@ -61,7 +61,7 @@ impl ClaimEnd {
 #[inline(always)]
 fn write_claim_end(line: &mut Line, tag: Tag)
     ensures line { line.new ≡ claim_end tag }
-    ensures length { length line.new ≤ 64 }
+    ensures length { length line.new ≤ 43 }
 {
     line.end();
     line.field(tag.step);

@@ -1,11 +1,12 @@
 //! The texts that commands write: the tables of the actuators, the log of histories, the lines of misses, and the margins
 //! of a graph.
 //!
-//! Each text is built by functions that append one line; loops call them. Tables are defined in `specs/Tables.antt` of
+//! Each text is built by functions that append one line; loops call them. The log, which is the longest, is put as it is made:
+//! only the lines of turns with many are made before. Tables are defined in `specs/Tables.antt` of
 //! pt_semantics, the log in `specs/Log.antt` and `specs/Platforms.antt`, misses in `specs/Misses.antt`, margins in
 //! `specs/Margins.antt`.
 //!
-//! Read first: `tables`, `tables_of_meaning` and `ActorTables`, then `push_log`, `miss_lines` and `margins`.
+//! Read first: `tables`, `tables_of_meaning` and `ActorTables`, then `log_store`, `put_log`, `miss_lines` and `margins`.
 #![tactic(auto)]
 
 mod actor_tables;
@@ -13,16 +14,21 @@ mod claim_end;
 mod held;
 mod line;
 mod lines;
+mod long;
 mod margin_lines;
 mod meaning;
 mod miss;
 mod names;
+mod page;
 mod pen;
 mod piece;
 mod platforms;
+mod putting;
+mod store;
 mod table;
 mod text;
 mod turn_line;
+mod turn_lines;
 mod turns;
 mod walk;
 
@@ -32,6 +38,7 @@ pub use lines::push_turn_line;
 pub use margin_lines::margins;
 pub use meaning::tables_of_meaning;
 pub use miss::{miss_line, miss_lines};
-pub use platforms::push_log;
+pub use platforms::{log_store, put_log};
+pub use store::LogStore;
 pub use text::tables;
-pub use turns::{push_head, push_history, push_lists};
+pub use turns::push_lists;

@@ -1,8 +1,9 @@
 //! A line that is written from its end.
 
-ghost use Rattle.std.specs.Prelude.{◌≡◌, ◌+◌, ◌<◌, ◌≤◌, ◌++◌, ◌∷◌, [], OnOk, length, string_bytes};
+ghost use Rattle.std.specs.Prelude.{◌≡◌, ◌+◌, ◌<◌, ◌≤◌, ◌++◌, ◌∷◌, [], OnOk, length, string_bytes, vec_capacity, vec_len};
 ghost use Rattle.std.specs.Fmt.{decimal, signed_decimal};
 
+use crate::page::append;
 use itoa::write_digits;
 use std::alloc::AllocError;
 use std::marker::Model;
@@ -190,6 +191,15 @@ impl Line {
         unsafe { std::str::from_utf8_unchecked(&self.bytes[self.start..]) }
     }
 
+    /// The bytes of the line.
+    #[inline(always)]
+    pub(crate) fn as_bytes(&self) -> &[u8]
+        ensures bytes { result.now ≡ self.now }
+        ensures length { length result.now ≤ 128 }
+    {
+        &self.bytes[self.start..]
+    }
+
     /// Appends a word, a comma, a name and then the line to a text. If the line has room for them, they are put before it, so
     /// that there is one piece to append.
     #[inline(always)]
@@ -210,33 +220,31 @@ impl Line {
         text.push_str(self.as_str())
     }
 
-    /// Appends a line and then this one, or these, to a text: as one piece, if there is room for it.
+    /// Appends a line and then this one, or these, to a page with room for both: as one piece, if they fit into one.
     #[inline(always)]
-    pub(crate) fn push_after_line(
-        &mut self,
-        text: &mut String,
-        line: &Line,
-    ) -> Result<(), AllocError>
-        ensures { OnOk result (string_bytes text.new ≡ (string_bytes text.old ++ line.now) ++ self.old) }
+    pub(crate) fn append_after_line(&mut self, page: &mut Vec<u8>, line: &Line)
+        requires { vec_len page.old + 256 ≤ vec_capacity page.old }
+        ensures lines { page.new.items ≡ (page.old.items ++ line.now) ++ self.old }
+        ensures capacity { vec_capacity page.old ≤ vec_capacity page.new }
     {
-        if self.start == ROOM {
-            return text.push_str(line.as_str());
-        }
         if self.start + line.start < ROOM {
-            return push_both(text, line.as_str(), self.as_str());
+            append_both(page, line, self);
+            return;
         }
         self.put_line(line);
-        text.push_str(self.as_str())
+        append(page, self.as_bytes());
     }
 }
 
-/// Appends two texts. Not inlined, since most lines are appended as one piece.
+/// Appends two lines to a page. Not inlined, since most are appended as one piece.
 #[inline(never)]
-fn push_both(text: &mut String, first: &str, second: &str) -> Result<(), AllocError>
-    ensures { OnOk result (string_bytes text.new ≡ (string_bytes text.old ++ first.now) ++ second.now) }
+fn append_both(page: &mut Vec<u8>, first: &Line, second: &Line)
+    requires { vec_len page.old + 256 ≤ vec_capacity page.old }
+    ensures lines { page.new.items ≡ (page.old.items ++ first.now) ++ second.now }
+    ensures capacity { vec_capacity page.old ≤ vec_capacity page.new }
 {
-    text.push_str(first)?;
-    text.push_str(second)
+    append(page, first.as_bytes());
+    append(page, second.as_bytes());
 }
 
 /// Appends a word, a comma, a name, and the rest of a line. Not inlined, since most lines are appended as one piece.

@@ -5,6 +5,7 @@ ghost use Rattle.std.specs.Fmt.{decimal};
 ghost use Rattle.pt_types.specs.declared.firing.Done.{Done};
 ghost use Rattle.pt_types.specs.declared.firing.Task.{Task};
 ghost use Rattle.pt_history.specs.Tasks.{mark_of};
+ghost use Rattle.pt_types.specs.Lookups.{actor_name};
 ghost use Rattle.pt_tables.specs.Log.{claim_line, message_line, post_line, row_line, sent_line, take_line, turn_line};
 
 use crate::line::{Line, push_pieces};
@@ -118,6 +119,7 @@ pub(crate) fn write_claim(pen: &mut Pen, graph: &Graph, claim: Mark) -> bool
     ensures end { pen.new.end ≡ claim.tag }
     ensures line { result ≡ true → (task : Task) → mark_of task ≡ claim → pen.new.line ≡ claim_line graph.now task }
     ensures room { result ≡ true → length pen.new.line + 26 ≤ 128 }
+    ensures short { length (actor_name graph.now claim.actor) ≤ 32 → result ≡ true }
 {
     pen.end.renew(claim.tag);
     pen.line.copy_short(pen.end.line());

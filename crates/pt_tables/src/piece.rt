@@ -1,9 +1,10 @@
-//! The lines of turns with few lines, which are appended as one piece.
+//! The lines of short turns, which are appended as one piece.
 
-ghost use Rattle.std.specs.Prelude.{◌≡◌, ◌+◌, ◌++◌, ◌<◌, ◌≤◌, length, take, true};
+ghost use Rattle.std.specs.Prelude.{◌≡◌, ◌+◌, ◌++◌, ◌<◌, ◌≤◌, ℕ, length, take};
 ghost use Rattle.std.specs.List.{flat_map};
 ghost use Rattle.pt_semantics.specs.Lists.{Each};
 ghost use Rattle.pt_history.specs.Turns.{claimed_in, posted_in};
+ghost use Rattle.pt_types.specs.Lookups.{actor_name};
 ghost use Rattle.pt_tables.specs.Held.{IsHeldResult};
 ghost use Rattle.pt_tables.specs.Log.{claim_line, post_line};
 
@@ -14,7 +15,7 @@ use pt_history::History;
 use pt_types::Graph;
 
 /// Writes the lines of the claims from `from` up to, not including, `end`, of those of all recorded turns: the ones that a turn
-/// made. It does so if there is at most one, and room for it and for the line of a result before it. Returns whether it did.
+/// made, which are at most one. There is room for the line of a result before it, since the names of actors are short.
 #[inline(always)]
 pub(crate) fn write_claims(
     pen: &mut Pen,
@@ -23,21 +24,22 @@ pub(crate) fn write_claims(
     turn: usize,
     from: usize,
     end: usize,
-) -> bool
+)
     requires turn { turn < length history.now.turns }
     requires from { from ≡ length (flat_map (λ turn. turn.claimed) (take turn history.now.turns)) }
     requires end { end ≡ length (flat_map (λ turn. turn.claimed) (take (turn + 1) history.now.turns)) }
-    ensures lines { result ≡ true → pen.new.line ≡ flat_map (claim_line graph.now) (claimed_in history.now.turns turn) }
-    ensures room { result ≡ true → length pen.new.line + 26 ≤ 128 }
+    requires few { end ≤ from + 1 }
+    requires short { (actor : ℕ) → length (actor_name graph.now actor) ≤ 32 }
+    ensures lines { pen.new.line ≡ flat_map (claim_line graph.now) (claimed_in history.now.turns turn) }
+    ensures room { length pen.new.line + 26 ≤ 128 }
 {
     if from == end {
         pen.line.clear();
-        return true;
+        return;
     }
-    if end - from > 1 {
-        return false;
+    if !write_claim(pen, graph, history.mark(from)) {
+        unreachable!();
     }
-    write_claim(pen, graph, history.mark(from))
 }
 
 /// Puts the lines of the results from `from` up to, not including, `end`, of those of all recorded turns, before other lines:
@@ -49,11 +51,26 @@ pub(crate) fn put_posts(line: &mut Line, history: &History, turn: usize, from: u
     requires end { end ≡ length (flat_map (λ turn. turn.posted) (take (turn + 1) history.now.turns)) }
     requires few { end ≤ from + 1 }
     requires room { length line.old + 26 ≤ 128 }
-    ensures lines { line.new ≡ flat_map post_line (posted_in history.now.turns turn) ++ line.old }
-    ensures held { Each IsHeldResult (posted_in history.now.turns turn) }
+    ensures { line.new ≡ flat_map post_line (posted_in history.now.turns turn) ++ line.old }
 {
     if from == end {
         return;
     }
     put_post(line, history.result_mark(from).number);
+}
+
+/// That 64 bits hold the numbers of the results from `from` up to, not including, `end`, of those of all recorded turns: the ones
+/// that a turn posted, which are at most one.
+#[inline(always)]
+pub(crate) fn posts_hold(history: &History, turn: usize, from: usize, end: usize)
+    requires turn { turn < length history.now.turns }
+    requires from { from ≡ length (flat_map (λ turn. turn.posted) (take turn history.now.turns)) }
+    requires end { end ≡ length (flat_map (λ turn. turn.posted) (take (turn + 1) history.now.turns)) }
+    requires few { end ≤ from + 1 }
+    ensures { Each IsHeldResult (posted_in history.now.turns turn) }
+{
+    if from == end {
+        return;
+    }
+    let _mark = history.result_mark(from);
 }

@@ -1,16 +1,14 @@
 //! The first line of a turn, which many turns have in common.
 
-ghost use Rattle.std.specs.Prelude.{◌≡◌, ◌≤◌, ◌++◌, ◌∷◌, [], List, ℕ, OnOk, codes, length, string_bytes};
+ghost use Rattle.std.specs.Prelude.{◌≡◌, ◌+◌, ◌≤◌, ◌++◌, ◌∷◌, [], List, ℕ, OnOk, codes, length, string_bytes, vec_capacity, vec_len};
 ghost use Rattle.pt_tables.specs.Log.{turn_line};
-ghost use Rattle.pt_tables.specs.TurnLine.{IsKeptLine};
+ghost use Rattle.pt_tables.specs.TurnLine.{HasHead, IsKeptLine};
 
 use crate::line::Line;
 use crate::lines::push_turn_line;
+use crate::names::LONGEST_PLATFORM;
 use pt_history::Head;
 use std::alloc::AllocError;
-
-/// The longest name of a platform, in bytes, whose lines are stored.
-const LONGEST: usize = 58;
 
 /// The first line of some turn of a platform. Most turns have the same readings and count as the turn before, so that this
 /// line is copied as a whole.
@@ -28,12 +26,12 @@ pub(crate) struct TurnLine<'a> {
 }
 
 impl<'a> TurnLine<'a> {
-    /// A line with no turn's numbers, which is not stored.
+    /// The line of no turn: its numbers are 0.
     pub(crate) fn new(platform: &'a str) -> TurnLine<'a>
         ensures platform { result.platform.now ≡ platform.now }
-        ensures stored { IsKeptLine result }
+        ensures kept { IsKeptLine result }
     {
-        TurnLine {
+        let mut line = TurnLine {
             platform,
             head: head_of(platform),
             first: 0,
@@ -41,7 +39,9 @@ impl<'a> TurnLine<'a> {
             count: 0,
             stored: false,
             line: Line::empty(),
-        }
+        };
+        line.replace(0, 0, 0);
+        line
     }
 
     /// Becomes the line of a turn with these readings and this count.
@@ -63,7 +63,7 @@ impl<'a> TurnLine<'a> {
     /// Becomes the line of a turn with these readings and this count, which are other ones.
     #[inline(never)]
     fn replace(&mut self, first: u64, last: u64, count: u64)
-        requires { IsKeptLine self.old }
+        requires { HasHead self.old }
         ensures platform { self.new.platform.now ≡ self.old.platform.now }
         ensures stored { IsKeptLine self.new }
         ensures first { self.new.first ≡ first }
@@ -73,7 +73,7 @@ impl<'a> TurnLine<'a> {
         self.first = first;
         self.last = last;
         self.count = count;
-        self.stored = self.platform.len() <= LONGEST;
+        self.stored = self.platform.len() <= LONGEST_PLATFORM;
         if self.stored {
             write_turn_line(&mut self.line, &self.head, first, last, count);
         }
@@ -91,17 +91,16 @@ impl<'a> TurnLine<'a> {
         text.push_str(self.line.as_str())
     }
 
-    /// Appends the line and the lines after it to a text: as one piece, if there is room for it.
+    /// Appends the line, which is stored, and the lines after it to a page with room for both: mostly as one piece.
     #[inline(always)]
-    pub(crate) fn push_before(&self, text: &mut String, after: &mut Line) -> Result<(), AllocError>
-        requires { IsKeptLine self.now }
-        ensures { OnOk result (string_bytes text.new ≡ (string_bytes text.old ++ turn_line self.now.platform.now self.now.first self.now.last self.now.count) ++ after.old) }
+    pub(crate) fn append_before(&self, page: &mut Vec<u8>, after: &mut Line)
+        requires kept { IsKeptLine self.now }
+        requires short { length self.now.platform.now ≤ 58 }
+        requires room { vec_len page.old + 256 ≤ vec_capacity page.old }
+        ensures lines { page.new.items ≡ (page.old.items ++ turn_line self.now.platform.now self.now.first self.now.last self.now.count) ++ after.old }
+        ensures capacity { vec_capacity page.old ≤ vec_capacity page.new }
     {
-        if !self.stored {
-            self.push(text)?;
-            return text.push_str(after.as_str());
-        }
-        after.push_after_line(text, &self.line)
+        after.append_after_line(page, &self.line);
     }
 }
 
@@ -110,7 +109,7 @@ fn head_of(platform: &str) -> Line
     ensures { length platform.now ≤ 58 → result ≡ codes "turn," ++ platform.now ++ 44 ∷ [] }
 {
     let mut head = Line::empty();
-    if platform.len() > LONGEST {
+    if platform.len() > LONGEST_PLATFORM {
         return head;
     }
     head.put(b',');

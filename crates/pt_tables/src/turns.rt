@@ -1,150 +1,29 @@
 //! The log lines of turns.
 
-ghost use Rattle.std.specs.Prelude.{◌≡◌, ◌+◌, ◌/◌, ◌++◌, ◌∷◌, ◌<◌, [], List, ℕ, OnOk, Some, length, option_map, slice_get, string_bytes, take};
+ghost use Rattle.std.specs.Prelude.{◌≡◌, ◌+◌, ◌/◌, ◌++◌, ◌<◌, OnOk, Some, length, option_map, slice_get, string_bytes, take};
 ghost use Rattle.std.specs.List.{flat_map};
 ghost use Rattle.pt_semantics.specs.Lists.{Each};
 ghost use Rattle.pt_semantics.specs.Turn.{Turn};
 ghost use Rattle.pt_history.specs.Levels.{AreTurnLevels};
 ghost use Rattle.pt_history.specs.Turns.{claimed_in, posted_in};
-ghost use Rattle.pt_tables.specs.Held.{HasHeldLists, IsHeldMessage, IsHeldResult, IsHeldTurn};
-ghost use Rattle.pt_tables.specs.Log.{claim_line, history_lines, list_lines, log_head, log_text, post_line, row_line, sent_line, take_line, turn_line, turn_lines};
+ghost use Rattle.pt_tables.specs.Held.{HasHeldLists, IsHeldMessage, IsHeldResult};
+ghost use Rattle.pt_tables.specs.Log.{claim_line, list_lines, post_line, row_line, sent_line, take_line, turn_line};
 ghost use Rattle.pt_tables.specs.TurnLine.{IsKeptLine};
-ghost use Rattle.pt_tables.specs.Walk.{HasWorksOnly, IsAtTurn, IsLastBefore};
-ghost use Rattle.pt_types.specs.Lookups.{platform_name};
+ghost use Rattle.pt_tables.specs.Walk.{IsAtTurn};
 
 use crate::held::holds;
 use crate::line::Line;
 use crate::lines::{push_claim, push_post, push_row, push_sent, push_taken};
 use crate::pen::Pen;
-use crate::piece::{put_posts, write_claims};
 use crate::turn_line::TurnLine;
-use crate::walk::{
-    Walk, claims_after, head_after, renew, results_after, rows_in, sent_in, taken_in,
-};
+use crate::walk::{Walk, claims_after, renew, results_after, rows_in, sent_in, taken_in};
 use pt_history::{History, TurnLevels};
 use pt_types::{Graph, OnLink, RowAt};
 use std::alloc::AllocError;
 
-/// Appends the first line of the log, `log`.
-pub fn push_head(text: &mut String) -> Result<(), AllocError>
-    ensures { OnOk result (string_bytes text.new ≡ string_bytes text.old ++ log_head) }
-{
-    text.push_str("log\n")
-}
-
-/// Appends the lines of all turns of a platform.
-pub fn push_history(
-    text: &mut String,
-    graph: &Graph,
-    platform: u32,
-    history: &History,
-) -> Result<(), AllocError>
-    ensures lines { OnOk result (string_bytes text.new ≡ string_bytes text.old ++ history_lines graph.now platform history.now.turns) }
-
-    // The log of the platforms before this one becomes the log of those and this one.
-    ensures log { OnOk result ((before : List (List Turn)) → length before ≡ platform → string_bytes text.old ≡ log_text graph.now before → string_bytes text.new ≡ log_text graph.now (before ++ history.now.turns ∷ [])) }
-    ensures held { OnOk result (Each IsHeldTurn history.now.turns) }
-{
-    let mut line = TurnLine::new(graph.platform_name(platform));
-    let mut walk = Walk::new(history);
-    let mut pen = Pen::new();
-    for number in 0..history.turns() {
-        push_next(text, &mut line, &mut walk, &mut pen, graph, history, number)?;
-    }
-    Ok(())
-}
-
-/// Appends the lines of the recorded turn to which a walk has come, where `line` is the line of the turn before it, or one with
-/// no turn's numbers. The walk goes on to the next turn.
-#[inline(always)]
-fn push_next(
-    text: &mut String,
-    line: &mut TurnLine<'_>,
-    walk: &mut Walk,
-    pen: &mut Pen,
-    graph: &Graph,
-    history: &History,
-    number: usize,
-) -> Result<(), AllocError>
-    requires number { number < length history.now.turns }
-    requires line { IsKeptLine line.old }
-    requires last { IsLastBefore history.now.turns number line.old.last }
-    requires walk { IsAtTurn history.now.turns number walk.old }
-    ensures platform { OnOk result (line.new.platform.now ≡ line.old.platform.now) }
-    ensures line { OnOk result (IsKeptLine line.new) }
-    ensures last { OnOk result (IsLastBefore history.now.turns (number + 1) line.new.last) }
-    ensures walk { OnOk result (IsAtTurn history.now.turns (number + 1) walk.new) }
-    ensures lines { OnOk result ((platform : ℕ) → line.old.platform.now ≡ platform_name graph.now platform → option_map (λ turn. string_bytes text.old ++ turn_lines graph.now platform turn) (slice_get history.now.turns number) ≡ Some (string_bytes text.new)) }
-    ensures held { OnOk result ((turn : Turn) → slice_get history.now.turns number ≡ Some turn → IsHeldTurn turn) }
-{
-    let head = head_after(history, &walk.levels, line.last, number);
-    line.renew(head);
-    push_turn(text, line, walk, pen, graph, history, number)
-}
-
 /// Appends the lines of the recorded turn to which a walk has come, where `line` is its first. The walk goes on to the next turn.
-/// Most turns have few lines, which are appended as one piece.
 #[inline(always)]
-fn push_turn(
-    text: &mut String,
-    line: &TurnLine<'_>,
-    walk: &mut Walk,
-    pen: &mut Pen,
-    graph: &Graph,
-    history: &History,
-    number: usize,
-) -> Result<(), AllocError>
-    requires number { number < length history.now.turns }
-    requires line { IsKeptLine line.now }
-    requires walk { IsAtTurn history.now.turns number walk.old }
-    ensures walk { OnOk result (IsAtTurn history.now.turns (number + 1) walk.new) }
-    ensures lines { OnOk result (option_map (λ turn. (string_bytes text.old ++ turn_line line.now.platform.now line.now.first line.now.last line.now.count) ++ list_lines graph.now turn) (slice_get history.now.turns number) ≡ Some (string_bytes text.new)) }
-    ensures held { OnOk result ((turn : Turn) → slice_get history.now.turns number ≡ Some turn → HasHeldLists turn) }
-{
-    if walk.works.is_level(number) {
-        return push_works(text, line, walk, pen, graph, history, number);
-    }
-    push_apart(text, line, walk, pen, graph, history, number)
-}
-
-/// Appends the lines of a turn as in `push_turn`, where nothing entered, was taken or was sent.
-#[inline(always)]
-fn push_works(
-    text: &mut String,
-    line: &TurnLine<'_>,
-    walk: &mut Walk,
-    pen: &mut Pen,
-    graph: &Graph,
-    history: &History,
-    number: usize,
-) -> Result<(), AllocError>
-    requires number { number < length history.now.turns }
-    requires line { IsKeptLine line.now }
-    requires walk { IsAtTurn history.now.turns number walk.old }
-    requires only { HasWorksOnly walk.old.levels number }
-    ensures walk { OnOk result (IsAtTurn history.now.turns (number + 1) walk.new) }
-    ensures lines { OnOk result (option_map (λ turn. (string_bytes text.old ++ turn_line line.now.platform.now line.now.first line.now.last line.now.count) ++ list_lines graph.now turn) (slice_get history.now.turns number) ≡ Some (string_bytes text.new)) }
-    ensures held { OnOk result ((turn : Turn) → slice_get history.now.turns number ≡ Some turn → HasHeldLists turn) }
-{
-    let results = results_after(history, &walk.levels, walk.results, number);
-    let claims = claims_after(history, &walk.levels, walk.claims, number);
-    if results - walk.results > 1 {
-        return push_apart(text, line, walk, pen, graph, history, number);
-    }
-    if !write_claims(pen, graph, history, number, walk.claims, claims) {
-        return push_apart(text, line, walk, pen, graph, history, number);
-    }
-    put_posts(&mut pen.line, history, number, walk.results, results);
-    line.push_before(text, &mut pen.line)?;
-    walk.results = results;
-    walk.claims = claims;
-    renew(walk, history, number);
-    Ok(())
-}
-
-/// Appends the lines of a turn as in `push_turn`, one by one.
-#[inline(never)]
-fn push_apart(
+pub(crate) fn push_turn(
     text: &mut String,
     line: &TurnLine<'_>,
     walk: &mut Walk,

@@ -88,6 +88,19 @@ pub(crate) fn renew(walk: &mut Walk, history: &History, number: usize)
     }
 }
 
+/// Goes on from a turn to the next one, where it is known how many results and claims there are up to the end of that turn.
+#[inline(always)]
+pub(crate) fn pass(walk: &mut Walk, history: &History, number: usize, results: usize, claims: usize)
+    requires walk { IsAtTurn history.now.turns number walk.old }
+    requires results { results ≡ length (flat_map (λ turn. turn.posted) (take (number + 1) history.now.turns)) }
+    requires claims { claims ≡ length (flat_map (λ turn. turn.claimed) (take (number + 1) history.now.turns)) }
+    ensures { IsAtTurn history.now.turns (number + 1) walk.new }
+{
+    walk.results = results;
+    walk.claims = claims;
+    renew(walk, history, number);
+}
+
 /// The head of a turn, where `last` is the last reading of the turn before it. Most turns are single and have the reading of the
 /// turn before: these aren't looked up.
 #[inline(always)]

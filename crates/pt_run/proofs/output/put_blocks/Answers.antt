@@ -1,6 +1,7 @@
 use Rattle.std.proofs.Common.{◌++◌, take, arith}
 use Rattle.std.proofs.lemmas.Result.{err_from_is_err_and}
-use Rattle.pt_run.proofs.Puts.{appends_twice, joined, part_after, rose_later}
+use Rattle.pt_tables.proofs.Out.{appends_twice, rose_later}
+use Rattle.pt_run.proofs.Puts.{joined, part_after}
 use Rattle.pt_run.proofs.output.put_blocks.Goals as goal
 
 pub loop-rest-preserved : goal.loop-rest-preserved

@@ -3,7 +3,7 @@ use Rattle.std.specs.Prelude.{option_map, slice_get}
 use Rattle.std.proofs.lemmas.Result.{on_ok_weaker}
 use Rattle.pt_semantics.specs.Turn.{Turn}
 use Rattle.pt_tables.specs.Log.{list_lines}
-use Rattle.pt_tables.proofs.turns.push_apart.Goals as goal
+use Rattle.pt_tables.proofs.turns.push_turn.Goals as goal
 
 -- the lists are appended to what the first line was appended to
 pub returns-clause-lines : goal.returns-clause-lines

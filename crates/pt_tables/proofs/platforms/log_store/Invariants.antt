@@ -1,0 +1,13 @@
+use Rattle.std.proofs.Common.{◌≡◌, ◌<◌, ℕ, Some, length, slice_get}
+use Rattle.pt_semantics.specs.Lists.{Each}
+use Rattle.pt_turn.specs.Platforms.{PlatformView}
+use Rattle.pt_tables.specs.Held.{IsHeldTurn}
+use Rattle.pt_tables.proofs.OfPlatforms.{AreOfEach}
+use Rattle.pt_tables.proofs.platforms.log_store.Given as goal
+
+abbrev pub invariant-loop-platform : goal.invariant-loop-platform
+invariant-loop-platform l = record {
+  as_many : length l.longs.items ≡ l.platform-index;
+  each : AreOfEach l.platforms l.longs.items;
+  held : (k : ℕ) (v : PlatformView) → k < l.platform-index → slice_get l.platforms k ≡ Some v → Each IsHeldTurn v.turns;
+}
