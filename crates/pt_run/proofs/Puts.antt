@@ -20,12 +20,7 @@ part_after (Some w) b c front rest text n h p q =
     let long : length front + k ≤ length text = rw whole (omega (arith, length-append front (take n rest ++ drop n rest), length-append (take n rest) (drop n rest))) in
     (length front + k, long, q'.2 ∙ ap (λ t. Some t) (append_assoc w front (take k (take n rest)) ∙ ap (λ t. w ++ t) (sym taken)))
 
--- what was put stays put when a sink is flushed,
-pub kept_all : (a b c : Option (List ℕ)) (xs : List ℕ) → Appends a b xs → Keeps b c → Appends a c xs
-kept_all None b c xs p q = tt
-kept_all (Some w) b c xs p q = subst (λ z. Keeps z c) p q
-
--- and is a prefix of itself, if the flush fails
+-- what was put is a prefix of itself, if a flush fails after it
 pub kept_part : (a b c : Option (List ℕ)) (xs : List ℕ) → Appends a b xs → Keeps b c → AppendsPart a c xs
 kept_part None b c xs p q = tt
 kept_part (Some w) b c xs p q =
