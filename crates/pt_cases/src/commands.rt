@@ -9,7 +9,7 @@ ghost use Rattle.std.specs.Prelude.{◌≡◌, IfOk, length};
 use crate::files::{Files, push_lines};
 use pt_blocks::Blocks;
 use pt_history::Miss;
-use pt_io::{ListClock, Page};
+use pt_io::{ListClock, Page, Shelf};
 use pt_run::{Outcome, ptides};
 use pt_tags::Memory;
 use std::alloc::{AllocError, Global};
@@ -79,58 +79,94 @@ impl CommandScript {
     /// Gives a file its lines.
     fn give(&mut self, alloc: Global, text: &str) -> Result<(), AllocError> {
         let (name, lines) = text.split_once(' ').unwrap_or((text, ""));
+        let name = String::from_str(alloc, name)?;
         let mut content = String::new(alloc);
         push_lines(&mut content, lines)?;
-        self.files.give(String::from_str(alloc, name)?, content)
+        self.files.give(name, content)
     }
 
     /// Gives a clock its readings.
     fn set(&mut self, alloc: Global, text: &str) -> Result<(), AllocError> {
         let (clock, rest) = text.split_once(' ').unwrap_or((text, ""));
-        let mut readings = Vec::new(alloc);
-        for reading in rest.split(' ') {
-            if let Ok(reading) = reading.parse() {
-                readings.push(reading)?;
-            }
-        }
-        self.clocks.push(Readings {
-            clock: clock.parse().unwrap_or(0),
-            readings,
-        })?;
+        let readings = readings(alloc, rest)?;
+        let clock = clock.parse().unwrap_or(0);
+        self.clocks.push(Readings { clock, readings })?;
         Ok(())
     }
 
-    /// Runs a command; from then on no call fails.
+    /// Runs a command; from then on no call fails, and no clock has readings.
     fn run<R: Threads + Wait + Sync>(
         &mut self,
         rt: &R,
         alloc: Global,
         line: &str,
     ) -> Result<String, AllocError> {
-        let words = words(alloc, line)?;
-        let failing = match self.fetch {
-            Some(number) => vec![in alloc; number]?,
-            None => Vec::new(alloc),
-        };
-        let mut source = self.files.shelf(alloc, failing)?;
-        let mut out = page(alloc, self.put)?;
-        let mut notes = page(alloc, None)?;
-        let clocks = clocks(alloc, self.clocks.as_slice())?;
+        let mut pages = pages(alloc, self.put)?;
+        let ran = self.run_onto(rt, alloc, line, &mut pages);
         self.fetch = None;
         self.put = None;
-        self.clocks = Vec::new(alloc);
+        self.clocks.clear();
+        drop(pages);
+        ran
+    }
+
+    /// Runs a command that writes to these pages; gives what there is to write.
+    fn run_onto<R: Threads + Wait + Sync>(
+        &self,
+        rt: &R,
+        alloc: Global,
+        line: &str,
+        pages: &mut Pages,
+    ) -> Result<String, AllocError> {
+        let words = words(alloc, line)?;
+        let clocks = clocks(alloc, self.clocks.as_slice())?;
+        let mut source = self.source(alloc)?;
         let outcome = ptides(
             rt,
             alloc,
             words.as_slice(),
             &mut source,
-            &mut out,
-            &mut notes,
+            &mut pages.out,
+            &mut pages.notes,
             clocks,
             &self.blocks,
         );
-        report(alloc, line, &out, &notes, &outcome)
+        report(alloc, line, pages, outcome)
     }
+
+    /// The files, with the call that fails.
+    fn source(&self, alloc: Global) -> Result<Shelf, AllocError> {
+        let failing = match self.fetch {
+            Some(number) => vec![in alloc; number]?,
+            None => Vec::new(alloc),
+        };
+        self.files.shelf(alloc, failing)
+    }
+}
+
+/// Where a command writes.
+#[derive(Drop)]
+struct Pages {
+    out: Page,
+    notes: Page,
+}
+
+/// Empty pages; this call of the first one fails.
+fn pages(alloc: Global, put: Option<(u64, usize)>) -> Result<Pages, AllocError> {
+    let notes = page(alloc, None)?;
+    let out = page(alloc, put)?;
+    Ok(Pages { out, notes })
+}
+
+/// The readings of a text, separated by spaces.
+fn readings(alloc: Global, text: &str) -> Result<Vec<u64>, AllocError> {
+    let mut readings = Vec::new(alloc);
+    for reading in text.split(' ') {
+        if let Ok(reading) = reading.parse() {
+            readings.push(reading)?;
+        }
+    }
+    Ok(readings)
 }
 
 /// The number of a put that fails, from 0, and how many bytes it takes, 0 if that isn't given.
@@ -187,19 +223,32 @@ fn words(alloc: Global, line: &str) -> Result<Vec<String>, AllocError> {
 fn report(
     alloc: Global,
     line: &str,
-    out: &Page,
-    notes: &Page,
-    outcome: &Outcome<ListClock>,
+    pages: &Pages,
+    outcome: Outcome<ListClock>,
 ) -> Result<String, AllocError> {
-    let mut text = format!(in alloc; "$ {line}\n")?;
-    push_bytes(alloc, &mut text, out.bytes())?;
-    push_bytes(alloc, &mut text, notes.bytes())?;
+    let mut text = String::new(alloc);
+    let reported = push_report(alloc, &mut text, line, pages, &outcome);
+    outcome.discard();
+    reported?;
+    Ok(text)
+}
+
+fn push_report(
+    alloc: Global,
+    text: &mut String,
+    line: &str,
+    pages: &Pages,
+    outcome: &Outcome<ListClock>,
+) -> Result<(), AllocError> {
+    write!(text, "$ {line}\n")?;
+    push_bytes(alloc, text, pages.out.bytes())?;
+    push_bytes(alloc, text, pages.notes.bytes())?;
     let (status, platforms) = (outcome.status, outcome.platforms.len());
     write!(text, "status {status}, platforms {platforms}\n")?;
     for miss in outcome.misses.as_slice() {
-        push_miss(&mut text, *miss)?;
+        push_miss(text, *miss)?;
     }
-    Ok(text)
+    Ok(())
 }
 
 fn push_bytes(alloc: Global, text: &mut String, bytes: &[u8]) -> Result<(), AllocError> {

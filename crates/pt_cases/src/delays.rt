@@ -5,25 +5,43 @@
 //! to it, a line says so.
 
 ghost use Rattle.std.specs.Prelude.{◌<◌, ◌^◌, length};
+ghost use Rattle.pt_types.specs.Lawful.{IsLawful};
 
+use crate::graphs::graph_of;
 use pt_blocks::Blocks;
 use pt_causality::{Least, least_delays};
-use pt_graph::read_graph;
 use pt_types::{Graph, Unit};
 use std::alloc::{AllocError, Global};
 
 /// The table of a graph.
 pub fn table(alloc: Global, text: &str, blocks: &Blocks) -> Result<String, AllocError> {
     let mut table = String::new(alloc);
-    match read_graph(alloc, text.as_bytes(), blocks) {
-        Ok(graph) => match least_delays(alloc, &graph) {
-            Ok(least) => write_rows(&mut table, &graph, &least.with_before(alloc))?,
-            Err(_) => table.push_str("no memory\n")?,
-        },
-        Err(_) => table.push_str("no graph\n")?,
-    }
-    table.push_str("\n")?;
+    write_table(alloc, &mut table, text, blocks)?;
     Ok(table)
+}
+
+fn write_table(
+    alloc: Global,
+    table: &mut String,
+    text: &str,
+    blocks: &Blocks,
+) -> Result<(), AllocError> {
+    let written = match graph_of(alloc, text, blocks) {
+        Some(graph) => write_delays(alloc, table, &graph),
+        None => table.push_str("no graph\n"),
+    };
+    written?;
+    table.push_str("\n")
+}
+
+/// Writes the least delays of a graph.
+fn write_delays(alloc: Global, table: &mut String, graph: &Graph) -> Result<(), AllocError>
+    requires { IsLawful graph.now }
+{
+    match least_delays(alloc, graph) {
+        Ok(least) => write_rows(table, graph, &least.with_before(alloc)),
+        Err(_) => table.push_str("no memory\n"),
+    }
 }
 
 fn write_rows(table: &mut String, graph: &Graph, least: &Least) -> Result<(), AllocError>

@@ -31,13 +31,25 @@ impl Files {
 
     /// A shelf of these files, on which the calls of these numbers fail.
     pub fn shelf(&self, alloc: Global, failing: Vec<u64>) -> Result<Shelf, AllocError> {
-        let mut contents = Vec::new(alloc);
-        for (name, text) in &self.files {
-            let bytes = Vec::from_slice(alloc, text.as_bytes())?;
-            contents.push((Name::new(name.clone()?), List::new(bytes)))?;
-        }
+        let contents = self.contents(alloc)?;
         Ok(Shelf::new(alloc, contents, failing))
     }
+
+    /// All files, as a shelf takes them.
+    fn contents(&self, alloc: Global) -> Result<Vec<(Name, List<u8>)>, AllocError> {
+        let mut contents = Vec::new(alloc);
+        for (name, text) in &self.files {
+            contents.push(content(alloc, name.as_str(), text.as_str())?)?;
+        }
+        Ok(contents)
+    }
+}
+
+/// A file, as a shelf takes it.
+pub fn content(alloc: Global, name: &str, text: &str) -> Result<(Name, List<u8>), AllocError> {
+    let bytes = Vec::from_slice(alloc, text.as_bytes())?;
+    let name = String::from_str(alloc, name)?;
+    Ok((Name::new(name), List::new(bytes)))
 }
 
 /// Appends the words of a line, each as a line of its own.

@@ -84,12 +84,33 @@ fn main(rt: HostRuntime) -> io::Result<()> {
         commands: CommandScript::new(alloc, blocks),
         platforms: PlatformScript::new(alloc),
     };
-    for line in rt.lines(alloc) {
-        let line = line?;
-        let text = answer(&rt, &rt, &mut tables, line.as_str())?;
-        print!(rt; "{text}")?;
+    answer_all(&rt, &rt, &mut tables)
+}
+
+/// Writes what the lines of the input give.
+fn answer_all<R: Threads + Wait + Sync>(
+    rt: &HostRuntime,
+    waiting: &R,
+    tables: &mut Tables,
+) -> io::Result<()> {
+    for line in rt.lines(rt.alloc()) {
+        write_answer(rt, waiting, tables, line)?;
     }
     Ok(())
+}
+
+/// Writes what a line gives, if it could be read.
+fn write_answer<R: Threads + Wait + Sync>(
+    rt: &HostRuntime,
+    waiting: &R,
+    tables: &mut Tables,
+    line: io::Result<String>,
+) -> io::Result<()> {
+    let line = line?;
+    let text = answer(rt, waiting, tables, line.as_str());
+    drop(line);
+    let text = text?;
+    print!(rt; "{text}")
 }
 
 /// The text that a line gives. A command may wait: a run by a clock that doesn't rise goes on forever.

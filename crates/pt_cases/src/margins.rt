@@ -1,22 +1,32 @@
 //! Margins of graphs whose offsets were worked out by hand, or the sender that is infeasible.
 
+ghost use Rattle.pt_types.specs.Lawful.{IsLawful};
+
+use crate::graphs::graph_of;
 use pt_blocks::Blocks;
 use pt_causality::least_delays;
-use pt_graph::read_graph;
 use pt_offsets::{OffsetFault, offsets_of};
 use pt_tables::margins;
+use pt_types::Graph;
 use std::alloc::{AllocError, Global};
 
 /// The margins of the graph of a text, or why it has none.
 pub fn verdict(alloc: Global, text: &str, blocks: &Blocks) -> Result<String, AllocError> {
-    let Ok(graph) = read_graph(alloc, text.as_bytes(), blocks) else {
-        return String::from_str(alloc, "no graph\n");
-    };
-    let Ok(least) = least_delays(alloc, &graph) else {
+    match graph_of(alloc, text, blocks) {
+        Some(graph) => margins_of(alloc, &graph),
+        None => String::from_str(alloc, "no graph\n"),
+    }
+}
+
+/// The margins of a graph, or the sender that is infeasible.
+fn margins_of(alloc: Global, graph: &Graph) -> Result<String, AllocError>
+    requires { IsLawful graph.now }
+{
+    let Ok(least) = least_delays(alloc, graph) else {
         return Err(AllocError);
     };
-    match offsets_of(alloc, &graph, &least) {
-        Ok(offsets) => margins(alloc, &graph, &offsets),
+    match offsets_of(alloc, graph, &least) {
+        Ok(offsets) => margins(alloc, graph, &offsets),
         Err(fault) => refusal(alloc, fault),
     }
 }

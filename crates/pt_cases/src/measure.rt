@@ -86,6 +86,19 @@ struct Measures {
 }
 
 impl Measures {
+    /// Reads a file of this many rows and fires all kinds.
+    fn measure(&mut self, rt: &HostRuntime, rows: u64) -> io::Result<()>
+        requires { rows ≤ 100000 }
+    {
+        let file = text(rt.alloc(), rows)?;
+        let read = self.read(rt, file.as_str());
+        drop(file);
+        read?;
+        self.fire_plain(rt)?;
+        self.fire_machine(rt)?;
+        self.fire_lanes(rt)
+    }
+
     /// Reads the rows of a file; keeps their number, and says the time.
     fn read(&mut self, rt: &HostRuntime, file: &str) -> io::Result<()> {
         let start = Instant::now(rt)?;
@@ -95,8 +108,53 @@ impl Measures {
         eprintln!(rt; "rows {time}")
     }
 
+    /// Fires the kinds that have no list.
+    fn fire_plain(&mut self, rt: &HostRuntime) -> io::Result<()> {
+        let law = Law::Weighted { num: 1, den: 2 };
+        self.fire(rt, "scale", Kind::Scale { num: 3, den: 2 })?;
+        self.fire(rt, "add", Kind::Add)?;
+        self.fire(rt, "sum", Kind::Sum)?;
+        self.fire(rt, "merge", Kind::Merge { n: 2 })?;
+        self.fire(rt, "delay", Kind::Delay { d: 100 })?;
+        self.fire(rt, "block", Kind::Block { block: 0, law })
+    }
+
+    /// Fires a machine that goes through three states.
+    fn fire_machine(&mut self, rt: &HostRuntime) -> io::Result<()> {
+        let row = |state, next| MachineRow {
+            state,
+            low: 0,
+            high: 500,
+            next,
+            emit: Some((0, next)),
+            guard: None,
+        };
+        let rows = vec![in rt.alloc(); row(0, 1), row(1, 2), row(2, 0)]?;
+        let machine = Kind::Machine {
+            start: 0,
+            outputs: 1,
+            rows: List::new(rows),
+        };
+        self.fire(rt, "machine", machine)
+    }
+
+    /// Fires lanes with two cells.
+    fn fire_lanes(&mut self, rt: &HostRuntime) -> io::Result<()> {
+        let cells = List::new(vec![in rt.alloc(); 1, 1]?);
+        self.fire(rt, "lanes", Kind::Lanes { cells })
+    }
+
     /// Fires a kind; keeps its sum, and says the time.
-    fn fire(&mut self, rt: &HostRuntime, name: &str, kind: &Kind) -> io::Result<()>
+    fn fire(&mut self, rt: &HostRuntime, name: &str, kind: Kind) -> io::Result<()>
+        requires { IsTrue (kind_is_lawful kind) }
+    {
+        let fired = self.time(rt, name, &kind);
+        drop(kind);
+        fired
+    }
+
+    /// Keeps the sum of a kind's firings, and says how long they took.
+    fn time(&mut self, rt: &HostRuntime, name: &str, kind: &Kind) -> io::Result<()>
         requires { IsTrue (kind_is_lawful kind.now) }
     {
         let start = Instant::now(rt)?;
@@ -109,37 +167,11 @@ impl Measures {
 
 /// Measures a number of parts, at least one and at most a hundred; gives what was computed.
 pub fn measured(rt: &HostRuntime, parts: u64) -> io::Result<String> {
-    let alloc = rt.alloc();
     let parts = parts.max(1).min(MOST_PARTS);
     let mut measures = Measures {
-        text: String::new(alloc),
+        text: String::new(rt.alloc()),
         firings: parts * FIRINGS,
     };
-    let file = text(alloc, parts * ROWS)?;
-    measures.read(rt, file.as_str())?;
-    measures.fire(rt, "scale", &Kind::Scale { num: 3, den: 2 })?;
-    measures.fire(rt, "add", &Kind::Add)?;
-    measures.fire(rt, "sum", &Kind::Sum)?;
-    measures.fire(rt, "merge", &Kind::Merge { n: 2 })?;
-    measures.fire(rt, "delay", &Kind::Delay { d: 100 })?;
-    let law = Law::Weighted { num: 1, den: 2 };
-    measures.fire(rt, "block", &Kind::Block { block: 0, law })?;
-    let row = |state, next| MachineRow {
-        state,
-        low: 0,
-        high: 500,
-        next,
-        emit: Some((0, next)),
-        guard: None,
-    };
-    let rows = List::new(vec![in alloc; row(0, 1), row(1, 2), row(2, 0)]?);
-    let machine = Kind::Machine {
-        start: 0,
-        outputs: 1,
-        rows,
-    };
-    measures.fire(rt, "machine", &machine)?;
-    let cells = List::new(vec![in alloc; 1, 1]?);
-    measures.fire(rt, "lanes", &Kind::Lanes { cells })?;
+    measures.measure(rt, parts * ROWS)?;
     Ok(measures.text)
 }

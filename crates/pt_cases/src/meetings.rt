@@ -9,17 +9,19 @@ mod clocks;
 mod meeting;
 
 ghost use Rattle.std.specs.Prelude.{◌≡◌, ◌≤◌, length};
+ghost use Rattle.pt_turn.specs.All.{IsReady};
 
-use crate::meetings::clocks::{MeetingClock, meeting_clocks, step_clocks};
+use crate::files::content;
+use crate::meetings::clocks::{meeting_clocks, step_clocks};
 use crate::meetings::meeting::{Meeting, Sharing};
-use crate::plans::plan_of;
+use crate::plans::{opened, plan_of};
 use pt_blocks::Blocks;
 use pt_io::{Clock, Page, Shelf, StepClock};
-use pt_run::{Outcome, ptides};
-use pt_sensors::{LateRows, recorded};
-use pt_tags::{List, Name};
+use pt_offsets::Plan;
+use pt_run::ptides;
+use pt_tags::Memory;
 use pt_threads::threaded;
-use pt_turn::open_all;
+use pt_turn::Platform;
 use std::alloc::{AllocError, Global};
 use std::sync::{Arc, Wait};
 use std::thread::Threads;
@@ -61,8 +63,7 @@ const ROOM: usize = 4_096;
 fn files(alloc: Global, graph: &str) -> Result<Shelf, AllocError> {
     let mut contents = Vec::new(alloc);
     for (name, text) in [("g.json", graph), ("s.csv", ROWS), ("u.csv", ROWS)] {
-        let bytes = Vec::from_slice(alloc, text.as_bytes())?;
-        contents.push((Name::new(String::from_str(alloc, name)?), List::new(bytes)))?;
+        contents.push(content(alloc, name, text)?)?;
     }
     Ok(Shelf::new(alloc, contents, Vec::new(alloc)))
 }
@@ -110,29 +111,79 @@ fn shared<R: Threads + Wait + Sync>(
         return String::from_str(alloc, "no plan\n");
     };
     let plan = Arc::new(alloc, plan)?;
-    let mut source = files(alloc, text)?;
-    let Ok(entries) = recorded(alloc, &mut source, plan.graph(), LateRows::Refused) else {
+    share_plan(rt, alloc, text, &plan, blocks, share)
+}
+
+/// The same with the graph's plan.
+fn share_plan<R: Threads + Wait + Sync>(
+    rt: &R,
+    alloc: Global,
+    text: &str,
+    plan: &Arc<Plan>,
+    blocks: &Blocks,
+    share: Share,
+) -> Result<String, AllocError>
+    requires { (1 ≤ share.most) × (share.most ≤ 32) }
+{
+    let source = files(alloc, text)?;
+    let Some(platforms) = opened(alloc, plan, source)? else {
         return String::from_str(alloc, "no rows\n");
     };
-    let Ok(platforms) = open_all(alloc, &plan, entries) else {
-        return Err(AllocError);
-    };
     if platforms.len() != 1 {
+        drop(platforms);
         return String::from_str(alloc, "not one platform\n");
     }
-    let mut clocks = Vec::new(alloc);
-    clocks.push(StepClock::new(share.start, 1))?;
-    let gate = Sharing::new(alloc, share.tasks)?;
-    let Ok(ended) = threaded(rt, alloc, platforms, clocks, blocks, 2, share.most, &gate) else {
+    share_platform(rt, alloc, platforms, blocks, share)
+}
+
+/// The same with the one platform, opened.
+fn share_platform<R: Threads + Wait + Sync>(
+    rt: &R,
+    alloc: Global,
+    platforms: Vec<Platform>,
+    blocks: &Blocks,
+    share: Share,
+) -> Result<String, AllocError>
+    requires ready { IsReady platforms.items }
+    requires one { length platforms.items ≡ 1 }
+    requires most { (1 ≤ share.most) × (share.most ≤ 32) }
+{
+    let Ok(gate) = Sharing::new(alloc, share.tasks) else {
+        drop(platforms);
         return Err(AllocError);
     };
-    let fault = if ended.fault.is_some() {
-        "a fault"
-    } else {
-        "no fault"
-    };
+    let fault = fired(rt, alloc, platforms, blocks, share, &gate);
     let (met, once, all) = (gate.met(), gate.fired_once(), gate.firings());
-    Ok(format!(in alloc; "{met} met, {once} tasks once in {all} firings, {fault}\n")?)
+    drop(gate);
+    let fault = fault?;
+    format!(in alloc; "{met} met, {once} tasks once in {all} firings, {fault}\n")
+}
+
+/// Fires the tasks of the platform; says whether there was a fault.
+fn fired<R: Threads + Wait + Sync>(
+    rt: &R,
+    alloc: Global,
+    platforms: Vec<Platform>,
+    blocks: &Blocks,
+    share: Share,
+    gate: &Sharing,
+) -> Result<&'static str, AllocError>
+    requires ready { IsReady platforms.items }
+    requires one { length platforms.items ≡ 1 }
+    requires most { (1 ≤ share.most) × (share.most ≤ 32) }
+{
+    let Ok(clocks) = vec![in alloc; StepClock::new(share.start, 1)] else {
+        drop(platforms);
+        return Err(AllocError);
+    };
+    match threaded(rt, alloc, platforms, clocks, blocks, 2, share.most, gate) {
+        Ok(ended) => Ok(if ended.fault.is_some() {
+            "a fault"
+        } else {
+            "no fault"
+        }),
+        Err(Memory) => Err(AllocError),
+    }
 }
 
 /// Runs a graph of two platforms by two workers, and says whether the first readings of both clocks met.
@@ -143,14 +194,27 @@ fn reading<R: Threads + Wait + Sync>(
     blocks: &Blocks,
 ) -> Result<String, AllocError> {
     let meeting = Arc::new(alloc, Meeting::new())?;
-    let clocks = meeting_clocks(alloc, &meeting)?;
-    let (outcome, _) = run(rt, alloc, text, 2, clocks, blocks)?;
-    let ending = match outcome.status {
+    let status = read_by(rt, alloc, text, blocks, &meeting);
+    let met = meeting.met();
+    drop(meeting);
+    let ending = match status? {
         0 | 4 | 5 => "status 0, 4 or 5",
         _ => "another status",
     };
-    let met = meeting.met();
-    Ok(format!(in alloc; "{met} met, {ending}\n")?)
+    format!(in alloc; "{met} met, {ending}\n")
+}
+
+/// The status of a run of a graph whose clocks meet here.
+fn read_by<R: Threads + Wait + Sync>(
+    rt: &R,
+    alloc: Global,
+    text: &str,
+    blocks: &Blocks,
+    meeting: &Arc<Meeting>,
+) -> Result<u8, AllocError> {
+    let clocks = meeting_clocks(alloc, meeting)?;
+    let mut out = page(alloc)?;
+    run(rt, alloc, text, 2, clocks, &mut out, blocks)
 }
 
 /// Runs a graph of two platforms many times by 2, 4 and 8 workers, and says whether each run ended as it may.
@@ -167,14 +231,26 @@ fn ending<R: Threads + Wait + Sync>(
             1 => 4,
             _ => 8,
         };
-        let clocks = step_clocks(alloc)?;
-        let (outcome, out) = run(rt, alloc, text, workers, clocks, blocks)?;
-        if !may_end(outcome.status, out.bytes()) {
+        if !ends_as_it_may(rt, alloc, text, workers, blocks)? {
             all = false;
         }
     }
     let ending = if all { "as they may" } else { "otherwise" };
-    Ok(format!(in alloc; "runs ended {ending}\n")?)
+    format!(in alloc; "runs ended {ending}\n")
+}
+
+/// Runs a graph by this many workers, and says whether the run ended as it may.
+fn ends_as_it_may<R: Threads + Wait + Sync>(
+    rt: &R,
+    alloc: Global,
+    text: &str,
+    workers: u32,
+    blocks: &Blocks,
+) -> Result<bool, AllocError> {
+    let clocks = step_clocks(alloc)?;
+    let mut out = page(alloc)?;
+    let status = run(rt, alloc, text, workers, clocks, &mut out, blocks)?;
+    Ok(may_end(status, out.bytes()))
 }
 
 /// Whether a run may end with this status and this output: all its tables, or, after a late message, none.
@@ -186,38 +262,50 @@ fn may_end(status: u8, out: &[u8]) -> bool {
     }
 }
 
-/// Runs a graph by these clocks, as the machine's. Gives the outcome and the output.
+/// An empty page.
+fn page(alloc: Global) -> Result<Page, AllocError> {
+    match Page::new(alloc, ROOM, Vec::new(alloc)) {
+        Ok(page) => Ok(page),
+        Err(Memory) => Err(AllocError),
+    }
+}
+
+/// The words of a run by the machine's clock, with this many workers.
+fn words(alloc: Global, workers: u32) -> Result<Vec<String>, AllocError> {
+    let mut words = Vec::new(alloc);
+    for word in ["run", "g.json", "--clock", "machine", "--workers"] {
+        words.push(String::from_str(alloc, word)?)?;
+    }
+    words.push(format!(in alloc; "{workers}")?)?;
+    Ok(words)
+}
+
+/// Runs a graph by these clocks, as the machine's. Gives the status; the output is on the page.
 fn run<C: Clock + Send, R: Threads + Wait + Sync>(
     rt: &R,
     alloc: Global,
     text: &str,
     workers: u32,
     clocks: Vec<C>,
+    out: &mut Page,
     blocks: &Blocks,
-) -> Result<(Outcome<C>, Page), AllocError>
+) -> Result<u8, AllocError>
     requires clocks { length clocks.items ≡ 16 }
 {
-    let mut words = Vec::new(alloc);
-    for word in ["run", "g.json", "--clock", "machine", "--workers"] {
-        words.push(String::from_str(alloc, word)?)?;
-    }
-    words.push(format!(in alloc; "{workers}")?)?;
+    let words = words(alloc, workers)?;
     let mut source = files(alloc, text)?;
-    let (Ok(mut out), Ok(mut notes)) = (
-        Page::new(alloc, ROOM, Vec::new(alloc)),
-        Page::new(alloc, ROOM, Vec::new(alloc)),
-    ) else {
-        return Err(AllocError);
-    };
+    let mut notes = page(alloc)?;
     let outcome = ptides(
         rt,
         alloc,
         words.as_slice(),
         &mut source,
-        &mut out,
+        out,
         &mut notes,
         clocks,
         blocks,
     );
-    Ok((outcome, out))
+    let status = outcome.status;
+    outcome.discard();
+    Ok(status)
 }

@@ -19,7 +19,7 @@ mod turns;
 use crate::files::{Files, push_lines};
 use crate::platforms::comparison::compare;
 use crate::platforms::game::Game;
-use crate::platforms::report::turn_report;
+use crate::platforms::report::push_turn;
 use pt_actors::Task;
 use pt_blocks::Blocks;
 use std::alloc::{AllocError, Global};
@@ -38,15 +38,18 @@ pub struct PlatformScript {
     posted: Vec<Task>,
 }
 
-/// The numbers of a text, separated by spaces.
-fn numbers(alloc: Global, text: &str) -> Result<Vec<u64>, AllocError> {
-    let mut numbers = Vec::new(alloc);
+/// The first two numbers of a text, separated by spaces.
+fn two_numbers(text: &str) -> Option<(u64, u64)> {
+    let mut first = None;
     for word in text.split(' ') {
         if let Ok(number) = word.parse::<u64>() {
-            numbers.push(number)?;
+            match first {
+                None => first = Some(number),
+                Some(first) => return Some((first, number)),
+            }
         }
     }
-    Ok(numbers)
+    None
 }
 
 impl PlatformScript {
@@ -74,8 +77,8 @@ impl PlatformScript {
             "graph" => self.graph = String::from_str(alloc, rest)?,
             "rows" => self.give(alloc, rest)?,
             "open" => return self.open(alloc, blocks),
-            "hold" => self.held.extend_from_slice(few(alloc, rest)?.as_slice())?,
-            "keep" => self.kept.extend_from_slice(few(alloc, rest)?.as_slice())?,
+            "hold" => push_numbers(&mut self.held, rest)?,
+            "keep" => push_numbers(&mut self.kept, rest)?,
             "free" => {
                 self.held.clear();
                 self.kept.clear();
@@ -91,9 +94,9 @@ impl PlatformScript {
     /// Gives a sensor's file its rows.
     fn give(&mut self, alloc: Global, text: &str) -> Result<(), AllocError> {
         let (name, rows) = text.split_once(' ').unwrap_or((text, ""));
-        let mut content = String::from_str(alloc, "time,seen,value\n")?;
-        push_lines(&mut content, rows)?;
-        self.files.give(String::from_str(alloc, name)?, content)
+        let name = String::from_str(alloc, name)?;
+        let content = rows_file(alloc, rows)?;
+        self.files.give(name, content)
     }
 
     /// Opens the platforms; no file is left, and nothing is held back.
@@ -122,38 +125,66 @@ impl PlatformScript {
         again: bool,
         blocks: &Blocks,
     ) -> Result<String, AllocError> {
-        let given = numbers(alloc, rest)?;
-        let (Some(number), Some(reading)) = (given.as_slice().get(0), given.as_slice().get(1))
-        else {
+        let Some((number, reading)) = two_numbers(rest) else {
             return format!(in alloc; "{line}: no platform and reading\n");
         };
-        let Ok(number) = u32::try_from(*number) else {
+        let Ok(number) = u32::try_from(number) else {
             return format!(in alloc; "{line}: no platform\n");
         };
-        let Some(game) = &mut self.game else {
+        if self.game.is_none() {
             return format!(in alloc; "{line}: not open\n");
-        };
-        let mut before = Vec::new(alloc);
-        if again {
-            before.extend_from_slice(self.posted.as_slice())?;
         }
-        let played = game.play(
-            alloc,
-            number,
-            *reading,
-            self.held.as_slice(),
-            self.kept.as_slice(),
-            before.as_slice(),
-            blocks,
-        )?;
-        if let Some(played) = &played {
-            if !again {
-                self.posted.extend_from_slice(played.posted.as_slice())?;
+        let made = self.play(alloc, number, reading, again, blocks)?;
+        let mut text = format!(in alloc; "{line} ")?;
+        self.push_turn(&mut text, number, made)?;
+        Ok(text)
+    }
+
+    /// Makes a turn of a game; says whether one was made.
+    fn play(
+        &mut self,
+        alloc: Global,
+        number: u32,
+        reading: u64,
+        again: bool,
+        blocks: &Blocks,
+    ) -> Result<bool, AllocError> {
+        let Some(game) = &mut self.game else {
+            return Ok(false);
+        };
+        let (held, kept) = (self.held.as_slice(), self.kept.as_slice());
+        let before = tasks_if(again, self.posted.as_slice());
+        match game.play(alloc, number, reading, held, kept, before, blocks)? {
+            None => Ok(false),
+            Some(played) => {
+                let posted = tasks_if(!again, played.posted.as_slice());
+                match self.posted.extend_from_slice(posted) {
+                    Ok(()) => Ok(true),
+                    Err(_) => Err(AllocError),
+                }
             }
         }
-        let text = turn_report(alloc, game, number, &played)?;
-        format!(in alloc; "{line} {text}")
     }
+
+    /// Appends what a turn did.
+    fn push_turn(&self, text: &mut String, number: u32, made: bool) -> Result<(), AllocError> {
+        match &self.game {
+            Some(game) => push_turn(text, game, number, made),
+            None => Ok(()),
+        }
+    }
+}
+
+/// These tasks if they are wanted, and else none.
+fn tasks_if(wanted: bool, tasks: &[Task]) -> &[Task] {
+    if wanted { tasks } else { &[] }
+}
+
+/// The file of a sensor with these rows, separated by spaces.
+fn rows_file(alloc: Global, rows: &str) -> Result<String, AllocError> {
+    let mut content = String::from_str(alloc, "time,seen,value\n")?;
+    push_lines(&mut content, rows)?;
+    Ok(content)
 }
 
 /// Compares platforms with the plain search, through the graphs of the first seeds.
@@ -161,18 +192,17 @@ fn seeds(alloc: Global, rest: &str, blocks: &Blocks) -> Result<String, AllocErro
     let mut text = String::new(alloc);
     let count = rest.parse::<u64>().unwrap_or(0);
     for seed in 0..count {
-        text.push_str(compare(alloc, seed, blocks)?.as_str())?;
+        compare(alloc, &mut text, seed, blocks)?;
     }
     Ok(text)
 }
 
-/// The small numbers of a text, separated by spaces.
-fn few(alloc: Global, text: &str) -> Result<Vec<u32>, AllocError> {
-    let mut numbers = Vec::new(alloc);
+/// Appends the small numbers of a text, separated by spaces.
+fn push_numbers(numbers: &mut Vec<u32>, text: &str) -> Result<(), AllocError> {
     for word in text.split(' ') {
         if let Ok(number) = word.parse::<u32>() {
             numbers.push(number)?;
         }
     }
-    Ok(numbers)
+    Ok(())
 }

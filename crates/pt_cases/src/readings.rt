@@ -22,14 +22,20 @@ const ROW: Row = Row {
 /// The readings of the platforms of a text's graph.
 pub fn readings(alloc: Global, text: &str, blocks: &Blocks) -> Result<String, AllocError> {
     let mut readings = String::new(alloc);
-    let Some(plan) = plan_of(alloc, text, blocks) else {
-        readings.push_str("no plan\n")?;
-        return Ok(readings);
+    let written = match plan_of(alloc, text, blocks) {
+        Some(plan) => write_all(alloc, &mut readings, &plan),
+        None => readings.push_str("no plan\n"),
     };
-    for platform in 0..plan.graph().platforms.as_slice().len() {
-        write_readings(alloc, &mut readings, &plan, platform as u32)?;
-    }
+    written?;
     Ok(readings)
+}
+
+/// Writes the readings of all platforms of a plan.
+fn write_all(alloc: Global, text: &mut String, plan: &Plan) -> Result<(), AllocError> {
+    for platform in 0..plan.graph().platforms.as_slice().len() {
+        write_readings(alloc, text, plan, platform as u32)?;
+    }
+    Ok(())
 }
 
 /// Opens a platform, and writes what waits and its readings.
@@ -50,5 +56,6 @@ fn write_readings(
     };
     let closing = closing_reading(plan, platform);
     let next = next_reading(&fields, plan, platform, closing);
+    drop(fields);
     write!(text, "{waits} waits, closing {closing}, next {next}\n")
 }

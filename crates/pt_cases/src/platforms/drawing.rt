@@ -58,6 +58,13 @@ impl Drawing {
         Ok(number)
     }
 
+    /// Adds an actor of a kind that was written for it; gives its number.
+    fn actor_of(&mut self, platform: u32, kind: String, outputs: u32) -> Result<u32, AllocError> {
+        let number = self.actor(platform, kind.as_str(), outputs);
+        drop(kind);
+        number
+    }
+
     /// Adds a wire.
     fn wire(&mut self, from: u32, output: u32, to: u32, input: u32) -> Result<(), AllocError> {
         if !self.wires.is_empty() {
@@ -110,8 +117,21 @@ impl Drawing {
         let kind = format!(in alloc;
             "\"kind\":\"sensor\",\"file\":\"s{number}.csv\",\"bound\":{bound}"
         )?;
-        self.actor(platform, kind.as_str(), 1)?;
+        self.actor_of(platform, kind, 1)?;
+        let name = format!(in alloc; "s{number}.csv")?;
         let mut text = String::from_str(alloc, "time,seen,value\n")?;
+        self.push_rows(&mut text, number, bound, random)?;
+        self.files.give(name, text)
+    }
+
+    /// Adds rows of a sensor, and writes them to its file.
+    fn push_rows(
+        &mut self,
+        text: &mut String,
+        number: u32,
+        bound: u64,
+        random: &mut Random,
+    ) -> Result<(), AllocError> {
         let mut time = 0u64;
         let mut seen = 0u64;
         for _ in 0..12 {
@@ -124,8 +144,7 @@ impl Drawing {
                 row: Row { time, seen, value },
             })?;
         }
-        let name = format!(in alloc; "s{number}.csv")?;
-        self.files.give(name, text)
+        Ok(())
     }
 
     /// Adds an actor of any kind that has inputs and outputs.
@@ -156,7 +175,7 @@ impl Drawing {
         };
         if kind.is_empty() {
             let delay = format!(in alloc; "\"kind\":\"delay\",\"d\":{d}")?;
-            let actor = self.actor(platform, delay.as_str(), outputs)?;
+            let actor = self.actor_of(platform, delay, outputs)?;
             return self.feed(platform, actor, inputs, among, random);
         }
         let actor = self.actor(platform, kind, outputs)?;
@@ -172,14 +191,25 @@ impl Drawing {
         self.open.clear();
         for at in open.as_slice() {
             let (platform, merge) = *at;
-            let among = self.outputs.len();
-            let d = random.below(40).saturating_add(15);
-            let delay = format!(in alloc; "\"kind\":\"delay\",\"d\":{d}")?;
-            let actor = self.actor(platform, delay.as_str(), 1)?;
-            self.feed(platform, actor, 1, among, random)?;
-            self.wire(actor, 0, merge, 1)?;
+            self.close_one(alloc, platform, merge, random)?;
         }
         Ok(())
+    }
+
+    /// Feeds the second input of a merge.
+    fn close_one(
+        &mut self,
+        alloc: Global,
+        platform: u32,
+        merge: u32,
+        random: &mut Random,
+    ) -> Result<(), AllocError> {
+        let among = self.outputs.len();
+        let d = random.below(40).saturating_add(15);
+        let delay = format!(in alloc; "\"kind\":\"delay\",\"d\":{d}")?;
+        let actor = self.actor_of(platform, delay, 1)?;
+        self.feed(platform, actor, 1, among, random)?;
+        self.wire(actor, 0, merge, 1)
     }
 
     /// Adds a receiver for each sender that has none.
@@ -192,18 +222,27 @@ impl Drawing {
         let senders = Vec::from_slice(alloc, self.senders.as_slice())?;
         self.senders.clear();
         for sender in senders.as_slice() {
-            let sender = *sender;
-            let actor = self.actor(platform, "\"kind\":\"receive\"", 1)?;
-            let delay = random.below(20);
-            if !self.links.is_empty() {
-                self.links.push_str(",")?;
-            }
-            write!(
-                self.links,
-                "{{\"from\":\"a{sender}\",\"to\":\"a{actor}\",\"delay\":{delay}}}"
-            )?;
+            self.receive_from(*sender, platform, random)?;
         }
         Ok(())
+    }
+
+    /// Adds a receiver for a sender.
+    fn receive_from(
+        &mut self,
+        sender: u32,
+        platform: u32,
+        random: &mut Random,
+    ) -> Result<(), AllocError> {
+        let actor = self.actor(platform, "\"kind\":\"receive\"", 1)?;
+        let delay = random.below(20);
+        if !self.links.is_empty() {
+            self.links.push_str(",")?;
+        }
+        write!(
+            self.links,
+            "{{\"from\":\"a{sender}\",\"to\":\"a{actor}\",\"delay\":{delay}}}"
+        )
     }
 
     /// Adds the actors of a platform, but for those that close its loops.
@@ -220,28 +259,62 @@ impl Drawing {
             self.sensor(alloc, platform, random)?;
         }
         if random.below(2) == 0 {
-            let (start, period) = (random.below(50), random.below(60).saturating_add(40));
-            let kind = format!(in alloc;
-                "\"kind\":\"every\",\"start\":{start},\"period\":{period}"
-            )?;
-            self.actor(platform, kind.as_str(), 1)?;
+            self.every(alloc, platform, random)?;
         }
         for _ in 0..random.below(5).saturating_add(3) {
             self.inner(alloc, platform, random)?;
         }
         self.close(alloc, random)?;
         let among = self.outputs.len();
-        let slack = (platform as u64).saturating_add(1).saturating_mul(150);
         if !last {
-            for _ in 0..random.below(2).saturating_add(1) {
-                let kind = format!(in alloc; "\"kind\":\"send\",\"slack\":{slack}")?;
-                let actor = self.actor(platform, kind.as_str(), 0)?;
-                self.feed(platform, actor, 1, among, random)?;
-                self.senders.push(actor)?;
-            }
+            self.send(alloc, platform, among, random)?;
         }
         let actor = self.actor(platform, "\"kind\":\"actuator\",\"slack\":20", 0)?;
         self.feed(platform, actor, 1, among, random)
+    }
+
+    /// Adds an `every`.
+    fn every(
+        &mut self,
+        alloc: Global,
+        platform: u32,
+        random: &mut Random,
+    ) -> Result<(), AllocError> {
+        let (start, period) = (random.below(50), random.below(60).saturating_add(40));
+        let kind = format!(in alloc; "\"kind\":\"every\",\"start\":{start},\"period\":{period}")?;
+        self.actor_of(platform, kind, 1)?;
+        Ok(())
+    }
+
+    /// Adds one or two senders.
+    fn send(
+        &mut self,
+        alloc: Global,
+        platform: u32,
+        among: usize,
+        random: &mut Random,
+    ) -> Result<(), AllocError> {
+        let slack = (platform as u64).saturating_add(1).saturating_mul(150);
+        for _ in 0..random.below(2).saturating_add(1) {
+            let kind = format!(in alloc; "\"kind\":\"send\",\"slack\":{slack}")?;
+            let actor = self.actor_of(platform, kind, 0)?;
+            self.feed(platform, actor, 1, among, random)?;
+            self.senders.push(actor)?;
+        }
+        Ok(())
+    }
+}
+
+impl Drawing {
+    /// Draws both platforms; gives the text of the graph.
+    fn text(&mut self, alloc: Global, random: &mut Random) -> Result<String, AllocError> {
+        self.platform(alloc, 0, false, random)?;
+        self.platform(alloc, 1, true, random)?;
+        let (actors, wires) = (self.actors.as_str(), self.wires.as_str());
+        let links = self.links.as_str();
+        format!(in alloc;
+            "{{\"ptides\":2,\"until\":500,\"clock_error\":3,\"clock_errors\":[],\"platforms\":[\"p0\",\"p1\"],\"actors\":[{actors}],\"wires\":[{wires}],\"links\":[{links}]}}"
+        )
     }
 }
 
@@ -258,18 +331,7 @@ pub fn draw(alloc: Global, random: &mut Random) -> Result<Drawn, AllocError> {
         files: Files::new(alloc),
         rows: Vec::new(alloc),
     };
-    drawing.platform(alloc, 0, false, random)?;
-    drawing.platform(alloc, 1, true, random)?;
-    let Drawing {
-        actors,
-        wires,
-        links,
-        files,
-        rows,
-        ..
-    } = drawing;
-    let text = format!(in alloc;
-        "{{\"ptides\":2,\"until\":500,\"clock_error\":3,\"clock_errors\":[],\"platforms\":[\"p0\",\"p1\"],\"actors\":[{actors}],\"wires\":[{wires}],\"links\":[{links}]}}"
-    )?;
+    let text = drawing.text(alloc, random)?;
+    let Drawing { files, rows, .. } = drawing;
     Ok(Drawn { text, files, rows })
 }

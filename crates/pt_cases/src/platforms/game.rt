@@ -1,15 +1,14 @@
 //! The platforms of a plan, turn by turn.
 
 use crate::files::Files;
-use crate::plans::plan_of;
+use crate::plans::{opened, plan_of};
 use crate::platforms::arrivals::leads_to;
 use crate::platforms::turns::{Made, make_turn, send_all};
 use pt_actors::{Done, Task};
 use pt_blocks::Blocks;
 use pt_offsets::Plan;
-use pt_sensors::{LateRows, recorded};
-use pt_turn::{Platform, open_all};
-use pt_types::OnLink;
+use pt_turn::Platform;
+use pt_types::{Graph, OnLink};
 use std::alloc::{AllocError, Global};
 use std::sync::Arc;
 
@@ -18,6 +17,13 @@ use std::sync::Arc;
 pub struct Unposted {
     pub platform: u32,
     pub task: Task,
+}
+
+impl Unposted {
+    /// Whether this is a task of a platform, and of none of these actors.
+    fn is_free(&self, number: u32, held: &[u32]) -> bool {
+        self.platform == number && !held.contains(&self.task.actor)
+    }
 }
 
 /// What a turn was given and what it claimed.
@@ -50,19 +56,15 @@ impl Game {
             return Ok(None);
         };
         let plan = Arc::new(alloc, plan)?;
-        let mut source = files.shelf(alloc, Vec::new(alloc))?;
-        let Ok(entries) = recorded(alloc, &mut source, plan.graph(), LateRows::Refused) else {
-            return Ok(None);
-        };
-        let Ok(platforms) = open_all(alloc, &plan, entries) else {
-            return Ok(None);
-        };
-        Ok(Some(Game {
-            plan,
-            platforms,
-            unposted: Vec::new(alloc),
-            messages: Vec::new(alloc),
-        }))
+        match opened_with(alloc, &plan, files)? {
+            Some(platforms) => Ok(Some(Game {
+                plan,
+                platforms,
+                unposted: Vec::new(alloc),
+                messages: Vec::new(alloc),
+            })),
+            None => Ok(None),
+        }
     }
 
     /// The tasks of a platform that were not posted yet, but for those of these actors, which stay.
@@ -73,15 +75,12 @@ impl Game {
         held: &[u32],
     ) -> Result<Vec<Task>, AllocError> {
         let mut taken = Vec::new(alloc);
-        let mut left = Vec::new(alloc);
         for one in self.unposted.as_slice() {
-            if one.platform == number && !held.contains(&one.task.actor) {
+            if one.is_free(number, held) {
                 taken.push(one.task)?;
-            } else {
-                left.push(*one)?;
             }
         }
-        self.unposted = left;
+        self.unposted.retain(|one| !one.is_free(number, held));
         Ok(taken)
     }
 
@@ -92,17 +91,15 @@ impl Game {
         number: u32,
         kept: &[u32],
     ) -> Result<Vec<OnLink>, AllocError> {
+        let graph = self.plan.graph();
         let mut taken = Vec::new(alloc);
-        let mut left = Vec::new(alloc);
         for message in self.messages.as_slice() {
-            let leads = leads_to(self.plan.graph(), number, message.link);
-            if leads && !kept.contains(&message.link) {
+            if comes(graph, number, message, kept) {
                 taken.push(*message)?;
-            } else {
-                left.push(*message)?;
             }
         }
-        self.messages = left;
+        self.messages
+            .retain(|message| !comes(graph, number, message, kept));
         Ok(taken)
     }
 
@@ -121,33 +118,72 @@ impl Game {
         let mut posted = self.take_tasks(alloc, number, held)?;
         posted.extend_from_slice(again)?;
         let messages = self.take_messages(alloc, number, kept)?;
-        let Some(platform) = self.platforms.as_mut_slice().get_mut(number as usize) else {
-            return Ok(None);
-        };
-        let played = make_turn(
+        let made = self.make(
             alloc,
-            platform,
+            number,
             reading,
             posted.as_slice(),
             messages.as_slice(),
             blocks,
         )?;
-        let sent = send_all(alloc, platform)?;
-        self.messages.extend_from_slice(sent.as_slice())?;
-        let Some(Made { results, claimed }) = played else {
+        match made {
+            Some(Made { results, claimed }) => Ok(Some(Played {
+                posted,
+                results,
+                messages,
+                claimed,
+            })),
+            None => Ok(None),
+        }
+    }
+
+    /// Makes a turn of a platform with the results of these tasks and these messages, and sends. None where there is no such
+    /// platform, or where these messages may not come.
+    fn make(
+        &mut self,
+        alloc: Global,
+        number: u32,
+        reading: u64,
+        posted: &[Task],
+        messages: &[OnLink],
+        blocks: &Blocks,
+    ) -> Result<Option<Made>, AllocError> {
+        let Some(platform) = self.platforms.as_mut_slice().get_mut(number as usize) else {
             return Ok(None);
         };
-        for task in claimed.as_slice() {
-            self.unposted.push(Unposted {
-                platform: number,
-                task: *task,
-            })?;
-        }
-        Ok(Some(Played {
-            posted,
-            results,
-            messages,
-            claimed,
-        }))
+        let made = make_turn(alloc, platform, reading, posted, messages, blocks)?;
+        self.send(alloc, number, &made)?;
+        Ok(made)
     }
+
+    /// Sends what a platform has to send, and adds what it claimed in a turn to what was not posted yet.
+    fn send(&mut self, alloc: Global, number: u32, made: &Option<Made>) -> Result<(), AllocError> {
+        if let Some(platform) = self.platforms.as_mut_slice().get_mut(number as usize) {
+            send_all(alloc, platform, &mut self.messages)?;
+        }
+        if let Some(made) = made {
+            for task in made.claimed.as_slice() {
+                self.unposted.push(Unposted {
+                    platform: number,
+                    task: *task,
+                })?;
+            }
+        }
+        Ok(())
+    }
+}
+
+/// The platforms of a plan, opened with the rows of these files; none where a file is refused.
+fn opened_with(
+    alloc: Global,
+    plan: &Arc<Plan>,
+    files: &Files,
+) -> Result<Option<Vec<Platform>>, AllocError> {
+    let source = files.shelf(alloc, Vec::new(alloc))?;
+    opened(alloc, plan, source)
+}
+
+/// Whether a message comes to a platform, and its link is none of these.
+fn comes(graph: &Graph, number: u32, message: &OnLink, kept: &[u32]) -> bool {
+    leads_to(graph, number, message.link) && !kept.contains(&message.link)
 }

@@ -1,11 +1,11 @@
 //! What a turn did, as text.
 
-use crate::platforms::game::{Game, Played};
+use crate::platforms::game::Game;
 use pt_history::History;
 use pt_tags::{Message, Tag};
 use pt_turn::{Platform, TurnFault};
 use pt_types::{Graph, OnLink};
-use std::alloc::{AllocError, Global};
+use std::alloc::AllocError;
 
 /// Appends a tag.
 fn push_tag(text: &mut String, tag: Tag) -> Result<(), AllocError> {
@@ -119,26 +119,22 @@ fn push_state(text: &mut String, graph: &Graph, platform: &Platform) -> Result<(
     text.push_str("\n")
 }
 
-/// What a turn of a platform did, and the state of the platform after it.
-pub fn turn_report(
-    alloc: Global,
+/// Appends what a turn of a platform did, if one was made, and the state of the platform after it.
+pub fn push_turn(
+    text: &mut String,
     game: &Game,
     number: u32,
-    played: &Option<Played>,
-) -> Result<String, AllocError> {
-    let mut text = String::new(alloc);
+    made: bool,
+) -> Result<(), AllocError> {
     let graph = game.plan.graph();
     let Some(platform) = game.platforms.as_slice().get(number as usize) else {
-        text.push_str("no such platform\n")?;
-        return Ok(text);
+        return text.push_str("no such platform\n");
     };
-    if played.is_none() {
-        text.push_str("refused\n")?;
-        return Ok(text);
+    if !made {
+        return text.push_str("refused\n");
     }
     text.push_str("-")?;
     let history = platform.history();
-    push_kept(&mut text, graph, history, history.turns().saturating_sub(1))?;
-    push_state(&mut text, graph, platform)?;
-    Ok(text)
+    push_kept(text, graph, history, history.turns().saturating_sub(1))?;
+    push_state(text, graph, platform)
 }

@@ -10,6 +10,29 @@ use pt_tags::{Message, Tag};
 use pt_types::{Event, Graph, Kind, OnLink, Ports, RowAt, Unit};
 use std::alloc::{AllocError, Global};
 
+/// The least delays from each unit.
+fn ways(alloc: Global, graph: &Graph, units: &[Unit]) -> Result<Vec<Vec<Option<Way>>>, AllocError> {
+    let mut ways = Vec::new(alloc);
+    for from in 0..units.len() {
+        ways.push(ways_from(alloc, graph, units, from)?)?;
+    }
+    Ok(ways)
+}
+
+/// The bound of each unit that is a sensor or a receiver of a platform.
+fn bounds(
+    alloc: Global,
+    graph: &Graph,
+    platform: u32,
+    units: &[Unit],
+) -> Result<Vec<Option<u64>>, AllocError> {
+    let mut bounds = Vec::new(alloc);
+    for unit in units {
+        bounds.push(bound_of(graph, platform, unit.actor))?;
+    }
+    Ok(bounds)
+}
+
 /// What a platform has by the definition.
 #[derive(Drop)]
 pub struct Plain {
@@ -37,14 +60,8 @@ impl Plain {
         rows: &[RowAt],
     ) -> Result<Plain, AllocError> {
         let units = units_of(alloc, graph)?;
-        let mut ways = Vec::new(alloc);
-        let mut bounds = Vec::new(alloc);
-        for from in 0..units.len() {
-            ways.push(ways_from(alloc, graph, units.as_slice(), from)?)?;
-        }
-        for unit in units.as_slice() {
-            bounds.push(bound_of(graph, platform, unit.actor))?;
-        }
+        let ways = ways(alloc, graph, units.as_slice())?;
+        let bounds = bounds(alloc, graph, platform, units.as_slice())?;
         let mut plain = Plain {
             units,
             ways,
@@ -57,8 +74,13 @@ impl Plain {
             claims: 0,
             late: false,
         };
-        plain.begin(graph, platform, rows)?;
-        Ok(plain)
+        match plain.begin(graph, platform, rows) {
+            Ok(()) => Ok(plain),
+            Err(error) => {
+                drop(plain);
+                Err(error)
+            }
+        }
     }
 
     /// The starting events, the rows and the states.
@@ -349,14 +371,24 @@ impl Plain {
         messages: &[OnLink],
     ) -> Result<Vec<Task>, AllocError> {
         let reading = reading.max(self.reading.unwrap_or(0));
-        let mut claimed = Vec::new(alloc);
         self.enter(alloc, graph, reading)?;
         let late = self.take(graph, messages)?;
         self.late = self.late || late;
         self.reading = Some(reading);
         if self.late {
-            return Ok(claimed);
+            return Ok(Vec::new(alloc));
         }
+        self.claim_all(alloc, graph, reading)
+    }
+
+    /// Claims safe units, as many as a turn claims at most.
+    fn claim_all(
+        &mut self,
+        alloc: Global,
+        graph: &Graph,
+        reading: u64,
+    ) -> Result<Vec<Task>, AllocError> {
+        let mut claimed = Vec::new(alloc);
         for _ in 0..64 {
             let Some((unit, tag)) = self.next(graph, reading) else {
                 break;

@@ -51,22 +51,41 @@ pub fn make_turn(
     blocks: &Blocks,
 ) -> Result<Option<Made>, AllocError> {
     let results = results_of(alloc, blocks, platform.plan().graph(), tasks)?;
-    let mut claimed = Tasks::new(alloc);
+    match claimed_in(alloc, platform, reading, results.as_slice(), messages)? {
+        Some(claimed) => Ok(Some(Made { results, claimed })),
+        None => Ok(None),
+    }
+}
+
+/// Makes a turn with these results and messages; gives what it claimed, or none where these messages may not come.
+fn claimed_in(
+    alloc: Global,
+    platform: &mut Platform,
+    reading: u64,
+    results: &[Done],
+    messages: &[OnLink],
+) -> Result<Option<Vec<Task>>, AllocError>
+    requires done { AreDone platform.old.plan.graph results.now }
+{
     let room = Room {
         reading,
         done: results.len(),
         taken: messages.len(),
         most: MOST,
     };
-    if claimed.reserve(MOST).is_err() || platform.room(room).is_err() {
+    if platform.room(room).is_err() {
         return Err(AllocError);
     }
     if !may_come(alloc, platform, messages)? {
         return Ok(None);
     }
-    platform.turn(reading, results.as_slice(), messages, MOST, &mut claimed);
+    let mut claimed = Tasks::new(alloc);
+    if claimed.reserve(MOST).is_err() {
+        return Err(AllocError);
+    }
+    platform.turn(reading, results, messages, MOST, &mut claimed);
     let claimed = Vec::from_slice(alloc, claimed.as_slice())?;
-    Ok(Some(Made { results, claimed }))
+    Ok(Some(claimed))
 }
 
 /// How many messages were sent on a link since the last turn.
@@ -100,11 +119,14 @@ fn send_on(
 }
 
 /// Sends what is in the outboxes of a platform, link by link.
-pub fn send_all(alloc: Global, platform: &mut Platform) -> Result<Vec<OnLink>, AllocError> {
-    let mut sent = Vec::new(alloc);
+pub fn send_all(
+    alloc: Global,
+    platform: &mut Platform,
+    sent: &mut Vec<OnLink>,
+) -> Result<(), AllocError> {
     let links = platform.plan().graph().links.as_slice().len();
     for link in 0..links as u32 {
-        send_on(alloc, platform, link, &mut sent)?;
+        send_on(alloc, platform, link, sent)?;
     }
-    Ok(sent)
+    Ok(())
 }
