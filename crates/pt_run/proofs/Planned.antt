@@ -19,7 +19,7 @@ use Rattle.pt_turn.specs.Platforms.{PlatformView}
 use Rattle.pt_sensors.specs.Recorded.{CauseOfRows, SensorUnread}
 use Rattle.pt_run.specs.declared.plan_run.RunFault.{RunFault}
 use Rattle.pt_run.specs.declared.plan_run.RunFault.TheVariants as stop
-use Rattle.pt_run.specs.declared.outputs.Ran.{Ran}
+use Rattle.pt_run.specs.declared.finished_run.Ran.{Ran}
 use Rattle.pt_run.specs.Readings.{Clocking}
 use Rattle.pt_run.specs.Runs.{CauseOfStop, HasOutputs, HasRun, IsFinishedRun, ran_text}
 use Rattle.pt_run.specs.declared.fault.Fault.{Fault}

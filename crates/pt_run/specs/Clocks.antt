@@ -10,7 +10,7 @@ use Rattle.pt_words.specs.declared.orders.Command.{Command}
 use Rattle.pt_words.specs.declared.orders.Command.TheVariants.{Run}
 use Rattle.pt_run.specs.declared.plan_run.RunFault.{RunFault}
 use Rattle.pt_run.specs.declared.plan_run.RunFault.TheVariants.{Memory, Rows}
-use Rattle.pt_run.specs.declared.outputs.Ran.{Ran}
+use Rattle.pt_run.specs.declared.finished_run.Ran.{Ran}
 use Rattle.pt_words.specs.Grammar.{Order, over}
 
 -- those of the clocks handed in that a command reads

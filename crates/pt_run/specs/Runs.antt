@@ -1,5 +1,5 @@
 -- A run over the files of a plan's sensors, and why a run did not finish.
-use Rattle.std.specs.Prelude.{◌≡◌, ◌↔◌, ◌++◌, [], ℕ, Bool, List, Option, None, Some, flat_map, if◌then◌else◌, string_bytes, true}
+use Rattle.std.specs.Prelude.{◌≡◌, ◌↔◌, ◌++◌, [], ℕ, Bool, List, Option, None, Some, IfSome, flat_map, if◌then◌else◌, string_bytes, true}
 use Rattle.pt_types.specs.declared.firing.ActorFiring.{ActorFiring}
 use Rattle.pt_types.specs.declared.rows.Row.{Row}
 use Rattle.pt_types.specs.declared.graph.Graph.{Graph}
@@ -22,7 +22,7 @@ use Rattle.pt_monitors.specs.Platforms.{missed_by}
 use Rattle.pt_tables.specs.Held.{IsHeldTurn}
 use Rattle.pt_tables.specs.Log.{log_head, log_text}
 use Rattle.pt_tables.specs.Misses.{miss_line}
-use Rattle.pt_tables.specs.Platforms.{histories, platform_lines}
+use Rattle.pt_tables.specs.Platforms.{IsStoreOf, histories, platform_lines}
 use Rattle.pt_tables.specs.declared.store.LogStore.{LogStore}
 use Rattle.pt_confluence.specs.Gathered.{HaveFinished}
 use Rattle.pt_rounds.specs.HaveRun.{HaveRun}
@@ -34,7 +34,7 @@ use Rattle.pt_words.specs.declared.orders.ClockChoice.{ClockChoice}
 use Rattle.pt_words.specs.declared.orders.ClockChoice.TheVariants.{Machine, Paced, Step}
 use Rattle.pt_run.specs.declared.plan_run.RunFault.{RunFault}
 use Rattle.pt_run.specs.declared.plan_run.RunFault.TheVariants as fault
-use Rattle.pt_run.specs.declared.outputs.Ran.{Ran}
+use Rattle.pt_run.specs.declared.finished_run.Ran.{Ran}
 use Rattle.pt_io.specs.Told.{ClockView}
 use Rattle.pt_run.specs.Readings.{Clocking, EachOf, ReadBy, read_by}
 
@@ -118,6 +118,10 @@ stored_log (Some store) platforms = log_head ++ flat_map platform_lines platform
 -- the text that a run puts: its tables and, if it is stored, the log
 abbrev pub ran_text : Ran → List ℕ
 ran_text ran = string_bytes ran.tables ++ stored_log ran.log ran.platforms.items
+
+-- what is made before the log is put, if there is such, is that of the platforms
+abbrev pub HasStore : Ran → Type 0
+HasStore ran = IfSome ran.log (IsStoreOf ran.platforms.items)
 
 -- the text of finished platforms
 abbrev pub IsText : Parts → Bool → List PlatformView → List ℕ → Type 0

@@ -6,7 +6,7 @@ use Rattle.pt_io.specs.Told.{ClockView}
 use Rattle.pt_turn.specs.Platforms.{PlatformView}
 use Rattle.pt_run.specs.declared.plan_run.RunFault.{RunFault}
 use Rattle.pt_run.specs.declared.plan_run.RunFault.TheVariants as stop
-use Rattle.pt_run.specs.declared.outputs.Ran.{Ran}
+use Rattle.pt_run.specs.declared.finished_run.Ran.{Ran}
 use Rattle.pt_run.specs.declared.fault.Fault.{Fault}
 use Rattle.pt_run.specs.declared.fault.Fault.TheVariants as fault
 use Rattle.pt_run.specs.declared.outcome.Ending.{Ending}

@@ -4,9 +4,8 @@ ghost use Rattle.std.specs.Prelude.{◌≡◌, IfOk, IfSome, OnOk, flat_map, is_
 ghost use Rattle.std.specs.Arc.{arc_value};
 ghost use Rattle.pt_tables.specs.Misses.{miss_line};
 ghost use Rattle.pt_tables.specs.Platforms.{IsStoreOf};
-ghost use Rattle.pt_run.specs.Runs.{AreHeldIf, IsTold};
+ghost use Rattle.pt_run.specs.Runs.{AreHeldIf, HasStore, IsTold};
 
-use crate::outputs::Ran;
 use pt_confluence::tables_of;
 use pt_history::Miss;
 use pt_monitors::missed;
@@ -17,7 +16,20 @@ use pt_turn::Platform;
 use std::alloc::Global;
 use std::sync::Arc;
 
-/// What the log of platforms is put with, if it is asked for.
+/// A run that finished: the parts of its text, its misses and their lines, and its platforms.
+#[derive(Drop)]
+pub struct Ran {
+    /// The tables of the actuators.
+    pub tables: String,
+    /// What is made before the log is put, if it is asked for.
+    pub log: Option<LogStore>,
+    pub misses: Vec<Miss>,
+    /// A line for each miss.
+    pub lines: String,
+    pub platforms: Vec<Platform>,
+}
+
+/// What is made before the log of platforms is put, if it is asked for.
 fn store_if(alloc: Global, platforms: &[Platform], log: bool) -> Result<Option<LogStore>, Memory>
     ensures asked { IfOk result (λ store. is_some store ≡ log) }
     ensures stored { IfOk result (λ store. IfSome store (IsStoreOf platforms.now)) }
@@ -46,7 +58,8 @@ pub fn told(
     platforms: Vec<Platform>,
     log: bool,
 ) -> Result<Ran, Memory>
-    ensures { IfOk result (IsTold (arc_value plan.now) log platforms.items) }
+    ensures told { IfOk result (IsTold (arc_value plan.now) log platforms.items) }
+    ensures stored { IfOk result HasStore }
 {
     let tables = tables_of(alloc, plan, platforms.as_slice())?;
     let log = store_if(alloc, platforms.as_slice(), log)?;

@@ -28,7 +28,6 @@ mod migrate;
 mod notes;
 mod outcome;
 mod output;
-mod outputs;
 mod own_clocks;
 mod plan_laws;
 mod plan_run;
@@ -39,12 +38,12 @@ mod top;
 mod went;
 
 pub use fault::Fault;
+pub use finished_run::Ran;
 pub use laws::{
     calls_agree, replays_agree, replays_in_bounds_agree_with_runs, replays_in_bounds_do_as_paced,
     runs_agree, slack_runs_miss_nothing, written_logs_are_lawful,
 };
 pub use outcome::Outcome;
-pub use outputs::Ran;
 pub use plan_laws::{finished_runs_agree, plan_runs_agree, step_runs_agree};
 pub use plan_run::{RunFault, run_of};
 pub use top::ptides;
