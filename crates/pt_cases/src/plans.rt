@@ -7,7 +7,7 @@ use crate::graphs::graph_of;
 use pt_blocks::Blocks;
 use pt_io::Shelf;
 use pt_offsets::Plan;
-use pt_sensors::{LateRows, SensorRows, recorded};
+use pt_sensors::{LateRows, recorded};
 use pt_tags::Memory;
 use pt_turn::{Platform, open_all};
 use std::alloc::{AllocError, Global};
