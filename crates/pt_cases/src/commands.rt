@@ -88,7 +88,7 @@ impl CommandScript {
     /// Gives a clock its readings.
     fn set(&mut self, alloc: Global, text: &str) -> Result<(), AllocError> {
         let (clock, rest) = text.split_once(' ').unwrap_or((text, ""));
-        let readings = readings(alloc, rest)?;
+        let readings = readings_in(alloc, rest)?;
         let clock = clock.parse().unwrap_or(0);
         self.clocks.push(Readings { clock, readings })?;
         Ok(())
@@ -101,7 +101,7 @@ impl CommandScript {
         alloc: Global,
         line: &str,
     ) -> Result<String, AllocError> {
-        let mut pages = pages(alloc, self.put)?;
+        let mut pages = empty_pages(alloc, self.put)?;
         let ran = self.run_onto(rt, alloc, line, &mut pages);
         self.fetch = None;
         self.put = None;
@@ -152,14 +152,14 @@ struct Pages {
 }
 
 /// Empty pages; this call of the first one fails.
-fn pages(alloc: Global, put: Option<(u64, usize)>) -> Result<Pages, AllocError> {
+fn empty_pages(alloc: Global, put: Option<(u64, usize)>) -> Result<Pages, AllocError> {
     let notes = page(alloc, None)?;
     let out = page(alloc, put)?;
     Ok(Pages { out, notes })
 }
 
 /// The readings of a text, separated by spaces.
-fn readings(alloc: Global, text: &str) -> Result<Vec<u64>, AllocError> {
+fn readings_in(alloc: Global, text: &str) -> Result<Vec<u64>, AllocError> {
     let mut readings = Vec::new(alloc);
     for reading in text.split(' ') {
         if let Ok(reading) = reading.parse() {
