@@ -25,6 +25,13 @@ pub struct Outcome<C> {
     pub clocks: Vec<C>,
 }
 
+impl<C: Drop> Outcome<C> {
+    /// Lets go of all that is left. A program that does so by this call doesn't prove once more that it can.
+    pub fn discard(self) {
+        drop(self);
+    }
+}
+
 /// The same without the clocks.
 #[derive(Drop)]
 pub struct Ending {

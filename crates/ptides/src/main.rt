@@ -67,20 +67,18 @@ fn status<S: Source, K: Sink, E: Sink, C: Clock + Send, R: Threads + Wait + Sync
         (record { before = K.faults out.old; now = K.faults out.new; written_before = K.written out.old; written_now = K.written out.new }) }
 {
     let outcome = ptides(rt, alloc, words, source, out, notes, clocks, blocks);
-    outcome.status
+    let status = outcome.status;
+    outcome.discard();
+    status
 }
 
 fn main(rt: HostRuntime) -> ExitCode {
-    let alloc = rt.alloc();
-    let Ok(words) = words(&rt) else {
-        return ExitCode::from(NO_MEMORY);
-    };
     let middle = Law::Middle {
         low: -100,
         high: 100,
     };
     let blocks = shipped_blocks(
-        alloc,
+        rt.alloc(),
         Function::new(least, Law::Least),
         Function::new(greatest, Law::Greatest),
         Function::new(clip100, middle),
@@ -90,24 +88,42 @@ fn main(rt: HostRuntime) -> ExitCode {
     let Ok(blocks) = blocks else {
         return ExitCode::from(NO_MEMORY);
     };
+    ExitCode::from(run(&rt, &rt, &blocks))
+}
+
+/// The status of the command of the program's command line.
+fn run<R: Threads + Wait + Sync>(rt: &HostRuntime, waiting: &R, blocks: &Blocks) -> u8 {
+    let Ok(words) = words(rt) else {
+        return NO_MEMORY;
+    };
+    run_words(rt, waiting, words.as_slice(), blocks)
+}
+
+/// The status of the command of these words, by the system's files and streams and the machine's clock.
+fn run_words<R: Threads + Wait + Sync>(
+    rt: &HostRuntime,
+    waiting: &R,
+    words: &[String],
+    blocks: &Blocks,
+) -> u8 {
+    let alloc = rt.alloc();
     let (stdout, stderr) = (rt.stdout(), rt.stderr());
     let Ok(mut out) = OutSink::new(alloc, io::writer(&stdout)) else {
-        return ExitCode::from(NO_MEMORY);
+        return NO_MEMORY;
+    };
+    let Ok(clocks) = machine_clocks(alloc, rt, MOST_PLATFORMS) else {
+        return NO_MEMORY;
     };
     let mut notes = NotesSink::new(io::writer(&stderr));
-    let mut source = FileSource::new(SystemFiles::new(&rt));
-    let Ok(clocks) = machine_clocks(alloc, &rt, MOST_PLATFORMS) else {
-        return ExitCode::from(NO_MEMORY);
-    };
-    let status = status(
-        &rt,
+    let mut source = FileSource::new(SystemFiles::new(rt));
+    status(
+        waiting,
         alloc,
-        words.as_slice(),
+        words,
         &mut source,
         &mut out,
         &mut notes,
         clocks,
-        &blocks,
-    );
-    ExitCode::from(status)
+        blocks,
+    )
 }

@@ -40,16 +40,18 @@ fn status<S: Source, K: Sink, E: Sink, C: Clock + Send, R: Threads + Wait + Sync
 ) -> u8
     requires clocks { length clocks.items ≡ 16 }
 {
-    ptides(rt, alloc, words, source, out, notes, clocks, blocks).status
+    let outcome = ptides(rt, alloc, words, source, out, notes, clocks, blocks);
+    let status = outcome.status;
+    outcome.discard();
+    status
 }
 
 fn main(rt: HostRuntime) -> ExitCode {
     let alloc = rt.alloc();
-    let (Ok(words), Ok(least_name), Ok(slow_name)) = (
-        words(&rt),
-        String::from_str(alloc, "least"),
-        String::from_str(alloc, "slow"),
-    ) else {
+    let Ok(least_name) = String::from_str(alloc, "least") else {
+        return ExitCode::from(NO_MEMORY);
+    };
+    let Ok(slow_name) = String::from_str(alloc, "slow") else {
         return ExitCode::from(NO_MEMORY);
     };
     // That each function gives the value of its law is proved here.
@@ -59,24 +61,42 @@ fn main(rt: HostRuntime) -> ExitCode {
     if fast.is_err() || long.is_err() {
         return ExitCode::from(NO_MEMORY);
     }
+    ExitCode::from(run(&rt, &rt, &blocks))
+}
+
+/// The status of the command of the program's command line.
+fn run<R: Threads + Wait + Sync>(rt: &HostRuntime, waiting: &R, blocks: &Blocks) -> u8 {
+    let Ok(words) = words(rt) else {
+        return NO_MEMORY;
+    };
+    run_words(rt, waiting, words.as_slice(), blocks)
+}
+
+/// The status of the command of these words, by the system's files and streams and the machine's clock.
+fn run_words<R: Threads + Wait + Sync>(
+    rt: &HostRuntime,
+    waiting: &R,
+    words: &[String],
+    blocks: &Blocks,
+) -> u8 {
+    let alloc = rt.alloc();
     let (stdout, stderr) = (rt.stdout(), rt.stderr());
     let Ok(mut out) = OutSink::new(alloc, io::writer(&stdout)) else {
-        return ExitCode::from(NO_MEMORY);
+        return NO_MEMORY;
+    };
+    let Ok(clocks) = machine_clocks(alloc, rt, MOST_PLATFORMS) else {
+        return NO_MEMORY;
     };
     let mut notes = NotesSink::new(io::writer(&stderr));
-    let mut source = FileSource::new(SystemFiles::new(&rt));
-    let Ok(clocks) = machine_clocks(alloc, &rt, MOST_PLATFORMS) else {
-        return ExitCode::from(NO_MEMORY);
-    };
-    let status = status(
-        &rt,
+    let mut source = FileSource::new(SystemFiles::new(rt));
+    status(
+        waiting,
         alloc,
-        words.as_slice(),
+        words,
         &mut source,
         &mut out,
         &mut notes,
         clocks,
-        &blocks,
-    );
-    ExitCode::from(status)
+        blocks,
+    )
 }
