@@ -6,6 +6,6 @@ pub mod Written
 pub mod Gathering
 pub mod Parts
 pub mod Works
-pub mod Kept
 pub mod Out
 pub mod Short
+pub mod TurnParts

@@ -70,12 +70,15 @@ first_lines f xs n text =
     append_assoc text (flat_map f (take n xs)) (flat_map f (drop n xs))
     ∙ ap (λ l. text ++ l) (sym (flat_map-append f (take n xs) (drop n xs)) ∙ ap (flat_map f) (take-append-drop n xs))
 
+-- and the lines of one more item
+pub one_more_lines : {X : Type 0} (f : X → List ℕ) (xs : List X) (n : ℕ) (x : X) → slice_get xs n ≡ Some x → flat_map f (take (n + 1) xs) ≡ flat_map f (take n xs) ++ f x
+one_more_lines f xs n x at = ap (flat_map f) (take_next xs n x at) ∙ flat_map-append f (take n xs) (x ∷ []) ∙ ap (λ l. flat_map f (take n xs) ++ l) (append-nil (f x))
+
 -- the lines of one more item are out,
 pub next_out : {X : Type 0} (f : X → List ℕ) (xs : List X) (n : ℕ) (x : X) (a b c : Option (List ℕ)) (page next text : List ℕ) → slice_get xs n ≡ Some x → AreOut a b page (text ++ flat_map f (take n xs)) → AreOut b c next (page ++ f x)
     → AreOut a c next (text ++ flat_map f (take (n + 1) xs))
 next_out f xs n x a b c page next text at out more =
-    let lines : flat_map f (take (n + 1) xs) ≡ flat_map f (take n xs) ++ f x =
-    ap (flat_map f) (take_next xs n x at) ∙ flat_map-append f (take n xs) (x ∷ []) ∙ ap (λ l. flat_map f (take n xs) ++ l) (append-nil (f x)) in
+    let lines : flat_map f (take (n + 1) xs) ≡ flat_map f (take n xs) ++ f x = one_more_lines f xs n x at in
     subst (AreOut a c next) (append_assoc text (flat_map f (take n xs)) (f x) ∙ ap (λ l. text ++ l) (sym lines))
     (out_more a b c page next (text ++ flat_map f (take n xs)) (f x) out more)
 

@@ -14,7 +14,7 @@ use Rattle.pt_history.specs.Turns.{turn_head}
 use Rattle.pt_history.specs.declared.head.Head.{Head}
 use Rattle.pt_history.proofs.InTurn.{drop_next}
 use Rattle.pt_tables.specs.Log.{claim_line, list_lines, post_line, row_line, sent_line, take_line, turn_line}
-use Rattle.pt_tables.specs.Long.{named_lines}
+use Rattle.pt_tables.specs.TurnParts.{named_lines}
 
 -- a head with these numbers
 abbrev pub head_with : ℕ → ℕ → ℕ → Head

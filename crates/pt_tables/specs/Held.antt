@@ -34,6 +34,12 @@ pub record HasHeldLists (t : Turn) : Type 0 where
   pub taken : Each IsHeldMessage t.taken
   pub sent : Each IsHeldMessage t.sent
 
+-- and its readings and its count
+pub record HasHeldHead (t : Turn) : Type 0 where
+  pub first : t.first < 2 ^ 64
+  pub last : t.last < 2 ^ 64
+  pub count : t.count < 2 ^ 64
+
 -- 64 bits hold the numbers of a turn: also its readings and its count
 pub record IsHeldTurn (t : Turn) : Type 0 where
   pub first : t.first < 2 ^ 64

@@ -1,5 +1,4 @@
 pub mod Held
-pub mod Long
 pub mod Log
 pub mod Misses
 pub mod Names
@@ -7,6 +6,9 @@ pub mod Platforms
 pub mod Margins
 pub mod Gathered
 pub mod TurnLine
-pub mod TurnLines
+pub mod TurnParts
+pub mod Reader
+pub mod Short
+pub mod Stored
 pub mod Putting
 pub mod Walk

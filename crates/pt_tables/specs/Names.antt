@@ -1,5 +1,5 @@
--- The names at the two ends of a link; empty if there is no such link.
-use Rattle.std.specs.Prelude.{ℕ, List, [], None, Option, Some}
+-- The names at the two ends of a link; empty if there is no such link. And names that are short.
+use Rattle.std.specs.Prelude.{◌≤◌, ℕ, List, [], None, Option, Some, length}
 use Rattle.pt_types.specs.declared.graph.Graph.{Graph}
 use Rattle.pt_types.specs.declared.graph.Link.{Link}
 use Rattle.pt_types.specs.Lookups.{actor_name}
@@ -13,3 +13,8 @@ receiver_name g (Some link) = actor_name g link.to
 abbrev pub sender_name : Graph → Option Link → List ℕ
 sender_name g None = []
 sender_name g (Some link) = actor_name g link.from
+
+-- the name of a platform and those of all actors leave room for the numbers in their lines
+pub record HasShortNames (g : Graph) (name : List ℕ) : Type 0 where
+  pub own : length name ≤ 58
+  pub actors : (actor : ℕ) → length (actor_name g actor) ≤ 32

@@ -3,6 +3,7 @@ use Rattle.std.specs.Prelude.{◌≡◌, ◌+◌, ◌/◌, ℕ, List, Some, flat
 use Rattle.pt_semantics.specs.Turn.{Turn}
 use Rattle.pt_history.specs.Levels.{AreTurnLevels, IsLevel}
 use Rattle.pt_history.specs.declared.levels.TurnLevels.{TurnLevels}
+use Rattle.pt_tables.specs.declared.walk.Counts.{Counts}
 use Rattle.pt_tables.specs.declared.walk.Walk.{Walk}
 
 -- turn n is known to have posted and claimed at most: no row entered, and no message was taken or sent
@@ -25,3 +26,8 @@ pub record IsAtTurn (turns : List Turn) (n : ℕ) (walk : Walk) : Type 0 where
 -- the turn before turn n, if there is one, has this last reading
 abbrev pub IsLastBefore : List Turn → ℕ → ℕ → Type 0
 IsLastBefore turns n last = (k : ℕ) (turn : Turn) → k + 1 ≡ n → slice_get turns k ≡ Some turn → turn.last ≡ last
+
+-- there are as many results and claims up to the end of turn n
+pub record AreThrough (turns : List Turn) (n : ℕ) (counts : Counts) : Type 0 where
+  pub results : counts.results ≡ length (flat_map (λ (turn : Turn). turn.posted) (take (n + 1) turns))
+  pub claims : counts.claims ≡ length (flat_map (λ (turn : Turn). turn.claimed) (take (n + 1) turns))

@@ -1,10 +1,67 @@
-//! That 64 bits hold the numbers of a message.
+//! That 64 bits hold the numbers of turns and messages, as their types say.
 
-ghost use Rattle.pt_tables.specs.Held.{FitsTag, IsHeld};
+ghost use Rattle.std.specs.Prelude.{◌≡◌, ◌+◌, ◌/◌, ◌<◌, ℕ, Some, length, slice_get};
+ghost use Rattle.pt_history.specs.Levels.{AreTurnLevels};
+ghost use Rattle.pt_history.specs.Turns.{posted_in};
+ghost use Rattle.pt_semantics.specs.Lists.{Each};
+ghost use Rattle.pt_semantics.specs.Turn.{Turn};
+ghost use Rattle.pt_tables.specs.Held.{FitsTag, HasHeldHead, IsHeld, IsHeldMessage, IsHeldResult, IsHeldTurn};
+ghost use Rattle.pt_tables.specs.Walk.{IsLastBefore};
 
+use crate::walk::{head_after, renew_levels, sent_in, taken_in};
+use pt_history::{History, TurnLevels};
 use pt_tags::{Message, Tag};
+use pt_types::OnLink;
 
-/// That 64 bits hold the numbers of a message, as their types say.
+/// That 64 bits hold the numbers of all turns.
+pub(crate) fn turns_hold(history: &History)
+    ensures { Each IsHeldTurn history.now.turns }
+{
+    results_hold(history);
+    let mut levels = history.levels(0);
+    let mut last = 0;
+    for number in 0..history.turns() {
+        last = turn_holds(history, &levels, last, number);
+        renew_levels(&mut levels, history, number);
+    }
+}
+
+/// That 64 bits hold the numbers of a turn, but for those of its results, where `last` is the last reading of the turn before it.
+/// Returns its own last reading.
+#[inline(always)]
+fn turn_holds(history: &History, levels: &TurnLevels, last: u64, number: usize) -> u64
+    requires number { number < length history.now.turns }
+    requires levels { AreTurnLevels history.now.turns (number / 64) levels.now }
+    requires last { IsLastBefore history.now.turns number last }
+    ensures last { IsLastBefore history.now.turns (number + 1) result }
+    ensures held { (turn : Turn) → slice_get history.now.turns number ≡ Some turn → HasHeldHead turn × Each IsHeldMessage turn.taken × Each IsHeldMessage turn.sent }
+{
+    let head = head_after(history, levels, last, number);
+    messages_hold(taken_in(history, levels, number));
+    messages_hold(sent_in(history, levels, number));
+    head.last
+}
+
+/// That 64 bits hold the numbers of the results of all turns.
+fn results_hold(history: &History)
+    ensures { (turn : ℕ) → turn < length history.now.turns → Each IsHeldResult (posted_in history.now.turns turn) }
+{
+    for number in 0..history.results() {
+        let _mark = history.result_mark(number);
+    }
+}
+
+/// That 64 bits hold the numbers of messages.
+#[inline(always)]
+fn messages_hold(messages: &[OnLink])
+    ensures { Each IsHeldMessage messages.now }
+{
+    for message in messages {
+        holds(message.message);
+    }
+}
+
+/// That 64 bits hold the numbers of a message.
 pub fn holds(message: Message)
     ensures tag { FitsTag message }
     ensures value { IsHeld message }

@@ -1,8 +1,8 @@
 //! The texts that commands write: the tables of the actuators, the log of histories, the lines of misses, and the margins
 //! of a graph.
 //!
-//! Each text is built by functions that append one line; loops call them. The log, which is the longest, is put as it is made:
-//! only the lines of turns with many are made before. Tables are defined in `specs/Tables.antt` of
+//! Each text is built by functions that append one line; loops call them. The log, which is the longest, is put as it is made,
+//! line by line: only where a name is long, the lines are made before. Tables are defined in `specs/Tables.antt` of
 //! pt_semantics, the log in `specs/Log.antt` and `specs/Platforms.antt`, misses in `specs/Misses.antt`, margins in
 //! `specs/Margins.antt`.
 //!
@@ -14,7 +14,6 @@ mod claim_end;
 mod held;
 mod line;
 mod lines;
-mod long;
 mod margin_lines;
 mod meaning;
 mod miss;
@@ -24,11 +23,13 @@ mod pen;
 mod piece;
 mod platforms;
 mod putting;
+mod reader;
 mod store;
+mod stored;
 mod table;
 mod text;
 mod turn_line;
-mod turn_lines;
+mod turn_parts;
 mod turns;
 mod walk;
 

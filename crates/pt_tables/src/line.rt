@@ -83,6 +83,15 @@ impl Line {
         self.start = short.start;
     }
 
+    /// Becomes a copy of a line.
+    #[inline(always)]
+    pub(crate) fn copy(&mut self, line: &Line)
+        ensures { self.new ≡ line.now }
+    {
+        self.bytes = line.bytes;
+        self.start = line.start;
+    }
+
     /// How many bytes there is room for.
     #[inline(always)]
     pub(crate) fn room(&self) -> usize
@@ -214,10 +223,19 @@ impl Line {
         if self.room() < word.len() + name.len() + 1 {
             return push_pieces(text, word, name, self.as_str());
         }
+        self.begin(word, name);
+        text.push_str(self.as_str())
+    }
+
+    /// Puts a word, a comma and a name before the line.
+    #[inline(always)]
+    pub(crate) fn begin(&mut self, word: &str, name: &str)
+        requires { (length word.now + length name.now + 1) + length self.old ≤ 128 }
+        ensures { self.new ≡ word.now ++ 44 ∷ name.now ++ self.old }
+    {
         self.text(name);
         self.put(b',');
         self.text(word);
-        text.push_str(self.as_str())
     }
 
     /// Appends a line and then this one, or these, to a page with room for both: as one piece, if they fit into one.

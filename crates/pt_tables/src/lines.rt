@@ -1,7 +1,7 @@
 //! Single lines of the log.
 
-ghost use Rattle.std.specs.Prelude.{◌≡◌, ◌+◌, ◌≤◌, ◌++◌, ◌∷◌, [], OnOk, codes, length, string_bytes, true};
-ghost use Rattle.std.specs.Fmt.{decimal};
+ghost use Rattle.std.specs.Prelude.{◌≡◌, ◌+◌, ◌≤◌, ◌++◌, ◌∷◌, [], ℕ, OnOk, codes, length, string_bytes, true};
+ghost use Rattle.std.specs.Fmt.{decimal, signed_decimal};
 ghost use Rattle.pt_types.specs.declared.firing.Done.{Done};
 ghost use Rattle.pt_types.specs.declared.firing.Task.{Task};
 ghost use Rattle.pt_history.specs.Tasks.{mark_of};
@@ -42,9 +42,17 @@ pub fn push_turn_line(
 pub(crate) fn push_post(text: &mut String, line: &mut Line, task: Mark) -> Result<(), AllocError>
     ensures { (done : Done) → mark_of done.task ≡ task → OnOk result (string_bytes text.new ≡ string_bytes text.old ++ post_line done) }
 {
+    write_post(line, task);
+    text.push_str(line.as_str())
+}
+
+/// Writes the line of the posted result of a task, which is given without its inputs.
+#[inline(always)]
+pub(crate) fn write_post(line: &mut Line, task: Mark)
+    ensures { (done : Done) → mark_of done.task ≡ task → line.new ≡ post_line done }
+{
     line.clear();
     put_post(line, task.number);
-    text.push_str(line.as_str())
 }
 
 /// Puts the line of the posted result of task `number` before a line.
@@ -69,12 +77,32 @@ pub(crate) fn push_row(
     ensures { OnOk result (string_bytes text.new ≡ string_bytes text.old ++ row_line graph.now at.now) }
 {
     let RowAt { sensor, row } = *at;
+    end_row(line, row);
+    line.push_after(text, "row", graph.actor_name(sensor))
+}
+
+/// Writes the line of a row that entered, where the names of actors are short.
+#[inline(always)]
+pub(crate) fn write_row(line: &mut Line, graph: &Graph, at: &RowAt)
+    requires { (actor : ℕ) → length (actor_name graph.now actor) ≤ 32 }
+    ensures { line.new ≡ row_line graph.now at.now }
+{
+    let RowAt { sensor, row } = *at;
+    end_row(line, row);
+    line.begin("row", graph.actor_name(sensor));
+}
+
+/// Becomes what the line of a row ends with: `,TIME,SEEN,VALUE`.
+#[inline(always)]
+fn end_row(line: &mut Line, row: Row)
+    ensures end { line.new ≡ 44 ∷ decimal row.time ++ 44 ∷ decimal row.seen ++ 44 ∷ signed_decimal row.value ++ 10 ∷ [] }
+    ensures length { length line.new ≤ 65 }
+{
     let Row { time, seen, value } = row;
     line.end();
     line.value(value);
     line.field(seen);
     line.field(time);
-    line.push_after(text, "row", graph.actor_name(sensor))
 }
 
 /// Appends the line of a message taken: `take,RECEIVER,TIME,STEP,VALUE` or `take,RECEIVER,end`.
@@ -134,6 +162,19 @@ pub(crate) fn write_claim(pen: &mut Pen, graph: &Graph, claim: Mark) -> bool
     true
 }
 
+/// Writes the line of a claim, which is given without its inputs, where the names of actors are short. There is room for the
+/// line of a result before it.
+#[inline(always)]
+pub(crate) fn write_short_claim(pen: &mut Pen, graph: &Graph, claim: Mark)
+    requires { (actor : ℕ) → length (actor_name graph.now actor) ≤ 32 }
+    ensures line { (task : Task) → mark_of task ≡ claim → pen.new.line ≡ claim_line graph.now task }
+    ensures room { length pen.new.line + 26 ≤ 128 }
+{
+    if !write_claim(pen, graph, claim) {
+        unreachable!();
+    }
+}
+
 /// Appends the line of a claim by an actor with a long name, where the rest of the line is given.
 #[inline(never)]
 fn push_long_claim(text: &mut String, number: u64, name: &str, rest: &str) -> Result<(), AllocError>
@@ -189,11 +230,20 @@ fn push_event(
 ) -> Result<(), AllocError>
     ensures { OnOk result (string_bytes text.new ≡ string_bytes text.old ++ message_line word.now name.now (Message.Event tag value)) }
 {
+    end_event(line, tag, value);
+    line.push_after(text, word, name)
+}
+
+/// Becomes what the line of an event ends with: `,TIME,STEP,VALUE`.
+#[inline(always)]
+fn end_event(line: &mut Line, tag: Tag, value: i64)
+    ensures end { line.new ≡ 44 ∷ decimal tag.time ++ 44 ∷ decimal tag.step ++ 44 ∷ signed_decimal value ++ 10 ∷ [] }
+    ensures length { length line.new ≤ 65 }
+{
     line.end();
     line.value(value);
     line.field(tag.step);
     line.field(tag.time);
-    line.push_after(text, word, name)
 }
 
 /// Appends the line of the end of a link, at one end of it.
@@ -201,4 +251,57 @@ fn push_last(text: &mut String, word: &str, name: &str) -> Result<(), AllocError
     ensures { OnOk result (string_bytes text.new ≡ string_bytes text.old ++ message_line word.now name.now Message.End) }
 {
     push_pieces(text, word, name, ",end\n")
+}
+
+/// Writes the line of a message taken, where the names of actors are short.
+pub(crate) fn write_taken(line: &mut Line, graph: &Graph, taken: &OnLink)
+    requires { (actor : ℕ) → length (actor_name graph.now actor) ≤ 32 }
+    ensures { line.new ≡ take_line graph.now taken.now }
+{
+    write_message(
+        line,
+        "take",
+        receiver_name(graph, taken.link),
+        taken.message,
+    );
+}
+
+/// Writes the line of a message sent, where the names of actors are short.
+pub(crate) fn write_sent(line: &mut Line, graph: &Graph, sent: &OnLink)
+    requires { (actor : ℕ) → length (actor_name graph.now actor) ≤ 32 }
+    ensures { line.new ≡ sent_line graph.now sent.now }
+{
+    write_message(line, "sent", sender_name(graph, sent.link), sent.message);
+}
+
+/// Writes the line of a message at one end of a link.
+#[inline(always)]
+fn write_message(line: &mut Line, word: &str, name: &str, message: Message)
+    requires { length word.now + length name.now ≤ 62 }
+    ensures { line.new ≡ message_line word.now name.now message }
+{
+    match message {
+        Message::Event { tag, value } => write_event(line, word, name, tag, value),
+        Message::End => write_last(line, word, name),
+    }
+}
+
+/// Writes the line of an event at one end of a link.
+#[inline(always)]
+fn write_event(line: &mut Line, word: &str, name: &str, tag: Tag, value: i64)
+    requires { length word.now + length name.now ≤ 62 }
+    ensures { line.new ≡ message_line word.now name.now (Message.Event tag value) }
+{
+    end_event(line, tag, value);
+    line.begin(word, name);
+}
+
+/// Writes the line of the end of a link, at one end of it.
+fn write_last(line: &mut Line, word: &str, name: &str)
+    requires { length word.now + length name.now ≤ 62 }
+    ensures { line.new ≡ message_line word.now name.now Message.End }
+{
+    line.clear();
+    line.text(",end\n");
+    line.begin(word, name);
 }

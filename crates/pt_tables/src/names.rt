@@ -1,8 +1,7 @@
 //! The names of the two ends of a link, and how long names are.
 
 ghost use Rattle.std.specs.Prelude.{◌≡◌, slice_get, true};
-ghost use Rattle.pt_tables.specs.Long.{HasShortNames};
-ghost use Rattle.pt_tables.specs.Names.{receiver_name, sender_name};
+ghost use Rattle.pt_tables.specs.Names.{HasShortNames, receiver_name, sender_name};
 ghost use Rattle.pt_types.specs.Lookups.{actor_name};
 
 use pt_types::Graph;
@@ -27,10 +26,10 @@ pub(crate) fn sender_name(graph: &Graph, link: u32) -> &str
     }
 }
 
-/// The longest name of a platform in the lines of short turns, in bytes.
+/// The longest name of a platform in a line that is written without memory, in bytes.
 pub(crate) const LONGEST_PLATFORM: usize = 58;
 
-/// The longest name of an actor in them.
+/// The longest name of an actor in such a line.
 const LONGEST_ACTOR: usize = 32;
 
 /// Whether the name of a platform and those of all actors are short.

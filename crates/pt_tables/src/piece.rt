@@ -2,14 +2,12 @@
 
 ghost use Rattle.std.specs.Prelude.{◌≡◌, ◌+◌, ◌++◌, ◌<◌, ◌≤◌, ℕ, length, take};
 ghost use Rattle.std.specs.List.{flat_map};
-ghost use Rattle.pt_semantics.specs.Lists.{Each};
 ghost use Rattle.pt_history.specs.Turns.{claimed_in, posted_in};
 ghost use Rattle.pt_types.specs.Lookups.{actor_name};
-ghost use Rattle.pt_tables.specs.Held.{IsHeldResult};
 ghost use Rattle.pt_tables.specs.Log.{claim_line, post_line};
 
 use crate::line::Line;
-use crate::lines::{put_post, write_claim};
+use crate::lines::{put_post, write_short_claim};
 use crate::pen::Pen;
 use pt_history::History;
 use pt_types::Graph;
@@ -37,9 +35,7 @@ pub(crate) fn write_claims(
         pen.line.clear();
         return;
     }
-    if !write_claim(pen, graph, history.mark(from)) {
-        unreachable!();
-    }
+    write_short_claim(pen, graph, history.mark(from));
 }
 
 /// Puts the lines of the results from `from` up to, not including, `end`, of those of all recorded turns, before other lines:
@@ -57,20 +53,4 @@ pub(crate) fn put_posts(line: &mut Line, history: &History, turn: usize, from: u
         return;
     }
     put_post(line, history.result_mark(from).number);
-}
-
-/// That 64 bits hold the numbers of the results from `from` up to, not including, `end`, of those of all recorded turns: the ones
-/// that a turn posted, which are at most one.
-#[inline(always)]
-pub(crate) fn posts_hold(history: &History, turn: usize, from: usize, end: usize)
-    requires turn { turn < length history.now.turns }
-    requires from { from ≡ length (flat_map (λ turn. turn.posted) (take turn history.now.turns)) }
-    requires end { end ≡ length (flat_map (λ turn. turn.posted) (take (turn + 1) history.now.turns)) }
-    requires few { end ≤ from + 1 }
-    ensures { Each IsHeldResult (posted_in history.now.turns turn) }
-{
-    if from == end {
-        return;
-    }
-    let _mark = history.result_mark(from);
 }

@@ -5,16 +5,14 @@ ghost use Rattle.pt_io.specs.Causes.{Appends, AppendsPart, Rose};
 ghost use Rattle.pt_semantics.specs.Lists.{Each};
 ghost use Rattle.pt_tables.specs.Held.{IsHeldTurn};
 ghost use Rattle.pt_tables.specs.Log.{log_head};
-ghost use Rattle.pt_tables.specs.Long.{AreLongTurns};
 ghost use Rattle.pt_tables.specs.Platforms.{AreOfPlatforms, IsStoreOf, histories, platform_lines};
 ghost use Rattle.pt_tables.specs.Putting.{AreOut};
-ghost use Rattle.pt_types.specs.Lookups.{platform_name};
+ghost use Rattle.pt_tables.specs.Stored.{AreStored};
 
-use crate::long::{LongTurns, long_turns};
-use crate::page::{append, put_page};
+use crate::page::{MOST_SHORT, append, put_by, put_page};
 use crate::putting::put_turns;
 use crate::store::LogStore;
-use crate::turn_lines::MOST_SHORT;
+use crate::stored::stored_lines;
 use pt_io::{PutFault, Sink};
 use pt_turn::Platform;
 use std::alloc::{AllocError, Global};
@@ -24,23 +22,23 @@ const MOST_AT_ONCE: usize = 65_536 + MOST_SHORT;
 
 /// What is made before the log of some platforms is put.
 pub fn log_store(alloc: Global, platforms: &[Platform]) -> Result<LogStore, AllocError>
-    ensures longs { IfOk result (IsStoreOf platforms.now) }
+    ensures lines { IfOk result (IsStoreOf platforms.now) }
 
     // 64 bits hold the numbers in all turns.
     ensures held { OnOk result (Each (Each IsHeldTurn) (histories platforms.now)) }
 {
     let page = Vec::with_capacity(alloc, MOST_AT_ONCE)?;
-    let mut longs = Vec::new(alloc);
+    let mut lines = Vec::new(alloc);
     for platform in platforms {
-        let long = long_turns(
+        let stored = stored_lines(
             alloc,
             platform.plan().graph(),
             platform.number(),
             platform.history(),
         )?;
-        longs.push(long)?;
+        lines.push(stored)?;
     }
-    Ok(LogStore { longs, page })
+    Ok(LogStore { lines, page })
 }
 
 /// Puts the log of some platforms: the first line `log`, and then the lines of all turns of each platform, with the graph of
@@ -56,9 +54,9 @@ pub fn put_log<K: Sink>(
     ensures failed { OnErr result (Rose (K.faults out.old) (K.faults out.new)) }
     ensures grows { K.faults out.old ≤ K.faults out.new }
 {
-    let LogStore { longs, mut page } = store;
+    let LogStore { lines, mut page } = store;
     append(&mut page, b"log\n");
-    put_platforms(out, &mut page, platforms, longs.as_slice())
+    put_platforms(out, &mut page, platforms, lines.as_slice())
 }
 
 /// Puts what is on a page and then the lines of the turns of each of some platforms.
@@ -66,9 +64,9 @@ fn put_platforms<K: Sink>(
     out: &mut K,
     page: &mut Vec<u8>,
     platforms: &[Platform],
-    longs: &[LongTurns],
+    lines: &[Option<String>],
 ) -> Result<(), PutFault>
-    requires longs { AreOfPlatforms platforms.now longs.now }
+    requires lines { AreOfPlatforms platforms.now lines.now }
     requires room { 256 ≤ vec_capacity page.old }
     ensures all { OnOk result (Appends (K.written out.old) (K.written out.new) (page.old.items ++ flat_map platform_lines platforms.now)) }
     ensures part { OnErr result (AppendsPart (K.written out.old) (K.written out.new) (page.old.items ++ flat_map platform_lines platforms.now)) }
@@ -76,19 +74,19 @@ fn put_platforms<K: Sink>(
     ensures grows { K.faults out.old ≤ K.faults out.new }
 {
     for number in 0..platforms.len() {
-        put_platform(out, page, &platforms[number], &longs[number])?;
+        put_platform(out, page, &platforms[number], &lines[number])?;
     }
     put_page(out, page)
 }
 
-/// Puts the lines of the turns of a platform by way of a page.
+/// Puts the lines of the turns of a platform, which are stored or have short names, by way of a page.
 fn put_platform<K: Sink>(
     out: &mut K,
     page: &mut Vec<u8>,
     platform: &Platform,
-    long: &LongTurns,
+    lines: &Option<String>,
 ) -> Result<(), PutFault>
-    requires long { AreLongTurns platform.now.plan.graph (platform_name platform.now.plan.graph platform.now.number) platform.now.turns long.now }
+    requires lines { AreStored platform.now.plan.graph platform.now.number platform.now.turns lines.now }
     requires room { 256 ≤ vec_capacity page.old }
     ensures all { OnOk result (AreOut (K.written out.old) (K.written out.new) page.new.items (page.old.items ++ platform_lines platform.now)) }
     ensures part { OnErr result (AppendsPart (K.written out.old) (K.written out.new) (page.old.items ++ platform_lines platform.now)) }
@@ -96,12 +94,14 @@ fn put_platform<K: Sink>(
     ensures grows { K.faults out.old ≤ K.faults out.new }
     ensures room { 256 ≤ vec_capacity page.new }
 {
-    put_turns(
-        out,
-        page,
-        platform.plan().graph(),
-        platform.number(),
-        platform.history(),
-        long,
-    )
+    match lines {
+        Some(lines) => put_by(out, page, lines.as_bytes()),
+        None => put_turns(
+            out,
+            page,
+            platform.plan().graph(),
+            platform.number(),
+            platform.history(),
+        ),
+    }
 }

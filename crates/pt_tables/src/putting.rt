@@ -1,31 +1,36 @@
 //! The lines of the turns of a platform, put by way of a page.
 
-ghost use Rattle.std.specs.Prelude.{◌≡◌, ◌+◌, ◌++◌, ◌<◌, ◌≤◌, OnErr, OnOk, Some, length, slice_get, vec_capacity, vec_len};
+ghost use Rattle.std.specs.Prelude.{◌≡◌, ◌+◌, ◌++◌, ◌<◌, ◌≤◌, OnErr, OnOk, Some, length, option_map, slice_get, vec_capacity};
 ghost use Rattle.pt_io.specs.Causes.{AppendsPart, Rose};
+ghost use Rattle.pt_history.specs.Turns.{turn_head};
 ghost use Rattle.pt_semantics.specs.Turn.{Turn};
 ghost use Rattle.pt_tables.specs.Log.{history_lines};
-ghost use Rattle.pt_tables.specs.Long.{AreLongTurns, named_lines};
+ghost use Rattle.pt_tables.specs.Names.{HasShortNames};
 ghost use Rattle.pt_tables.specs.Putting.{AreOut};
-ghost use Rattle.pt_tables.specs.TurnLines.{HasComeTo};
+ghost use Rattle.pt_tables.specs.Reader.{HasComeTo};
+ghost use Rattle.pt_tables.specs.TurnLine.{IsKeptLine};
+ghost use Rattle.pt_tables.specs.TurnParts.{ArePartsOf, all_of, named_lines, part_lines};
+ghost use Rattle.pt_tables.specs.Walk.{AreThrough, IsAtTurn};
 ghost use Rattle.pt_types.specs.Lookups.{platform_name};
 
-use crate::long::LongTurns;
-use crate::page::{put_by, put_page};
-use crate::turn_lines::{MOST_SHORT, TurnLines};
+use crate::page::{make_room, put_line};
+use crate::pen::Pen;
+use crate::reader::Reader;
+use crate::turn_parts::{PARTS, Part, TurnParts};
+use crate::walk::{Counts, counts_through, is_short, pass};
 use pt_history::History;
 use pt_io::{PutFault, Sink};
 use pt_types::Graph;
 
-/// Puts the lines of all turns of a platform by way of a page.
+/// Puts the lines of all turns of a platform, whose names are short, by way of a page.
 pub(crate) fn put_turns<K: Sink>(
     out: &mut K,
     page: &mut Vec<u8>,
     graph: &Graph,
     platform: u32,
     history: &History,
-    long: &LongTurns,
 ) -> Result<(), PutFault>
-    requires long { AreLongTurns graph.now (platform_name graph.now platform) history.now.turns long.now }
+    requires names { HasShortNames graph.now (platform_name graph.now platform) }
     requires room { 256 ≤ vec_capacity page.old }
     ensures all { OnOk result (AreOut (K.written out.old) (K.written out.new) page.new.items (page.old.items ++ history_lines graph.now platform history.now.turns)) }
     ensures part { OnErr result (AppendsPart (K.written out.old) (K.written out.new) (page.old.items ++ history_lines graph.now platform history.now.turns)) }
@@ -33,9 +38,9 @@ pub(crate) fn put_turns<K: Sink>(
     ensures grows { K.faults out.old ≤ K.faults out.new }
     ensures room { 256 ≤ vec_capacity page.new }
 {
-    let mut turns = TurnLines::new(graph, graph.platform_name(platform), history, long);
+    let mut reader = Reader::new(graph.platform_name(platform), history);
     for number in 0..history.turns() {
-        put_turn(out, page, &mut turns, graph, history, number)?;
+        put_turn(out, page, &mut reader, graph, history, number)?;
     }
     Ok(())
 }
@@ -45,45 +50,122 @@ pub(crate) fn put_turns<K: Sink>(
 fn put_turn<K: Sink>(
     out: &mut K,
     page: &mut Vec<u8>,
-    turns: &mut TurnLines<'_>,
+    reader: &mut Reader<'_>,
     graph: &Graph,
     history: &History,
     number: usize,
 ) -> Result<(), PutFault>
     requires number { number < length history.now.turns }
-    requires at { HasComeTo graph.now history.now.turns number turns.old }
+    requires at { HasComeTo history.now.turns number reader.old }
+    requires names { HasShortNames graph.now reader.old.line.platform.now }
     requires room { 256 ≤ vec_capacity page.old }
-    ensures platform { OnOk result (turns.new.line.platform.now ≡ turns.old.line.platform.now) }
-    ensures at { OnOk result (HasComeTo graph.now history.now.turns (number + 1) turns.new) }
+    ensures platform { OnOk result (reader.new.line.platform.now ≡ reader.old.line.platform.now) }
+    ensures at { OnOk result (HasComeTo history.now.turns (number + 1) reader.new) }
     ensures all { OnOk result ((turn : Turn) → slice_get history.now.turns number ≡ Some turn →
-        AreOut (K.written out.old) (K.written out.new) page.new.items (page.old.items ++ named_lines graph.now turns.old.line.platform.now turn)) }
+        AreOut (K.written out.old) (K.written out.new) page.new.items (page.old.items ++ named_lines graph.now reader.old.line.platform.now turn)) }
     ensures part { OnErr result ((turn : Turn) → slice_get history.now.turns number ≡ Some turn →
-        AppendsPart (K.written out.old) (K.written out.new) (page.old.items ++ named_lines graph.now turns.old.line.platform.now turn)) }
+        AppendsPart (K.written out.old) (K.written out.new) (page.old.items ++ named_lines graph.now reader.old.line.platform.now turn)) }
     ensures failed { OnErr result (Rose (K.faults out.old) (K.faults out.new)) }
     ensures grows { K.faults out.old ≤ K.faults out.new }
     ensures room { 256 ≤ vec_capacity page.new }
 {
-    make_room(out, page)?;
-    let long = turns.next(page, graph, history, number);
-    if long.is_empty() {
-        return Ok(());
-    }
-    put_by(out, page, long)
+    reader.renew(history, number);
+    let through = counts_through(&reader.walk, history, number);
+    put_lines(out, page, reader, graph, history, number, through)?;
+    pass(&mut reader.walk, history, number, through);
+    Ok(())
 }
 
-/// Puts a page that has no room for the lines of a short turn.
+/// Puts the lines of a turn, whose own line the reader has: those of a short turn as one piece.
 #[inline(always)]
-fn make_room<K: Sink>(out: &mut K, page: &mut Vec<u8>) -> Result<(), PutFault>
-    requires { 256 ≤ vec_capacity page.old }
-    ensures all { OnOk result (AreOut (K.written out.old) (K.written out.new) page.new.items page.old.items) }
-    ensures part { OnErr result (AppendsPart (K.written out.old) (K.written out.new) page.old.items) }
+fn put_lines<K: Sink>(
+    out: &mut K,
+    page: &mut Vec<u8>,
+    reader: &mut Reader<'_>,
+    graph: &Graph,
+    history: &History,
+    number: usize,
+    through: Counts,
+) -> Result<(), PutFault>
+    requires number { number < length history.now.turns }
+    requires line { IsKeptLine reader.old.line }
+    requires head { option_map turn_head (slice_get history.now.turns number) ≡ Some (record { first = reader.old.line.first; last = reader.old.line.last; count = reader.old.line.count }) }
+    requires walk { IsAtTurn history.now.turns number reader.old.walk }
+    requires through { AreThrough history.now.turns number through }
+    requires names { HasShortNames graph.now reader.old.line.platform.now }
+    requires room { 256 ≤ vec_capacity page.old }
+    ensures line { OnOk result (reader.new.line ≡ reader.old.line) }
+    ensures walk { OnOk result (reader.new.walk ≡ reader.old.walk) }
+    ensures all { OnOk result ((turn : Turn) → slice_get history.now.turns number ≡ Some turn →
+        AreOut (K.written out.old) (K.written out.new) page.new.items (page.old.items ++ named_lines graph.now reader.old.line.platform.now turn)) }
+    ensures part { OnErr result ((turn : Turn) → slice_get history.now.turns number ≡ Some turn →
+        AppendsPart (K.written out.old) (K.written out.new) (page.old.items ++ named_lines graph.now reader.old.line.platform.now turn)) }
     ensures failed { OnErr result (Rose (K.faults out.old) (K.faults out.new)) }
     ensures grows { K.faults out.old ≤ K.faults out.new }
-    ensures room { OnOk result (vec_len page.new + 256 ≤ vec_capacity page.new) }
-    ensures capacity { vec_capacity page.old ≤ vec_capacity page.new }
+    ensures room { 256 ≤ vec_capacity page.new }
 {
-    if page.capacity() - page.len() >= MOST_SHORT {
+    if is_short(&reader.walk, number, through) {
+        make_room(out, page)?;
+        reader.append_short(page, graph, history, number, through);
         return Ok(());
     }
-    put_page(out, page)
+    let parts = TurnParts::of(&reader.line, history, &reader.walk, number, through);
+    put_parts(out, page, &mut reader.pen, &parts, graph, history)
+}
+
+/// Puts the lines of a turn part by part.
+#[inline(never)]
+fn put_parts<K: Sink>(
+    out: &mut K,
+    page: &mut Vec<u8>,
+    pen: &mut Pen,
+    parts: &TurnParts<'_>,
+    graph: &Graph,
+    history: &History,
+) -> Result<(), PutFault>
+    requires number { parts.now.number < length history.now.turns }
+    requires parts { ArePartsOf history.now.turns parts.now }
+    requires names { HasShortNames graph.now parts.now.own.now.platform.now }
+    requires room { 256 ≤ vec_capacity page.old }
+    ensures all { OnOk result ((turn : Turn) → slice_get history.now.turns parts.now.number ≡ Some turn →
+        AreOut (K.written out.old) (K.written out.new) page.new.items (page.old.items ++ named_lines graph.now parts.now.own.now.platform.now turn)) }
+    ensures part { OnErr result ((turn : Turn) → slice_get history.now.turns parts.now.number ≡ Some turn →
+        AppendsPart (K.written out.old) (K.written out.new) (page.old.items ++ named_lines graph.now parts.now.own.now.platform.now turn)) }
+    ensures failed { OnErr result (Rose (K.faults out.old) (K.faults out.new)) }
+    ensures grows { K.faults out.old ≤ K.faults out.new }
+    ensures room { 256 ≤ vec_capacity page.new }
+{
+    for index in 0..PARTS {
+        put_part(out, page, pen, parts, graph, history, Part::at(index))?;
+    }
+    Ok(())
+}
+
+/// Puts the lines of a part of a turn, one by one.
+fn put_part<K: Sink>(
+    out: &mut K,
+    page: &mut Vec<u8>,
+    pen: &mut Pen,
+    parts: &TurnParts<'_>,
+    graph: &Graph,
+    history: &History,
+    part: Part,
+) -> Result<(), PutFault>
+    requires number { parts.now.number < length history.now.turns }
+    requires parts { ArePartsOf history.now.turns parts.now }
+    requires names { HasShortNames graph.now parts.now.own.now.platform.now }
+    requires room { 256 ≤ vec_capacity page.old }
+    ensures all { OnOk result ((turn : Turn) → slice_get history.now.turns parts.now.number ≡ Some turn →
+        AreOut (K.written out.old) (K.written out.new) page.new.items (page.old.items ++ all_of (part_lines graph.now parts.now.own.now.platform.now turn part))) }
+    ensures part { OnErr result ((turn : Turn) → slice_get history.now.turns parts.now.number ≡ Some turn →
+        AppendsPart (K.written out.old) (K.written out.new) (page.old.items ++ all_of (part_lines graph.now parts.now.own.now.platform.now turn part))) }
+    ensures failed { OnErr result (Rose (K.faults out.old) (K.faults out.new)) }
+    ensures grows { K.faults out.old ≤ K.faults out.new }
+    ensures room { 256 ≤ vec_capacity page.new }
+{
+    for index in 0..parts.count(part) {
+        parts.write(pen, graph, history, part, index);
+        put_line(out, page, &pen.line)?;
+    }
+    Ok(())
 }

@@ -91,6 +91,15 @@ impl<'a> TurnLine<'a> {
         text.push_str(self.line.as_str())
     }
 
+    /// Writes the line, which is stored.
+    pub(crate) fn write(&self, line: &mut Line)
+        requires kept { IsKeptLine self.now }
+        requires short { length self.now.platform.now ≤ 58 }
+        ensures { line.new ≡ turn_line self.now.platform.now self.now.first self.now.last self.now.count }
+    {
+        line.copy(&self.line);
+    }
+
     /// Appends the line, which is stored, and the lines after it to a page with room for both: mostly as one piece.
     #[inline(always)]
     pub(crate) fn append_before(&self, page: &mut Vec<u8>, after: &mut Line)

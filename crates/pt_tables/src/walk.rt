@@ -1,10 +1,10 @@
 //! A walk through the turns of a history.
 
-ghost use Rattle.std.specs.Prelude.{◌≡◌, ℕ, ◌+◌, ◌/◌, ◌<◌, ◌≤◌, List, Some, flat_map, length, option_map, slice_get, take};
+ghost use Rattle.std.specs.Prelude.{◌≡◌, ℕ, ◌+◌, ◌/◌, ◌<◌, ◌≤◌, List, Some, flat_map, length, option_map, slice_get, take, true};
 ghost use Rattle.pt_history.specs.Levels.{AreTurnLevels, IsLevel};
 ghost use Rattle.pt_history.specs.Turns.{turn_head};
 ghost use Rattle.pt_semantics.specs.Turn.{Turn};
-ghost use Rattle.pt_tables.specs.Walk.{AreWorks, HasWorksOnly, IsAtTurn, IsLastBefore};
+ghost use Rattle.pt_tables.specs.Walk.{AreThrough, AreWorks, HasWorksOnly, IsAtTurn, IsLastBefore};
 
 use pt_history::{Head, HeadLevels, History, Levels, TurnLevels};
 use pt_types::{OnLink, RowAt};
@@ -19,6 +19,13 @@ pub(crate) struct Walk {
     /// How many results the turns before it posted.
     pub results: usize,
     /// How many tasks the turns before it claimed.
+    pub claims: usize,
+}
+
+/// How many results were posted, and how many tasks were claimed, up to the end of a turn.
+#[derive(Clone, Copy, Debug, PartialEq, Eq)]
+pub(crate) struct Counts {
+    pub results: usize,
     pub claims: usize,
 }
 
@@ -88,17 +95,54 @@ pub(crate) fn renew(walk: &mut Walk, history: &History, number: usize)
     }
 }
 
-/// Goes on from a turn to the next one, where it is known how many results and claims there are up to the end of that turn.
+/// Goes on with what is known of 64 turns from a turn to the next one.
 #[inline(always)]
-pub(crate) fn pass(walk: &mut Walk, history: &History, number: usize, results: usize, claims: usize)
+pub(crate) fn renew_levels(levels: &mut TurnLevels, history: &History, number: usize)
+    requires { AreTurnLevels history.now.turns (number / 64) levels.old }
+    ensures { AreTurnLevels history.now.turns ((number + 1) / 64) levels.new }
+{
+    if number % 64 == 63 {
+        *levels = history.levels(number / 64 + 1);
+    }
+}
+
+/// Goes on from a turn to the next one, where the results and claims up to its end are counted.
+#[inline(always)]
+pub(crate) fn pass(walk: &mut Walk, history: &History, number: usize, through: Counts)
     requires walk { IsAtTurn history.now.turns number walk.old }
-    requires results { results ≡ length (flat_map (λ turn. turn.posted) (take (number + 1) history.now.turns)) }
-    requires claims { claims ≡ length (flat_map (λ turn. turn.claimed) (take (number + 1) history.now.turns)) }
+    requires through { AreThrough history.now.turns number through }
     ensures { IsAtTurn history.now.turns (number + 1) walk.new }
 {
-    walk.results = results;
-    walk.claims = claims;
+    walk.results = through.results;
+    walk.claims = through.claims;
     renew(walk, history, number);
+}
+
+/// How many results and claims there are up to the end of the turn to which a walk has come.
+#[inline(always)]
+pub(crate) fn counts_through(walk: &Walk, history: &History, number: usize) -> Counts
+    requires number { number < length history.now.turns }
+    requires walk { IsAtTurn history.now.turns number walk.now }
+    ensures { AreThrough history.now.turns number result }
+{
+    Counts {
+        results: results_after(history, &walk.levels, walk.results, number),
+        claims: claims_after(history, &walk.levels, walk.claims, number),
+    }
+}
+
+/// Whether the turn to which a walk has come is known to be short.
+#[inline(always)]
+pub(crate) fn is_short(walk: &Walk, number: usize, through: Counts) -> bool
+    requires works { AreWorks walk.now }
+    requires results { walk.now.results ≤ through.results }
+    requires claims { walk.now.claims ≤ through.claims }
+    ensures works { result ≡ true → HasWorksOnly walk.now.levels number }
+    ensures few { result ≡ true → (through.results ≤ walk.now.results + 1) × (through.claims ≤ walk.now.claims + 1) }
+{
+    walk.works.is_level(number)
+        && through.results - walk.results <= 1
+        && through.claims - walk.claims <= 1
 }
 
 /// The head of a turn, where `last` is the last reading of the turn before it. Most turns are single and have the reading of the

@@ -2,9 +2,8 @@ use Rattle.std.proofs.Common.{rules, ◌≡◌, ◌≤◌, ◌++◌, ◌∷◌, 
 use Rattle.std.proofs.lemmas.Option.{slice_get-get_or, slice_get_within}
 use Rattle.pt_semantics.specs.Lists.{Each}
 use Rattle.pt_turn.specs.Platforms.{PlatformView}
-use Rattle.pt_types.specs.Lookups.{platform_name}
 use Rattle.pt_tables.specs.Held.{IsHeldTurn}
-use Rattle.pt_tables.specs.Long.{AreLongTurns}
+use Rattle.pt_tables.specs.Stored.{AreStored}
 use Rattle.pt_tables.proofs.Members.{each_mapped, each_of, one_more}
 use Rattle.pt_tables.proofs.OfPlatforms.{AreOf, AreOfEach, one_more_of}
 use Rattle.pt_tables.proofs.platforms.log_store.Goals as goal
@@ -13,24 +12,24 @@ pub loop-platform-preserved : goal.loop-platform-preserved
 loop-platform-preserved c =
     let platforms = c.args.platforms.now in
     let n = c.loop-platform.platform-index in
-    let longs = c.loop-platform.longs.items in
-    let long = c.in_ok-long.long in
+    let lines = c.loop-platform.lines.items in
+    let stored = c.in_ok-stored.stored in
     let v : PlatformView = c.platform-item.result in
     let at : slice_get platforms n ≡ Some v = slice_get-get_or platforms n v c.loop-platform-test.true ∙ ap Some (sym c.platform-item.is) in
     let graph : c.graph.result.now ≡ v.plan.graph = search rules in
     let number : c.number.result ≡ v.number = search rules in
     let turns : c.history.result.now.turns ≡ v.turns = c.history.ensures.turns in
-    let is : AreOf v long =
-    subst (λ g. AreLongTurns g (platform_name g v.number) v.turns long) graph
-    (subst (λ k. AreLongTurns c.graph.result.now (platform_name c.graph.result.now k) v.turns long) number
-    (subst (λ ts. AreLongTurns c.graph.result.now (platform_name c.graph.result.now c.number.result) ts long) turns c.in_ok-long.ensures.long)) in
-    let pushed : c.push.new.self.items ≡ longs ++ long ∷ [] = search rules in
+    let is : AreOf v stored =
+    subst (λ g. AreStored g v.number v.turns stored) graph
+    (subst (λ k. AreStored c.graph.result.now k v.turns stored) number
+    (subst (λ ts. AreStored c.graph.result.now c.number.result ts stored) turns c.in_ok-stored.ensures.lines)) in
+    let pushed : c.push.new.self.items ≡ lines ++ stored ∷ [] = search rules in
     record {
-      as_many = omega (arith, ap length pushed, length-append longs (long ∷ []), c.loop-platform.invariant.as_many);
+      as_many = omega (arith, ap length pushed, length-append lines (stored ∷ []), c.loop-platform.invariant.as_many);
       each =
           subst (AreOfEach platforms) (sym pushed)
-          (one_more_of platforms longs v long c.loop-platform.invariant.each (ap (slice_get platforms) c.loop-platform.invariant.as_many ∙ at) is);
-      held = one_more (λ (w : PlatformView). Each IsHeldTurn w.turns) platforms n v at (subst (Each IsHeldTurn) turns c.in_ok-long.ensures.held) c.loop-platform.invariant.held;
+          (one_more_of platforms lines v stored c.loop-platform.invariant.each (ap (slice_get platforms) c.loop-platform.invariant.as_many ∙ at) is);
+      held = one_more (λ (w : PlatformView). Each IsHeldTurn w.turns) platforms n v at (subst (Each IsHeldTurn) turns c.in_ok-stored.ensures.held) c.loop-platform.invariant.held;
     }
 
 pub returns-clause-held : goal.returns-clause-held

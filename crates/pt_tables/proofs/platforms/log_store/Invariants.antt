@@ -7,7 +7,7 @@ use Rattle.pt_tables.proofs.platforms.log_store.Given as goal
 
 abbrev pub invariant-loop-platform : goal.invariant-loop-platform
 invariant-loop-platform l = record {
-  as_many : length l.longs.items ≡ l.platform-index;
-  each : AreOfEach l.platforms l.longs.items;
+  as_many : length l.lines.items ≡ l.platform-index;
+  each : AreOfEach l.platforms l.lines.items;
   held : (k : ℕ) (v : PlatformView) → k < l.platform-index → slice_get l.platforms k ≡ Some v → Each IsHeldTurn v.turns;
 }

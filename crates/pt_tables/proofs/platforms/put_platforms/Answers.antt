@@ -1,26 +1,26 @@
 use Rattle.std.proofs.Common.{◌≡◌, ◌<◌, ◌≤◌, ◌++◌, Some, length, slice_get, ap, sym, subst, ◌∙◌, arith}
-use Rattle.std.specs.Prelude.{flat_map}
+use Rattle.std.specs.Prelude.{Option, String, flat_map}
+use Rattle.std.specs.declared.alloc.Global.{Global}
 use Rattle.std.proofs.lemmas.List.{take_all}
 use Rattle.std.proofs.lemmas.Option.{slice_get-get_or}
 use Rattle.std.proofs.lemmas.Result.{err_from_is_err_and, on_err_weaker, on_ok_weaker}
 use Rattle.pt_io.specs.Causes.{Appends, AppendsPart, Rose}
 use Rattle.pt_turn.specs.Platforms.{PlatformView}
-use Rattle.pt_tables.specs.declared.long.LongTurns.{LongTurns}
 use Rattle.pt_tables.specs.Platforms.{platform_lines}
 use Rattle.pt_tables.specs.Putting.{AreOut}
 use Rattle.pt_tables.proofs.Out.{all_out, all_part, next_out, next_part, rose_later}
 use Rattle.pt_tables.proofs.platforms.put_platforms.Goals as goal
 
-pub put_platform-requires-clause-long : goal.put_platform-requires-clause-long
-put_platform-requires-clause-long g c =
+pub put_platform-requires-clause-lines : goal.put_platform-requires-clause-lines
+put_platform-requires-clause-lines g c =
     let platforms = c.args.platforms.now in
-    let longs = c.args.longs.now in
+    let stored = c.args.lines.now in
     let n = c.loop-number.number in
     let v : PlatformView = c.index-platforms-number.result in
-    let long : LongTurns = c.index-longs-number.result in
+    let lines : Option (String Global) = c.index-lines-number.result in
     let lt : n < length platforms = omega (arith, c.loop-number-test.true) in
-    let few : n < length longs = omega (arith, lt, c.requires.longs.as_many) in
-    c.requires.longs.each n v long (slice_get-get_or platforms n v lt ∙ ap Some (sym c.index-platforms-number.is)) (slice_get-get_or longs n long few ∙ ap Some (sym c.index-longs-number.is))
+    let few : n < length stored = omega (arith, lt, c.requires.lines.as_many) in
+    c.requires.lines.each n v lines (slice_get-get_or platforms n v lt ∙ ap Some (sym c.index-platforms-number.is)) (slice_get-get_or stored n lines few ∙ ap Some (sym c.index-lines-number.is))
 
 pub loop-number-preserved : goal.loop-number-preserved
 loop-number-preserved g c =

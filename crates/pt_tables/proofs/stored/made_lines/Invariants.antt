@@ -1,0 +1,13 @@
+use Rattle.std.proofs.Common.{◌≡◌, string_bytes, take}
+use Rattle.std.specs.Prelude.{flat_map}
+use Rattle.pt_tables.specs.Log.{turn_lines}
+use Rattle.pt_tables.specs.Reader.{HasComeTo}
+use Rattle.pt_types.specs.Lookups.{platform_name}
+use Rattle.pt_tables.proofs.stored.made_lines.Given as goal
+
+abbrev pub invariant-loop-number : goal.invariant-loop-number
+invariant-loop-number l = record {
+  platform : l.reader.line.platform.now ≡ platform_name l.graph l.platform;
+  at : HasComeTo l.history.turns l.number l.reader;
+  lines : string_bytes l.lines ≡ flat_map (turn_lines l.graph l.platform) (take l.number l.history.turns);
+}
