@@ -13,7 +13,7 @@ use Rattle.pt_semantics.specs.Tables.{tables_text}
 use Rattle.pt_causality.specs.Ranked.{level_of, rank_of}
 use Rattle.pt_turn.specs.Platforms.{PlatformView}
 use Rattle.pt_turn.specs.All.{AreAll, AreReady}
-use Rattle.pt_tables.specs.declared.store.LogStore.{LogStore}
+use Rattle.pt_tables.specs.declared.log_page.LogPage.{LogPage}
 use Rattle.pt_tables.specs.Log.{log_head, log_text}
 use Rattle.pt_tables.specs.Platforms.{AreInOrder, histories, platform_lines}
 use Rattle.pt_tables.proofs.InOrder.{in_order as lines_in_order}
@@ -29,7 +29,7 @@ use Rattle.pt_run.specs.declared.finished_run.Ran.{Ran}
 use Rattle.pt_run.specs.declared.plan_run.RunFault.{RunFault}
 use Rattle.pt_run.specs.declared.plan_run.RunFault.TheVariants as stop
 use Rattle.pt_run.specs.Readings.{Clocking}
-use Rattle.pt_run.specs.Runs.{AreHeldIf, CauseOfStop, HasOpened, HasRun, IsKept, IsOutput, HasOutputs, IsStop, IsText, IsTold, WentBy, log_if, stored_log}
+use Rattle.pt_run.specs.Runs.{AreHeldIf, CauseOfStop, HasOpened, HasRun, IsKept, IsOutput, HasOutputs, IsStop, IsText, IsTold, WentBy, log_if, paged_log}
 use Rattle.pt_run.proofs.Missed.{missed_in}
 
 pub in_order : (plan : Parts) (rows : ℕ → List Row) (platforms : List PlatformView) → AreAll plan rows platforms → AreInOrder plan.graph platforms
@@ -46,12 +46,12 @@ pub with_log : (plan : Parts) (platforms : List PlatformView) (front text : List
 with_log plan platforms front text tables logged rows finished =
     let are = tables rows finished in (are.firings, are.meaning, logged plan.graph (in_order plan rows platforms finished.all) ∙ ap (λ z. z ++ log_text plan.graph (histories platforms)) are.written)
 
--- so it is by what is stored
-pub told_text : (plan : Parts) (log : Bool) (platforms : List PlatformView) (store : Option LogStore) (front : List ℕ) → ((rows : ℕ → List Row) → HaveFinished plan rows platforms → AreTables plan rows front) → is_some store ≡ log
-    → IsText plan log platforms (front ++ stored_log store platforms)
+-- so it is with a page for the log, or without one
+pub told_text : (plan : Parts) (log : Bool) (platforms : List PlatformView) (page : Option LogPage) (front : List ℕ) → ((rows : ℕ → List Row) → HaveFinished plan rows platforms → AreTables plan rows front) → is_some page ≡ log
+    → IsText plan log platforms (front ++ paged_log page platforms)
 told_text plan log platforms None front tables is =
     subst (λ asked. IsText plan asked platforms (front ++ [])) is (subst (IsText plan false platforms) (sym (append-nil front)) (without_log plan platforms front tables))
-told_text plan log platforms (Some store) front tables is =
+told_text plan log platforms (Some page) front tables is =
     subst (λ asked. IsText plan asked platforms (front ++ (log_head ++ flat_map platform_lines platforms))) is
     (with_log plan platforms front (front ++ (log_head ++ flat_map platform_lines platforms)) tables (λ g are. ap (λ lines. front ++ (log_head ++ lines)) (lines_in_order g platforms are)))
 

@@ -1,5 +1,5 @@
 -- A run over the files of a plan's sensors, and why a run did not finish.
-use Rattle.std.specs.Prelude.{◌≡◌, ◌↔◌, ◌++◌, [], ℕ, Bool, List, Option, None, Some, IfSome, flat_map, if◌then◌else◌, string_bytes, true}
+use Rattle.std.specs.Prelude.{◌≡◌, ◌↔◌, ◌++◌, [], ℕ, Bool, List, Option, None, Some, flat_map, if◌then◌else◌, string_bytes, true}
 use Rattle.pt_types.specs.declared.firing.ActorFiring.{ActorFiring}
 use Rattle.pt_types.specs.declared.rows.Row.{Row}
 use Rattle.pt_types.specs.declared.graph.Graph.{Graph}
@@ -22,8 +22,8 @@ use Rattle.pt_monitors.specs.Platforms.{missed_by}
 use Rattle.pt_tables.specs.Held.{IsHeldTurn}
 use Rattle.pt_tables.specs.Log.{log_head, log_text}
 use Rattle.pt_tables.specs.Misses.{miss_line}
-use Rattle.pt_tables.specs.Platforms.{IsStoreOf, histories, platform_lines}
-use Rattle.pt_tables.specs.declared.store.LogStore.{LogStore}
+use Rattle.pt_tables.specs.Platforms.{histories, platform_lines}
+use Rattle.pt_tables.specs.declared.log_page.LogPage.{LogPage}
 use Rattle.pt_confluence.specs.Gathered.{HaveFinished}
 use Rattle.pt_rounds.specs.HaveRun.{HaveRun}
 use Rattle.pt_sensors.specs.declared.recorded_fault.LateRows.TheVariants.{Refused}
@@ -110,18 +110,14 @@ pub record IsFinishedRun (tells : Contents) (c : Clocking) (plan : Parts) (log :
   -- in a paced run the misses are exactly the firings of actuators whose paced reading is past their tag's time plus slack
   pub missed_as_meant : c.choice ≡ Paced → (m : Miss) → IsIn m misses ↔ IsMissedByMeaning plan.graph firings m.actor m.tag m.reading m.limit
 
--- the log of platforms, if it is stored
-abbrev pub stored_log : Option LogStore → List PlatformView → List ℕ
-stored_log None platforms = []
-stored_log (Some store) platforms = log_head ++ flat_map platform_lines platforms
+-- the log of platforms, if there is a page for it
+abbrev pub paged_log : Option LogPage → List PlatformView → List ℕ
+paged_log None platforms = []
+paged_log (Some page) platforms = log_head ++ flat_map platform_lines platforms
 
--- the text that a run puts: its tables and, if it is stored, the log
+-- the text that a run puts: its tables and, if there is a page for it, the log
 abbrev pub ran_text : Ran → List ℕ
-ran_text ran = string_bytes ran.tables ++ stored_log ran.log ran.platforms.items
-
--- what is made before the log is put, if there is such, is that of the platforms
-abbrev pub HasStore : Ran → Type 0
-HasStore ran = IfSome ran.log (IsStoreOf ran.platforms.items)
+ran_text ran = string_bytes ran.tables ++ paged_log ran.log ran.platforms.items
 
 -- the text of finished platforms
 abbrev pub IsText : Parts → Bool → List PlatformView → List ℕ → Type 0

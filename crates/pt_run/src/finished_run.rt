@@ -1,16 +1,15 @@
 //! The outputs of a run whose platforms are finished.
 
-ghost use Rattle.std.specs.Prelude.{◌≡◌, IfOk, IfSome, OnOk, flat_map, is_some, string_bytes};
+ghost use Rattle.std.specs.Prelude.{◌≡◌, IfOk, OnOk, flat_map, is_some, string_bytes};
 ghost use Rattle.std.specs.Arc.{arc_value};
 ghost use Rattle.pt_tables.specs.Misses.{miss_line};
-ghost use Rattle.pt_tables.specs.Platforms.{IsStoreOf};
-ghost use Rattle.pt_run.specs.Runs.{AreHeldIf, HasStore, IsTold};
+ghost use Rattle.pt_run.specs.Runs.{AreHeldIf, IsTold};
 
 use pt_confluence::tables_of;
 use pt_history::Miss;
 use pt_monitors::missed;
 use pt_offsets::Plan;
-use pt_tables::{LogStore, log_store, miss_lines};
+use pt_tables::{LogPage, miss_lines, platforms_hold};
 use pt_tags::Memory;
 use pt_turn::Platform;
 use std::alloc::Global;
@@ -21,25 +20,25 @@ use std::sync::Arc;
 pub struct Ran {
     /// The tables of the actuators.
     pub tables: String,
-    /// What is made before the log is put, if it is asked for.
-    pub log: Option<LogStore>,
+    /// A page for the log, if it is asked for.
+    pub log: Option<LogPage>,
     pub misses: Vec<Miss>,
     /// A line for each miss.
     pub lines: String,
     pub platforms: Vec<Platform>,
 }
 
-/// What is made before the log of platforms is put, if it is asked for.
-fn store_if(alloc: Global, platforms: &[Platform], log: bool) -> Result<Option<LogStore>, Memory>
-    ensures asked { IfOk result (λ store. is_some store ≡ log) }
-    ensures stored { IfOk result (λ store. IfSome store (IsStoreOf platforms.now)) }
+/// A page for the log of platforms, if it is asked for.
+fn page_if(alloc: Global, platforms: &[Platform], log: bool) -> Result<Option<LogPage>, Memory>
+    ensures asked { IfOk result (λ page. is_some page ≡ log) }
     ensures held { OnOk result (AreHeldIf log platforms.now) }
 {
     if !log {
         return Ok(None);
     }
-    let store = log_store(alloc, platforms)?;
-    Ok(Some(store))
+    platforms_hold(platforms);
+    let page = LogPage::new(alloc)?;
+    Ok(Some(page))
 }
 
 /// The lines of misses.
@@ -58,11 +57,10 @@ pub fn told(
     platforms: Vec<Platform>,
     log: bool,
 ) -> Result<Ran, Memory>
-    ensures told { IfOk result (IsTold (arc_value plan.now) log platforms.items) }
-    ensures stored { IfOk result HasStore }
+    ensures { IfOk result (IsTold (arc_value plan.now) log platforms.items) }
 {
     let tables = tables_of(alloc, plan, platforms.as_slice())?;
-    let log = store_if(alloc, platforms.as_slice(), log)?;
+    let log = page_if(alloc, platforms.as_slice(), log)?;
     let misses = missed(alloc, platforms.as_slice())?;
     let lines = lines_of(alloc, plan, misses.as_slice())?;
     Ok(Ran {

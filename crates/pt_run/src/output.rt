@@ -1,13 +1,12 @@
 //! Writing texts: the output in blocks of whole lines, its log as it is made, the lines of misses at once.
 
-ghost use Rattle.std.specs.Prelude.{◌≡◌, ◌<◌, ◌≤◌, ◌++◌, length, IfSome, OnOk, OnErr};
+ghost use Rattle.std.specs.Prelude.{◌≡◌, ◌<◌, ◌≤◌, ◌++◌, length, OnOk, OnErr};
 ghost use Rattle.pt_io.specs.Causes.{Appends, AppendsPart, Rose};
-ghost use Rattle.pt_tables.specs.Platforms.{IsStoreOf};
-ghost use Rattle.pt_run.specs.Runs.{stored_log};
+ghost use Rattle.pt_run.specs.Runs.{paged_log};
 
 use memchr::memrchr;
 use pt_io::{PutFault, Sink};
-use pt_tables::{LogStore, put_log};
+use pt_tables::{LogPage, put_log};
 use pt_turn::Platform;
 
 /// The most bytes that are put at once: as many as the buffer of the standard output holds.
@@ -24,39 +23,37 @@ pub fn put_text<K: Sink>(out: &mut K, text: &[u8]) -> Result<(), PutFault>
     out.flush()
 }
 
-/// Puts the tables of a run and then its log, if it is stored, and flushes the sink.
+/// Puts the tables of a run and then, if there is a page for it, its log, and flushes the sink.
 pub fn put_run<K: Sink>(
     out: &mut K,
     tables: &[u8],
-    log: Option<LogStore>,
+    log: Option<LogPage>,
     platforms: &[Platform],
 ) -> Result<(), PutFault>
-    requires { IfSome log (IsStoreOf platforms.now) }
-    ensures all { OnOk result (Appends (K.written out.old) (K.written out.new) (tables.now ++ stored_log log platforms.now)) }
+    ensures all { OnOk result (Appends (K.written out.old) (K.written out.new) (tables.now ++ paged_log log platforms.now)) }
     ensures flushed { OnOk result (K.flushed out.new) }
-    ensures part { OnErr result (AppendsPart (K.written out.old) (K.written out.new) (tables.now ++ stored_log log platforms.now)) }
+    ensures part { OnErr result (AppendsPart (K.written out.old) (K.written out.new) (tables.now ++ paged_log log platforms.now)) }
     ensures failed { OnErr result (Rose (K.faults out.old) (K.faults out.new)) }
 {
     put_blocks(out, tables)?;
-    put_stored(out, log, platforms)?;
+    put_paged(out, log, platforms)?;
     out.flush()
 }
 
-/// Puts the log of platforms, if it is stored.
-fn put_stored<K: Sink>(
+/// Puts the log of platforms, if there is a page for it.
+fn put_paged<K: Sink>(
     out: &mut K,
-    log: Option<LogStore>,
+    log: Option<LogPage>,
     platforms: &[Platform],
 ) -> Result<(), PutFault>
-    requires { IfSome log (IsStoreOf platforms.now) }
-    ensures all { OnOk result (Appends (K.written out.old) (K.written out.new) (stored_log log platforms.now)) }
-    ensures part { OnErr result (AppendsPart (K.written out.old) (K.written out.new) (stored_log log platforms.now)) }
+    ensures all { OnOk result (Appends (K.written out.old) (K.written out.new) (paged_log log platforms.now)) }
+    ensures part { OnErr result (AppendsPart (K.written out.old) (K.written out.new) (paged_log log platforms.now)) }
     ensures failed { OnErr result (Rose (K.faults out.old) (K.faults out.new)) }
     ensures grows { K.faults out.old ≤ K.faults out.new }
 {
     match log {
         None => Ok(()),
-        Some(store) => put_log(out, store, platforms),
+        Some(page) => put_log(out, page, platforms),
     }
 }
 

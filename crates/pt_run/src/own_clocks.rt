@@ -14,7 +14,7 @@ ghost use Rattle.pt_run.specs.declared.fault.Fault.TheVariants.{Memory as NoMemo
 ghost use Rattle.pt_words.specs.declared.orders.Command.TheVariants.{Run};
 ghost use Rattle.pt_run.specs.Due.{IsDueFor, UnlessMemory};
 ghost use Rattle.pt_run.specs.Readings.{read_by};
-ghost use Rattle.pt_run.specs.Runs.{CauseOfStop, HasOutputs, HasStore, WentBy, read_with};
+ghost use Rattle.pt_run.specs.Runs.{CauseOfStop, HasOutputs, WentBy, read_with};
 ghost use Rattle.pt_run.specs.Statuses.{status_of};
 ghost use Rattle.pt_run.specs.Telling.{Tells};
 ghost use Rattle.pt_run.specs.Texts.{left_with};
@@ -92,7 +92,6 @@ fn own_run_of<S: Source, C: Clock + Send, R: Threads + Wait + Sync>(
 ) -> Result<Ran, RunFault>
     requires clocks { length clocks.old.items ≡ 16 }
     ensures ran { IfOk result (HasOutputs (S.tells source.old) (read_with workers clock (tell C.told C.ahead clocks.old.items) (tell C.told C.ahead clocks.new.items)) (arc_value plan.now) log) }
-    ensures stored { IfOk result HasStore }
     ensures fault { IfErr result (λ f. CauseOfStop f (S.tells source.old) (read_with workers clock (tell C.told C.ahead clocks.old.items) (tell C.told C.ahead clocks.new.items)) (arc_value plan.now)
         (record { asked_before = S.asked source.old; asked_now = S.asked source.new; before = S.faults source.old; now = S.faults source.new })) }
     ensures clocks { AreBackAfterRun result clock clocks.old.items clocks.new.items }

@@ -5,7 +5,7 @@ ghost use Rattle.std.specs.Arc.{arc_value};
 ghost use Rattle.pt_sensors.specs.Asked.{Asks};
 ghost use Rattle.pt_run.specs.Asks.{AsksStopped, all_sensors};
 ghost use Rattle.pt_run.specs.Readings.{Clocking};
-ghost use Rattle.pt_run.specs.Runs.{CauseOfStop, HasOpened, HasOutputs, HasStore, paced_clocking};
+ghost use Rattle.pt_run.specs.Runs.{CauseOfStop, HasOpened, HasOutputs, paced_clocking};
 
 use crate::finished_run::Ran;
 use crate::went::{go_paced, outputs_of};
@@ -79,7 +79,6 @@ pub fn run_of<S: Source>(
     blocks: &Blocks,
 ) -> Result<Ran, RunFault>
     ensures ran { IfOk result (HasOutputs (S.tells source.old) (paced_clocking workers) (arc_value plan.now) log) }
-    ensures stored { IfOk result HasStore }
     ensures fault { IfErr result (λ f. CauseOfStop f (S.tells source.old) (paced_clocking workers) (arc_value plan.now)
         (record { asked_before = S.asked source.old; asked_now = S.asked source.new; before = S.faults source.old; now = S.faults source.new })) }
     ensures asks { IfErr result (λ f. AsksStopped f (arc_value plan.now).graph (S.asked source.old) (S.asked source.new)) }

@@ -11,7 +11,6 @@ ghost use Rattle.pt_tables.specs.Misses.{miss_line};
 ghost use Rattle.pt_run.specs.Asks.{AsksFrom, AsksOver};
 ghost use Rattle.pt_run.specs.Flown.{EndsAsReplayed, FinishedReplay, HasReplayed, IsOfReplay, IsRecorded, NamesRow, StopsInAir, stop_in};
 ghost use Rattle.pt_run.specs.Due.{AfterAdmission, AfterAir, IsDue, IsReplayed, RefusesAsDue, StopsAsDue, UnlessMemory};
-ghost use Rattle.pt_run.specs.Runs.{HasStore};
 ghost use Rattle.pt_run.specs.Statuses.{status_of};
 ghost use Rattle.pt_run.specs.Telling.{Tells, TellsBy, paced_run};
 ghost use Rattle.pt_run.specs.Texts.{fault_in, left_by};
@@ -133,7 +132,6 @@ fn replay_of<S: Source>(
     blocks: &Blocks,
 ) -> Result<Ran, Stopped>
     ensures ran { IfOk result (HasReplayed (S.tells source.old) air.now (arc_value plan.now) log) }
-    ensures stored { IfOk result HasStore }
     ensures lines { IfOk result (λ ran. string_bytes ran.lines ≡ flat_map (miss_line (arc_value plan.now).graph) ran.misses.items) }
     ensures stopped { IfErr result (λ s. StopsAsDue s.fault s.platforms.items
         (record { asked_before = S.asked source.old; asked_now = S.asked source.new; before = S.faults source.old; now = S.faults source.new })
@@ -191,7 +189,6 @@ fn run_over_air(
     requires fit { FitRows (arc_value plan.now).graph (of_run (arc_value plan.now).graph (rows_for entries.items)) }
     requires transits { length air.now.transits ≡ length (arc_value plan.now).graph.links }
     ensures ran { IfOk result (λ ran. FinishedReplay log ran (arc_value plan.now) (of_run (arc_value plan.now).graph (rows_for entries.items)) air.now) }
-    ensures stored { IfOk result HasStore }
     ensures fault { IfErr result (λ f. StopsInAir f (arc_value plan.now) (of_run (arc_value plan.now).graph (rows_for entries.items)) air.now) }
 {
     let platforms = open_all(alloc, plan, entries)?;
@@ -242,7 +239,6 @@ fn end_replay<K: Sink, E: Sink>(
     out: &mut K,
     notes: &mut E,
 ) -> Ending
-    requires { IfOk ran HasStore }
     ensures status { result.status ≡ status_of result.fault result.misses }
     ensures ended { EndsAsReplayed ran result (record { before = K.faults out.old; now = K.faults out.new; written_before = K.written out.old; written_now = K.written out.new }) }
     ensures flushed { result.fault ≡ None → K.flushed out.new }

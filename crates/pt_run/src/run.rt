@@ -8,7 +8,6 @@ ghost use Rattle.pt_words.specs.declared.orders.ClockChoice.TheVariants.{Paced};
 ghost use Rattle.pt_words.specs.declared.orders.Command.TheVariants.{Run};
 ghost use Rattle.pt_run.specs.Asks.{AsksOver};
 ghost use Rattle.pt_run.specs.Due.{AfterCycles, AfterOffsets, EndsRefused, IsDueFor, UnlessMemory};
-ghost use Rattle.pt_run.specs.Runs.{HasStore};
 ghost use Rattle.pt_run.specs.Statuses.{status_of};
 ghost use Rattle.pt_tables.specs.Misses.{miss_line};
 ghost use Rattle.pt_run.specs.Telling.{Tells};
@@ -95,7 +94,6 @@ pub fn end_run<K: Sink, E: Sink>(
     out: &mut K,
     notes: &mut E,
 ) -> Ending
-    requires { IfOk ran HasStore }
     ensures status { result.status ≡ status_of result.fault result.misses }
     ensures ended { HasEnded ran result (record { before = K.faults out.old; now = K.faults out.new; written_before = K.written out.old; written_now = K.written out.new }) }
     ensures flushed { result.fault ≡ None → K.flushed out.new }
@@ -116,7 +114,6 @@ pub fn write_run<K: Sink, E: Sink>(
     out: &mut K,
     notes: &mut E,
 ) -> Ending
-    requires { HasStore ran }
     ensures status { result.status ≡ status_of result.fault result.misses }
     ensures wrote { WroteRun ran result (record { before = K.faults out.old; now = K.faults out.new; written_before = K.written out.old; written_now = K.written out.new }) }
     ensures flushed { result.fault ≡ None → K.flushed out.new }

@@ -7,7 +7,7 @@ ghost use Rattle.pt_offsets.specs.Plans.{Parts};
 ghost use Rattle.pt_turn.specs.All.{AreReady, IsReady};
 ghost use Rattle.pt_confluence.specs.Gathered.{AreLegal};
 ghost use Rattle.pt_run.specs.Went.{IsFaultAt};
-ghost use Rattle.pt_run.specs.Runs.{HasStore, IsOutput, IsStop, WentBy, paced_clocking};
+ghost use Rattle.pt_run.specs.Runs.{IsOutput, IsStop, WentBy, paced_clocking};
 
 use crate::finished_run::{Ran, told};
 use crate::plan_run::RunFault;
@@ -70,7 +70,6 @@ fn fault_at(platforms: &[Platform], number: Option<u32>) -> Option<(u32, TurnFau
 /// The outputs of platforms after a run, or why it stopped.
 pub fn outputs_of(alloc: Global, plan: &Arc<Plan>, went: Went, log: bool) -> Result<Ran, RunFault>
     ensures output { IfOk result (IsOutput went.fault (arc_value plan.now) log went.platforms.items) }
-    ensures stored { IfOk result HasStore }
     ensures stop { IfErr result (IsStop went.fault went.platforms.items) }
 {
     let Went { platforms, fault } = went;

@@ -1,5 +1,4 @@
 pub mod InOrder
-pub mod OfPlatforms
 pub mod Members
 pub mod Placed
 pub mod Written
@@ -9,3 +8,4 @@ pub mod Works
 pub mod Out
 pub mod Short
 pub mod TurnParts
+pub mod ShortNames

@@ -1,11 +1,9 @@
 -- The lines of the parts of a turn.
-use Rattle.std.proofs.Common.{◌≡◌, ℕ, ◌<◌, ◌≤◌, List, [], ◌∷◌, ◌++◌, Option, Some, None, append-nil, length, refl, map, slice_get, sym, ap, ◌∙◌, arith}
+use Rattle.std.proofs.Common.{◌≡◌, ℕ, ◌<◌, List, [], ◌∷◌, ◌++◌, Some, append-nil, length, refl, map, slice_get, sym, ap, ◌∙◌, arith}
 use Rattle.std.specs.Prelude.{flat_map, option_map}
 use Rattle.std.proofs.lemmas.List.{append_assoc, length-map}
 use Rattle.std.proofs.lemmas.Option.{slice_get-map}
 use Rattle.pt_types.specs.declared.graph.Graph.{Graph}
-use Rattle.pt_types.specs.declared.graph.Link.{Link}
-use Rattle.pt_types.specs.Lookups.{actor_name}
 use Rattle.pt_semantics.specs.Turn.{Turn}
 use Rattle.pt_history.specs.Turns.{claimed_in, posted_in}
 use Rattle.pt_history.proofs.InTurn.{claimed_is, posted_is}
@@ -13,19 +11,9 @@ use Rattle.pt_tables.specs.declared.turn_parts.Part.{Part}
 use Rattle.pt_tables.specs.declared.turn_parts.Part.TheVariants.{Claimed, Own, Posted, Rows, Sent, Taken}
 use Rattle.pt_tables.specs.declared.turn_parts.TurnParts.{TurnParts}
 use Rattle.pt_tables.specs.Log.{claim_line, post_line, row_line, sent_line, take_line, turn_line}
-use Rattle.pt_tables.specs.Names.{receiver_name, sender_name}
-use Rattle.pt_tables.specs.TurnParts.{all_of, ArePartsOf, count_of, in_order, named_lines, part_lines}
+use Rattle.pt_tables.specs.TurnParts.{all_lines, ArePartsOf, count_of, in_order, named_lines, part_lines}
 use Rattle.pt_tables.proofs.Parts.{claimed_more, posted_more}
 use Rattle.pt_tables.proofs.Written.{read_of}
-
--- an end of a link has a short name, if all actors have
-pub short_receiver : (g : Graph) → ((actor : ℕ) → length (actor_name g actor) ≤ 32) → (link : Option Link) → length (receiver_name g link) ≤ 32
-short_receiver g short None = omega arith
-short_receiver g short (Some link) = short link.to
-
-pub short_sender : (g : Graph) → ((actor : ℕ) → length (actor_name g actor) ≤ 32) → (link : Option Link) → length (sender_name g link) ≤ 32
-short_sender g short None = omega arith
-short_sender g short (Some link) = short link.from
 
 -- one of the lines of a list
 pub line_of : {X : Type 0} (f : X → List ℕ) (xs : List X) (i : ℕ) (x : X) → slice_get xs i ≡ Some x → slice_get (map f xs) i ≡ Some (f x)
@@ -44,18 +32,18 @@ counted g name turns parts turn Claimed lt are at =
     omega (arith, are.claims, are.through.claims, claimed_more turns parts.number lt, ap length made, length-map turn.claimed (claim_line g))
 counted g name turns parts turn Sent lt are at = ap length (read_of (λ (t : Turn). t.sent) (slice_get turns parts.number) turn parts.sent.now at are.sent) ∙ sym (length-map turn.sent (sent_line g))
 
-all_of_map : {X : Type 0} (f : X → List ℕ) (xs : List X) → all_of (map f xs) ≡ flat_map f xs
-all_of_map f [] = refl
-all_of_map f (x ∷ xs) = ap (λ l. f x ++ l) (all_of_map f xs)
+all_lines_map : {X : Type 0} (f : X → List ℕ) (xs : List X) → all_lines (map f xs) ≡ flat_map f xs
+all_lines_map f [] = refl
+all_lines_map f (x ∷ xs) = ap (λ l. f x ++ l) (all_lines_map f xs)
 
 regroup : (a b c d e f : List ℕ) → a ++ (b ++ (c ++ (d ++ (e ++ f)))) ≡ a ++ (b ++ c ++ d ++ e ++ f)
 regroup a b c d e f = simp append_assoc
 
 -- the lines of all parts are those of the turn
-pub all_parts : (g : Graph) (name : List ℕ) (turn : Turn) → flat_map (λ (part : Part). all_of (part_lines g name turn part)) in_order ≡ named_lines g name turn
+pub all_parts : (g : Graph) (name : List ℕ) (turn : Turn) → flat_map (λ (part : Part). all_lines (part_lines g name turn part)) in_order ≡ named_lines g name turn
 all_parts g name turn =
     (λ i. append-nil (turn_line name turn.first turn.last turn.count) i
-    ++ (all_of_map post_line turn.posted i
-    ++ (all_of_map (row_line g) turn.rows i
-    ++ (all_of_map (take_line g) turn.taken i ++ (all_of_map (claim_line g) turn.claimed i ++ (append-nil (all_of (map (sent_line g) turn.sent)) ∙ all_of_map (sent_line g) turn.sent) i)))))
+    ++ (all_lines_map post_line turn.posted i
+    ++ (all_lines_map (row_line g) turn.rows i
+    ++ (all_lines_map (take_line g) turn.taken i ++ (all_lines_map (claim_line g) turn.claimed i ++ (append-nil (all_lines (map (sent_line g) turn.sent)) ∙ all_lines_map (sent_line g) turn.sent) i)))))
     ∙ regroup (turn_line name turn.first turn.last turn.count) (flat_map post_line turn.posted) (flat_map (row_line g) turn.rows) (flat_map (take_line g) turn.taken) (flat_map (claim_line g) turn.claimed) (flat_map (sent_line g) turn.sent)

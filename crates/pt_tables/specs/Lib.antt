@@ -9,6 +9,5 @@ pub mod TurnLine
 pub mod TurnParts
 pub mod Reader
 pub mod Short
-pub mod Stored
 pub mod Putting
 pub mod Walk

@@ -44,8 +44,8 @@ part_lines g name turn Claimed = map (claim_line g) turn.claimed
 part_lines g name turn Sent = map (sent_line g) turn.sent
 
 -- all lines of a part
-abbrev pub all_of : List (List ℕ) → List ℕ
-all_of lines = flat_map (λ (line : List ℕ). line) lines
+abbrev pub all_lines : List (List ℕ) → List ℕ
+all_lines lines = flat_map (λ (line : List ℕ). line) lines
 
 -- the lines of a turn of a platform with this name: its own, and then those of its lists
 abbrev pub named_lines : Graph → List ℕ → Turn → List ℕ

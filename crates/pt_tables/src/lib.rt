@@ -2,11 +2,11 @@
 //! of a graph.
 //!
 //! Each text is built by functions that append one line; loops call them. The log, which is the longest, is put as it is made,
-//! line by line: only where a name is long, the lines are made before. Tables are defined in `specs/Tables.antt` of
+//! by way of a page. Tables are defined in `specs/Tables.antt` of
 //! pt_semantics, the log in `specs/Log.antt` and `specs/Platforms.antt`, misses in `specs/Misses.antt`, margins in
 //! `specs/Margins.antt`.
 //!
-//! Read first: `tables`, `tables_of_meaning` and `ActorTables`, then `log_store`, `put_log`, `miss_lines` and `margins`.
+//! Read first: `tables`, `tables_of_meaning` and `ActorTables`, then `put_log`, `miss_lines` and `margins`.
 #![tactic(auto)]
 
 mod actor_tables;
@@ -14,6 +14,7 @@ mod claim_end;
 mod held;
 mod line;
 mod lines;
+mod log_page;
 mod margin_lines;
 mod meaning;
 mod miss;
@@ -24,8 +25,6 @@ mod piece;
 mod platforms;
 mod putting;
 mod reader;
-mod store;
-mod stored;
 mod table;
 mod text;
 mod turn_line;
@@ -36,10 +35,10 @@ mod walk;
 pub use actor_tables::{ActorTables, has_table};
 pub use held::holds;
 pub use lines::push_turn_line;
+pub use log_page::LogPage;
 pub use margin_lines::margins;
 pub use meaning::tables_of_meaning;
 pub use miss::{miss_line, miss_lines};
-pub use platforms::{log_store, put_log};
-pub use store::LogStore;
+pub use platforms::{platforms_hold, put_log};
 pub use text::tables;
 pub use turns::push_lists;

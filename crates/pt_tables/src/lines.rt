@@ -6,6 +6,7 @@ ghost use Rattle.pt_types.specs.declared.firing.Done.{Done};
 ghost use Rattle.pt_types.specs.declared.firing.Task.{Task};
 ghost use Rattle.pt_history.specs.Tasks.{mark_of};
 ghost use Rattle.pt_types.specs.Lookups.{actor_name};
+ghost use Rattle.pt_tables.specs.Names.{HasShortNames};
 ghost use Rattle.pt_tables.specs.Log.{claim_line, message_line, post_line, row_line, sent_line, take_line, turn_line};
 
 use crate::line::{Line, push_pieces};
@@ -81,10 +82,10 @@ pub(crate) fn push_row(
     line.push_after(text, "row", graph.actor_name(sensor))
 }
 
-/// Writes the line of a row that entered, where the names of actors are short.
+/// Writes the line of a row that entered.
 #[inline(always)]
 pub(crate) fn write_row(line: &mut Line, graph: &Graph, at: &RowAt)
-    requires { (actor : ℕ) → length (actor_name graph.now actor) ≤ 32 }
+    requires { HasShortNames graph.now }
     ensures { line.new ≡ row_line graph.now at.now }
 {
     let RowAt { sensor, row } = *at;
@@ -162,11 +163,10 @@ pub(crate) fn write_claim(pen: &mut Pen, graph: &Graph, claim: Mark) -> bool
     true
 }
 
-/// Writes the line of a claim, which is given without its inputs, where the names of actors are short. There is room for the
-/// line of a result before it.
+/// Writes the line of a claim, which is given without its inputs. There is room for the line of a result before it.
 #[inline(always)]
 pub(crate) fn write_short_claim(pen: &mut Pen, graph: &Graph, claim: Mark)
-    requires { (actor : ℕ) → length (actor_name graph.now actor) ≤ 32 }
+    requires { HasShortNames graph.now }
     ensures line { (task : Task) → mark_of task ≡ claim → pen.new.line ≡ claim_line graph.now task }
     ensures room { length pen.new.line + 26 ≤ 128 }
 {
@@ -253,9 +253,9 @@ fn push_last(text: &mut String, word: &str, name: &str) -> Result<(), AllocError
     push_pieces(text, word, name, ",end\n")
 }
 
-/// Writes the line of a message taken, where the names of actors are short.
+/// Writes the line of a message taken.
 pub(crate) fn write_taken(line: &mut Line, graph: &Graph, taken: &OnLink)
-    requires { (actor : ℕ) → length (actor_name graph.now actor) ≤ 32 }
+    requires { HasShortNames graph.now }
     ensures { line.new ≡ take_line graph.now taken.now }
 {
     write_message(
@@ -266,9 +266,9 @@ pub(crate) fn write_taken(line: &mut Line, graph: &Graph, taken: &OnLink)
     );
 }
 
-/// Writes the line of a message sent, where the names of actors are short.
+/// Writes the line of a message sent.
 pub(crate) fn write_sent(line: &mut Line, graph: &Graph, sent: &OnLink)
-    requires { (actor : ℕ) → length (actor_name graph.now actor) ≤ 32 }
+    requires { HasShortNames graph.now }
     ensures { line.new ≡ sent_line graph.now sent.now }
 {
     write_message(line, "sent", sender_name(graph, sent.link), sent.message);

@@ -1,8 +1,7 @@
-//! The names of the two ends of a link, and how long names are.
+//! The names of the two ends of a link.
 
-ghost use Rattle.std.specs.Prelude.{◌≡◌, slice_get, true};
-ghost use Rattle.pt_tables.specs.Names.{HasShortNames, receiver_name, sender_name};
-ghost use Rattle.pt_types.specs.Lookups.{actor_name};
+ghost use Rattle.std.specs.Prelude.{◌≡◌, slice_get};
+ghost use Rattle.pt_tables.specs.Names.{receiver_name, sender_name};
 
 use pt_types::Graph;
 
@@ -24,25 +23,4 @@ pub(crate) fn sender_name(graph: &Graph, link: u32) -> &str
         Some(link) => graph.actor_name(link.from),
         None => "",
     }
-}
-
-/// The longest name of a platform in a line that is written without memory, in bytes.
-pub(crate) const LONGEST_PLATFORM: usize = 58;
-
-/// The longest name of an actor in such a line.
-const LONGEST_ACTOR: usize = 32;
-
-/// Whether the name of a platform and those of all actors are short.
-pub(crate) fn has_short_names(graph: &Graph, platform: &str) -> bool
-    ensures { result ≡ true → HasShortNames graph.now platform.now }
-{
-    if platform.len() > LONGEST_PLATFORM {
-        return false;
-    }
-    for actor in graph.actors.as_slice() {
-        if actor.name.as_str().len() > LONGEST_ACTOR {
-            return false;
-        }
-    }
-    true
 }

@@ -1,4 +1,4 @@
-//! A page: bytes that are put together.
+//! A page: bytes that are put all_lines.
 
 ghost use Rattle.std.specs.Prelude.{◌≡◌, ◌+◌, ◌++◌, ◌≤◌, [], OnErr, OnOk, length, vec_capacity, vec_len};
 ghost use Rattle.pt_io.specs.Causes.{Appends, AppendsPart, Rose};
@@ -73,25 +73,4 @@ pub(crate) fn put_line<K: Sink>(
     make_room(out, page)?;
     append(page, line.as_bytes());
     Ok(())
-}
-
-/// Appends bytes to a page, which is put before if it has no room for them. Bytes that need more room are put.
-#[inline(never)]
-pub(crate) fn put_by<K: Sink>(out: &mut K, page: &mut Vec<u8>, bytes: &[u8]) -> Result<(), PutFault>
-    ensures all { OnOk result (AreOut (K.written out.old) (K.written out.new) page.new.items (page.old.items ++ bytes.now)) }
-    ensures part { OnErr result (AppendsPart (K.written out.old) (K.written out.new) (page.old.items ++ bytes.now)) }
-    ensures failed { OnErr result (Rose (K.faults out.old) (K.faults out.new)) }
-    ensures grows { K.faults out.old ≤ K.faults out.new }
-    ensures capacity { vec_capacity page.old ≤ vec_capacity page.new }
-{
-    if bytes.len() <= page.capacity() - page.len() {
-        append(page, bytes);
-        return Ok(());
-    }
-    put_page(out, page)?;
-    if bytes.len() <= page.capacity() {
-        append(page, bytes);
-        return Ok(());
-    }
-    out.put(bytes)
 }

@@ -3,7 +3,7 @@
 ghost use Rattle.std.specs.Prelude.{◌≡◌, ◌+◌, ◌++◌, ◌<◌, ◌≤◌, ℕ, length, take};
 ghost use Rattle.std.specs.List.{flat_map};
 ghost use Rattle.pt_history.specs.Turns.{claimed_in, posted_in};
-ghost use Rattle.pt_types.specs.Lookups.{actor_name};
+ghost use Rattle.pt_tables.specs.Names.{HasShortNames};
 ghost use Rattle.pt_tables.specs.Log.{claim_line, post_line};
 
 use crate::line::Line;
@@ -13,7 +13,7 @@ use pt_history::History;
 use pt_types::Graph;
 
 /// Writes the lines of the claims from `from` up to, not including, `end`, of those of all recorded turns: the ones that a turn
-/// made, which are at most one. There is room for the line of a result before it, since the names of actors are short.
+/// made, which are at most one. There is room for the line of a result before it.
 #[inline(always)]
 pub(crate) fn write_claims(
     pen: &mut Pen,
@@ -27,7 +27,7 @@ pub(crate) fn write_claims(
     requires from { from ≡ length (flat_map (λ turn. turn.claimed) (take turn history.now.turns)) }
     requires end { end ≡ length (flat_map (λ turn. turn.claimed) (take (turn + 1) history.now.turns)) }
     requires few { end ≤ from + 1 }
-    requires short { (actor : ℕ) → length (actor_name graph.now actor) ≤ 32 }
+    requires names { HasShortNames graph.now }
     ensures lines { pen.new.line ≡ flat_map (claim_line graph.now) (claimed_in history.now.turns turn) }
     ensures room { length pen.new.line + 26 ≤ 128 }
 {

@@ -9,9 +9,8 @@ ghost use Rattle.pt_tables.specs.Names.{HasShortNames};
 ghost use Rattle.pt_tables.specs.Putting.{AreOut};
 ghost use Rattle.pt_tables.specs.Reader.{HasComeTo};
 ghost use Rattle.pt_tables.specs.TurnLine.{IsKeptLine};
-ghost use Rattle.pt_tables.specs.TurnParts.{ArePartsOf, all_of, named_lines, part_lines};
+ghost use Rattle.pt_tables.specs.TurnParts.{ArePartsOf, all_lines, named_lines, part_lines};
 ghost use Rattle.pt_tables.specs.Walk.{AreThrough, IsAtTurn};
-ghost use Rattle.pt_types.specs.Lookups.{platform_name};
 
 use crate::page::{make_room, put_line};
 use crate::pen::Pen;
@@ -22,7 +21,7 @@ use pt_history::History;
 use pt_io::{PutFault, Sink};
 use pt_types::Graph;
 
-/// Puts the lines of all turns of a platform, whose names are short, by way of a page.
+/// Puts the lines of all turns of a platform by way of a page.
 pub(crate) fn put_turns<K: Sink>(
     out: &mut K,
     page: &mut Vec<u8>,
@@ -30,7 +29,7 @@ pub(crate) fn put_turns<K: Sink>(
     platform: u32,
     history: &History,
 ) -> Result<(), PutFault>
-    requires names { HasShortNames graph.now (platform_name graph.now platform) }
+    requires names { HasShortNames graph.now }
     requires room { 256 ≤ vec_capacity page.old }
     ensures all { OnOk result (AreOut (K.written out.old) (K.written out.new) page.new.items (page.old.items ++ history_lines graph.now platform history.now.turns)) }
     ensures part { OnErr result (AppendsPart (K.written out.old) (K.written out.new) (page.old.items ++ history_lines graph.now platform history.now.turns)) }
@@ -57,7 +56,7 @@ fn put_turn<K: Sink>(
 ) -> Result<(), PutFault>
     requires number { number < length history.now.turns }
     requires at { HasComeTo history.now.turns number reader.old }
-    requires names { HasShortNames graph.now reader.old.line.platform.now }
+    requires names { HasShortNames graph.now }
     requires room { 256 ≤ vec_capacity page.old }
     ensures platform { OnOk result (reader.new.line.platform.now ≡ reader.old.line.platform.now) }
     ensures at { OnOk result (HasComeTo history.now.turns (number + 1) reader.new) }
@@ -92,7 +91,7 @@ fn put_lines<K: Sink>(
     requires head { option_map turn_head (slice_get history.now.turns number) ≡ Some (record { first = reader.old.line.first; last = reader.old.line.last; count = reader.old.line.count }) }
     requires walk { IsAtTurn history.now.turns number reader.old.walk }
     requires through { AreThrough history.now.turns number through }
-    requires names { HasShortNames graph.now reader.old.line.platform.now }
+    requires names { HasShortNames graph.now }
     requires room { 256 ≤ vec_capacity page.old }
     ensures line { OnOk result (reader.new.line ≡ reader.old.line) }
     ensures walk { OnOk result (reader.new.walk ≡ reader.old.walk) }
@@ -125,7 +124,7 @@ fn put_parts<K: Sink>(
 ) -> Result<(), PutFault>
     requires number { parts.now.number < length history.now.turns }
     requires parts { ArePartsOf history.now.turns parts.now }
-    requires names { HasShortNames graph.now parts.now.own.now.platform.now }
+    requires names { HasShortNames graph.now }
     requires room { 256 ≤ vec_capacity page.old }
     ensures all { OnOk result ((turn : Turn) → slice_get history.now.turns parts.now.number ≡ Some turn →
         AreOut (K.written out.old) (K.written out.new) page.new.items (page.old.items ++ named_lines graph.now parts.now.own.now.platform.now turn)) }
@@ -153,12 +152,12 @@ fn put_part<K: Sink>(
 ) -> Result<(), PutFault>
     requires number { parts.now.number < length history.now.turns }
     requires parts { ArePartsOf history.now.turns parts.now }
-    requires names { HasShortNames graph.now parts.now.own.now.platform.now }
+    requires names { HasShortNames graph.now }
     requires room { 256 ≤ vec_capacity page.old }
     ensures all { OnOk result ((turn : Turn) → slice_get history.now.turns parts.now.number ≡ Some turn →
-        AreOut (K.written out.old) (K.written out.new) page.new.items (page.old.items ++ all_of (part_lines graph.now parts.now.own.now.platform.now turn part))) }
+        AreOut (K.written out.old) (K.written out.new) page.new.items (page.old.items ++ all_lines (part_lines graph.now parts.now.own.now.platform.now turn part))) }
     ensures part { OnErr result ((turn : Turn) → slice_get history.now.turns parts.now.number ≡ Some turn →
-        AppendsPart (K.written out.old) (K.written out.new) (page.old.items ++ all_of (part_lines graph.now parts.now.own.now.platform.now turn part))) }
+        AppendsPart (K.written out.old) (K.written out.new) (page.old.items ++ all_lines (part_lines graph.now parts.now.own.now.platform.now turn part))) }
     ensures failed { OnErr result (Rose (K.faults out.old) (K.faults out.new)) }
     ensures grows { K.faults out.old ≤ K.faults out.new }
     ensures room { 256 ≤ vec_capacity page.new }

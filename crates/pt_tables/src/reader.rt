@@ -29,6 +29,7 @@ pub(crate) struct Reader<'a> {
 impl<'a> Reader<'a> {
     /// A reader of the turns of a platform with this name, at the first turn.
     pub(crate) fn new(platform: &'a str, history: &History) -> Reader<'a>
+        requires { length platform.now ≤ 32 }
         ensures platform { result.line.platform.now ≡ platform.now }
         ensures first { HasComeTo history.now.turns 0 result }
     {
@@ -68,7 +69,7 @@ impl<'a> Reader<'a> {
         requires head { option_map turn_head (slice_get history.now.turns number) ≡ Some (record { first = self.old.line.first; last = self.old.line.last; count = self.old.line.count }) }
         requires walk { IsAtTurn history.now.turns number self.old.walk }
         requires through { AreThrough history.now.turns number through }
-        requires names { HasShortNames graph.now self.old.line.platform.now }
+        requires names { HasShortNames graph.now }
         requires short { (turn : Turn) → slice_get history.now.turns number ≡ Some turn → IsShort turn }
         requires room { vec_len page.old + 256 ≤ vec_capacity page.old }
         ensures line { self.new.line ≡ self.old.line }

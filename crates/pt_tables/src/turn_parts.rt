@@ -115,7 +115,7 @@ impl<'a> TurnParts<'a> {
         }
     }
 
-    /// Writes a line of a part, where the names are short.
+    /// Writes a line of a part.
     pub(crate) fn write(
         &self,
         pen: &mut Pen,
@@ -127,7 +127,7 @@ impl<'a> TurnParts<'a> {
         requires number { self.now.number < length history.now.turns }
         requires parts { ArePartsOf history.now.turns self.now }
         requires index { index < count_of self.now part }
-        requires names { HasShortNames graph.now self.now.own.now.platform.now }
+        requires names { HasShortNames graph.now }
         ensures { (turn : Turn) → slice_get history.now.turns self.now.number ≡ Some turn → slice_get (part_lines graph.now self.now.own.now.platform.now turn part) index ≡ Some pen.new.line }
     {
         match part {

@@ -7,41 +7,17 @@ ghost use Rattle.pt_semantics.specs.Turn.{Turn};
 ghost use Rattle.pt_history.specs.Levels.{AreTurnLevels};
 ghost use Rattle.pt_history.specs.Turns.{claimed_in, posted_in};
 ghost use Rattle.pt_tables.specs.Held.{HasHeldLists, IsHeldMessage, IsHeldResult};
-ghost use Rattle.pt_tables.specs.Log.{claim_line, list_lines, post_line, row_line, sent_line, take_line, turn_line};
-ghost use Rattle.pt_tables.specs.TurnLine.{IsKeptLine};
+ghost use Rattle.pt_tables.specs.Log.{claim_line, list_lines, post_line, row_line, sent_line, take_line};
 ghost use Rattle.pt_tables.specs.Walk.{IsAtTurn};
 
 use crate::held::holds;
 use crate::line::Line;
 use crate::lines::{push_claim, push_post, push_row, push_sent, push_taken};
 use crate::pen::Pen;
-use crate::turn_line::TurnLine;
 use crate::walk::{Walk, claims_after, renew, results_after, rows_in, sent_in, taken_in};
 use pt_history::{History, TurnLevels};
 use pt_types::{Graph, OnLink, RowAt};
 use std::alloc::AllocError;
-
-/// Appends the lines of the recorded turn to which a walk has come, where `line` is its first. The walk goes on to the next turn.
-#[inline(always)]
-pub(crate) fn push_turn(
-    text: &mut String,
-    line: &TurnLine<'_>,
-    walk: &mut Walk,
-    pen: &mut Pen,
-    graph: &Graph,
-    history: &History,
-    number: usize,
-) -> Result<(), AllocError>
-    requires number { number < length history.now.turns }
-    requires line { IsKeptLine line.now }
-    requires walk { IsAtTurn history.now.turns number walk.old }
-    ensures walk { OnOk result (IsAtTurn history.now.turns (number + 1) walk.new) }
-    ensures lines { OnOk result (option_map (λ turn. (string_bytes text.old ++ turn_line line.now.platform.now line.now.first line.now.last line.now.count) ++ list_lines graph.now turn) (slice_get history.now.turns number) ≡ Some (string_bytes text.new)) }
-    ensures held { OnOk result ((turn : Turn) → slice_get history.now.turns number ≡ Some turn → HasHeldLists turn) }
-{
-    line.push(text)?;
-    push_lists_at(text, walk, pen, graph, history, number)
-}
 
 /// Appends the lines of the lists of one recorded turn: all its lines but the first.
 pub fn push_lists(

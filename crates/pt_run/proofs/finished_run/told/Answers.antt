@@ -6,8 +6,8 @@ use Rattle.pt_confluence.specs.Gathered.{AreTables, HaveFinished}
 use Rattle.pt_run.proofs.Finished.{told_text}
 use Rattle.pt_run.proofs.finished_run.told.Goals as goal
 
-pub returns-clause-told : goal.returns-clause-told
-returns-clause-told c =
+pub returns : goal.returns
+returns c =
     let plan = arc_value c.args.plan.now in
     let platforms = c.args.platforms.items in
     let text : List ℕ = string_bytes c.in_ok-tables.tables in

@@ -1,5 +1,5 @@
 use Rattle.std.proofs.Common.{ap, arith, length, slice_get}
-use Rattle.pt_tables.proofs.TurnParts.{short_sender}
+use Rattle.pt_tables.proofs.ShortNames.{short_sender}
 use Rattle.pt_tables.proofs.lines.write_sent.Goals as goal
 
 pub write_message-requires : goal.write_message-requires

@@ -1,5 +1,5 @@
 use Rattle.std.proofs.Common.{ap, arith, length, slice_get}
-use Rattle.pt_tables.proofs.TurnParts.{short_receiver}
+use Rattle.pt_tables.proofs.ShortNames.{short_receiver}
 use Rattle.pt_tables.proofs.lines.write_taken.Goals as goal
 
 pub write_message-requires : goal.write_message-requires

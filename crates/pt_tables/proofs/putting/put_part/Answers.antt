@@ -2,7 +2,7 @@ use Rattle.std.proofs.Common.{◌≤◌, ◌++◌, List, ℕ, length, subst, ari
 use Rattle.std.proofs.lemmas.List.{take_all}
 use Rattle.std.proofs.lemmas.Result.{err_from_is_err_and}
 use Rattle.pt_tables.specs.Putting.{AreOut}
-use Rattle.pt_tables.specs.TurnParts.{all_of, part_lines}
+use Rattle.pt_tables.specs.TurnParts.{all_lines, part_lines}
 use Rattle.pt_tables.proofs.Out.{next_out, next_part}
 use Rattle.pt_tables.proofs.Parts.{claimed_more, posted_more}
 use Rattle.pt_tables.proofs.TurnParts.{counted}
@@ -40,4 +40,4 @@ pub returns-clause-all : goal.returns-clause-all
 returns-clause-all g c = λ turn at.
     let lines = part_lines c.args.graph.now c.args.parts.now.own.now.platform.now turn c.args.part in
     let all : length lines ≤ c.loop-index.index = omega (arith, c.loop-index-test.false, c.count-index-end.ensures, counted c.args.graph.now c.args.parts.now.own.now.platform.now c.args.history.now.turns c.args.parts.now turn c.args.part c.requires.number c.requires.parts at) in
-    subst (λ ls. AreOut (g.K.Sink.written c.args.out.now) (g.K.Sink.written c.loop-index.out) c.loop-index.page.items (c.args.page.now.items ++ all_of ls)) (take_all c.loop-index.index lines all) (c.loop-index.invariant.out turn at)
+    subst (λ ls. AreOut (g.K.Sink.written c.args.out.now) (g.K.Sink.written c.loop-index.out) c.loop-index.page.items (c.args.page.now.items ++ all_lines ls)) (take_all c.loop-index.index lines all) (c.loop-index.invariant.out turn at)

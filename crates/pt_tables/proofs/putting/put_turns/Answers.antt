@@ -1,16 +1,12 @@
-use Rattle.std.proofs.Common.{◌<◌, ◌++◌, length, subst, sym, ◌∙◌, arith}
+use Rattle.std.proofs.Common.{◌<◌, ◌++◌, length, subst, ◌∙◌, arith}
 use Rattle.std.proofs.lemmas.Result.{err_from_is_err_and}
 use Rattle.pt_io.specs.Causes.{AppendsPart}
 use Rattle.pt_tables.specs.Log.{turn_lines}
-use Rattle.pt_tables.specs.Names.{HasShortNames}
 use Rattle.pt_tables.specs.Putting.{AreOut}
 use Rattle.pt_tables.specs.TurnParts.{named_lines}
 use Rattle.pt_tables.proofs.Out.{next_out, next_part}
 use Rattle.pt_tables.proofs.Parts.{is_there}
 use Rattle.pt_tables.proofs.putting.put_turns.Goals as goal
-
-pub put_turn-requires-clause-names : goal.put_turn-requires-clause-names
-put_turn-requires-clause-names g c = subst (HasShortNames c.args.graph.now) (sym c.loop-number.invariant.platform) c.requires.names
 
 pub loop-number-preserved : goal.loop-number-preserved
 loop-number-preserved g c =
