@@ -1,7 +1,7 @@
 use Rattle.pt_io.specs.Told.{tell}
 use Rattle.pt_run.specs.Texts.{left_of}
 use Rattle.pt_words.specs.Grammar.{order_of}
-use Rattle.ptides.proofs.status.Goals as goal
+use Rattle.pt_program.proofs.status.Goals as goal
 
 pub returns-clause-ended : goal.returns-clause-ended
 returns-clause-ended g c =
