@@ -1,6 +1,7 @@
 //! Whether hints can be those of a turn, and whether a turn has the text that it was read from.
 
 ghost use Rattle.std.specs.Prelude.{◌≡◌, ◌<◌, ◌≤◌, ◌↔◌, ◌-◌, ◌^◌, ◌++◌, ℕ, IfOk, Some, false, length, slice_get, true};
+ghost use Rattle.pt_types.specs.Lawful.{IsLawful};
 ghost use Rattle.pt_types.specs.Lookups.{platform_name};
 ghost use Rattle.pt_semantics.specs.Lists.{Each};
 ghost use Rattle.pt_semantics.specs.Turn.{Turn};
@@ -62,7 +63,8 @@ pub(crate) fn is_text_of(
     history: &History,
     block: &[u8],
 ) -> Result<bool, AllocError>
-    requires { 0 < length history.now.turns }
+    requires lawful { IsLawful graph.now }
+    requires some { 0 < length history.now.turns }
     ensures { (turn : Turn) → slice_get history.now.turns (length history.now.turns - 1) ≡ Some turn → IfOk result (λ same. (same ≡ true) ↔ (block.now ≡ turn_line (platform_name graph.now hints.now.platform) hints.now.first hints.now.last hints.now.count ++ list_lines graph.now turn)) }
 {
     text.clear();

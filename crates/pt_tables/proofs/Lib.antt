@@ -7,5 +7,5 @@ pub mod Parts
 pub mod Works
 pub mod Out
 pub mod Short
-pub mod TurnParts
+pub mod TurnLists
 pub mod ShortNames

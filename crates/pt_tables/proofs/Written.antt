@@ -1,8 +1,8 @@
 -- A turn's lines, written one list after another.
-use Rattle.std.proofs.Common.{◌≡◌, ℕ, ◌+◌, ◌≤◌, List, [], ◌∷◌, ◌++◌, Option, Some, None, append-nil, drop, length, slice_get, refl, sym, ap, ◌∙◌}
+use Rattle.std.proofs.Common.{◌≡◌, ℕ, ◌+◌, List, [], ◌∷◌, ◌++◌, Option, Some, None, append-nil, drop, slice_get, refl, sym, ap, ◌∙◌}
 use Rattle.std.specs.Fmt.{decimal}
 use Rattle.std.specs.Prelude.{codes, flat_map, option_map}
-use Rattle.std.proofs.lemmas.List.{append_assoc, drop_all}
+use Rattle.std.proofs.lemmas.List.{append_assoc}
 use Rattle.pt_types.specs.declared.firing.Done.{Done}
 use Rattle.pt_types.specs.declared.firing.OnLink.{OnLink}
 use Rattle.pt_types.specs.declared.firing.Task.{Task}
@@ -14,7 +14,7 @@ use Rattle.pt_history.specs.Turns.{turn_head}
 use Rattle.pt_history.specs.declared.head.Head.{Head}
 use Rattle.pt_history.proofs.InTurn.{drop_next}
 use Rattle.pt_tables.specs.Log.{claim_line, list_lines, post_line, row_line, sent_line, take_line, turn_line}
-use Rattle.pt_tables.specs.TurnParts.{named_lines}
+use Rattle.pt_tables.specs.TurnLists.{named_lines}
 
 -- a head with these numbers
 abbrev pub head_with : ℕ → ℕ → ℕ → Head
@@ -31,7 +31,7 @@ pub record ReadsLists (o : Option Turn) (posted : List Done) (rows : List RowAt)
   pub the_claimed : option_map (λ (turn : Turn). turn.claimed) o ≡ Some claimed
   pub the_sent : option_map (λ (turn : Turn). turn.sent) o ≡ Some sent
 
-regroup : (text b c d e f : List ℕ) → text ++ (b ++ c ++ d ++ e ++ f) ≡ ((((text ++ b) ++ c) ++ d) ++ e) ++ f
+pub regroup : (text b c d e f : List ℕ) → text ++ (b ++ c ++ d ++ e ++ f) ≡ ((((text ++ b) ++ c) ++ d) ++ e) ++ f
 regroup text b c d e f = simp append_assoc
 
 pub lists_written : (g : Graph) (o : Option Turn) (posted : List Done) (rows : List RowAt) (taken : List OnLink) (claimed : List Task) (sent : List OnLink) (old : List ℕ)
@@ -59,6 +59,10 @@ as_one text b e =
     ∙ ap (λ l. l ++ e) (append-nil ((text ++ b) ++ []) ∙ append-nil (text ++ b))
     ∙ append_assoc text b e
 
+-- what is read of a turn that is there
+pub read_of : {X Y : Type 0} (f : X → Y) (o : Option X) (x : X) (y : Y) → o ≡ Some x → option_map f o ≡ Some y → y ≡ f x
+read_of f o x y at is = sym (same_some (f x) y (ap (option_map f) (sym at) ∙ is))
+
 -- a turn's first line, and then those of its lists
 pub turn_written : (g : Graph) (name : List ℕ) (o : Option Turn) (first last count : ℕ) (old new : List ℕ) → option_map turn_head o ≡ Some (head_with first last count)
     → option_map (λ (turn : Turn). (old ++ turn_line name first last count) ++ list_lines g turn) o ≡ Some new → option_map (λ (turn : Turn). old ++ named_lines g name turn) o ≡ Some new
@@ -69,6 +73,14 @@ turn_written g name (Some turn) first last count old new head lists =
     let l : turn.last ≡ last = ap (λ (h : Head). h.last) same in
     let n : turn.count ≡ count = ap (λ (h : Head). h.count) same in
     ap Some (sym (append_assoc old (turn_line name turn.first turn.last turn.count) (list_lines g turn)) ∙ (λ i. (old ++ turn_line name (f i) (l i) (n i)) ++ list_lines g turn)) ∙ lists
+
+-- after some bytes, the stored line of a turn and then those of its lists
+pub named_after : (g : Graph) (name : List ℕ) (o : Option Turn) (first last count : ℕ) (line page : List ℕ) (turn : Turn) → option_map turn_head o ≡ Some (head_with first last count) → line ≡ turn_line name first last count → o ≡ Some turn
+    → (page ++ line) ++ list_lines g turn ≡ page ++ named_lines g name turn
+named_after g name o first last count line page turn head is at =
+    let lists : option_map (λ (t : Turn). (page ++ turn_line name first last count) ++ list_lines g t) o ≡ Some ((page ++ turn_line name first last count) ++ list_lines g turn) = ap (option_map (λ (t : Turn). (page ++ turn_line name first last count) ++ list_lines g t)) at in
+    let whole = turn_written g name o first last count page ((page ++ turn_line name first last count) ++ list_lines g turn) head lists in
+    ap (λ l. (page ++ l) ++ list_lines g turn) is ∙ read_of (λ (t : Turn). page ++ named_lines g name t) o turn ((page ++ turn_line name first last count) ++ list_lines g turn) at whole
 
 -- what was appended are the lines of the turn
 pub appended : (g : Graph) (name : List ℕ) (o : Option Turn) (old new : List ℕ) → option_map (λ (turn : Turn). old ++ named_lines g name turn) o ≡ Some new
@@ -95,11 +107,3 @@ pub post_before : (done : Done) (old : List ℕ) → codes "post," ++ decimal do
 post_before done old =
     ap (λ l. codes "post," ++ l) (sym (append_assoc (decimal done.task.number) (10 ∷ []) old))
     ∙ sym (append_assoc (codes "post,") (decimal done.task.number ++ 10 ∷ []) old)
-
--- no items are left
-pub all_put : {X : Type 0} (f : X → List ℕ) (xs : List X) (n : ℕ) (text : List ℕ) → length xs ≤ n → text ++ flat_map f (drop n xs) ≡ text
-all_put f xs n text past = ap (λ l. text ++ flat_map f l) (drop_all n xs past) ∙ append-nil text
-
--- what is read of a turn that is there
-pub read_of : {X Y : Type 0} (f : X → Y) (o : Option X) (x : X) (y : Y) → o ≡ Some x → option_map f o ≡ Some y → y ≡ f x
-read_of f o x y at is = sym (same_some (f x) y (ap (option_map f) (sym at) ∙ is))

@@ -6,7 +6,7 @@ pub mod Platforms
 pub mod Margins
 pub mod Gathered
 pub mod TurnLine
-pub mod TurnParts
+pub mod TurnLists
 pub mod Reader
 pub mod Short
 pub mod Putting

@@ -1,14 +1,13 @@
 //! That 64 bits hold the numbers of turns and messages, as their types say.
 
-ghost use Rattle.std.specs.Prelude.{◌≡◌, ◌+◌, ◌/◌, ◌<◌, ℕ, Some, length, slice_get};
+ghost use Rattle.std.specs.Prelude.{◌≡◌, ◌/◌, ◌<◌, ℕ, Some, length, slice_get};
 ghost use Rattle.pt_history.specs.Levels.{AreTurnLevels};
 ghost use Rattle.pt_history.specs.Turns.{posted_in};
 ghost use Rattle.pt_semantics.specs.Lists.{Each};
 ghost use Rattle.pt_semantics.specs.Turn.{Turn};
 ghost use Rattle.pt_tables.specs.Held.{FitsTag, HasHeldHead, IsHeld, IsHeldMessage, IsHeldResult, IsHeldTurn};
-ghost use Rattle.pt_tables.specs.Walk.{IsLastBefore};
 
-use crate::walk::{head_after, renew_levels, sent_in, taken_in};
+use crate::walk::{renew_levels, sent_in, taken_in};
 use pt_history::{History, TurnLevels};
 use pt_tags::{Message, Tag};
 use pt_types::OnLink;
@@ -19,27 +18,22 @@ pub(crate) fn turns_hold(history: &History)
 {
     results_hold(history);
     let mut levels = history.levels(0);
-    let mut last = 0;
     for number in 0..history.turns() {
-        last = turn_holds(history, &levels, last, number);
+        turn_holds(history, &levels, number);
         renew_levels(&mut levels, history, number);
     }
 }
 
-/// That 64 bits hold the numbers of a turn, but for those of its results, where `last` is the last reading of the turn before it.
-/// Returns its own last reading.
+/// That 64 bits hold the numbers of a turn, but for those of its results.
 #[inline(always)]
-fn turn_holds(history: &History, levels: &TurnLevels, last: u64, number: usize) -> u64
+fn turn_holds(history: &History, levels: &TurnLevels, number: usize)
     requires number { number < length history.now.turns }
     requires levels { AreTurnLevels history.now.turns (number / 64) levels.now }
-    requires last { IsLastBefore history.now.turns number last }
-    ensures last { IsLastBefore history.now.turns (number + 1) result }
-    ensures held { (turn : Turn) → slice_get history.now.turns number ≡ Some turn → HasHeldHead turn × Each IsHeldMessage turn.taken × Each IsHeldMessage turn.sent }
+    ensures { (turn : Turn) → slice_get history.now.turns number ≡ Some turn → HasHeldHead turn × Each IsHeldMessage turn.taken × Each IsHeldMessage turn.sent }
 {
-    let head = head_after(history, levels, last, number);
+    let _head = history.head(number);
     messages_hold(taken_in(history, levels, number));
     messages_hold(sent_in(history, levels, number));
-    head.last
 }
 
 /// That 64 bits hold the numbers of the results of all turns.

@@ -28,7 +28,7 @@ mod reader;
 mod table;
 mod text;
 mod turn_line;
-mod turn_parts;
+mod turn_lists;
 mod turns;
 mod walk;
 

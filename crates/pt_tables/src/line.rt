@@ -1,11 +1,10 @@
 //! A line that is written from its end.
 
-ghost use Rattle.std.specs.Prelude.{◌≡◌, ◌+◌, ◌<◌, ◌≤◌, ◌++◌, ◌∷◌, [], OnOk, length, string_bytes, vec_capacity, vec_len};
+ghost use Rattle.std.specs.Prelude.{◌≡◌, ◌+◌, ◌<◌, ◌≤◌, ◌++◌, ◌∷◌, [], length, vec_capacity, vec_len};
 ghost use Rattle.std.specs.Fmt.{decimal, signed_decimal};
 
 use crate::page::append;
 use itoa::write_digits;
-use std::alloc::AllocError;
 use std::marker::Model;
 
 /// The longest line, in bytes. It has room for three numbers and a name of some 60 bytes.
@@ -81,15 +80,6 @@ impl Line {
     {
         self.bytes[SHORT..].copy_from_slice(&short.bytes[SHORT..]);
         self.start = short.start;
-    }
-
-    /// Becomes a copy of a line.
-    #[inline(always)]
-    pub(crate) fn copy(&mut self, line: &Line)
-        ensures { self.new ≡ line.now }
-    {
-        self.bytes = line.bytes;
-        self.start = line.start;
     }
 
     /// How many bytes there is room for.
@@ -209,24 +199,6 @@ impl Line {
         &self.bytes[self.start..]
     }
 
-    /// Appends a word, a comma, a name and then the line to a text. If the line has room for them, they are put before it, so
-    /// that there is one piece to append.
-    #[inline(always)]
-    pub(crate) fn push_after(
-        &mut self,
-        text: &mut String,
-        word: &str,
-        name: &str,
-    ) -> Result<(), AllocError>
-        ensures { OnOk result (string_bytes text.new ≡ string_bytes text.old ++ word.now ++ 44 ∷ name.now ++ self.old) }
-    {
-        if self.room() < word.len() + name.len() + 1 {
-            return push_pieces(text, word, name, self.as_str());
-        }
-        self.begin(word, name);
-        text.push_str(self.as_str())
-    }
-
     /// Puts a word, a comma and a name before the line.
     #[inline(always)]
     pub(crate) fn begin(&mut self, word: &str, name: &str)
@@ -263,17 +235,4 @@ fn append_both(page: &mut Vec<u8>, first: &Line, second: &Line)
 {
     append(page, first.as_bytes());
     append(page, second.as_bytes());
-}
-
-/// Appends a word, a comma, a name, and the rest of a line. Not inlined, since most lines are appended as one piece.
-#[inline(never)]
-pub(crate) fn push_pieces(
-    text: &mut String,
-    word: &str,
-    name: &str,
-    rest: &str,
-) -> Result<(), AllocError>
-    ensures { OnOk result (string_bytes text.new ≡ string_bytes text.old ++ word.now ++ 44 ∷ name.now ++ rest.now) }
-{
-    write!(text, "{word},{name}{rest}")
 }

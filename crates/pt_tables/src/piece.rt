@@ -7,7 +7,7 @@ ghost use Rattle.pt_tables.specs.Names.{HasShortNames};
 ghost use Rattle.pt_tables.specs.Log.{claim_line, post_line};
 
 use crate::line::Line;
-use crate::lines::{put_post, write_short_claim};
+use crate::lines::{put_post, write_claim};
 use crate::pen::Pen;
 use pt_history::History;
 use pt_types::Graph;
@@ -35,7 +35,7 @@ pub(crate) fn write_claims(
         pen.line.clear();
         return;
     }
-    write_short_claim(pen, graph, history.mark(from));
+    write_claim(pen, graph, history.mark(from));
 }
 
 /// Puts the lines of the results from `from` up to, not including, `end`, of those of all recorded turns, before other lines:

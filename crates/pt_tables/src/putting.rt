@@ -4,18 +4,18 @@ ghost use Rattle.std.specs.Prelude.{◌≡◌, ◌+◌, ◌++◌, ◌<◌, ◌�
 ghost use Rattle.pt_io.specs.Causes.{AppendsPart, Rose};
 ghost use Rattle.pt_history.specs.Turns.{turn_head};
 ghost use Rattle.pt_semantics.specs.Turn.{Turn};
-ghost use Rattle.pt_tables.specs.Log.{history_lines};
+ghost use Rattle.pt_tables.specs.Log.{history_lines, list_lines};
 ghost use Rattle.pt_tables.specs.Names.{HasShortNames};
 ghost use Rattle.pt_tables.specs.Putting.{AreOut};
 ghost use Rattle.pt_tables.specs.Reader.{HasComeTo};
 ghost use Rattle.pt_tables.specs.TurnLine.{IsKeptLine};
-ghost use Rattle.pt_tables.specs.TurnParts.{ArePartsOf, all_lines, named_lines, part_lines};
+ghost use Rattle.pt_tables.specs.TurnLists.{AreListsOf, all_lines, entry_lines, named_lines};
 ghost use Rattle.pt_tables.specs.Walk.{AreThrough, IsAtTurn};
 
 use crate::page::{make_room, put_line};
 use crate::pen::Pen;
 use crate::reader::Reader;
-use crate::turn_parts::{PARTS, Part, TurnParts};
+use crate::turn_lists::{TurnList, TurnLists};
 use crate::walk::{Counts, counts_through, is_short, pass};
 use pt_history::History;
 use pt_io::{PutFault, Sink};
@@ -108,62 +108,96 @@ fn put_lines<K: Sink>(
         reader.append_short(page, graph, history, number, through);
         return Ok(());
     }
-    let parts = TurnParts::of(&reader.line, history, &reader.walk, number, through);
-    put_parts(out, page, &mut reader.pen, &parts, graph, history)
+    put_long(out, page, reader, graph, history, number, through)
 }
 
-/// Puts the lines of a turn part by part.
+/// Puts the lines of a turn one by one.
 #[inline(never)]
-fn put_parts<K: Sink>(
+fn put_long<K: Sink>(
     out: &mut K,
     page: &mut Vec<u8>,
-    pen: &mut Pen,
-    parts: &TurnParts<'_>,
+    reader: &mut Reader<'_>,
     graph: &Graph,
     history: &History,
+    number: usize,
+    through: Counts,
 ) -> Result<(), PutFault>
-    requires number { parts.now.number < length history.now.turns }
-    requires parts { ArePartsOf history.now.turns parts.now }
+    requires number { number < length history.now.turns }
+    requires line { IsKeptLine reader.old.line }
+    requires head { option_map turn_head (slice_get history.now.turns number) ≡ Some (record { first = reader.old.line.first; last = reader.old.line.last; count = reader.old.line.count }) }
+    requires walk { IsAtTurn history.now.turns number reader.old.walk }
+    requires through { AreThrough history.now.turns number through }
     requires names { HasShortNames graph.now }
     requires room { 256 ≤ vec_capacity page.old }
-    ensures all { OnOk result ((turn : Turn) → slice_get history.now.turns parts.now.number ≡ Some turn →
-        AreOut (K.written out.old) (K.written out.new) page.new.items (page.old.items ++ named_lines graph.now parts.now.own.now.platform.now turn)) }
-    ensures part { OnErr result ((turn : Turn) → slice_get history.now.turns parts.now.number ≡ Some turn →
-        AppendsPart (K.written out.old) (K.written out.new) (page.old.items ++ named_lines graph.now parts.now.own.now.platform.now turn)) }
+    ensures line { reader.new.line ≡ reader.old.line }
+    ensures walk { reader.new.walk ≡ reader.old.walk }
+    ensures all { OnOk result ((turn : Turn) → slice_get history.now.turns number ≡ Some turn →
+        AreOut (K.written out.old) (K.written out.new) page.new.items (page.old.items ++ named_lines graph.now reader.old.line.platform.now turn)) }
+    ensures part { OnErr result ((turn : Turn) → slice_get history.now.turns number ≡ Some turn →
+        AppendsPart (K.written out.old) (K.written out.new) (page.old.items ++ named_lines graph.now reader.old.line.platform.now turn)) }
     ensures failed { OnErr result (Rose (K.faults out.old) (K.faults out.new)) }
     ensures grows { K.faults out.old ≤ K.faults out.new }
     ensures room { 256 ≤ vec_capacity page.new }
 {
-    for index in 0..PARTS {
-        put_part(out, page, pen, parts, graph, history, Part::at(index))?;
-    }
-    Ok(())
+    put_line(out, page, &reader.line.line)?;
+    let lists = TurnLists::of(history, &reader.walk, number, through);
+    put_lists(out, page, &mut reader.pen, &lists, graph, history)
 }
 
-/// Puts the lines of a part of a turn, one by one.
-fn put_part<K: Sink>(
+/// Puts the lines of the lists of a turn.
+#[inline(always)]
+fn put_lists<K: Sink>(
     out: &mut K,
     page: &mut Vec<u8>,
     pen: &mut Pen,
-    parts: &TurnParts<'_>,
+    lists: &TurnLists<'_>,
     graph: &Graph,
     history: &History,
-    part: Part,
 ) -> Result<(), PutFault>
-    requires number { parts.now.number < length history.now.turns }
-    requires parts { ArePartsOf history.now.turns parts.now }
+    requires number { lists.now.number < length history.now.turns }
+    requires lists { AreListsOf history.now.turns lists.now }
     requires names { HasShortNames graph.now }
     requires room { 256 ≤ vec_capacity page.old }
-    ensures all { OnOk result ((turn : Turn) → slice_get history.now.turns parts.now.number ≡ Some turn →
-        AreOut (K.written out.old) (K.written out.new) page.new.items (page.old.items ++ all_lines (part_lines graph.now parts.now.own.now.platform.now turn part))) }
-    ensures part { OnErr result ((turn : Turn) → slice_get history.now.turns parts.now.number ≡ Some turn →
-        AppendsPart (K.written out.old) (K.written out.new) (page.old.items ++ all_lines (part_lines graph.now parts.now.own.now.platform.now turn part))) }
+    ensures all { OnOk result ((turn : Turn) → slice_get history.now.turns lists.now.number ≡ Some turn →
+        AreOut (K.written out.old) (K.written out.new) page.new.items (page.old.items ++ list_lines graph.now turn)) }
+    ensures part { OnErr result ((turn : Turn) → slice_get history.now.turns lists.now.number ≡ Some turn →
+        AppendsPart (K.written out.old) (K.written out.new) (page.old.items ++ list_lines graph.now turn)) }
     ensures failed { OnErr result (Rose (K.faults out.old) (K.faults out.new)) }
     ensures grows { K.faults out.old ≤ K.faults out.new }
     ensures room { 256 ≤ vec_capacity page.new }
 {
-    for index in 0..parts.count(part) {
-        parts.write(pen, graph, history, part, index);
+    put_list(out, page, pen, lists, graph, history, TurnList::Posted)?;
+    put_list(out, page, pen, lists, graph, history, TurnList::Rows)?;
+    put_list(out, page, pen, lists, graph, history, TurnList::Taken)?;
+    put_list(out, page, pen, lists, graph, history, TurnList::Claimed)?;
+    put_list(out, page, pen, lists, graph, history, TurnList::Sent)
+}
+
+/// Puts the lines of the items of a list.
+#[inline(always)]
+fn put_list<K: Sink>(
+    out: &mut K,
+    page: &mut Vec<u8>,
+    pen: &mut Pen,
+    lists: &TurnLists<'_>,
+    graph: &Graph,
+    history: &History,
+    list: TurnList,
+) -> Result<(), PutFault>
+    requires number { lists.now.number < length history.now.turns }
+    requires lists { AreListsOf history.now.turns lists.now }
+    requires names { HasShortNames graph.now }
+    requires room { 256 ≤ vec_capacity page.old }
+    ensures all { OnOk result ((turn : Turn) → slice_get history.now.turns lists.now.number ≡ Some turn →
+        AreOut (K.written out.old) (K.written out.new) page.new.items (page.old.items ++ all_lines (entry_lines graph.now turn list))) }
+    ensures part { OnErr result ((turn : Turn) → slice_get history.now.turns lists.now.number ≡ Some turn →
+        AppendsPart (K.written out.old) (K.written out.new) (page.old.items ++ all_lines (entry_lines graph.now turn list))) }
+    ensures failed { OnErr result (Rose (K.faults out.old) (K.faults out.new)) }
+    ensures grows { K.faults out.old ≤ K.faults out.new }
+    ensures room { 256 ≤ vec_capacity page.new }
+{
+    for index in 0..lists.count(list) {
+        lists.write(pen, graph, history, list, index);
         put_line(out, page, &pen.line)?;
     }
     Ok(())

@@ -7,7 +7,7 @@ ghost use Rattle.pt_tables.specs.Names.{HasShortNames};
 ghost use Rattle.pt_tables.specs.Reader.{HasComeTo};
 ghost use Rattle.pt_tables.specs.Short.{IsShort};
 ghost use Rattle.pt_tables.specs.TurnLine.{IsKeptLine};
-ghost use Rattle.pt_tables.specs.TurnParts.{named_lines};
+ghost use Rattle.pt_tables.specs.TurnLists.{named_lines};
 ghost use Rattle.pt_tables.specs.Walk.{AreThrough, IsAtTurn};
 
 use crate::pen::Pen;

@@ -71,14 +71,6 @@ impl<'a> TurnLine<'a> {
         write_turn_line(&mut self.line, &self.head, first, last, count);
     }
 
-    /// Writes the line.
-    pub(crate) fn write(&self, line: &mut Line)
-        requires { IsKeptLine self.now }
-        ensures { line.new ≡ turn_line self.now.platform.now self.now.first self.now.last self.now.count }
-    {
-        line.copy(&self.line);
-    }
-
     /// Appends the line and the lines after it to a page with room for both: mostly as one piece.
     #[inline(always)]
     pub(crate) fn append_before(&self, page: &mut Vec<u8>, after: &mut Line)

@@ -14,8 +14,7 @@ loop-number-preserved c =
     let inv = c.loop-number.invariant in
     record {
       levels = c.renew_levels.ensures;
-      last = c.turn_holds-last.ensures.last;
-      held = one_more_at (λ (turn : Turn). HasHeldHead turn × Each IsHeldMessage turn.taken × Each IsHeldMessage turn.sent) c.args.history.now.turns c.loop-number.number c.turn_holds-last.ensures.held inv.held;
+      held = one_more_at (λ (turn : Turn). HasHeldHead turn × Each IsHeldMessage turn.taken × Each IsHeldMessage turn.sent) c.args.history.now.turns c.loop-number.number c.turn_holds.ensures inv.held;
     }
 
 pub returns : goal.returns

@@ -26,4 +26,4 @@ returns-clause-lines c =
     let some : 0 < c.args.end - c.args.from = omega (arith, c.requires.from, c.requires.end, c.if-from-end.false, more) in
     let (task, is) = first_claimed turns c.args.turn c.args.from c.args.end c.requires.turn c.requires.from c.requires.end some in
     let one : length (claimed_in turns c.args.turn) ≡ 1 = omega (arith, c.requires.from, c.requires.end, some, c.requires.few, more) in
-    c.write_short_claim.ensures.line task (is.mark c.mark.result c.mark.ensures) ∙ all_of_one (claim_line c.args.graph.now) (claimed_in turns c.args.turn) task (only_one (claimed_in turns c.args.turn) task one is.own)
+    c.write_claim.ensures.line task (is.mark c.mark.result c.mark.ensures) ∙ all_of_one (claim_line c.args.graph.now) (claimed_in turns c.args.turn) task (only_one (claimed_in turns c.args.turn) task one is.own)

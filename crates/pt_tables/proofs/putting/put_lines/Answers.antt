@@ -1,9 +1,7 @@
-use Rattle.std.proofs.Common.{◌≡◌, ◌++◌, Some, ap, arith, slice_get, subst, sym, ◌∙◌}
-use Rattle.std.proofs.lemmas.Result.{err_from_is_err_and, on_ok_weaker}
+use Rattle.std.proofs.Common.{◌≡◌, ◌++◌, arith, slice_get, sym}
+use Rattle.std.proofs.lemmas.Result.{err_from_is_err_and}
 use Rattle.pt_semantics.specs.Turn.{Turn}
-use Rattle.pt_tables.specs.declared.turn_line.TurnLine.{TurnLine}
-use Rattle.pt_tables.specs.Putting.{AreOut}
-use Rattle.pt_tables.specs.TurnParts.{named_lines}
+use Rattle.pt_tables.specs.TurnLists.{named_lines}
 use Rattle.pt_tables.proofs.Out.{out_on, part_more}
 use Rattle.pt_tables.proofs.Parts.{claimed_more, posted_more}
 use Rattle.pt_tables.proofs.Short.{is_short as known_short}
@@ -32,15 +30,3 @@ returns-then-is_short-clause-all g c = λ turn at.
     let both : next.new.page.items ≡ f turn = read_of f (slice_get c.args.history.now.turns c.args.number) turn next.new.page.items at next.ensures.lines in
     out_on (g.K.Sink.written c.args.out.now) (g.K.Sink.written c.make_room.new.out) c.make_room.new.page.items next.new.page.items c.args.page.now.items (named_lines c.args.graph.now c.args.reader.now.line.platform.now turn)
     c.in_ok-make_room.ensures.all (sym both)
-
-pub returns-clause-all : goal.returns-clause-all
-returns-clause-all g c =
-    let turns = c.args.history.now.turns in
-    let parts = c.of-parts.result in
-    let start = g.K.Sink.written c.args.out.now in
-    let now = g.K.Sink.written c.put_parts.new.out in
-    on_ok_weaker c.put_parts.result
-    (λ (all : (turn : Turn) → slice_get turns parts.number ≡ Some turn → AreOut start now c.put_parts.new.page.items (c.args.page.now.items ++ named_lines c.args.graph.now parts.own.now.platform.now turn)). λ turn at.
-    subst (λ (own : TurnLine). AreOut start now c.put_parts.new.page.items (c.args.page.now.items ++ named_lines c.args.graph.now own.platform.now turn)) c.of-parts.ensures.own
-    (all turn (ap (slice_get turns) c.of-parts.ensures.number ∙ at)))
-    c.put_parts.ensures.all

@@ -3,7 +3,7 @@ use Rattle.std.proofs.lemmas.Result.{err_from_is_err_and}
 use Rattle.pt_io.specs.Causes.{AppendsPart}
 use Rattle.pt_tables.specs.Log.{turn_lines}
 use Rattle.pt_tables.specs.Putting.{AreOut}
-use Rattle.pt_tables.specs.TurnParts.{named_lines}
+use Rattle.pt_tables.specs.TurnLists.{named_lines}
 use Rattle.pt_tables.proofs.Out.{next_out, next_part}
 use Rattle.pt_tables.proofs.Parts.{is_there}
 use Rattle.pt_tables.proofs.putting.put_turns.Goals as goal

@@ -2,17 +2,17 @@ use Rattle.std.proofs.Common.{◌≤◌, ◌++◌, List, ℕ, length, subst, ari
 use Rattle.std.proofs.lemmas.List.{take_all}
 use Rattle.std.proofs.lemmas.Result.{err_from_is_err_and}
 use Rattle.pt_tables.specs.Putting.{AreOut}
-use Rattle.pt_tables.specs.TurnParts.{all_lines, part_lines}
+use Rattle.pt_tables.specs.TurnLists.{all_lines, entry_lines}
 use Rattle.pt_tables.proofs.Out.{next_out, next_part}
 use Rattle.pt_tables.proofs.Parts.{claimed_more, posted_more}
-use Rattle.pt_tables.proofs.TurnParts.{counted}
-use Rattle.pt_tables.proofs.putting.put_part.Goals as goal
+use Rattle.pt_tables.proofs.TurnLists.{counted}
+use Rattle.pt_tables.proofs.putting.put_list.Goals as goal
 
 pub count-index-end-requires-clause-results : goal.count-index-end-requires-clause-results
-count-index-end-requires-clause-results g c = omega (arith, c.requires.parts.results, c.requires.parts.through.results, posted_more c.args.history.now.turns c.args.parts.now.number c.requires.number)
+count-index-end-requires-clause-results g c = omega (arith, c.requires.lists.results, c.requires.lists.through.results, posted_more c.args.history.now.turns c.args.lists.now.number c.requires.number)
 
 pub count-index-end-requires-clause-claims : goal.count-index-end-requires-clause-claims
-count-index-end-requires-clause-claims g c = omega (arith, c.requires.parts.claims, c.requires.parts.through.claims, claimed_more c.args.history.now.turns c.args.parts.now.number c.requires.number)
+count-index-end-requires-clause-claims g c = omega (arith, c.requires.lists.claims, c.requires.lists.through.claims, claimed_more c.args.history.now.turns c.args.lists.now.number c.requires.number)
 
 abbrev own_line : List ℕ → List ℕ
 own_line line = line
@@ -22,7 +22,7 @@ loop-index-preserved g c =
     let inv = c.loop-index.invariant in
     record {
       out = λ turn at.
-          next_out own_line (part_lines c.args.graph.now c.args.parts.now.own.now.platform.now turn c.args.part) c.loop-index.index c.write.new.pen.line (g.K.Sink.written c.args.out.now) (g.K.Sink.written c.loop-index.out) (g.K.Sink.written c.put_line.new.out)
+          next_out own_line (entry_lines c.args.graph.now turn c.args.list) c.loop-index.index c.write.new.pen.line (g.K.Sink.written c.args.out.now) (g.K.Sink.written c.loop-index.out) (g.K.Sink.written c.put_line.new.out)
           c.loop-index.page.items c.put_line.new.page.items c.args.page.now.items (c.write.ensures turn at) (inv.out turn at) c.in_ok-put_line.ensures.all;
       grows = omega (arith, inv.grows, c.put_line.ensures.grows);
       room = omega (arith, inv.room, c.put_line.ensures.capacity);
@@ -33,11 +33,11 @@ returns-in_err-put_line-clause-part g c =
     let p = err_from_is_err_and c.from_residual.result c.from_residual.ensures.1 in
     rw p.1
     (λ turn at.
-    next_part own_line (part_lines c.args.graph.now c.args.parts.now.own.now.platform.now turn c.args.part) c.loop-index.index c.write.new.pen.line (g.K.Sink.written c.args.out.now) (g.K.Sink.written c.loop-index.out) (g.K.Sink.written c.put_line.new.out)
+    next_part own_line (entry_lines c.args.graph.now turn c.args.list) c.loop-index.index c.write.new.pen.line (g.K.Sink.written c.args.out.now) (g.K.Sink.written c.loop-index.out) (g.K.Sink.written c.put_line.new.out)
     c.loop-index.page.items c.args.page.now.items (c.write.ensures turn at) (c.loop-index.invariant.out turn at) c.in_err-put_line.ensures.part)
 
 pub returns-clause-all : goal.returns-clause-all
 returns-clause-all g c = λ turn at.
-    let lines = part_lines c.args.graph.now c.args.parts.now.own.now.platform.now turn c.args.part in
-    let all : length lines ≤ c.loop-index.index = omega (arith, c.loop-index-test.false, c.count-index-end.ensures, counted c.args.graph.now c.args.parts.now.own.now.platform.now c.args.history.now.turns c.args.parts.now turn c.args.part c.requires.number c.requires.parts at) in
+    let lines = entry_lines c.args.graph.now turn c.args.list in
+    let all : length lines ≤ c.loop-index.index = omega (arith, c.loop-index-test.false, c.count-index-end.ensures, counted c.args.graph.now c.args.history.now.turns c.args.lists.now turn c.args.list c.requires.number c.requires.lists at) in
     subst (λ ls. AreOut (g.K.Sink.written c.args.out.now) (g.K.Sink.written c.loop-index.out) c.loop-index.page.items (c.args.page.now.items ++ all_lines ls)) (take_all c.loop-index.index lines all) (c.loop-index.invariant.out turn at)
