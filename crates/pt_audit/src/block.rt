@@ -16,7 +16,7 @@ use pt_offsets::Plan;
 use pt_tags::{Memory, Message};
 use pt_turn::Platform;
 
-/// Replays one more block, and returns whether it tells a turn that may follow. `last` has, by link, the last message taken.
+/// Replays one more block, and returns whether it describes a turn that may follow. `last` has, by link, the last message taken.
 pub(crate) fn replay_block(
     plan: &Plan,
     platforms: &mut [Platform],

@@ -14,7 +14,7 @@ use pt_offsets::Plan;
 use pt_tags::{Memory, Message};
 use pt_turn::Platform;
 
-/// Replays a log, block by block. Returns the line of the first block that tells no turn that may follow those before.
+/// Replays a log, block by block. Returns the line of the first block that describes no turn that may follow those before.
 pub(crate) fn replay_blocks(
     plan: &Plan,
     platforms: &mut [Platform],

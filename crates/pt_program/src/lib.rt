@@ -63,7 +63,8 @@ pub fn status<S: Source, K: Sink, E: Sink, C: Clock + Send, R: Threads + Wait + 
 }
 
 /// Runs the command of the program's command line with these blocks, by the system's files and streams and the machine's clock. Returns
-/// its status: 9 if there is not enough memory to begin. `waiting` is `rt` once more, as what waits and has threads.
+/// its status: 9 if there is not enough memory to begin. `waiting` is `rt` once more: threads are started and waited for by a handle that
+/// only `main` can give.
 pub fn run<R: Threads + Wait + Sync>(rt: &HostRuntime, waiting: &R, blocks: &Blocks) -> u8 {
     let Ok(words) = words(rt) else {
         return NO_MEMORY;

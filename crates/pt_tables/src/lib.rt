@@ -2,9 +2,8 @@
 //! of a graph.
 //!
 //! Each text is built by functions that append one line; loops call them. The log, which is the longest, is put as it is made,
-//! by way of a page. Tables are defined in `specs/Tables.antt` of
-//! pt_semantics, the log in `specs/Log.antt` and `specs/Platforms.antt`, misses in `specs/Misses.antt`, margins in
-//! `specs/Margins.antt`.
+//! by way of a page. Tables are defined in `specs/Tables.antt` of pt_semantics, the log in `specs/Log.antt` and
+//! `specs/Platforms.antt`, misses in `specs/Misses.antt`, margins in `specs/Margins.antt`.
 //!
 //! Read first: `tables`, `tables_of_meaning` and `ActorTables`, then `put_log`, `miss_lines` and `margins`.
 #![tactic(auto)]

@@ -1,4 +1,4 @@
-//! A page: bytes that are put all_lines.
+//! A page: bytes that are put together.
 
 ghost use Rattle.std.specs.Prelude.{◌≡◌, ◌+◌, ◌++◌, ◌≤◌, [], OnErr, OnOk, length, vec_capacity, vec_len};
 ghost use Rattle.pt_io.specs.Causes.{Appends, AppendsPart, Rose};
