@@ -150,7 +150,7 @@ fn missed_in_block(
 }
 
 /// The next turn, from turn `from` up to turn `end` in a block of 64, after which messages may have been sent; `end` if none were
-/// sent after any of them.
+/// sent after any of them. Of the last turn of a block nothing is known.
 #[inline(always)]
 fn next_unknown(levels: &TurnLevels, from: usize, end: usize) -> usize
     requires within { from ≤ end }
@@ -159,14 +159,15 @@ fn next_unknown(levels: &TurnLevels, from: usize, end: usize) -> usize
     ensures within { result ≤ end }
     ensures level { (n : ℕ) → from ≤ n → n < result → IsLevel levels.now.sent n }
 {
-    if levels.sent.limit < end {
+    let known = levels.sent.limit.min(end);
+    if known <= from {
         return from;
     }
     let others = (levels.sent.bits >> (from % 64)) / 2;
     if others == 0 {
-        return end;
+        return known;
     }
-    from + (others.trailing_zeros() as usize).min(end - from)
+    from + (others.trailing_zeros() as usize).min(known - from)
 }
 
 /// Appends the misses of a recorded turn.
